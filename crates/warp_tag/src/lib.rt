@@ -1,0 +1,11 @@
+//! Tags: when something happens, and where a delay lands from there.
+//!
+//! A tag is a time and a microstep, in lexicographic order (Lohstroh et al. 2021, "superdense time").
+//! Contracts see a `Tag` as its `Moment`. Each `Tag` is in range by its type.
+#![tactic(auto)]
+
+mod entry;
+mod tag;
+
+pub use entry::Entry;
+pub use tag::{LAST_MICROSTEP, Landing, MAX_DELAY, MAX_STOP, MAX_TIME, Tag};

@@ -1,0 +1,104 @@
+ghost use Rattle.std.specs.Prelude.{◌≡◌, ℕ, ◌≤◌, SomeIff};
+
+use std::marker::Model;
+
+/// The last time that a program can have as its stop, in the program's own unit.
+pub const MAX_STOP: u64 = 1_000_000;
+
+/// The last time of a tag: one past the last stop, so that "everything up to the stop" has an end.
+pub const MAX_TIME: u64 = 1_000_001;
+
+/// The last microstep of a time.
+pub const LAST_MICROSTEP: u32 = 15;
+
+/// The longest delay that a call of `Tag::after` is given: two delays of a program, added.
+pub const MAX_DELAY: u64 = 2_000_000;
+
+/// A time, 0 to `MAX_TIME`, and a microstep, 0 to `LAST_MICROSTEP`. Tags are ordered by time, then by microstep.
+#[derive(Clone, Copy, Debug, PartialEq, Eq, PartialOrd, Ord, Hash)]
+pub struct Tag {
+    time: u64,
+    micro: u32,
+}
+
+impl Model for Tag {
+    ghost use Rattle.std.specs.Prelude.{◌≤◌};
+    ghost use Rattle.warp_tag.specs.Moment.{Moment, IsInRange};
+
+    ghost Value = { Moment };
+
+    ghost view = { λ t. record { time = t.time; microstep = t.micro } };
+
+    ghost invariant = { λ t. IsInRange (record { time = t.time; microstep = t.micro }) };
+
+    ghost inverse = { λ m. record { time = m.time; micro = m.microstep } };
+}
+
+/// Where a delay lands.
+#[derive(Clone, Copy, Debug, PartialEq, Eq)]
+pub enum Landing {
+    /// At this tag.
+    At(Tag),
+    /// Later than the program's stop.
+    PastStop,
+    /// Behind the last microstep of its time.
+    PastMicro,
+}
+
+impl Tag {
+    ghost use Rattle.warp_tag.specs.Moment.{Moment, IsInRange};
+    ghost use Rattle.warp_tag.specs.Landing.{landing};
+
+    /// The tag of this time and microstep; `None` exactly where one of them is out of range.
+    pub fn new(time: u64, micro: u32) -> Option<Tag>
+        ensures { SomeIff result (IsInRange (record { time = time; microstep = micro })) (record { time = time; microstep = micro }) }
+    {
+        if time <= MAX_TIME && micro <= LAST_MICROSTEP {
+            Some(Tag { time, micro })
+        } else {
+            None
+        }
+    }
+
+    /// The time, in the program's own unit.
+    pub fn time(self) -> u64
+        ensures value { result ≡ self.time }
+        ensures range { IsInRange self }
+    {
+        self.time
+    }
+
+    /// The microstep.
+    pub fn micro(self) -> u32
+        ensures value { result ≡ self.microstep }
+        ensures range { IsInRange self }
+    {
+        self.micro
+    }
+
+    /// Where a delay lands from this tag in a program with this stop: at the later time with microstep 0,
+    /// or, for no delay, at the next microstep (Lohstroh et al. 2021).
+    pub fn after(self, delay: u64, stop: u64) -> Landing
+        requires delay { delay ≤ MAX_DELAY }
+        requires stop { stop ≤ MAX_STOP }
+        requires time { self.time ≤ stop }
+        ensures { result ≡ landing stop self delay }
+    {
+        if delay > 0 {
+            let time = self.time + delay;
+            if time <= stop {
+                Landing::At(Tag { time, micro: 0 })
+            } else {
+                Landing::PastStop
+            }
+        } else if self.micro < LAST_MICROSTEP {
+            let micro = self.micro + 1;
+            Landing::At(Tag {
+                time: self.time,
+                micro,
+            })
+        } else {
+            Landing::PastMicro
+        }
+    }
+}
