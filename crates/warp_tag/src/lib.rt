@@ -8,4 +8,5 @@ mod entry;
 mod tag;
 
 pub use entry::Entry;
+pub use std::alloc::AllocError as OutOfMemory;
 pub use tag::{LAST_MICROSTEP, Landing, MAX_DELAY, MAX_STOP, MAX_TIME, Tag};

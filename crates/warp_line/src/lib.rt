@@ -1,0 +1,9 @@
+//! Timelines: a program run over a table of names that grows, at one replica.
+//!
+//! `Timeline` is the contract that the layers above use. `Plain` meets it by running from the start after
+//! each change: the slow twin that other timelines are compared with.
+#![tactic(auto)]
+
+mod timeline;
+
+pub use timeline::Timeline;

@@ -1,0 +1,76 @@
+use std::alloc::Global;
+use warp_step::{Meter, Out, Program, State};
+use warp_tag::{OutOfMemory, Tag};
+
+/// A program's run over a table of names that grows, executed as far as it is known.
+///
+/// A value stands for a program, a table of names (with payload and withdrawn mark) and so many rows of the
+/// run as are done (`Standing`): that is a relation, since a value need not keep what it stands for.
+pub trait Timeline: Sized {
+    ghost use Rattle.std.specs.Prelude.{◌≡◌, ◌<◌, ◌≤◌, ◌+◌, ◌-◌, ℕ, ℤ, Bool, IsTrue, List, [], length, IfOk, OnOk, IsOk};
+    ghost use Rattle.warp_tag.specs.Table.{changed, with_event, live};
+    ghost use Rattle.warp_step.specs.Program.{rules_of};
+    ghost use Rattle.warp_step.specs.Run.{Row, state_at_end, outputs_of};
+    ghost use Rattle.warp_step.specs.Snapshot.{start_state};
+    ghost use Rattle.warp_line.specs.Timeline.{Standing, IsDone, IsEventOf, IsFront, NowStands, Settles};
+
+    /// Whether a value stands for this program, table and done rows.
+    ghost stands_for: { Self → Standing → Type 0 };
+
+    /// Whether there is room for one more name.
+    ghost is_prepared: { Self → Type 0 };
+
+    /// Whether all rows are done and their state and outputs are at hand.
+    ghost settled: { Self → Bool };
+
+    /// How many rows before a change may have to be executed again after it.
+    const SLACK: u64;
+
+    ghost SLACK: { ℕ };
+
+    /// A run of this program over no names, of which nothing is done.
+    fn start(alloc: Global, program: &Program) -> Result<Self, OutOfMemory>
+        ensures { IfOk result (λ t. stands_for t (record { rules = rules_of program.now; table = []; done = [] })) };
+
+    /// Makes room for one name, of fewer than 4,000,000,001. An `Err` changes nothing.
+    fn prepare(&mut self, alloc: Global) -> Result<(), OutOfMemory>
+        requires { (m : Standing) × stands_for self.old m × (length m.table < 4000000000) }
+        ensures stands { (m : Standing) → stands_for self.old m → stands_for self.new m }
+        ensures settled { settled self.new ≡ settled self.old }
+        ensures prepared { OnOk result (is_prepared self.new) };
+
+    /// Takes an event: of several payloads of one name the greatest counts. It takes no memory.
+    fn put(&mut self, origin: u32, tag: Tag, input: u32, value: i64)
+        requires prepared { is_prepared self.old }
+        requires event { (m : Standing) × stands_for self.old m × IsEventOf m.rules origin tag input }
+        ensures { (m : Standing) → stands_for self.old m → IsEventOf m.rules origin tag input →
+            NowStands stands_for SLACK tag self.new m (changed (with_event input value) origin tag m.table) };
+
+    /// Executes what is not done. At an `Err` it stands done through some tag, whole, and may be settled later.
+    /// Of a settled value it changes nothing, ticks nothing, and cannot fail.
+    fn settle<M: Meter>(&mut self, alloc: Global, program: &Program, meter: &mut M) -> Result<(), OutOfMemory>
+        requires { (m : Standing) × stands_for self.old m × (m.rules ≡ rules_of program.now) }
+        ensures stands { (m : Standing) → stands_for self.old m → m.rules ≡ rules_of program.now →
+            (done : List Row) × Settles stands_for self.new m (M.ticks meter.new - M.ticks meter.old) done × OnOk result (IsDone (record m { done = done })) }
+        ensures ticked { M.ticks meter.old ≤ M.ticks meter.new }
+        ensures settled { OnOk result (IsTrue (settled self.new)) }
+        ensures idle { IsTrue (settled self.old) → IsOk result × (self.new ≡ self.old) × (M.ticks meter.new ≡ M.ticks meter.old) };
+
+    /// Whether all rows are done.
+    fn is_settled(&self) -> bool
+        ensures value { result ≡ settled self.now }
+        ensures whole { IsTrue result → (m : Standing) → stands_for self.now m → IsDone m };
+
+    /// The state after the last row: the start state if there is none.
+    fn state(&self) -> &State
+        requires { IsTrue (settled self.now) }
+        ensures { (m : Standing) → stands_for self.now m → IsDone m × (result.now ≡ state_at_end (start_state m.rules) m.done) };
+
+    /// The outputs of all rows, in order.
+    fn outputs(&self) -> &[Out]
+        requires { IsTrue (settled self.now) }
+        ensures { (m : Standing) → stands_for self.now m → IsDone m × (result.now ≡ outputs_of m.done) };
+
+    /// What is done is a front of the run.
+    ghost done_is_front: { (value : Self) (m : Standing) → stands_for value m → IsFront m };
+}

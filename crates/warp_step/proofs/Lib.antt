@@ -1,0 +1,3 @@
+pub mod ValidLemmas
+pub mod TraceLemmas
+pub mod TraceExists

@@ -1,0 +1,43 @@
+-- What a valid program's numbers are good for.
+use Rattle.std.proofs.Common.{◌≡◌, ℕ, zero, suc, ◌+◌, ◌<◌, ◌≤◌, Bool, true, false, ◌&&◌, not, cond, List, [], ◌∷◌, length, get_or, map, ap, sym, ◌∙◌, refl, nat_lt, arith, rules, IsTrue, add-one}
+use Rattle.std.specs.List.{list_all, list_any}
+use Rattle.std.proofs.lemmas.List.{get_or-map}
+use Rattle.std.proofs.lemmas.Bool.Decides.{nat_tests}
+use Rattle.std.proofs.lemmas.Grind.{common_steps}
+use Rattle.warp_step.specs.Rules.{Rules, Rule}
+use Rattle.warp_step.specs.Valid.{is_valid, rule_fits, input_fits, is_distinct, program_sizes}
+use Rattle.warp_step.specs.declared.reaction.ProgramInput.{ProgramInput}
+
+-- what a test of all elements says of the one at an index
+pub list_all_get : {X : Type 0} (p : X → Bool) (xs : List X) (i : ℕ) (d : X) → IsTrue (list_all p xs) → i < length xs → IsTrue (p (get_or xs i d))
+list_all_get p [] i d h lt = absurd (omega arith)
+list_all_get p (x ∷ xs) zero d h lt = grind (arith, nat_tests)
+list_all_get p (x ∷ xs) (suc i) d h lt =
+    let rest : IsTrue (list_all p xs) = grind (arith, nat_tests) in
+    let less : i < length xs = omega arith in
+    list_all_get p xs i d rest less
+
+-- the parts of a valid program
+pub record Parts (P : Rules) : Type 0 where
+  pub stop : P.stop ≤ 1000000
+  pub ports : P.ports ≤ 256
+  pub outputs_few : length P.outputs ≤ 64
+  pub reactions : IsTrue (list_all (rule_fits P) P.reactions)
+  pub inputs : IsTrue (list_all (input_fits P) P.inputs)
+  pub outputs : IsTrue (list_all (λ p. nat_lt p P.ports) P.outputs)
+
+pub parts : (P : Rules) → IsTrue (is_valid P) → Parts P
+parts P h = record {
+  stop = grind (arith, nat_tests);
+  ports = grind (arith, nat_tests);
+  outputs_few = grind (arith, nat_tests);
+  reactions = grind (arith, nat_tests);
+  inputs = grind (arith, nat_tests);
+  outputs = grind (arith, nat_tests);
+}
+
+-- an input's port is one of the program's
+pub input_port : (P : Rules) (k : ℕ) (d : ProgramInput) → IsTrue (is_valid P) → k < length P.inputs → (get_or P.inputs k d).port < P.ports
+input_port P k d h lt =
+    let fits : IsTrue (input_fits P (get_or P.inputs k d)) = list_all_get (input_fits P) P.inputs k d (parts P h).inputs lt in
+    grind (arith, nat_tests)

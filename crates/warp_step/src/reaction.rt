@@ -1,0 +1,72 @@
+ghost use Rattle.std.specs.Prelude.{◌≡◌, ◌↔◌, IsTrue, IfOk, map};
+ghost use Rattle.warp_step.specs.Rules.{Rule, rule_of};
+
+use std::alloc::Global;
+use warp_body::{Stmt, copy_body, same_body};
+use warp_tag::OutOfMemory;
+
+/// A reaction: it runs at a tag at which one of its triggers is present.
+#[derive(Debug, Drop)]
+pub struct Reaction {
+    /// The numbers of the input ports that trigger it.
+    pub triggers: Vec<u32>,
+    /// What it does.
+    pub body: Vec<Stmt>,
+}
+
+/// A program input: events of its origin arrive at its port.
+#[derive(Clone, Copy, Debug, PartialEq, Eq)]
+pub struct ProgramInput {
+    /// The origin that it belongs to.
+    pub origin: u32,
+    /// The number of the port.
+    pub port: u32,
+}
+
+impl Reaction {
+    /// The same reaction.
+    fn copy(&self, alloc: Global) -> Result<Reaction, OutOfMemory>
+        ensures { IfOk result (λ r. rule_of r ≡ rule_of self.now) }
+    {
+        let triggers = self.triggers.as_slice().to_vec(alloc)?;
+        let body = copy_body(alloc, &self.body)?;
+        Ok(Reaction { triggers, body })
+    }
+
+    /// Whether two reactions are the same.
+    fn is_same(&self, other: &Reaction) -> bool
+        ensures { IsTrue result ↔ (rule_of self.now ≡ rule_of other.now) }
+    {
+        self.triggers == other.triggers && same_body(&self.body, &other.body)
+    }
+}
+
+/// The same reactions.
+pub(crate) fn copy_reactions(
+    alloc: Global,
+    reactions: &[Reaction],
+) -> Result<Vec<Reaction>, OutOfMemory>
+    ensures { IfOk result (λ copy. map rule_of copy.items ≡ map rule_of reactions.now) }
+{
+    let mut copy = Vec::with_capacity(alloc, reactions.len())?;
+    for reaction in reactions {
+        let next = reaction.copy(alloc)?;
+        copy.push(next)?;
+    }
+    Ok(copy)
+}
+
+/// Whether two lists of reactions are the same.
+pub(crate) fn same_reactions(a: &[Reaction], b: &[Reaction]) -> bool
+    ensures { IsTrue result ↔ (map rule_of a.now ≡ map rule_of b.now) }
+{
+    if a.len() != b.len() {
+        return false;
+    }
+    for i in 0..a.len() {
+        if !a[i].is_same(&b[i]) {
+            return false;
+        }
+    }
+    true
+}
