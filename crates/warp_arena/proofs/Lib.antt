@@ -5,3 +5,9 @@ pub mod Shapes
 pub mod Walks
 pub mod Inserting
 pub mod Removing
+pub mod Setting
+pub mod Reading
+pub mod Wholes
+pub mod Inserted
+pub mod Removed
+pub mod Changed

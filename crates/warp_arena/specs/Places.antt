@@ -1,8 +1,9 @@
 -- What an arena holds, as contracts see it: the entries in order, each with the handle that names it.
-use Rattle.std.specs.Prelude.{ℕ, Bool, ◌==◌, ◌&&◌, not, Option, Some, None, List, [], ◌∷◌, if◌then◌else◌, IsTrue, IsSome, find, filter, map}
+use Rattle.std.specs.Prelude.{ℕ, ◌<◌, nat_eq, unwrap_or, Bool, ◌==◌, ◌&&◌, not, Option, Some, None, List, [], ◌∷◌, if◌then◌else◌, IsTrue, IsSome, find, filter, map}
 use Rattle.std.specs.Option.{option_map}
+use Rattle.std.specs.List.{AllByRecursion, IsDistinct}
 use Rattle.warp_tag.specs.Moment.{Moment, is_before}
-use Rattle.warp_tag.specs.Table.{name_before, has_name}
+use Rattle.warp_tag.specs.Table.{name_before, has_name, IsTable}
 use Rattle.warp_tag.specs.declared.entry.Entry.{Entry}
 
 -- an entry, and the handle that names it
@@ -72,3 +73,14 @@ places_past tag places = filter (λ p. is_before tag p.entry.tag) places
 -- the places whose tag is not after this one
 abbrev pub places_through : Moment → List Place → List Place
 places_through tag places = filter (λ p. not (is_before tag p.entry.tag)) places
+
+-- the origin of the entry that the handle names
+abbrev pub origin_of : ℕ → List Place → ℕ
+origin_of node places = unwrap_or (option_map (λ e. e.origin) (entry_of node places)) 0
+
+-- the entries are in order of tag, then of origin, each name once; each is of an origin of the arena; each has a
+-- handle of its own
+pub record IsOrdered (a : Contents) : Type 0 where
+  pub table : IsTable (entries_of a.places)
+  pub declared : AllByRecursion (λ p. p.entry.origin < a.origins) a.places
+  pub handles : IsDistinct nat_eq (map (λ p. p.node) a.places)

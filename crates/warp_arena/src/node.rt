@@ -1,5 +1,5 @@
 use std::marker::Model;
-use warp_tag::Entry;
+use warp_tag::{Entry, Tag};
 
 /// The most entries that an arena holds.
 pub const MAX_USED: usize = 4_000_000_000;
@@ -64,4 +64,24 @@ pub(crate) struct Node {
     pub entry: Entry,
     pub by_tag: Links,
     pub of_origin: Links,
+}
+
+impl Node {
+    ghost use Rattle.std.specs.Prelude.{◌≡◌};
+
+    /// A node that no list holds.
+    pub fn unused() -> Node
+        ensures { result.by_tag.next ≡ NO_NODE }
+    {
+        Node {
+            entry: Entry {
+                origin: 0,
+                tag: Tag::new(0, 0).unwrap(),
+                event: None,
+                withdrawn: false,
+            },
+            by_tag: Links::EMPTY,
+            of_origin: Links::EMPTY,
+        }
+    }
 }

@@ -1,1 +1,4 @@
 pub mod Timeline
+pub mod Replay
+pub mod Plain
+pub mod PlainFront

@@ -4,6 +4,10 @@
 //! each change: the slow twin that other timelines are compared with.
 #![tactic(auto)]
 
+mod plain;
+mod replay;
+mod table;
 mod timeline;
 
+pub use plain::Plain;
 pub use timeline::Timeline;

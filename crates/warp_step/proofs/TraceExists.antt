@@ -1,5 +1,5 @@
 -- A trace that fits: from each row to the least tag that an event after it has, until no event is left.
-use Rattle.std.proofs.Common.{◌≡◌, ◌⊎◌, inl, inr, ℕ, zero, suc, ◌+◌, ◌<◌, ◌≤◌, Bool, true, false, ◌&&◌, ◌||◌, not, List, [], ◌∷◌, map, ap, sym, ◌∙◌, refl, nat_lt, subst, arith, rules, IsTrue, Option, Some, None, filter}
+use Rattle.std.proofs.Common.{◌≡◌, ◌⊎◌, inl, inr, ℕ, zero, suc, ◌+◌, ◌<◌, ◌≤◌, Bool, true, false, ◌&&◌, ◌||◌, not, List, [], ◌∷◌, length, map, ap, sym, ◌∙◌, refl, nat_lt, subst, arith, rules, IsTrue, Option, Some, None, filter}
 use Rattle.std.specs.Prelude.{if◌then◌else◌, ◌==◌}
 use Rattle.std.specs.List.{list_any}
 use Rattle.std.proofs.lemmas.Bool.Decides.{nat_tests}
@@ -122,7 +122,7 @@ next_or_none last (e ∷ es) = elim (split (is_after last e.tag)) [
 ]
 
 -- how many events are after the last row
-abbrev left : Option Moment → List Event → ℕ
+abbrev pub left : Option Moment → List Event → ℕ
 left last [] = 0
 left last (e ∷ es) = (if is_after last e.tag then 1 else 0) + left last es
 
@@ -177,6 +177,23 @@ end_quiet E last s quiet none t = elim (split (is_after last t)) [
 -- nothing pending stays nothing pending
 pub stays_quiet : (P : Rules) (s : Snapshot) (t : Moment) (E : List Event) → s.pending ≡ [] → (state_after P s t (given_at t E)).pending ≡ []
 stays_quiet P s t E quiet = rw quiet refl
+
+-- a run has no more rows than events that are left
+pub rows_left : (P : Rules) (E : List Event) (last : Option Moment) (s : Snapshot) (rows : List Row) → s.pending ≡ [] → RunFrom P E last s rows → length rows ≤ left last E
+rows_left P E last s [] quiet run = omega arith
+rows_left P E last s (r ∷ rows) quiet run =
+    let w = waits_quiet E last s r.tag quiet in
+    let next = run.0.waiting in
+    let after : is_after last r.tag ≡ true = grind (arith, nat_tests) in
+    let there : stands r.tag E ≡ true = grind (arith, nat_tests) in
+    let fewer_left : left (Some r.tag) E < left last E = less last r.tag E after there in
+    let still : r.state.pending ≡ [] = ap (λ (x : Snapshot). x.pending) run.1.state ∙ stays_quiet P s r.tag E quiet in
+    let rest : length rows ≤ left (Some r.tag) E = rows_left P E (Some r.tag) r.state rows still run.2 in
+    omega arith
+
+pub left_few : (last : Option Moment) (E : List Event) → left last E ≤ length E
+left_few last [] = omega arith
+left_few last (e ∷ es) = let rest = left_few last es in grind (arith, nat_tests)
 
 -- the rows from here on, with so many events left at the most
 pub exists_from : (n : ℕ) (P : Rules) (E : List Event) (last : Option Moment) (s : Snapshot) → s.pending ≡ [] → left last E ≤ n → (rows : List Row) × RunFrom P E last s rows

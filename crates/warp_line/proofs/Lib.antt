@@ -1,0 +1,6 @@
+pub mod LiveLemmas
+pub mod ReplayLemmas
+pub mod RunLemmas
+pub mod ProgressLemmas
+pub mod TableLemmas
+pub mod PlainLemmas

@@ -1,0 +1,21 @@
+-- the rows so far are a front of the run, and the entries that are left are a table
+use Rattle.std.proofs.Common.{◌≡◌, ℕ, length, IsTrue}
+use Rattle.std.specs.List.{list_all}
+use Rattle.warp_tag.specs.Table.{IsTable, live}
+use Rattle.warp_step.specs.Program.{rules_of}
+use Rattle.warp_step.specs.Snapshot.{IsStateOf}
+use Rattle.warp_line.specs.Replay.{event_fits}
+use Rattle.warp_line.proofs.ProgressLemmas.{Progress}
+use Rattle.warp_line.proofs.replay.replay.Given as goal
+
+abbrev pub invariant-rows : goal.invariant-rows
+invariant-rows g l = record {
+  progress : Progress (rules_of l.program) l.entries l.rest l.state l.outputs.items (g.M.Meter.ticks l.fn.meter) (g.M.Meter.ticks l.meter);
+  table : IsTable l.rest;
+  events : IsTrue (list_all (event_fits (rules_of l.program)) (live l.rest));
+  state : IsStateOf (rules_of l.program) l.state;
+  scratch : l.scratch ≡ (rules_of l.program).ports;
+}
+
+abbrev pub decreases-rows : goal.decreases-rows
+decreases-rows g l = length l.rest

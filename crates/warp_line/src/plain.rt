@@ -1,0 +1,76 @@
+use crate::replay::replay;
+use crate::table::note_event;
+use crate::timeline::Timeline;
+use std::alloc::Global;
+use warp_step::{Meter, Out, Program, State};
+use warp_tag::{Entry, OutOfMemory, Tag};
+
+/// The timeline that keeps a sorted table, and after a change runs from the start.
+#[derive(Drop)]
+pub struct Plain {
+    entries: Vec<Entry>,
+    state: State,
+    outputs: Vec<Out>,
+    settled: bool,
+}
+
+impl Timeline for Plain {
+    ghost use Rattle.warp_line.specs.Plain.{StandsFor, HasRoom};
+
+    ghost stands_for = { StandsFor };
+
+    ghost is_prepared = { HasRoom };
+
+    ghost settled = { λ p. p.settled };
+
+    ghost SLACK = { 4000000000 };
+
+    ghost use Rattle.warp_line.specs.PlainFront.{plain_front};
+
+    ghost done_is_front = { plain_front };
+
+    /// More than any run has rows.
+    const SLACK: u64 = 4_000_000_000;
+
+    fn start(alloc: Global, program: &Program) -> Result<Plain, OutOfMemory> {
+        let state = State::start(alloc, program)?;
+        Ok(Plain {
+            entries: Vec::new(alloc),
+            state,
+            outputs: Vec::new(alloc),
+            settled: true,
+        })
+    }
+
+    fn prepare(&mut self, _alloc: Global) -> Result<(), OutOfMemory> {
+        self.entries.try_reserve(1)
+    }
+
+    fn put(&mut self, origin: u32, tag: Tag, input: u32, value: i64) {
+        if note_event(&mut self.entries, origin, tag, input, value) {
+            self.settled = false;
+        }
+    }
+
+    fn settle<M: Meter>(&mut self, alloc: Global, program: &Program, meter: &mut M) -> Result<(), OutOfMemory> {
+        if !self.settled {
+            let (state, outputs) = replay(alloc, program, &self.entries, meter)?;
+            self.state = state;
+            self.outputs = outputs;
+            self.settled = true;
+        }
+        Ok(())
+    }
+
+    fn is_settled(&self) -> bool {
+        self.settled
+    }
+
+    fn state(&self) -> &State {
+        &self.state
+    }
+
+    fn outputs(&self) -> &[Out] {
+        &self.outputs
+    }
+}
