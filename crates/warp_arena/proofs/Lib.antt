@@ -11,3 +11,7 @@ pub mod Wholes
 pub mod Inserted
 pub mod Removed
 pub mod Changed
+pub mod Freeing
+pub mod Growing
+pub mod Finding
+pub mod Handles

@@ -1,18 +1,16 @@
 -- What the calls that read a node find there.
-use Rattle.std.proofs.Common.{◌≡◌, ◌≢◌, ◌⊎◌, ℕ, zero, suc, ◌+◌, ◌-◌, ◌<◌, ◌≤◌, Bool, true, false, cond, eqb, ltb, List, [], ◌∷◌, ◌++◌, length, refl, sym, ap, ◌∙◌, subst, inl, inr, arith, map, filter, append_assoc, get_or, Option, Some, None, IsSome, find, unwrap_or}
+use Rattle.std.proofs.Common.{◌≡◌, ◌≢◌, ℕ, ◌<◌, cond, eqb, List, [], ◌∷◌, ◌++◌, length, refl, sym, ap, ◌∙◌, subst, inl, inr, map, append_assoc, Some, None, IsSome, find, unwrap_or}
 use Rattle.std.specs.List.{AllByRecursion}
 use Rattle.std.specs.Option.{option_map}
-use Rattle.std.proofs.lemmas.Bool.{cases_eq, cases_Bool, cases_lt, lt-ltb, le-ltb, eq-eqb, ne_eqb, false≢true}
-use Rattle.std.proofs.lemmas.List.{append-nil, map-append}
+use Rattle.std.proofs.lemmas.Bool.{cases_eq, eq-eqb, ne_eqb, false≢true}
 use Rattle.warp_tag.specs.declared.entry.Entry.{Entry}
 use Rattle.warp_arena.specs.declared.arena.Arena.TheInside.{Inside}
 use Rattle.warp_arena.specs.declared.node.Links.{Links}
-use Rattle.warp_arena.specs.declared.node.Node.{Node}
 use Rattle.warp_arena.specs.declared.node.TheConstants.{NO_NODE}
-use Rattle.warp_arena.specs.Places.{Place, Contents, places_of, entry_of, origin_of, first_node, last_node, places_after, places_before}
-use Rattle.warp_arena.specs.Shape.{Threads, IsArena, IsWhole, used_of, unused_of, threads_of, members, place_at, IsChain, last_or, first_or, next_in, prev_in}
-use Rattle.warp_arena.proofs.Rings.{IsOff, IsApart, All-left, All-right, All-append, IsChain-split, All-weaker, by_last, last_or-push, IsOff-front}
-use Rattle.warp_arena.proofs.Tables.{All-filter, places_of-members}
+use Rattle.warp_arena.specs.Places.{Place, places_of, entry_of, origin_of, first_node, last_node, places_after, places_before}
+use Rattle.warp_arena.specs.Shape.{IsWhole, members, place_at, IsChain, last_or, first_or, next_in, prev_in}
+use Rattle.warp_arena.proofs.Rings.{IsOff, All-left, All-right, IsChain-split, by_last, last_or-push}
+use Rattle.warp_arena.proofs.Tables.{places_of-members}
 use Rattle.warp_arena.proofs.Shapes.{members-append, members_here}
 use Rattle.warp_arena.proofs.Walks.{Listed, threads, used, owned, Listed-tags, Listed-origin, next_in-at, prev_in-at}
 
@@ -23,7 +21,7 @@ pub record Found (i : ℕ) (is : List ℕ) : Type 0 where
   pub parts : is ≡ front ++ i ∷ back
   pub off : IsOff i front
 
-entry_of-here : (p : Place) (ps : List Place) (i : ℕ) → p.node ≡ i → entry_of i (p ∷ ps) ≡ Some p.entry
+pub entry_of-here : (p : Place) (ps : List Place) (i : ℕ) → p.node ≡ i → entry_of i (p ∷ ps) ≡ Some p.entry
 entry_of-here p ps i e = ap (λ b. option_map (λ (q : Place). q.entry) (cond b (Some p) (find (λ q. eqb q.node i) ps))) (eq-eqb p.node i e)
 
 pub entry_of-other : (p : Place) (ps : List Place) (i : ℕ) → p.node ≢ i → entry_of i (p ∷ ps) ≡ entry_of i ps
@@ -106,13 +104,13 @@ module _ (size : ℕ) (ends : Links) (links : ℕ → Links) (is : List ℕ) (l 
       sym (next_in-at ends links i found_not_none)
       ∙ ap (next_in ends links) (sym (last_or-push NO_NODE front i))
       ∙ (IsChain-split (next_in ends links) (prev_in ends links) NO_NODE (front ++ i ∷ []) back NO_NODE
-          (subst (λ js. IsChain (next_in ends links) (prev_in ends links) NO_NODE js NO_NODE) whole l.chain)).0
+      (subst (λ js. IsChain (next_in ends links) (prev_in ends links) NO_NODE js NO_NODE) whole l.chain)).0
 
   pub found_prev : (links i).prev ≡ last_or NO_NODE front
   found_prev =
       sym (prev_in-at ends links i found_not_none)
       ∙ (IsChain-split (next_in ends links) (prev_in ends links) NO_NODE front (i ∷ back) NO_NODE
-          (subst (λ js. IsChain (next_in ends links) (prev_in ends links) NO_NODE js NO_NODE) parts l.chain)).1
+      (subst (λ js. IsChain (next_in ends links) (prev_in ends links) NO_NODE js NO_NODE) parts l.chain)).1
 
 -- the places of an arena
 abbrev pub places : Inside → List Place
@@ -134,39 +132,39 @@ module _ (a : Inside) (w : IsWhole (threads a) a.used) (i : ℕ) (h : IsSome (en
   pub next_found : (k : ℕ) → k ≡ ((threads a).links i).next → cond (eqb k NO_NODE) None (Some k) ≡ first_node (places_after i (places a))
   next_found k e =
       handle_first (threads a).entry found.back k
-        (e ∙ found_next (length a.nodes.items) a.ends (threads a).links (used a) (Listed-tags a w) i found.front found.back found.parts)
-        (back_not_none (length a.nodes.items) a.ends (threads a).links (used a) (Listed-tags a w) i found.front found.back found.parts)
+      (e ∙ found_next (length a.nodes.items) a.ends (threads a).links (used a) (Listed-tags a w) i found.front found.back found.parts)
+      (back_not_none (length a.nodes.items) a.ends (threads a).links (used a) (Listed-tags a w) i found.front found.back found.parts)
       ∙ ap first_node
-        (sym (ap (λ is. places_after i (map (place_at (threads a).entry) is)) found.parts ∙ places_after-at (threads a).entry i found.front found.back found.off))
+      (sym (ap (λ is. places_after i (map (place_at (threads a).entry) is)) found.parts ∙ places_after-at (threads a).entry i found.front found.back found.off))
 
   pub prev_found : (k : ℕ) → k ≡ ((threads a).links i).prev → cond (eqb k NO_NODE) None (Some k) ≡ last_node (places_before i (places a))
   prev_found k e =
       handle_last (threads a).entry found.front k
-        (e ∙ found_prev (length a.nodes.items) a.ends (threads a).links (used a) (Listed-tags a w) i found.front found.back found.parts)
-        (front_not_none (length a.nodes.items) a.ends (threads a).links (used a) (Listed-tags a w) i found.front found.back found.parts)
+      (e ∙ found_prev (length a.nodes.items) a.ends (threads a).links (used a) (Listed-tags a w) i found.front found.back found.parts)
+      (front_not_none (length a.nodes.items) a.ends (threads a).links (used a) (Listed-tags a w) i found.front found.back found.parts)
       ∙ ap last_node
-        (sym (ap (λ is. places_before i (map (place_at (threads a).entry) is)) found.parts ∙ places_before-at (threads a).entry i found.front found.back found.off))
+      (sym (ap (λ is. places_before i (map (place_at (threads a).entry) is)) found.parts ∙ places_before-at (threads a).entry i found.front found.back found.off))
 
   pub next_of_origin_found : (k : ℕ) → k ≡ ((threads a).own_links i).next → cond (eqb k NO_NODE) None (Some k) ≡ first_node (places_of (origin_of i (places a)) (places_after i (places a)))
   next_of_origin_found k e =
       let o : ℕ = ((threads a).entry i).origin in
       let declared : o < length a.origin_ends.items =
-          (All-right (λ j. ((threads a).entry j).origin < length a.origin_ends.items) found.front (i ∷ found.back)
-            (subst (AllByRecursion (λ j. ((threads a).entry j).origin < length a.origin_ends.items)) found.parts w.shape.declared)).0 in
+      (All-right (λ j. ((threads a).entry j).origin < length a.origin_ends.items) found.front (i ∷ found.back)
+      (subst (AllByRecursion (λ j. ((threads a).entry j).origin < length a.origin_ends.items)) found.parts w.shape.declared)).0 in
       let ms : List ℕ = members (threads a).entry o found.front in
       let ns : List ℕ = members (threads a).entry o found.back in
       let parts : owned a o ≡ ms ++ i ∷ ns =
-          ap (members (threads a).entry o) found.parts
-          ∙ members-append (threads a).entry o found.front (i ∷ found.back)
-          ∙ ap (λ is. ms ++ is) (members_here (threads a).entry o i found.back refl) in
+      ap (members (threads a).entry o) found.parts
+      ∙ members-append (threads a).entry o found.front (i ∷ found.back)
+      ∙ ap (λ is. ms ++ is) (members_here (threads a).entry o i found.back refl) in
       let l = Listed-origin a w o declared in
       let origin : origin_of i (places a) ≡ o = ap (λ d. unwrap_or (option_map (λ (x : Entry). x.origin) d) 0) entry_found in
       let after : places_after i (places a) ≡ map (place_at (threads a).entry) found.back =
-          ap (λ is. places_after i (map (place_at (threads a).entry) is)) found.parts ∙ places_after-at (threads a).entry i found.front found.back found.off in
+      ap (λ is. places_after i (map (place_at (threads a).entry) is)) found.parts ∙ places_after-at (threads a).entry i found.front found.back found.off in
       handle_first (threads a).entry ns k
-        (e ∙ found_next (length a.nodes.items) ((threads a).own_ends o) (threads a).own_links (owned a o) l i ms ns parts)
-        (back_not_none (length a.nodes.items) ((threads a).own_ends o) (threads a).own_links (owned a o) l i ms ns parts)
+      (e ∙ found_next (length a.nodes.items) ((threads a).own_ends o) (threads a).own_links (owned a o) l i ms ns parts)
+      (back_not_none (length a.nodes.items) ((threads a).own_ends o) (threads a).own_links (owned a o) l i ms ns parts)
       ∙ ap first_node (sym (
-          ap (λ q. places_of q (places_after i (places a))) origin
-          ∙ ap (places_of o) after
-          ∙ places_of-members (threads a).entry o found.back))
+      ap (λ q. places_of q (places_after i (places a))) origin
+      ∙ ap (places_of o) after
+      ∙ places_of-members (threads a).entry o found.back))

@@ -1,5 +1,5 @@
 -- The arena after its first node is freed.
-use Rattle.std.proofs.Common.{◌≡◌, ◌≢◌, ℕ, zero, suc, ◌+◌, ◌-◌, ◌<◌, ◌≤◌, Bool, true, false, cond, eqb, List, [], ◌∷◌, ◌++◌, length, refl, sym, ap, ◌∙◌, subst, arith, map, get_or, set, drop}
+use Rattle.std.proofs.Common.{◌≡◌, ◌≢◌, ℕ, zero, suc, ◌+◌, ◌-◌, ◌<◌, eqb, List, [], ◌∷◌, length, refl, sym, ap, ◌∙◌, subst, arith, map, get_or, set, drop}
 use Rattle.std.specs.List.{AllByRecursion}
 use Rattle.std.proofs.lemmas.List.{length-set, length-map}
 use Rattle.warp_tag.specs.declared.entry.Entry.{Entry}
@@ -9,7 +9,7 @@ use Rattle.warp_arena.specs.declared.node.Node.{Node}
 use Rattle.warp_arena.specs.declared.node.TheConstants.{NO_NODE}
 use Rattle.warp_arena.specs.Changes.{Unthreaded, IsPlace}
 use Rattle.warp_arena.specs.Places.{Place, Contents}
-use Rattle.warp_arena.specs.Shape.{Threads, IsArena, IsWhole, threads_of, contents_of, used_of, unused_of, entry_at, by_tag, of_origin, place_at, first_or, members, no_links, next_in, prev_in, walk, IsChain, free_ends}
+use Rattle.warp_arena.specs.Shape.{IsArena, IsWhole, threads_of, contents_of, used_of, unused_of, entry_at, place_at, members, no_links, next_in, prev_in, walk, IsChain, free_ends}
 use Rattle.warp_arena.proofs.Rings.{All-weaker, first_holds, IsChain-split, length-walk}
 use Rattle.warp_arena.proofs.Tables.{All-filter, map_agree}
 use Rattle.warp_arena.proofs.Shapes.{all_used_below, none_used, members_here}
@@ -62,7 +62,7 @@ pub record Unthreadable (size origins : ℕ) (next own_next : ℕ → ℕ) (o x 
 after_first : (size : ℕ) (next prev : ℕ → ℕ) (x : ℕ) (rest : List ℕ) → IsChain next prev NO_NODE (x ∷ rest) NO_NODE → AllByRecursion (λ i. i < size) rest → IsPlace size (next x)
 after_first size next prev x rest chain below =
     subst (IsPlace size) (sym (IsChain-split next prev NO_NODE (x ∷ []) rest NO_NODE chain).0)
-      (first_holds (IsPlace size) rest NO_NODE (All-weaker (λ i. i < size) (IsPlace size) (λ i h _. h) rest below) (λ n. absurd (n refl)))
+    (first_holds (IsPlace size) rest NO_NODE (All-weaker (λ i. i < size) (IsPlace size) (λ i h _. h) rest below) (λ n. absurd (n refl)))
 
 pub unthreadable : (a : Inside) (l : Leaving a) → Unthreadable (length a.nodes.items) (length a.origin_ends.items) (next_in a.ends (threads a).links)
     (next_in (get_or a.origin_ends.items ((threads a).entry a.ends.next).origin no_links) (threads a).own_links) ((threads a).entry a.ends.next).origin a.ends.next
@@ -72,45 +72,44 @@ unthreadable a l =
     let o : ℕ = (t.entry x).origin in
     let below = all_used_below t (x ∷ l.rest) l.fs l.shape in
     let own_chain = subst (λ is. IsChain (next_in (t.own_ends o) t.own_links) (prev_in (t.own_ends o) t.own_links) NO_NODE is NO_NODE)
-        (members_here t.entry o x l.rest refl) (l.shape.own o l.shape.declared.0) in
+    (members_here t.entry o x l.rest refl) (l.shape.own o l.shape.declared.0) in
     record {
       at = below.0;
       node = (none_used t (x ∷ l.rest) l.fs l.shape).0;
       after = after_first t.size (next_in t.ends t.links) (prev_in t.ends t.links) x l.rest l.shape.spelled below.1;
       own_after =
-        after_first t.size (next_in (t.own_ends o) t.own_links) (prev_in (t.own_ends o) t.own_links) x (members t.entry o l.rest) own_chain
+          after_first t.size (next_in (t.own_ends o) t.own_links) (prev_in (t.own_ends o) t.own_links) x (members t.entry o l.rest) own_chain
           (All-filter (λ i. i < t.size) (λ i. eqb (t.entry i).origin o) l.rest below.1);
       declared = l.shape.declared.0;
     }
 
 module _ (a : Inside) (l : Leaving a) (new : List Node) (own ends' e' : Links) (o : ℕ)
-  (is_own : ((threads a).entry a.ends.next).origin ≡ o)
-  (own_is : own ≡ get_or a.origin_ends.items o no_links)
-  (change : Unthreaded a.nodes.items new a.ends ends' own e' a.ends.next a.free)
+    (is_own : ((threads a).entry a.ends.next).origin ≡ o)
+    (own_is : own ≡ get_or a.origin_ends.items o no_links)
+    (change : Unthreaded a.nodes.items new a.ends ends' own e' a.ends.next a.free)
   where
-
-  shape' : IsArena (threads_of new (set a.origin_ends.items o e') ends' a.ends.next) l.rest (a.ends.next ∷ l.fs)
-  shape' =
-      IsArena-remove a.nodes.items new a.origin_ends.items a.ends ends' e' a.free o a.ends.next l.rest l.fs l.shape is_own
+    shape' : IsArena (threads_of new (set a.origin_ends.items o e') ends' a.ends.next) l.rest (a.ends.next ∷ l.fs)
+    shape' =
+        IsArena-remove a.nodes.items new a.origin_ends.items a.ends ends' e' a.free o a.ends.next l.rest l.fs l.shape is_own
         (subst (λ k. Unthreaded a.nodes.items new a.ends ends' k e' a.ends.next a.free) own_is change)
 
-  pub whole_removed : IsWhole (threads_of new (set a.origin_ends.items o e') ends' a.ends.next) (a.used - 1)
-  whole_removed =
-      IsWhole-from (threads_of new (set a.origin_ends.items o e') ends' a.ends.next) l.rest (a.ends.next ∷ l.fs) (a.used - 1) shape'
+    pub whole_removed : IsWhole (threads_of new (set a.origin_ends.items o e') ends' a.ends.next) (a.used - 1)
+    whole_removed =
+        IsWhole-from (threads_of new (set a.origin_ends.items o e') ends' a.ends.next) l.rest (a.ends.next ∷ l.fs) (a.used - 1) shape'
         (omega (arith, l.len)) (omega (arith, l.len, l.free_len, change.len))
 
-  pub contents_removed : contents_of (threads_of new (set a.origin_ends.items o e') ends' a.ends.next) (a.used - 1)
-      ≡ record { origins = length a.origin_ends.items; places = drop 1 (places a); free = length a.nodes.items - a.used + 1 }
-  contents_removed =
-      let t' = threads_of new (set a.origin_ends.items o e') ends' a.ends.next in
-      let place : ℕ → Place = place_at (threads a).entry in
-      let place' : ℕ → Place = place_at (entry_at new) in
-      let same : map place' l.rest ≡ map place l.rest =
-          map_agree place place' l.rest
-            (All-same place place' l.rest (λ i. ap (λ (e : Entry). let q : Place = record { node = i; entry = e } in q) (change.entries i))) in
-      same_contents (length (set a.origin_ends.items o e')) (length a.origin_ends.items) (map place' (used_of t' (a.used - 1))) (drop 1 (places a))
+    pub contents_removed : contents_of (threads_of new (set a.origin_ends.items o e') ends' a.ends.next) (a.used - 1)
+        ≡ record { origins = length a.origin_ends.items; places = drop 1 (places a); free = length a.nodes.items - a.used + 1 }
+    contents_removed =
+        let t' = threads_of new (set a.origin_ends.items o e') ends' a.ends.next in
+        let place : ℕ → Place = place_at (threads a).entry in
+        let place' : ℕ → Place = place_at (entry_at new) in
+        let same : map place' l.rest ≡ map place l.rest =
+        map_agree place place' l.rest
+        (All-same place place' l.rest (λ i. ap (λ (e : Entry). let q : Place = record { node = i; entry = e } in q) (change.entries i))) in
+        same_contents (length (set a.origin_ends.items o e')) (length a.origin_ends.items) (map place' (used_of t' (a.used - 1))) (drop 1 (places a))
         (length new - (a.used - 1)) (length a.nodes.items - a.used + 1)
         (length-set a.origin_ends.items o e')
         (ap (map place') (used_is t' l.rest (a.ends.next ∷ l.fs) (a.used - 1) shape' (omega (arith, l.len))) ∙ same
-          ∙ sym (ap (λ is. drop 1 (map place is)) l.parts))
+        ∙ sym (ap (λ is. drop 1 (map place is)) l.parts))
         (omega (arith, l.len, l.free_len, change.len))

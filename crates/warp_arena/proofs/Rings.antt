@@ -1,5 +1,5 @@
 -- Chains of links: what they say of each place, and what is left of them after a change.
-use Rattle.std.proofs.Common.{◌≡◌, ◌≢◌, ◌⊎◌, ℕ, zero, suc, ◌+◌, ◌-◌, ◌<◌, ◌≤◌, Bool, true, false, cond, eqb, ltb, List, [], ◌∷◌, ◌++◌, length, refl, sym, ap, ◌∙◌, subst, inl, inr, arith, eq-eqb, ne_eqb, count_by}
+use Rattle.std.proofs.Common.{◌≡◌, ◌≢◌, ◌⊎◌, ℕ, zero, suc, ◌+◌, ◌<◌, ◌≤◌, cond, eqb, List, [], ◌∷◌, ◌++◌, length, refl, sym, ap, ◌∙◌, subst, inl, inr, arith, eq-eqb, ne_eqb}
 use Rattle.std.specs.List.{AllByRecursion}
 use Rattle.std.proofs.lemmas.Bool.{cases_eq}
 use Rattle.warp_arena.specs.Changes.{Inserts, Skips}
@@ -98,33 +98,41 @@ module _ (next prev next' prev' : ℕ → ℕ) (b x a : ℕ) (s : Inserts next p
   pub IsChain-insert : (from : ℕ) (xs ys : List ℕ) (to : ℕ) → IsChain next prev from (xs ++ ys) to → last_or from xs ≡ b → first_or ys to ≡ a → from ≢ x → IsOff x (xs ++ ys) → to ≢ x → IsOff from (xs ++ ys) → IsApart (xs ++ ys) → IsOff to (xs ++ ys) → IsChain next' prev' from (xs ++ x ∷ ys) to
   IsChain-insert from [] [] to p eb ea fx ox tx of ap' ot =
       (ap next' eb ∙ s.into, s.back_out ∙ sym eb, (s.out ∙ sym ea, ap prev' ea ∙ s.back_into))
-  IsChain-insert from [] (y ∷ ys) to p eb ea fx ox tx of ap' ot =
-      (ap next' eb ∙ s.into, s.back_out ∙ sym eb,
-       (s.out ∙ sym ea, ap prev' ea ∙ s.back_into,
-        IsChain-frame next prev next' prev' y ys to p.2
+  IsChain-insert from [] (y ∷ ys) to p eb ea fx ox tx of ap' ot = (
+    ap next' eb ∙ s.into,
+    s.back_out ∙ sym eb,
+    (
+      s.out ∙ sym ea,
+      ap prev' ea ∙ s.back_into,
+      IsChain-frame next prev next' prev' y ys to p.2
           (s.nexts y (λ e. of.0 (e ∙ sym eb)) ox.0)
           (nexts_all ys (subst (λ k. IsOff k ys) eb of.1) ox.1)
           (prevs_all ys (subst (λ k. IsOff k ys) ea ap'.0) ox.1)
-          (s.prevs to (λ e. ot.0 (ea ∙ sym e)) tx)))
+          (s.prevs to (λ e. ot.0 (ea ∙ sym e)) tx),
+    ),
+  )
   IsChain-insert from (k ∷ xs) ys to p eb ea fx ox tx of ap' ot =
       let at_end : last_or k xs ≢ from = last_holds (λ i. i ≢ from) k xs of.0 (All-left (λ i. i ≢ from) xs ys of.1) in
-      let at_start : first_or ys to ≢ k = first_holds (λ i. i ≢ k) ys to (All-right (λ i. i ≢ k) xs ys ap'.0) (λ e. ot.0 (sym e)) in
-      (s.nexts from (λ e. at_end (eb ∙ sym e)) fx ∙ p.0,
-       s.prevs k (λ e. at_start (ea ∙ sym e)) ox.0 ∙ p.1,
-       IsChain-insert k xs ys to p.2 eb ea ox.0 ox.1 tx ap'.0 ap'.1 ot.1)
+      let at_start : first_or ys to ≢ k = first_holds (λ i. i ≢ k) ys to (All-right (λ i. i ≢ k) xs ys ap'.0) (λ e. ot.0 (sym e)) in (
+        s.nexts from (λ e. at_end (eb ∙ sym e)) fx ∙ p.0,
+        s.prevs k (λ e. at_start (ea ∙ sym e)) ox.0 ∙ p.1,
+        IsChain-insert k xs ys to p.2 eb ea ox.0 ox.1 tx ap'.0 ap'.1 ot.1,
+      )
 
 -- the chain after its first place went
 pub IsChain-skip : (next prev next' prev' : ℕ → ℕ) (from x : ℕ) (is : List ℕ) (to : ℕ) → Skips next prev next' prev' from x → IsChain next prev from (x ∷ is) to → IsOff from is → IsOff x is → IsApart is → IsOff to is → to ≢ x → IsChain next' prev' from is to
 IsChain-skip next prev next' prev' from x [] to s p of ox ap' ot tx =
     (s.into ∙ p.2.0, ap prev' (sym p.2.0) ∙ s.back_into)
 IsChain-skip next prev next' prev' from x (y ∷ ys) to s p of ox ap' ot tx =
-    let e : next x ≡ y = p.2.0 in
-    (s.into ∙ e, ap prev' (sym e) ∙ s.back_into,
-     IsChain-frame next prev next' prev' y ys to p.2.2
-       (s.nexts y of.0 ox.0)
-       (All-both (λ i. i ≢ from) (λ i. i ≢ x) (IsSame next next') (λ i f g. s.nexts i f g) ys of.1 ox.1)
-       (All-both (λ i. i ≢ y) (λ i. i ≢ x) (IsSame prev prev') (λ i f g. s.prevs i (λ h. f (h ∙ e)) g) ys ap'.0 ox.1)
-       (s.prevs to (λ h. ot.0 (sym (h ∙ e))) tx))
+    let e : next x ≡ y = p.2.0 in (
+      s.into ∙ e,
+      ap prev' (sym e) ∙ s.back_into,
+      IsChain-frame next prev next' prev' y ys to p.2.2
+          (s.nexts y of.0 ox.0)
+          (All-both (λ i. i ≢ from) (λ i. i ≢ x) (IsSame next next') (λ i f g. s.nexts i f g) ys of.1 ox.1)
+          (All-both (λ i. i ≢ y) (λ i. i ≢ x) (IsSame prev prev') (λ i f g. s.prevs i (λ h. f (h ∙ e)) g) ys ap'.0 ox.1)
+          (s.prevs to (λ h. ot.0 (sym (h ∙ e))) tx),
+    )
 
 -- ---- how often an index stands in a list
 
@@ -153,12 +161,13 @@ count-off x (i ∷ is) e = count_of-other x i is e.0 ∙ count-off x is e.1
 -- no index stands twice
 pub IsApart-count : (is : List ℕ) → ((x : ℕ) → count_of x is ≤ 1) → IsApart is
 IsApart-count [] h = tt
-IsApart-count (i ∷ is) h =
-    (IsOff-count i is (omega (arith, count_of-here i is, h i)),
-     IsApart-count is (λ x. elim (cases_eq i x) [
-       | inl same ↦ omega (arith, subst (λ k. count_of k is ≤ count_of k (i ∷ is)) same (omega (arith, count_of-here i is)), h x)
-       | inr other ↦ omega (arith, count_of-other x i is other, h x)
-     ]))
+IsApart-count (i ∷ is) h = (
+  IsOff-count i is (omega (arith, count_of-here i is, h i)),
+  IsApart-count is (λ x. elim (cases_eq i x) [
+    | inl same ↦ omega (arith, subst (λ k. count_of k is ≤ count_of k (i ∷ is)) same (omega (arith, count_of-here i is)), h x)
+    | inr other ↦ omega (arith, count_of-other x i is other, h x)
+  ]),
+)
 
 -- what holds of each index that stands in the list holds of all
 pub All-from_in : (P : ℕ → Type 0) (is : List ℕ) → ((i : ℕ) → 0 < count_of i is → P i) → AllByRecursion P is

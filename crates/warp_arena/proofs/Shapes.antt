@@ -1,17 +1,13 @@
 -- What the shape of an arena says of its lists.
-use Rattle.std.proofs.Common.{◌≡◌, ◌≢◌, ◌⊎◌, ℕ, zero, suc, ◌+◌, ◌-◌, ◌<◌, ◌≤◌, Bool, true, false, cond, eqb, ltb, List, [], ◌∷◌, ◌++◌, length, refl, sym, ap, ◌∙◌, subst, inl, inr, arith, map, filter, append_assoc}
+use Rattle.std.proofs.Common.{◌≡◌, ◌≢◌, ℕ, ◌+◌, ◌<◌, ◌≤◌, Bool, true, cond, eqb, List, [], ◌∷◌, ◌++◌, refl, sym, ap, ◌∙◌, subst, inl, inr, arith, filter}
 use Rattle.std.specs.List.{AllByRecursion}
-use Rattle.std.proofs.lemmas.Bool.{cases_eq, cases_Bool, cases_lt, lt-ltb, le-ltb, eq-eqb, ne_eqb, eqb-true}
-use Rattle.std.proofs.lemmas.List.{map-append, append-nil, length-append, length-map}
-use Rattle.warp_tag.specs.Moment.{Moment, is_before, is_same}
-use Rattle.warp_tag.specs.Table.{name_before, has_name, fresh, IsTable}
+use Rattle.std.proofs.lemmas.Bool.{cases_Bool, cases_lt, lt-ltb, le-ltb, eq-eqb, ne_eqb, eqb-true}
 use Rattle.warp_tag.specs.declared.entry.Entry.{Entry}
-use Rattle.warp_arena.specs.Places.{Place, places_of}
-use Rattle.warp_arena.specs.Shape.{Threads, IsArena, IsWhole, used_of, unused_of, count_of, members, place_at, IsChain, IsPath, last_or, first_or, next_in, prev_in, walk}
-use Rattle.warp_arena.specs.declared.node.TheConstants.{NO_NODE, MAX_USED}
-use Rattle.warp_arena.proofs.Rings.{IsOff, IsApart, All-both, All-weaker, All-append, All-left, All-right, All-from_in, All-at, IsChain-split, IsApart-count, IsOff-count, count_of-here, count_of-other, count_of-append, length-walk, walk_path, IsPath-chain}
+use Rattle.warp_arena.specs.Shape.{Threads, IsArena, count_of, members}
+use Rattle.warp_arena.specs.declared.node.TheConstants.{NO_NODE}
+use Rattle.warp_arena.proofs.Rings.{IsOff, IsApart, All-weaker, All-from_in, IsApart-count, IsOff-count}
 use Rattle.std.proofs.lemmas.List.Elements.{filter-append}
-use Rattle.warp_arena.proofs.Tables.{All-filter, All-kept, IsTable-members, filter-here, filter-past}
+use Rattle.warp_arena.proofs.Tables.{All-filter, All-kept, filter-here, filter-past}
 
 pub IsApart-filter : (p : ℕ → Bool) (is : List ℕ) → IsApart is → IsApart (filter p is)
 IsApart-filter p [] h = tt
@@ -94,7 +90,7 @@ members_past entry o i is e = filter-past (λ j. eqb (entry j).origin o) i is (n
 pub members_own : (entry : ℕ → Entry) (o : ℕ) (is : List ℕ) → AllByRecursion (λ i. (entry i).origin ≡ o) (members entry o is)
 members_own entry o is =
     All-weaker (λ i. eqb (entry i).origin o ≡ true) (λ i. (entry i).origin ≡ o) (λ i h. eqb-true (entry i).origin o h)
-      (members entry o is) (All-kept (λ i. eqb (entry i).origin o) is)
+    (members entry o is) (All-kept (λ i. eqb (entry i).origin o) is)
 
 -- a node of another origin is not a member
 pub members_not : (entry : ℕ → Entry) (o i : ℕ) (is : List ℕ) → (entry i).origin ≢ o → IsOff i (members entry o is)

@@ -1,16 +1,16 @@
 -- Entries in order, and the entries of one origin among them.
-use Rattle.std.proofs.Common.{◌≡◌, ◌≢◌, ◌⊎◌, ℕ, zero, suc, ◌+◌, ◌-◌, ◌<◌, ◌≤◌, Bool, true, false, cond, eqb, ltb, List, [], ◌∷◌, ◌++◌, length, refl, sym, ap, ◌∙◌, subst, inl, inr, arith, map, filter, not, append_assoc}
+use Rattle.std.proofs.Common.{◌≡◌, ◌≢◌, ℕ, suc, ◌<◌, ◌≤◌, Bool, true, false, cond, eqb, List, [], ◌∷◌, ◌++◌, length, refl, sym, ap, ◌∙◌, subst, inl, inr, arith, map, filter, append_assoc}
 use Rattle.std.specs.List.{AllByRecursion}
-use Rattle.std.proofs.lemmas.Bool.{cases_eq, cases_Bool, eq-eqb, ne_eqb, eqb-true, false≢true}
+use Rattle.std.proofs.lemmas.Bool.{cases_Bool, eq-eqb, ne_eqb, false≢true}
 use Rattle.std.proofs.lemmas.List.{map-append, append-nil, length-append}
-use Rattle.warp_tag.specs.Moment.{Moment, is_before, is_same}
-use Rattle.warp_tag.specs.Table.{name_before, has_name, fresh, IsTable}
+use Rattle.warp_tag.specs.Moment.{Moment, is_before}
+use Rattle.warp_tag.specs.Table.{name_before, IsTable}
 use Rattle.warp_tag.specs.declared.entry.Entry.{Entry}
 use Rattle.warp_arena.specs.Places.{Place, places_of}
-use Rattle.warp_arena.specs.Shape.{members, place_at, IsChain, last_or, first_or, Splits}
+use Rattle.warp_arena.specs.Shape.{members, place_at, IsChain, last_or, Splits}
 use Rattle.warp_arena.specs.declared.node.TheConstants.{NO_NODE}
 use Rattle.warp_arena.proofs.Names.{before_trans, before_tag}
-use Rattle.warp_arena.proofs.Rings.{IsOff, IsApart, All-both, All-weaker, All-append, All-left, All-right, IsChain-split, by_last, last_or-push, rank, rank_at, IsOff-front, IsSame}
+use Rattle.warp_arena.proofs.Rings.{IsOff, IsApart, All-weaker, All-append, All-left, All-right, IsChain-split, by_last, last_or-push, rank, rank_at, IsOff-front}
 
 -- the entry comes before the other
 abbrev pub Precedes : Entry → Entry → Type 0
@@ -18,11 +18,12 @@ Precedes e d = name_before e.origin e.tag d ≡ true
 
 pub IsTable-insert : (xs ys : List Entry) (d : Entry) → IsTable (xs ++ ys) → AllByRecursion (λ e. Precedes e d) xs → AllByRecursion (λ e. Precedes d e) ys → IsTable (xs ++ d ∷ ys)
 IsTable-insert [] ys d t p q = (q, t)
-IsTable-insert (x ∷ xs) ys d t p q =
-    (All-append (λ e. Precedes x e) xs (d ∷ ys)
-       (All-left (λ e. Precedes x e) xs ys t.0)
-       (p.0, All-right (λ e. Precedes x e) xs ys t.0),
-     IsTable-insert xs ys d t.1 p.1 q)
+IsTable-insert (x ∷ xs) ys d t p q = (
+  All-append (λ e. Precedes x e) xs (d ∷ ys)
+      (All-left (λ e. Precedes x e) xs ys t.0)
+      (p.0, All-right (λ e. Precedes x e) xs ys t.0),
+  IsTable-insert xs ys d t.1 p.1 q,
+)
 
 -- what precedes the last of a front
 pub IsTable-before : (xs ys : List Entry) (d : Entry) → IsTable (xs ++ d ∷ ys) → AllByRecursion (λ e. Precedes e d) xs
@@ -130,8 +131,8 @@ StandsAt-from later used at s n =
             front = some.0;
             back = s.back;
             parts =
-              s.parts ∙ ap (λ xs. xs ++ s.back) some.2 ∙ append_assoc some.0 (some.1 ∷ []) s.back
-              ∙ ap (λ k. some.0 ++ k ∷ s.back) (sym here);
+                s.parts ∙ ap (λ xs. xs ++ s.back) some.2 ∙ append_assoc some.0 (some.1 ∷ []) s.back
+                ∙ ap (λ k. some.0 ++ k ∷ s.back) (sym here);
             past = s.past;
           }
     ]
@@ -156,20 +157,20 @@ module _ (next prev : ℕ → ℕ) (later : ℕ → Bool) (used : List ℕ) (cha
       let ranks : rank at used ≡ suc (length w.front) = ap (rank at) w.parts ∙ rank_at at w.front w.back (IsOff-front at w.front w.back apart') in
       let here : steps_left at used ≡ suc (length w.front) = ap (λ b. cond b 0 (rank at used)) (ne_eqb at NO_NODE n) ∙ ranks in
       let there : steps_left (prev at) used ≤ length w.front =
-          elim (by_last w.front) [
-            | inl none ↦
-                let e : prev at ≡ NO_NODE = prev_of_at at w ∙ ap (last_or NO_NODE) none in
-                omega (arith, ap (λ b. cond b 0 (rank (prev at) used)) (eq-eqb (prev at) NO_NODE e))
-            | inr some ↦
-                let e : prev at ≡ some.1 = prev_of_at at w ∙ ap (last_or NO_NODE) some.2 ∙ last_or-push NO_NODE some.0 some.1 in
-                let parts : used ≡ some.0 ++ some.1 ∷ (at ∷ w.back) =
-                    w.parts ∙ ap (λ xs. xs ++ at ∷ w.back) some.2 ∙ append_assoc some.0 (some.1 ∷ []) (at ∷ w.back) in
-                let r : rank some.1 used ≡ suc (length some.0) =
-                    ap (rank some.1) parts
-                    ∙ rank_at some.1 some.0 (at ∷ w.back) (IsOff-front some.1 some.0 (at ∷ w.back) (subst IsApart parts apart)) in
-                let l : length w.front ≡ suc (length some.0) = ap length some.2 ∙ simp length-append (omega arith) in
-                steps_at_most (prev at) used (length w.front) (omega (arith, ap (λ k. rank k used) e))
-          ] in
+      elim (by_last w.front) [
+        | inl none ↦
+            let e : prev at ≡ NO_NODE = prev_of_at at w ∙ ap (last_or NO_NODE) none in
+            omega (arith, ap (λ b. cond b 0 (rank (prev at) used)) (eq-eqb (prev at) NO_NODE e))
+        | inr some ↦
+            let e : prev at ≡ some.1 = prev_of_at at w ∙ ap (last_or NO_NODE) some.2 ∙ last_or-push NO_NODE some.0 some.1 in
+            let parts : used ≡ some.0 ++ some.1 ∷ (at ∷ w.back) =
+            w.parts ∙ ap (λ xs. xs ++ at ∷ w.back) some.2 ∙ append_assoc some.0 (some.1 ∷ []) (at ∷ w.back) in
+            let r : rank some.1 used ≡ suc (length some.0) =
+            ap (rank some.1) parts
+            ∙ rank_at some.1 some.0 (at ∷ w.back) (IsOff-front some.1 some.0 (at ∷ w.back) (subst IsApart parts apart)) in
+            let l : length w.front ≡ suc (length some.0) = ap length some.2 ∙ simp length-append (omega arith) in
+            steps_at_most (prev at) used (length w.front) (omega (arith, ap (λ k. rank k used) e))
+      ] in
       omega arith
 
 -- ---- what a walk found
@@ -184,12 +185,12 @@ module _ (later : Entry → Bool) (stays : StaysLater later) (entry : ℕ → En
   through_before front back k t h =
       let t' : IsTable (map entry front ++ entry k ∷ map entry back) = subst IsTable (map-append entry front (k ∷ back)) t in
       All-weaker (λ i. Precedes (entry i) (entry k)) (λ i. later (entry i) ≡ false)
-        (λ i p. elim (cases_Bool (later (entry i))) [
-          | inl so ↦ absurd (false≢true (sym h ∙ stays (entry i) (entry k) so p))
-          | inr not_so ↦ not_so
-        ])
-        front
-        (All-unmap (λ e. Precedes e (entry k)) entry front (IsTable-before (map entry front) (map entry back) (entry k) t'))
+      (λ i p. elim (cases_Bool (later (entry i))) [
+        | inl so ↦ absurd (false≢true (sym h ∙ stays (entry i) (entry k) so p))
+        | inr not_so ↦ not_so
+      ])
+      front
+      (All-unmap (λ e. Precedes e (entry k)) entry front (IsTable-before (map entry front) (map entry back) (entry k) t'))
 
   through_front : (front back : List ℕ) (at : ℕ) → IsTable (map entry (front ++ back)) → IsOff NO_NODE (front ++ back) → at ≡ last_or NO_NODE front → (at ≢ NO_NODE → later (entry at) ≡ false) → AllByRecursion (λ i. later (entry i) ≡ false) front
   through_front front back at t off e h =
@@ -197,14 +198,14 @@ module _ (later : Entry → Bool) (stays : StaysLater later) (entry : ℕ → En
         | inl none ↦ subst (AllByRecursion (λ i. later (entry i) ≡ false)) (sym none) tt
         | inr some ↦
             let whole : front ++ back ≡ some.0 ++ some.1 ∷ back =
-                ap (λ xs. xs ++ back) some.2 ∙ append_assoc some.0 (some.1 ∷ []) back in
+            ap (λ xs. xs ++ back) some.2 ∙ append_assoc some.0 (some.1 ∷ []) back in
             let here : at ≡ some.1 = e ∙ ap (last_or NO_NODE) some.2 ∙ last_or-push NO_NODE some.0 some.1 in
             let off' : IsOff NO_NODE (some.0 ++ some.1 ∷ back) = subst (IsOff NO_NODE) whole off in
             let apart : some.1 ≢ NO_NODE = (All-right (λ i. i ≢ NO_NODE) some.0 (some.1 ∷ back) off').0 in
             let last : later (entry some.1) ≡ false = subst (λ k. later (entry k) ≡ false) here (h (λ n. apart (sym here ∙ n))) in
             let t' : IsTable (map entry (some.0 ++ some.1 ∷ back)) = subst (λ is. IsTable (map entry is)) whole t in
             subst (AllByRecursion (λ i. later (entry i) ≡ false)) (sym some.2)
-              (All-append (λ i. later (entry i) ≡ false) some.0 (some.1 ∷ []) (through_before some.0 back some.1 t' last) (last, tt))
+            (All-append (λ i. later (entry i) ≡ false) some.0 (some.1 ∷ []) (through_before some.0 back some.1 t' last) (last, tt))
       ]
 
   pub Splits-from_walk : (used : List ℕ) (at : ℕ) → Stands (λ i. later (entry i)) used at → IsTable (map entry used) → IsOff NO_NODE used → (at ≢ NO_NODE → later (entry at) ≡ false) → Splits later (map (place_at entry) used) at
@@ -215,7 +216,7 @@ module _ (later : Entry → Bool) (stays : StaysLater later) (entry : ℕ → En
         parts = ap (map (place_at entry)) s.parts ∙ map-append (place_at entry) s.front s.back;
         last = s.last ∙ ap (last_or NO_NODE) (sym (nodes_of-places entry s.front));
         through =
-          All-map (λ p. later p.entry ≡ false) (place_at entry) s.front
+            All-map (λ p. later p.entry ≡ false) (place_at entry) s.front
             (through_front s.front s.back at (subst (λ is. IsTable (map entry is)) s.parts t) (subst (IsOff NO_NODE) s.parts off) s.last h);
         past = All-map (λ p. later p.entry ≡ true) (place_at entry) s.back s.past;
       }

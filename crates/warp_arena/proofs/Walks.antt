@@ -1,17 +1,15 @@
 -- A list of an arena, and a walk along it.
-use Rattle.std.proofs.Common.{◌≡◌, ◌≢◌, ◌⊎◌, ℕ, zero, suc, ◌+◌, ◌-◌, ◌<◌, ◌≤◌, Bool, true, false, cond, eqb, ltb, List, [], ◌∷◌, ◌++◌, length, refl, sym, ap, ◌∙◌, subst, inl, inr, arith, map, filter, append_assoc, get_or}
+use Rattle.std.proofs.Common.{◌≡◌, ◌≢◌, ℕ, ◌-◌, ◌<◌, Bool, true, cond, eqb, List, [], ◌∷◌, length, sym, ap, ◌∙◌, subst, get_or}
 use Rattle.std.specs.List.{AllByRecursion}
-use Rattle.std.proofs.lemmas.Bool.{cases_eq, cases_Bool, cases_lt, lt-ltb, le-ltb, eq-eqb, ne_eqb}
+use Rattle.std.proofs.lemmas.Bool.{ne_eqb}
 use Rattle.std.proofs.lemmas.List.{append-nil, get_or_read}
-use Rattle.warp_tag.specs.declared.entry.Entry.{Entry}
 use Rattle.warp_arena.specs.declared.arena.Arena.TheInside.{Inside}
 use Rattle.warp_arena.specs.declared.node.Links.{Links}
 use Rattle.warp_arena.specs.declared.node.Node.{Node}
-use Rattle.warp_arena.specs.Places.{Place, Contents, places_of}
-use Rattle.warp_arena.specs.Shape.{Threads, IsArena, IsWhole, used_of, unused_of, threads_of, contents_of, members, place_at, IsChain, last_or, first_or, next_in, prev_in, node_at, no_node, no_links}
+use Rattle.warp_arena.specs.Shape.{Threads, IsArena, IsWhole, used_of, unused_of, threads_of, members, IsChain, last_or, first_or, next_in, prev_in, node_at, no_node, no_links}
 use Rattle.warp_arena.specs.declared.node.TheConstants.{NO_NODE}
-use Rattle.warp_arena.proofs.Rings.{IsOff, IsApart, All-right, IsChain-split, All-weaker}
-use Rattle.warp_arena.proofs.Tables.{All-filter, Stands, StandsAt, StandsAt-from, Stands-start, Stands-back, steps_left, steps_left-back}
+use Rattle.warp_arena.proofs.Rings.{IsOff, IsApart, All-right, IsChain-split}
+use Rattle.warp_arena.proofs.Tables.{All-filter, Stands, StandsAt-from, Stands-start, Stands-back, steps_left, steps_left-back}
 use Rattle.warp_arena.proofs.Shapes.{used_apart, none_used, all_used_below, members_apart, none_member}
 
 -- the links spell these indices of nodes, each once
@@ -49,7 +47,7 @@ module _ (size : ℕ) (ends : Links) (links : ℕ → Links) (is : List ℕ) (l 
   pub Listed-last : ends.prev ≡ last_or NO_NODE is
   Listed-last =
       (IsChain-split (next_in ends links) (prev_in ends links) NO_NODE is [] NO_NODE
-         (subst (λ js. IsChain (next_in ends links) (prev_in ends links) NO_NODE js NO_NODE) (sym (append-nil is)) l.chain)).1
+      (subst (λ js. IsChain (next_in ends links) (prev_in ends links) NO_NODE js NO_NODE) (sym (append-nil is)) l.chain)).1
 
   pub Listed-first : ends.next ≡ first_or is NO_NODE
   Listed-first = (IsChain-split (next_in ends links) (prev_in ends links) NO_NODE [] is NO_NODE l.chain).0
@@ -65,12 +63,12 @@ module _ (size : ℕ) (ends : Links) (links : ℕ → Links) (is : List ℕ) (l 
   pub Listed-back : (later : ℕ → Bool) (at : ℕ) → Stands later is at → at ≢ NO_NODE → later at ≡ true → (p : ℕ) → p ≡ (links at).prev → Stands later is p
   Listed-back later at s n h p e =
       subst (Stands later is) (prev_in-at ends links at n ∙ sym e)
-        (Stands-back (next_in ends links) (prev_in ends links) later is l.chain at s n h)
+      (Stands-back (next_in ends links) (prev_in ends links) later is l.chain at s n h)
 
   pub Listed-smaller : (later : ℕ → Bool) (at : ℕ) → Stands later is at → at ≢ NO_NODE → (p : ℕ) → p ≡ (links at).prev → steps_left p is < steps_left at is
   Listed-smaller later at s n p e =
       subst (λ q. steps_left q is < steps_left at is) (prev_in-at ends links at n ∙ sym e)
-        (steps_left-back (next_in ends links) (prev_in ends links) later is l.chain l.apart at s n)
+      (steps_left-back (next_in ends links) (prev_in ends links) later is l.chain l.apart at s n)
 
 -- ---- an arena's fields
 

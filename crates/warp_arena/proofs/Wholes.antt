@@ -1,24 +1,22 @@
 -- From the lists of an arena to its links and back.
-use Rattle.std.proofs.Common.{◌≡◌, ◌≢◌, ◌⊎◌, ℕ, zero, suc, ◌+◌, ◌-◌, ◌<◌, ◌≤◌, Bool, true, false, cond, eqb, ltb, List, [], ◌∷◌, ◌++◌, length, refl, sym, ap, ◌∙◌, subst, inl, inr, arith, map, filter, append_assoc, get_or, Option, Some, None, IsSome, find, not, nat_eq}
+use Rattle.std.proofs.Common.{◌≡◌, ◌≢◌, ℕ, zero, suc, ◌+◌, ◌-◌, ◌<◌, Bool, true, false, cond, eqb, List, [], ◌∷◌, ◌++◌, length, refl, sym, ap, ◌∙◌, subst, inl, inr, arith, map, filter, get_or, Option, Some, None, find, not, nat_eq}
 use Rattle.std.specs.List.{AllByRecursion, IsDistinct}
 use Rattle.std.specs.Option.{option_map}
-use Rattle.std.proofs.lemmas.Bool.{cases_eq, cases_Bool, eq-eqb, ne_eqb, eqb-true, false≢true}
-use Rattle.std.proofs.lemmas.List.{append-nil, map-append}
+use Rattle.std.proofs.lemmas.Bool.{cases_Bool, ne_eqb, eqb-true}
+use Rattle.std.proofs.lemmas.List.{map-append}
 use Rattle.std.proofs.lemmas.List.Elements.{filter-append}
 use Rattle.warp_tag.specs.Moment.{Moment, is_before}
 use Rattle.warp_tag.specs.Table.{name_before, has_name, IsTable}
 use Rattle.warp_tag.specs.declared.entry.Entry.{Entry}
 use Rattle.warp_arena.specs.declared.arena.Arena.TheInside.{Inside}
-use Rattle.warp_arena.specs.declared.node.Links.{Links}
-use Rattle.warp_arena.specs.declared.node.Node.{Node}
 use Rattle.warp_arena.specs.declared.node.TheConstants.{NO_NODE}
 use Rattle.warp_arena.specs.Places.{Place, places_of, node_of, entries_of, IsOrdered}
-use Rattle.warp_arena.specs.Shape.{Threads, IsArena, IsWhole, Splits, contents_of, used_of, unused_of, count_of, members, place_at, IsChain, last_or, first_or, next_in, prev_in, free_ends, walk, no_links}
+use Rattle.warp_arena.specs.Shape.{Threads, IsArena, IsWhole, Splits, contents_of, used_of, unused_of, members, place_at, IsChain, last_or, first_or, next_in, prev_in, free_ends, walk, no_links}
 use Rattle.warp_arena.specs.Changes.{IsPlace}
 use Rattle.warp_arena.proofs.Names.{before_own}
-use Rattle.warp_arena.proofs.Rings.{IsOff, IsApart, All-both, All-weaker, All-left, All-right, All-at, All-from_in, first_holds, last_holds, IsChain-split, walk_path, length-walk, IsPath-chain, count_of-here}
+use Rattle.warp_arena.proofs.Rings.{IsOff, IsApart, All-both, All-weaker, All-left, All-right, first_holds, last_holds, IsChain-split, walk_path, length-walk, IsPath-chain, count_of-here}
 use Rattle.warp_arena.proofs.Tables.{All-filter, All-kept, All-map, All-unmap, filter-here, filter-past, nodes_of-places, places_of-members}
-use Rattle.warp_arena.proofs.Shapes.{unused_below, used_apart, none_unused, none_used, unused_off, all_used_below, members-append}
+use Rattle.warp_arena.proofs.Shapes.{unused_below, used_apart, none_unused, unused_off, all_used_below, members-append}
 use Rattle.warp_arena.proofs.Walks.{threads, used}
 use Rattle.warp_arena.proofs.Reading.{places}
 
@@ -38,7 +36,7 @@ IsWhole-from t is fs count a e f =
     record {
       fits = omega arith;
       shape =
-        subst (λ js. IsArena t js (unused_of t (t.size - count))) (sym (used_is t is fs count a e))
+          subst (λ js. IsArena t js (unused_of t (t.size - count))) (sym (used_is t is fs count a e))
           (subst (λ gs. IsArena t is gs) (sym (unused_is t is fs (t.size - count) a (omega arith))) a);
     }
 
@@ -57,7 +55,7 @@ pub first_unused : (t : Threads) (count : ℕ) → count < t.size → FirstUnuse
 first_unused t count h =
     let n : ℕ = t.size - count in
     let step : (m : ℕ) → 0 < m → (rest : List ℕ) × (walk (next_in (free_ends t.free) t.links) m NO_NODE ≡ t.free ∷ rest) × (suc (length rest) ≡ m) =
-      λ m. first_of_walk t m in
+    λ m. first_of_walk t m in
     let r = step n (omega arith) in
     record { rest = r.0; parts = r.1; len = omega (arith, r.2) }
 
@@ -67,7 +65,7 @@ pub replaced : (entry : ℕ → Entry) (ps : List Place) → AllByRecursion (λ 
 replaced entry [] a = refl
 replaced entry (p ∷ ps) a = ap (λ q. q ∷ map (place_at entry) (map (λ (r : Place). r.node) ps)) a.0 ∙ ap (λ qs. p ∷ qs) (replaced entry ps a.1)
 
-all_placed : (entry : ℕ → Entry) (is : List ℕ) → AllByRecursion (λ p. place_at entry p.node ≡ p) (map (place_at entry) is)
+pub all_placed : (entry : ℕ → Entry) (is : List ℕ) → AllByRecursion (λ p. place_at entry p.node ≡ p) (map (place_at entry) is)
 all_placed entry [] = tt
 all_placed entry (i ∷ is) = (refl, all_placed entry is)
 
@@ -117,7 +115,7 @@ ready a w o g before own_before room s r absent =
     let xs : List ℕ = map node s.front in
     let ys : List ℕ = map node s.back in
     let placed : AllByRecursion (λ p. place_at entry p.node ≡ p) (s.front ++ s.back) =
-        subst (AllByRecursion (λ p. place_at entry p.node ≡ p)) s.parts (all_placed entry (used a)) in
+    subst (AllByRecursion (λ p. place_at entry p.node ≡ p)) s.parts (all_placed entry (used a)) in
     let front_is : map place xs ≡ s.front = replaced entry s.front (All-left (λ p. place_at entry p.node ≡ p) s.front s.back placed) in
     let back_is : map place ys ≡ s.back = replaced entry s.back (All-right (λ p. place_at entry p.node ≡ p) s.front s.back placed) in
     let parts : used a ≡ xs ++ ys = sym (nodes_of-places entry (used a)) ∙ ap (map node) s.parts ∙ map-append node s.front s.back in
@@ -125,22 +123,22 @@ ready a w o g before own_before room s r absent =
     let later : Place → Bool = λ p. is_before g p.entry.tag in
     let own_test : Place → Bool = λ p. eqb p.entry.origin o in
     let own_through : AllByRecursion (λ p. later p ≡ false) (places_of o s.front) =
-        All-both (λ p. own_test p ≡ true) (λ p. name_before o g p.entry ≡ false) (λ p. later p ≡ false)
-          (λ p h k. sym (before_own o g p.entry (eqb-true p.entry.origin o h)) ∙ k) (places_of o s.front)
-          (All-kept own_test s.front) (All-filter (λ p. name_before o g p.entry ≡ false) own_test s.front s.through) in
+    All-both (λ p. own_test p ≡ true) (λ p. name_before o g p.entry ≡ false) (λ p. later p ≡ false)
+    (λ p h k. sym (before_own o g p.entry (eqb-true p.entry.origin o h)) ∙ k) (places_of o s.front)
+    (All-kept own_test s.front) (All-filter (λ p. name_before o g p.entry ≡ false) own_test s.front s.through) in
     let own_past : AllByRecursion (λ p. later p ≡ true) (places_of o s.back) =
-        All-both (λ p. own_test p ≡ true) (λ p. name_before o g p.entry ≡ true) (λ p. later p ≡ true)
-          (λ p h k. sym (before_own o g p.entry (eqb-true p.entry.origin o h)) ∙ k) (places_of o s.back)
-          (All-kept own_test s.back) (All-filter (λ p. name_before o g p.entry ≡ true) own_test s.back s.past) in
+    All-both (λ p. own_test p ≡ true) (λ p. name_before o g p.entry ≡ true) (λ p. later p ≡ true)
+    (λ p h k. sym (before_own o g p.entry (eqb-true p.entry.origin o h)) ∙ k) (places_of o s.back)
+    (All-kept own_test s.back) (All-filter (λ p. name_before o g p.entry ≡ true) own_test s.back s.past) in
     let own_front : r.front ≡ places_of o s.front =
-        sym (filter_front later r.front r.back r.through r.past)
-        ∙ ap (filter (λ p. not (later p))) (sym r.parts ∙ ap (places_of o) s.parts ∙ filter-append own_test s.front s.back)
-        ∙ filter_front later (places_of o s.front) (places_of o s.back) own_through own_past in
+    sym (filter_front later r.front r.back r.through r.past)
+    ∙ ap (filter (λ p. not (later p))) (sym r.parts ∙ ap (places_of o) s.parts ∙ filter-append own_test s.front s.back)
+    ∙ filter_front later (places_of o s.front) (places_of o s.back) own_through own_past in
     let own_nodes : map node r.front ≡ members entry o xs =
-        ap (map node) (own_front ∙ ap (places_of o) (sym front_is) ∙ places_of-members entry o xs) ∙ nodes_of-places entry (members entry o xs) in
+    ap (map node) (own_front ∙ ap (places_of o) (sym front_is) ∙ places_of-members entry o xs) ∙ nodes_of-places entry (members entry o xs) in
     let none : AllByRecursion (λ p. has_name o g p.entry ≡ false) (s.front ++ s.back) =
-        subst (AllByRecursion (λ p. has_name o g p.entry ≡ false)) s.parts
-          (find_none (λ (p : Place). has_name o g p.entry) (places a) (none_of_map node (find (λ (p : Place). has_name o g p.entry) (places a)) absent)) in
+    subst (AllByRecursion (λ p. has_name o g p.entry ≡ false)) s.parts
+    (find_none (λ (p : Place). has_name o g p.entry) (places a) (none_of_map node (find (λ (p : Place). has_name o g p.entry) (places a)) absent)) in
     record {
       xs = xs;
       ys = ys;
@@ -154,9 +152,9 @@ ready a w o g before own_before room s r absent =
       through = All-unmap (λ p. name_before o g p.entry ≡ false) place xs (subst (AllByRecursion (λ p. name_before o g p.entry ≡ false)) (sym front_is) s.through);
       past = All-unmap (λ p. name_before o g p.entry ≡ true) place ys (subst (AllByRecursion (λ p. name_before o g p.entry ≡ true)) (sym back_is) s.past);
       absent =
-        All-unmap (λ p. has_name o g p.entry ≡ false) place xs
+          All-unmap (λ p. has_name o g p.entry ≡ false) place xs
           (subst (AllByRecursion (λ p. has_name o g p.entry ≡ false)) (sym front_is)
-            (All-left (λ p. has_name o g p.entry ≡ false) s.front s.back none));
+          (All-left (λ p. has_name o g p.entry ≡ false) s.front s.back none));
     }
 
 -- what threading the node asks for
@@ -177,13 +175,14 @@ at_split : (size : ℕ) (next prev : ℕ → ℕ) (xs ys : List ℕ) (x before :
 at_split size next prev xs ys x before chain below off none e =
     let after : next before ≡ first_or ys NO_NODE = ap next e ∙ (IsChain-split next prev NO_NODE xs ys NO_NODE chain).0 in
     let is_place : (i : ℕ) → i < size → IsPlace size i = λ i h _. h in
-    let end_place : IsPlace size NO_NODE = λ n. absurd (n refl) in
-    (subst (IsPlace size) (sym e)
-       (last_holds (IsPlace size) NO_NODE xs end_place (All-weaker (λ i. i < size) (IsPlace size) is_place xs (All-left (λ i. i < size) xs ys below))),
-     subst (IsPlace size) (sym after)
-       (first_holds (IsPlace size) ys NO_NODE (All-weaker (λ i. i < size) (IsPlace size) is_place ys (All-right (λ i. i < size) xs ys below)) end_place),
-     subst (λ k. k ≢ x) (sym e) (last_holds (λ k. k ≢ x) NO_NODE xs none (All-left (λ i. i ≢ x) xs ys off)),
-     subst (λ k. k ≢ x) (sym after) (first_holds (λ k. k ≢ x) ys NO_NODE (All-right (λ i. i ≢ x) xs ys off) none))
+    let end_place : IsPlace size NO_NODE = λ n. absurd (n refl) in (
+      subst (IsPlace size) (sym e)
+          (last_holds (IsPlace size) NO_NODE xs end_place (All-weaker (λ i. i < size) (IsPlace size) is_place xs (All-left (λ i. i < size) xs ys below))),
+      subst (IsPlace size) (sym after)
+          (first_holds (IsPlace size) ys NO_NODE (All-weaker (λ i. i < size) (IsPlace size) is_place ys (All-right (λ i. i < size) xs ys below)) end_place),
+      subst (λ k. k ≢ x) (sym e) (last_holds (λ k. k ≢ x) NO_NODE xs none (All-left (λ i. i ≢ x) xs ys off)),
+      subst (λ k. k ≢ x) (sym after) (first_holds (λ k. k ≢ x) ys NO_NODE (All-right (λ i. i ≢ x) xs ys off) none),
+    )
 
 pub threadable : (a : Inside) (o : ℕ) (g : Moment) (before own_before : ℕ) → Ready a o g before own_before → o < length a.origin_ends.items → Threadable (length a.nodes.items) (next_in a.ends (threads a).links) (next_in (get_or a.origin_ends.items o no_links) (threads a).own_links) before own_before a.free
 threadable a o g before own_before r h =
@@ -197,10 +196,10 @@ threadable a o g before own_before r h =
     let own_parts = members-append t.entry o r.xs r.ys in
     let test : ℕ → Bool = λ i. eqb (t.entry i).origin o in
     let q = at_split t.size (next_in (t.own_ends o) t.own_links) (prev_in (t.own_ends o) t.own_links) (members t.entry o r.xs) (members t.entry o r.ys) x own_before
-        (subst (λ is. IsChain (next_in (t.own_ends o) t.own_links) (prev_in (t.own_ends o) t.own_links) NO_NODE is NO_NODE) own_parts (r.shape.own o h))
-        (subst (AllByRecursion (λ i. i < t.size)) own_parts (All-filter (λ i. i < t.size) test (r.xs ++ r.ys) below))
-        (subst (IsOff x) own_parts (All-filter (λ i. i ≢ x) test (r.xs ++ r.ys) off))
-        none r.own_before_is in
+    (subst (λ is. IsChain (next_in (t.own_ends o) t.own_links) (prev_in (t.own_ends o) t.own_links) NO_NODE is NO_NODE) own_parts (r.shape.own o h))
+    (subst (AllByRecursion (λ i. i < t.size)) own_parts (All-filter (λ i. i < t.size) test (r.xs ++ r.ys) below))
+    (subst (IsOff x) own_parts (All-filter (λ i. i ≢ x) test (r.xs ++ r.ys) off))
+    none r.own_before_is in
     record {
       before = p.0;
       after = p.1;
@@ -232,6 +231,6 @@ ordered a w =
       table = subst IsTable (sym (entries_of-places (threads a).entry (used a))) w.shape.sorted;
       declared = All-map (λ p. p.entry.origin < length a.origin_ends.items) (place_at (threads a).entry) (used a) w.shape.declared;
       handles =
-        subst (IsDistinct nat_eq) (sym (nodes_of-places (threads a).entry (used a)))
+          subst (IsDistinct nat_eq) (sym (nodes_of-places (threads a).entry (used a)))
           (IsDistinct-apart (used a) (used_apart (threads a) (used a) (unused_of (threads a) ((threads a).size - a.used)) w.shape));
     }

@@ -56,18 +56,18 @@ pub record Threaded (old new : List Node) (ends ends' own own' : Links) (before 
   pub here : entry_at new at ≡ entry
   pub entries : (i : ℕ) → i ≢ at → entry_at new i ≡ entry_at old i
   pub tags :
-    Inserts (next_in ends (by_tag old)) (prev_in ends (by_tag old)) (next_in ends' (by_tag new)) (prev_in ends' (by_tag new))
-    before at (next_in ends (by_tag old) before)
+      Inserts (next_in ends (by_tag old)) (prev_in ends (by_tag old)) (next_in ends' (by_tag new)) (prev_in ends' (by_tag new))
+      before at (next_in ends (by_tag old) before)
   pub owns :
-    Inserts (next_in own (of_origin old)) (prev_in own (of_origin old)) (next_in own' (of_origin new)) (prev_in own' (of_origin new))
-    own_before at (next_in own (of_origin old) own_before)
+      Inserts (next_in own (of_origin old)) (prev_in own (of_origin old)) (next_in own' (of_origin new)) (prev_in own' (of_origin new))
+      own_before at (next_in own (of_origin old) own_before)
 
 -- the first node of the tag list and of the origin's list is in neither, and leads to the first unused node
 pub record Unthreaded (old new : List Node) (ends ends' own own' : Links) (at free : ℕ) : Type 0 where
   pub len : length new ≡ length old
   pub entries : (i : ℕ) → entry_at new i ≡ entry_at old i
   pub tags :
-    Skips (next_in ends (by_tag old)) (prev_in ends (by_tag old)) (next_in ends' (by_tag new)) (prev_in ends' (by_tag new)) NO_NODE at
+      Skips (next_in ends (by_tag old)) (prev_in ends (by_tag old)) (next_in ends' (by_tag new)) (prev_in ends' (by_tag new)) NO_NODE at
   pub owns :
-    Skips (next_in own (of_origin old)) (prev_in own (of_origin old)) (next_in own' (of_origin new)) (prev_in own' (of_origin new)) NO_NODE at
+      Skips (next_in own (of_origin old)) (prev_in own (of_origin old)) (next_in own' (of_origin new)) (prev_in own' (of_origin new)) NO_NODE at
   pub freed : (by_tag new at).next ≡ free

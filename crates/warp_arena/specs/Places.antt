@@ -1,5 +1,5 @@
 -- What an arena holds, as contracts see it: the entries in order, each with the handle that names it.
-use Rattle.std.specs.Prelude.{ℕ, ◌<◌, nat_eq, unwrap_or, Bool, ◌==◌, ◌&&◌, not, Option, Some, None, List, [], ◌∷◌, if◌then◌else◌, IsTrue, IsSome, find, filter, map}
+use Rattle.std.specs.Prelude.{ℕ, ◌<◌, nat_eq, unwrap_or, ◌==◌, not, Option, Some, None, List, [], ◌∷◌, if◌then◌else◌, find, filter, map}
 use Rattle.std.specs.Option.{option_map}
 use Rattle.std.specs.List.{AllByRecursion, IsDistinct}
 use Rattle.warp_tag.specs.Moment.{Moment, is_before}

@@ -1,7 +1,6 @@
 -- The shape of an arena: how its links spell its lists. No public clause cites this module.
-use Rattle.std.specs.Prelude.{Bool, true, ◌++◌, ◌≡◌, ℕ, zero, suc, ◌+◌, ◌-◌, ◌<◌, ◌≤◌, ◌==◌, nat_lt, List, [], ◌∷◌, if◌then◌else◌, None, false, map, filter, length, slice_index_or}
+use Rattle.std.specs.Prelude.{Bool, true, ◌++◌, ◌≡◌, ℕ, zero, suc, ◌+◌, ◌-◌, ◌<◌, ◌≤◌, ◌==◌, nat_lt, List, [], ◌∷◌, if◌then◌else◌, false, map, filter, length, slice_index_or}
 use Rattle.std.specs.List.{AllByRecursion}
-use Rattle.warp_tag.specs.Moment.{Moment}
 use Rattle.warp_tag.specs.Table.{IsTable, fresh}
 use Rattle.warp_tag.specs.declared.entry.Entry.{Entry}
 use Rattle.warp_arena.specs.declared.node.Links.{Links}

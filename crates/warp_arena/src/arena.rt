@@ -94,8 +94,9 @@ impl Arena {
         requires reserved { 0 < self.old.free }
         requires absent { node_of origin tag self.old.places ≡ None }
         ensures places { self.new ≡ record self.old {
-            places = with_place (record { node = result; entry = fresh origin tag }) self.old.places;
-            free = self.old.free - 1 } }
+          places = with_place (record { node = result; entry = fresh origin tag }) self.old.places;
+          free = self.old.free - 1;
+        } }
         ensures new_handle { entry_of result self.old.places ≡ None }
     {
         let before = self.last_through(origin, tag);
@@ -109,7 +110,15 @@ impl Arena {
             event: None,
             withdrawn: false,
         };
-        thread_node(&mut self.nodes, &mut self.ends, &mut own_ends, before, own_before, at, entry);
+        thread_node(
+            &mut self.nodes,
+            &mut self.ends,
+            &mut own_ends,
+            before,
+            own_before,
+            at,
+            entry,
+        );
         self.origin_ends[origin as usize] = own_ends;
         self.used += 1;
         NodeId::new(at)
@@ -190,8 +199,9 @@ impl Arena {
     /// that stays keeps naming it. The work is that of what it frees.
     pub fn free_through(&mut self, tag: Tag) -> usize
         ensures places { self.new ≡ record self.old {
-            places = places_past tag self.old.places;
-            free = self.old.free + result } }
+          places = places_past tag self.old.places;
+          free = self.old.free + result;
+        } }
         ensures count { result ≡ length (places_through tag self.old.places) }
         ensures front { self.new.places ≡ drop result self.old.places }
     {

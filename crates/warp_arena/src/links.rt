@@ -219,7 +219,13 @@ pub(crate) fn unthread_of_origin(nodes: &mut [Node], ends: &mut Links, at: u32)
 
 /// Takes the node, the first of the tag list and of its origin's list, out of both, and makes it lead to this
 /// first unused node.
-pub(crate) fn unthread_node(nodes: &mut [Node], ends: &mut Links, own_ends: &mut Links, at: u32, free: u32)
+pub(crate) fn unthread_node(
+    nodes: &mut [Node],
+    ends: &mut Links,
+    own_ends: &mut Links,
+    at: u32,
+    free: u32,
+)
     requires at { at < length nodes.old }
     requires node { at ≢ NO_NODE }
     requires after { IsPlace (length nodes.old) (next_in ends.old (by_tag nodes.old) at) }

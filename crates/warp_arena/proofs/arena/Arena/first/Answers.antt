@@ -1,4 +1,4 @@
-use Rattle.std.proofs.Common.{◌≡◌, sym, ap, ◌∙◌, length}
+use Rattle.std.proofs.Common.{ap, ◌∙◌, length}
 use Rattle.warp_arena.specs.Places.{first_node}
 use Rattle.warp_arena.proofs.Walks.{threads, used, Listed-tags, Listed-first}
 use Rattle.warp_arena.proofs.Reading.{handle_first}

@@ -1,4 +1,4 @@
-use Rattle.std.proofs.Common.{◌≡◌, ◌≢◌, ℕ, ◌<◌, ◌≤◌, ◌+◌, ◌-◌, arith, refl, sym, ap, ◌∙◌, subst, length, List, get_or, set, drop}
+use Rattle.std.proofs.Common.{◌≡◌, ℕ, ◌<◌, ◌+◌, ◌-◌, arith, sym, ap, ◌∙◌, subst, length, List, get_or, set, drop}
 use Rattle.std.proofs.lemmas.List.{with_items_is}
 use Rattle.warp_arena.specs.declared.node.Links.{Links}
 use Rattle.warp_arena.specs.declared.node.Node.{Node}
@@ -56,8 +56,8 @@ unthread_node-requires-clause-own_after c =
     let declared : o < length a.origin_ends.items = subst (λ k. k < length a.origin_ends.items) is_own u.declared in
     let own : c.index-2.result.now ≡ get_or a.origin_ends.items o no_links = ends_read a.origin_ends.items o c.index-2.result.now declared c.index-2.ensures in
     subst (λ (ns : List Node). IsPlace (length ns) (next_in c.index-2.result.now (of_origin ns) a.ends.next)) (sym c.deref_mut.ensures.value)
-      (subst (λ (k : Links). IsPlace (length a.nodes.items) (next_in k (of_origin a.nodes.items) a.ends.next)) (sym own)
-        (subst (λ k. IsPlace (length a.nodes.items) (next_in (get_or a.origin_ends.items k no_links) (of_origin a.nodes.items) a.ends.next)) is_own u.own_after))
+    (subst (λ (k : Links). IsPlace (length a.nodes.items) (next_in k (of_origin a.nodes.items) a.ends.next)) (sym own)
+    (subst (λ k. IsPlace (length a.nodes.items) (next_in (get_or a.origin_ends.items k no_links) (of_origin a.nodes.items) a.ends.next)) is_own u.own_after))
 
 pub index_mut-requires : goal.index_mut-requires
 index_mut-requires c =
@@ -78,10 +78,10 @@ invariant_of-self c =
     let declared : o < length a.origin_ends.items = subst (λ k. k < length a.origin_ends.items) is_own u.declared in
     let own : c.index-2.result.now ≡ get_or a.origin_ends.items o no_links = ends_read a.origin_ends.items o c.index-2.result.now declared c.index-2.ensures in
     let change = subst (λ ns. Unthreaded ns c.unthread_node.new.nodes a.ends c.unthread_node.new.ends c.index-2.result.now c.unthread_node.new.own_ends a.ends.next a.free)
-        c.deref_mut.ensures.value c.unthread_node.ensures in
+    c.deref_mut.ensures.value c.unthread_node.ensures in
     let items = with_items_is a.nodes c.unthread_node.new.nodes (omega (arith, change.len, a.nodes.ok.0)) in
     subst (λ ns. IsWhole (threads_of ns (set a.origin_ends.items o c.unthread_node.new.own_ends) c.unthread_node.new.ends a.ends.next) (a.used - 1)) (sym items)
-      (whole_removed a l c.unthread_node.new.nodes c.index-2.result.now c.unthread_node.new.ends c.unthread_node.new.own_ends o is_own own change)
+    (whole_removed a l c.unthread_node.new.nodes c.index-2.result.now c.unthread_node.new.ends c.unthread_node.new.own_ends o is_own own change)
 
 pub returns : goal.returns
 returns c =
@@ -94,7 +94,7 @@ returns c =
     let declared : o < length a.origin_ends.items = subst (λ k. k < length a.origin_ends.items) is_own u.declared in
     let own : c.index-2.result.now ≡ get_or a.origin_ends.items o no_links = ends_read a.origin_ends.items o c.index-2.result.now declared c.index-2.ensures in
     let change = subst (λ ns. Unthreaded ns c.unthread_node.new.nodes a.ends c.unthread_node.new.ends c.index-2.result.now c.unthread_node.new.own_ends a.ends.next a.free)
-        c.deref_mut.ensures.value c.unthread_node.ensures in
+    c.deref_mut.ensures.value c.unthread_node.ensures in
     let items = with_items_is a.nodes c.unthread_node.new.nodes (omega (arith, change.len, a.nodes.ok.0)) in
     ap (λ ns. contents_of (threads_of ns (set a.origin_ends.items o c.unthread_node.new.own_ends) c.unthread_node.new.ends a.ends.next) (a.used - 1)) items
     ∙ contents_removed a l c.unthread_node.new.nodes c.index-2.result.now c.unthread_node.new.ends c.unthread_node.new.own_ends o is_own own change

@@ -1,9 +1,8 @@
-use Rattle.std.proofs.Common.{length, subst}
+use Rattle.std.proofs.Common.{subst}
 use Rattle.std.proofs.lemmas.List.{length-map}
 use Rattle.warp_arena.specs.Places.{IsOrdered}
 use Rattle.warp_arena.proofs.Rings.{length-walk}
 use Rattle.warp_arena.proofs.Wholes.{ordered}
-use Rattle.warp_arena.proofs.Inserted.{contents_inserted}
 use Rattle.warp_arena.proofs.arena.Arena.len.Goals as goal
 
 pub returns-clause-length : goal.returns-clause-length

@@ -1,5 +1,5 @@
-use Rattle.std.proofs.Common.{◌≡◌, arith, sym, ap, ◌∙◌, subst, Some, IsSome, get_or}
-use Rattle.warp_arena.specs.Places.{entry_of, first_node, last_node, places_after, places_before, places_of, origin_of}
+use Rattle.std.proofs.Common.{◌≡◌, arith, sym, ap, ◌∙◌, subst, IsSome, get_or}
+use Rattle.warp_arena.specs.Places.{entry_of, last_node, places_before}
 use Rattle.warp_arena.proofs.Walks.{node_read}
 use Rattle.warp_arena.proofs.Reading.{used_found_below, prev_found}
 use Rattle.warp_arena.proofs.arena.Arena.prev.Goals as goal

@@ -1,7 +1,5 @@
-use Rattle.std.proofs.Common.{◌≡◌, ℕ, arith, refl, sym, ap, ◌∙◌, subst, IsSome, get_or, set}
+use Rattle.std.proofs.Common.{◌≡◌, arith, refl, sym, ap, ◌∙◌, subst, IsSome, get_or, set}
 use Rattle.warp_tag.specs.Table.{with_withdrawal}
-use Rattle.warp_tag.specs.declared.entry.Entry.{Entry}
-use Rattle.warp_arena.specs.declared.node.Node.{Node}
 use Rattle.warp_arena.specs.Places.{Contents, entry_of, with_change}
 use Rattle.warp_arena.specs.Shape.{IsWhole, threads_of, contents_of}
 use Rattle.warp_arena.proofs.Walks.{node_read}
@@ -22,7 +20,7 @@ invariant_of-self c =
     let m = c.index_mut.result.now in
     let read = node_read a.nodes.items c.args.node m (used_found_below a c.self.invariant c.args.node h) (subst (λ i. m ≡ get_or a.nodes.items i m) c.index.ensures c.index_mut.ensures.value) in
     subst (λ i. IsWhole (threads_of (set a.nodes.items i (record { entry = with_withdrawal m.entry; by_tag = m.by_tag; of_origin = m.of_origin })) a.origin_ends.items a.ends a.free) a.used) (sym c.index.ensures)
-      (whole_changed a c.self.invariant c.args.node h m read (with_withdrawal) (λ _. refl) (λ _. refl))
+    (whole_changed a c.self.invariant c.args.node h m read (with_withdrawal) (λ _. refl) (λ _. refl))
 
 pub returns : goal.returns
 returns c =

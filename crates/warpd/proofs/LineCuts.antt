@@ -1,0 +1,76 @@
+-- The lines of bytes that were cut into pieces.
+use Rattle.std.proofs.Common.{◌≡◌, ℕ, ◌+◌, ◌<◌, Bool, true, false, cond, not, ltb, List, [], ◌∷◌, ◌++◌, length, get_or, drop, Some, None, sym, ap, ◌∙◌, refl, arith, append_assoc}
+use Rattle.std.specs.List.{position, slice_split, before_first}
+use Rattle.std.specs.Option.{option_to_list}
+use Rattle.std.proofs.lemmas.List.Splits.{slice_split_at, slice_split_none, length-slice_split}
+use Rattle.std.proofs.lemmas.List.Sums.{prefix_len-le-length, fails_before_first, passes_at_first, split_at_first}
+use Rattle.std.proofs.lemmas.Bool.{eqb-true}
+use Rattle.std.proofs.lemmas.List.{length-take, get_or-take}
+use Rattle.std.proofs.lemmas.List.Elements.{All-append}
+use Rattle.warpd.specs.Lines.{is_end, IsOneLine, ended, unended, pieces, lines_of, first_end}
+
+chosen : (n m : ℕ) (b : Bool) → Some m ≡ cond b (Some n) None → (b ≡ true) × (m ≡ n)
+chosen n m true is = (refl, cc)
+chosen n m false is = cc
+
+not_chosen : (n : ℕ) (b : Bool) → None ≡ cond b (Some n) None → b ≡ false
+not_chosen n true is = cc
+not_chosen n false is = refl
+
+-- where a line feed was found, it is the first
+pub found_end : (bytes : List ℕ) (place : ℕ) → Some place ≡ position is_end bytes → (place ≡ first_end bytes) × (first_end bytes < length bytes)
+found_end bytes place is =
+    let parts = chosen (first_end bytes) place (ltb (first_end bytes) (length bytes)) is in
+    (parts.1, grind (arith, parts.0))
+
+-- where none was found, there is none
+pub no_end : (bytes : List ℕ) → None ≡ position is_end bytes → first_end bytes ≡ length bytes
+no_end bytes is =
+    let past = not_chosen (first_end bytes) (ltb (first_end bytes) (length bytes)) is in
+    let within = prefix_len-le-length (λ (byte : ℕ). not (is_end byte)) bytes in
+    grind (arith, past, within)
+
+pieces_more : (line : List ℕ) (parts : List (List ℕ)) → 0 < length parts → pieces (line ∷ parts) ≡ ended line ∷ pieces parts
+pieces_more line [] some = absurd (omega arith)
+pieces_more line (part ∷ parts) some = refl
+
+-- a line that was ended, and the lines of the rest
+pub lines_of-ended : (line rest : List ℕ) → IsOneLine line → lines_of (line ++ 10 ∷ rest) ≡ ended line ∷ lines_of rest
+lines_of-ended line rest one =
+    let parts : slice_split is_end (line ++ 10 ∷ rest) ≡ line ∷ slice_split is_end rest = slice_split_at is_end line 10 rest one refl in
+    let some : 0 < length (slice_split is_end rest) = omega (arith, length-slice_split is_end rest) in
+    ap pieces parts ∙ pieces_more line (slice_split is_end rest) some
+
+-- a rest without a line feed
+pub lines_of-unended : (line : List ℕ) → IsOneLine line → lines_of line ≡ option_to_list (unended line)
+lines_of-unended line one = ap pieces (slice_split_none is_end line one)
+
+-- what stands before the first line feed has none
+pub one_line_before : (bytes : List ℕ) → IsOneLine (before_first is_end bytes)
+one_line_before bytes k d below =
+    let before : k < first_end bytes = omega (arith, below, length-take (first_end bytes) bytes) in
+    ap is_end (get_or-take (first_end bytes) bytes k d before) ∙ fails_before_first is_end bytes k d before
+
+-- bytes without a line feed go on with the line
+pub one_line_more : (line piece : List ℕ) → IsOneLine line → first_end piece ≡ length piece → IsOneLine (line ++ piece)
+one_line_more line piece one none =
+    All-append (λ (byte : ℕ). is_end byte ≡ false) line piece one
+    (λ k d below. fails_before_first is_end piece k d (omega (arith, below, none)))
+
+-- Bytes with a line feed: the unfinished line and what stands before the line feed are a line, and the lines
+-- of the rest follow.
+pub lines_of-piece : (line piece more : List ℕ) → IsOneLine line → first_end piece < length piece
+    → lines_of (line ++ (piece ++ more)) ≡ ended (line ++ before_first is_end piece) ∷ lines_of (drop (first_end piece + 1) piece ++ more)
+lines_of-piece line piece more one some =
+    let before : List ℕ = before_first is_end piece in
+    let after : List ℕ = drop (first_end piece + 1) piece in
+    let is_lf : get_or piece (first_end piece) 0 ≡ 10 = eqb-true (get_or piece (first_end piece) 0) 10 (passes_at_first is_end piece 0 some) in
+    let cut : piece ≡ before ++ 10 ∷ after =
+    split_at_first is_end piece 0 some ∙ ap (λ (byte : ℕ). before ++ byte ∷ after) is_lf in
+    let regrouped : line ++ (piece ++ more) ≡ (line ++ before) ++ 10 ∷ (after ++ more) =
+    ap (λ (bytes : List ℕ). line ++ (bytes ++ more)) cut
+    ∙ (ap (λ (bytes : List ℕ). line ++ bytes) (append_assoc before (10 ∷ after) more)
+    ∙ sym (append_assoc line before (10 ∷ (after ++ more)))) in
+    let front : IsOneLine (line ++ before) =
+    All-append (λ (byte : ℕ). is_end byte ≡ false) line before one (one_line_before piece) in
+    ap lines_of regrouped ∙ lines_of-ended (line ++ before) (after ++ more) front

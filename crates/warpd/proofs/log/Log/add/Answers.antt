@@ -1,0 +1,15 @@
+use Rattle.std.proofs.Common.{◌≡◌, ◌+◌, ◌++◌, ◌∷◌, [], length, Contains, ap, sym, subst, ◌∙◌, length-append, if◌then◌else◌, false, true, arith}
+use Rattle.warpd.proofs.LogLemmas.{not_listed}
+use Rattle.warpd.proofs.log.Log.add.Goals as goal
+
+pub returns-clause-log : goal.returns-clause-log
+returns-clause-log c =
+    let keys = c.self.inside.records.keys in
+    let lacks = subst (λ l. Contains l c.args.record.now → ⊥) (sym c.self.view_is) c.requires.new in
+    let missing = not_listed keys c.args.record.now lacks in
+    c.in_ok-insert.ensures.keys ∙ ap (λ b. if b then keys else keys ++ c.args.record.now ∷ []) missing
+    ∙ ap (λ l. l ++ c.args.record.now ∷ []) c.self.view_is
+
+pub returns-clause-place : goal.returns-clause-place
+returns-clause-place c =
+    omega (arith, c.len.ensures.len, ap length (returns-clause-log c), length-append c.args.self.now (c.args.record.now ∷ []))

@@ -1,0 +1,12 @@
+pub mod Line
+pub mod Lines
+pub mod Number
+pub mod Reply
+pub mod Stream
+pub mod Answers
+pub mod Session
+pub mod Standing
+pub mod Local
+pub mod Turns
+pub mod Outcome
+pub mod Words

@@ -1,0 +1,21 @@
+-- What one read and one write do: to the bytes left or written, where they are told, and to the count of failures.
+use Rattle.std.specs.Prelude.{◌≡◌, ℕ, ◌+◌, ◌<◌, Option, Result, List, take, length, MatchResult}
+use Rattle.std.specs.Io.KnownBytes.{Appends, Consumes, IsAtEnd, Keeps}
+
+-- at Ok n the told bytes begin with the first n of the buffer and lose them, none only at the end or with no
+-- room; at Err they are as before
+abbrev pub Reads : {E : Type 0} → Option (List ℕ) → Option (List ℕ) → Result ℕ E → List ℕ → Type 0
+Reads left left-after r buffer =
+    MatchResult r
+    (λ n. Consumes left left-after (take n buffer) × (n ≡ 0 → 0 < length buffer → IsAtEnd left-after))
+    (λ _. Keeps left left-after)
+
+-- at Ok n the told bytes grow by the first n of the piece; at Err they are as before
+abbrev pub Writes : {E : Type 0} → Option (List ℕ) → Option (List ℕ) → Result ℕ E → List ℕ → Type 0
+Writes written written-after r piece =
+    MatchResult r (λ n. Appends written written-after (take n piece)) (λ _. Keeps written written-after)
+
+-- the count of failures grows by one at Err, and only there
+abbrev pub Counts : {E : Type 0} → ℕ → ℕ → Result ℕ E → Type 0
+Counts failures failures-after r =
+    MatchResult r (λ _. failures-after ≡ failures) (λ _. failures-after ≡ failures + 1)

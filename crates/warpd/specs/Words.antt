@@ -1,0 +1,28 @@
+-- The command line of `warpd`, as the parser of the crate `clap` reads it.
+use Rattle.std.specs.Prelude.{ℕ, List, true, Option, codes, option_and_then}
+use Rattle.clap.specs.Words.{App, Row, Text, first_of, new_app, new_rule, subcommand_of, with_rule, with_subcommand}
+use Rattle.clap.specs.Simple.{on_top}
+use Rattle.warpd.specs.declared.words.Job.{Job}
+use Rattle.warpd.specs.declared.words.Job.TheVariants.{Run}
+
+-- `run` with one word, which has to be there
+abbrev pub run_command : App
+run_command = with_rule (new_app (codes "run")) (record (new_rule (codes "PROGRAM")) { required = true })
+
+-- `warpd` with a subcommand, which has to be there; with no word it answers with help
+abbrev pub warpd_command : App
+warpd_command = with_subcommand
+    (on_top (λ s. record s { arg_required_else_help = true; subcommand_required = true }) (new_app (codes "warpd")))
+    run_command.top
+
+-- of a subcommand with what was found for it, the word in the place of PROGRAM
+abbrev pub program_value : Option (Text × List Row) → Option Text
+program_value run = option_and_then (λ found. first_of (codes "PROGRAM") found.1) run
+
+-- the word in the place of PROGRAM among these
+abbrev pub program_in : List Text → Option Text
+program_in words = program_value (subcommand_of warpd_command words)
+
+-- the word that names the program to run
+abbrev pub program_of : Job → List ℕ
+program_of (Run program) = program.now

@@ -1,0 +1,176 @@
+//! Cutting a stream of bytes into lines, however the stream is cut into pieces.
+ghost use Rattle.std.specs.Prelude.{◌≡◌, ℕ, ◌+◌, ◌<◌, ◌≤◌, ◌↔◌, [], ◌++◌, List, take, length, min, IsSome, IfSome, IfNone, OnSome, position};
+ghost use Rattle.std.specs.Option.{option_map};
+ghost use Rattle.std.specs.List.{before_first};
+ghost use Rattle.warpd.specs.Lines.{ended, unended, kept_of, piece_of, first_end, is_end};
+
+use arrayvec::ArrayVec;
+use std::marker::Model;
+use std::mem;
+
+/// The greatest length of a line, without its line feed.
+pub const MAX_LINE: usize = 128;
+
+/// A line that was cut from the stream.
+#[derive(Debug, Drop, PartialEq, Eq)]
+pub enum Fed {
+    /// A line of at most `MAX_LINE` bytes, without its line feed.
+    Text(ArrayVec<u8, MAX_LINE>),
+    /// A line of more than `MAX_LINE` bytes.
+    TooLong,
+    /// A last line of at most `MAX_LINE` bytes that has no line feed.
+    Torn,
+}
+
+/// Cuts bytes into lines. It is seen as what it keeps of the unfinished line:
+/// its bytes, or `None` where these are more than `MAX_LINE`.
+#[derive(Drop)]
+pub struct Feed {
+    kept: ArrayVec<u8, MAX_LINE>,
+    is_long: bool,
+}
+
+impl Model for Feed {
+    ghost use Rattle.std.specs.Prelude.{ℕ, List, Option, Some, None, if◌then◌else◌};
+
+    ghost Value = { Option (List ℕ) };
+
+    ghost view = { λ f. if f.is_long then None else Some f.kept.items };
+}
+
+/// The place of the first line feed among the bytes.
+fn find_end(bytes: &[u8]) -> Option<usize>
+    ensures { result ≡ position is_end bytes.now }
+{
+    bytes.iter().position(|byte| *byte == b'\n')
+}
+
+impl Feed {
+    /// A feed that has taken nothing yet.
+    pub fn new() -> Feed
+        ensures { result ≡ kept_of [] }
+    {
+        Feed {
+            kept: ArrayVec::new(),
+            is_long: false,
+        }
+    }
+
+    /// Takes more bytes of the unfinished line.
+    fn keep(&mut self, bytes: &[u8])
+        ensures { (line : List ℕ) → self.old ≡ kept_of line → self.new ≡ kept_of (line ++ bytes.now) }
+    {
+        if !self.is_long && self.kept.try_extend_from_slice(bytes).is_err() {
+            self.is_long = true;
+        }
+    }
+
+    /// Takes bytes up to and with the first line feed, or all where there is none. Gives how many it took,
+    /// and the line that the line feed ended.
+    #[tactic(auto, using(crate::proofs::LineCuts::found_end, crate::proofs::LineCuts::no_end))]
+    pub fn push(&mut self, piece: &[u8]) -> (usize, Option<Fed>)
+        ensures taken { result.0 ≡ min (first_end piece.now + 1) (length piece.now) }
+        ensures given { IsSome result.1 ↔ (first_end piece.now < length piece.now) }
+        ensures line { IfSome result.1 (λ fed. (line : List ℕ) → self.old ≡ kept_of line →
+            piece_of fed ≡ ended (line ++ before_first is_end piece.now)) }
+        ensures fresh { OnSome result.1 (self.new ≡ kept_of []) }
+        ensures kept { IfNone result.1 ((line : List ℕ) → self.old ≡ kept_of line →
+            self.new ≡ kept_of (line ++ piece.now)) }
+    {
+        let Some(end) = find_end(piece) else {
+            self.keep(piece);
+            return (piece.len(), None);
+        };
+        self.keep(&piece[..end]);
+        let whole = mem::replace(self, Feed::new());
+        let fed = if whole.is_long {
+            Fed::TooLong
+        } else {
+            Fed::Text(whole.kept)
+        };
+        (end + 1, Some(fed))
+    }
+
+    /// The last line, which has no line feed; `None` after a whole line.
+    pub fn end(self) -> Option<Fed>
+        ensures { (line : List ℕ) → self ≡ kept_of line → option_map piece_of result ≡ unended line }
+    {
+        if self.is_long {
+            Some(Fed::TooLong)
+        } else if self.kept.is_empty() {
+            None
+        } else {
+            Some(Fed::Torn)
+        }
+    }
+}
+
+#[cfg(test)]
+mod tests {
+    use super::*;
+    use std::test::Fail;
+
+    const LONG: &[u8] = &[b'x'; 129];
+
+    const FULL: &[u8] = &[b'x'; 128];
+
+    /// Appends a line that was fed, as a text of one line.
+    fn append(out: &mut Vec<u8>, fed: Option<Fed>) -> Result<(), Fail> {
+        match fed {
+            None => {}
+            Some(Fed::Text(line)) => {
+                out.extend_from_slice(line.as_slice())?;
+                out.push(b'\n')?;
+            }
+            Some(Fed::TooLong) => out.extend_from_slice(b"(too long)\n")?,
+            Some(Fed::Torn) => out.extend_from_slice(b"(torn)\n")?,
+        }
+        Ok(())
+    }
+
+    /// Feeds all of a piece, and appends what is fed.
+    fn feed_piece(feed: &mut Feed, out: &mut Vec<u8>, piece: &[u8]) -> Result<(), Fail> {
+        let mut rest = piece;
+        for _ in 0..piece.len() {
+            let (taken, fed) = feed.push(rest);
+            append(out, fed)?;
+            rest = &rest[taken..];
+        }
+        Ok(())
+    }
+
+    /// The bytes that come in, and what is fed of them.
+    fn texts(rt: &HostRuntime) -> Result<(Vec<u8>, Vec<u8>), Fail> {
+        let mut bytes = Vec::from_slice(rt.alloc(), b"event 00 5 0 0 3\n\nevent 0 5 0 1 3\n")?;
+        let mut fed = Vec::from_slice(rt.alloc(), bytes.as_slice())?;
+        bytes.extend_from_slice(LONG)?;
+        fed.extend_from_slice(b"(too long)")?;
+        for line in [b"\n".as_slice(), FULL, b"\n".as_slice()] {
+            bytes.extend_from_slice(line)?;
+            fed.extend_from_slice(line)?;
+        }
+        Ok((bytes, fed))
+    }
+
+    #[test]
+    fn cut_at_every_place(rt: HostRuntime) -> Result<(), Fail> {
+        for (last, end) in [
+            (b"var".as_slice(), b"(torn)\n".as_slice()),
+            (b"".as_slice(), b"".as_slice()),
+            (LONG, b"(too long)\n".as_slice()),
+        ] {
+            let (mut bytes, mut expected) = texts(&rt)?;
+            bytes.extend_from_slice(last)?;
+            expected.extend_from_slice(end)?;
+            for cut in 0..bytes.len() {
+                let mut feed = Feed::new();
+                let mut out = Vec::new(rt.alloc());
+                feed_piece(&mut feed, &mut out, &bytes[..cut])?;
+                feed_piece(&mut feed, &mut out, &bytes[cut..])?;
+                append(&mut out, feed.end())?;
+                assert_eq!(rt; out.as_slice(), expected.as_slice(), "cut at {cut}");
+            }
+        }
+        Ok(())
+    }
+}

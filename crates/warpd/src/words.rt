@@ -1,0 +1,238 @@
+//! The words of the command line.
+ghost use Rattle.std.specs.Prelude.{◌≡◌, ◌⊎◌, IfErr, IfOk, None, Some, map, option_map};
+ghost use Rattle.std.specs.Prelude.{false};
+ghost use Rattle.clap.specs.Words.{app_of, fault_of, HasKind, subcommand_of, subcommand_rows_of};
+ghost use Rattle.clap.specs.declared.builder.command.Command.TheViews.{out-Command as fields_of};
+ghost use Rattle.warpd.specs.Words.{program_in, program_of, program_value, run_command, warpd_command};
+
+use clap::error::ErrorKind;
+use clap::{Arg, ArgMatches, Command, Error};
+use std::alloc::{AllocError, Global};
+
+/// What the words ask for.
+#[derive(Clone, Copy, Debug, PartialEq, Eq)]
+pub enum Job<'a> {
+    /// Answer the lines of standard input on standard output.
+    Run {
+        /// The word that names the program to run.
+        program: &'a str,
+    },
+}
+
+const ABOUT: &str =
+    "Runs a deterministic reactor program over events that may come late";
+
+const LONG_ABOUT: &str = "\
+warpd runs a deterministic reactor program. It executes at once what it has. Where an event
+comes late, what came too early is executed again, so each answer is that of the program run
+over all events in the order of their tags.";
+
+const STATUSES: &str = "\
+Exit status:
+  0  done, or help was asked for
+  2  the words were not understood
+  4  there is no such program, or a standard stream failed
+  5  memory ran out";
+
+const RUN_ABOUT: &str = "Answers the lines of standard input on standard output";
+
+const RUN_LONG_ABOUT: &str = "\
+Reads lines on standard input up to its end, and answers each of them with one line on
+standard output, in order.
+
+  event ORIGIN TIME MICROSTEP INPUT VALUE   hands in an event: taken N, or known N
+  var INDEX                                 asks for a variable: var N VALUE
+
+N counts the events taken by then; of an event it is its place among them. A line that is
+not understood or not allowed is answered by refused K, and changes nothing.
+
+The program builtin:twice stops at time 100. Its variable 0 begins at 0. An event of
+origin 0 for input 0 doubles it and adds the value; an event of origin 1 for input 1 takes
+the value from it.";
+
+const RUN_EXAMPLE: &str = "\
+Example:
+  printf 'event 0 5 0 0 3\\nvar 0\\n' | warpd run builtin:twice";
+
+const PROGRAM: &str = "PROGRAM";
+
+const PROGRAM_HELP: &str = "The program to run; this version has builtin:twice";
+
+/// Reads the words of the command line, of which the first is the program's own name.
+/// An error is a mistake in the words, a request for help, or want of memory; its text is for the user.
+pub fn words<'a>(alloc: Global, line: &'a [&'a str]) -> Result<Job<'a>, Error>
+    ensures ok { IfOk result (λ job. program_in (map (λ word. word.now) line.entry.now) ≡ Some (program_of job)) }
+    ensures err { IfErr result (λ e. (program_in (map (λ word. word.now) line.entry.now) ≡ None)
+        ⊎ HasKind (fault_of warpd_command (map (λ word. word.now) line.entry.now)) e) }
+{
+    let matches = matches(alloc, line)?;
+    match program(&matches) {
+        Some(program) => Ok(Job::Run { program }),
+        None => Err(missing(alloc)?),
+    }
+}
+
+/// What the parser makes of the words.
+fn matches<'a>(alloc: Global, line: &'a [&'a str]) -> Result<ArgMatches<'a>, Error>
+    ensures ok { IfOk result (λ m. subcommand_rows_of m ≡ subcommand_of warpd_command (map (λ word. word.now) line.entry.now)) }
+    ensures err { IfErr result (HasKind (fault_of warpd_command (map (λ word. word.now) line.entry.now))) }
+{
+    command(alloc)?.try_get_matches_from(line)
+}
+
+/// The word of the subcommand that stands for the program.
+fn program<'a>(matches: &ArgMatches<'a>) -> Option<&'a str>
+    ensures { option_map (λ word. word.now) result ≡ program_value (subcommand_rows_of matches.now) }
+{
+    match matches.subcommand() {
+        Some((_, run)) => run.get_str(PROGRAM),
+        None => None,
+    }
+}
+
+/// The error of a command line without its program, which the parser itself finds first.
+fn missing(alloc: Global) -> Result<Error, AllocError> {
+    command(alloc)?.error(
+        ErrorKind::MissingRequiredArgument,
+        "the word PROGRAM is missing",
+    )
+}
+
+/// The command line of `warpd`.
+fn command<'a>(alloc: Global) -> Result<Command<'a>, AllocError>
+    ensures { IfOk result (λ c. app_of c ≡ warpd_command) }
+{
+    let run = run(alloc)?;
+    Command::new(alloc, "warpd")
+        .about(ABOUT)
+        .long_about(LONG_ABOUT)
+        .after_long_help(STATUSES)
+        .arg_required_else_help(true)
+        .subcommand_required(true)
+        .subcommand(run)
+}
+
+/// The subcommand `run`.
+fn run<'a>(alloc: Global) -> Result<Command<'a>, AllocError>
+    ensures shape { IfOk result (λ c. app_of c ≡ run_command) }
+    ensures local { IfOk result (λ c. (fields_of c).has_globals ≡ false) }
+{
+    let program = Arg::new(alloc, PROGRAM).help(PROGRAM_HELP).required(true);
+    Command::new(alloc, "run")
+        .about(RUN_ABOUT)
+        .long_about(RUN_LONG_ABOUT)
+        .after_long_help(RUN_EXAMPLE)
+        .arg(program)
+}
+
+#[cfg(test)]
+mod tests {
+    use super::*;
+    use std::test::Fail;
+
+    #[test]
+    fn reads_the_program(rt: HostRuntime) -> Result<(), Fail> {
+        let rows = [
+            (
+                ["warpd", "run", "builtin:twice"].as_slice(),
+                "builtin:twice",
+            ),
+            (["warpd", "run", "a file.json"].as_slice(), "a file.json"),
+            (["warpd", "run", "--", "-x"].as_slice(), "-x"),
+            (["./warpd", "run", ""].as_slice(), ""),
+        ];
+        for (line, wanted) in rows {
+            let Job::Run { program } = words(rt.alloc(), line)?;
+            assert_eq!(rt; program, wanted);
+        }
+        Ok(())
+    }
+
+    #[test]
+    fn refuses_other_words_and_shows_help(rt: HostRuntime) -> Result<(), Fail> {
+        let rows = [
+            (["warpd", "--help"].as_slice(), ErrorKind::DisplayHelp, 0),
+            (["warpd", "-h"].as_slice(), ErrorKind::DisplayHelp, 0),
+            (
+                ["warpd", "help", "run"].as_slice(),
+                ErrorKind::DisplayHelp,
+                0,
+            ),
+            (
+                ["warpd", "run", "--help"].as_slice(),
+                ErrorKind::DisplayHelp,
+                0,
+            ),
+            (
+                ["warpd"].as_slice(),
+                ErrorKind::DisplayHelpOnMissingArgumentOrSubcommand,
+                2,
+            ),
+            (
+                ["warpd", "walk"].as_slice(),
+                ErrorKind::InvalidSubcommand,
+                2,
+            ),
+            (
+                ["warpd", "--fast"].as_slice(),
+                ErrorKind::UnknownArgument,
+                2,
+            ),
+            (
+                ["warpd", "run"].as_slice(),
+                ErrorKind::MissingRequiredArgument,
+                2,
+            ),
+            (
+                ["warpd", "run", "a", "b"].as_slice(),
+                ErrorKind::UnknownArgument,
+                2,
+            ),
+            (
+                ["warpd", "run", "-x"].as_slice(),
+                ErrorKind::UnknownArgument,
+                2,
+            ),
+        ];
+        for (line, kind, code) in rows {
+            match words(rt.alloc(), line) {
+                Ok(job) => panic!(rt; "{job:?}"),
+                Err(error) => {
+                    assert_eq!(rt; error.kind(), kind);
+                    assert_eq!(rt; error.exit_code(), code, "{kind:?}");
+                    assert_eq!(rt; error.use_stderr(), code == 2, "{kind:?}");
+                }
+            }
+        }
+        Ok(())
+    }
+
+    #[test]
+    fn help_tells_how_to_begin(rt: HostRuntime) -> Result<(), Fail> {
+        let rows = [
+            (["warpd", "--help"].as_slice(), "Usage: warpd <COMMAND>"),
+            (["warpd", "--help"].as_slice(), "executed again"),
+            (["warpd", "--help"].as_slice(), "Exit status:"),
+            (
+                ["warpd", "run", "--help"].as_slice(),
+                "Usage: warpd run <PROGRAM>",
+            ),
+            (["warpd", "run", "--help"].as_slice(), "builtin:twice"),
+            (["warpd", "run"].as_slice(), "<PROGRAM>"),
+            (
+                ["warpd", "walk"].as_slice(),
+                "unrecognized subcommand 'walk'",
+            ),
+        ];
+        for (line, wanted) in rows {
+            match words(rt.alloc(), line) {
+                Ok(job) => panic!(rt; "{job:?}"),
+                Err(error) => {
+                    let text = format!(in rt.alloc(); "{error}")?;
+                    assert!(rt; text.contains(wanted), "{text}");
+                }
+            }
+        }
+        Ok(())
+    }
+}
