@@ -1,11 +1,10 @@
 -- Lemmas on the table of a log, and on the variables of a run.
-use Rattle.std.proofs.Common.{◌≡◌, ℕ, ℤ, ◌+◌, ◌≤◌, Bool, true, false, List, [], ◌∷◌, ◌++◌, length, get_or, slice_set, slice_get, fold, Option, Some, None, if◌then◌else◌, refl, sym, ap, subst, ◌∙◌, ◌<◌, arith}
+use Rattle.std.proofs.Common.{◌≡◌, ℕ, ℤ, ◌+◌, ◌≤◌, Bool, true, false, List, [], ◌∷◌, ◌++◌, length, slice_get, fold, Option, Some, None, if◌then◌else◌, refl, sym, ap, subst, ◌∙◌, ◌<◌, arith}
 use Rattle.std.proofs.lemmas.List.{length-set}
 use Rattle.std.proofs.lemmas.List.Sums.{fold-append}
 use Rattle.warp_tag.specs.Moment.{Moment}
 use Rattle.warp_tag.specs.Table.{changed, with_event, name_before, has_name, fresh}
 use Rattle.warp_tag.specs.declared.entry.Entry.{Entry}
-use Rattle.warp_body.specs.Presence.{Presence}
 use Rattle.warp_body.specs.Effect.{Statement, SetVariable, PutOutput, Effect, effect_of, effect_of_one}
 use Rattle.warp_body.specs.Term.{value_of}
 use Rattle.warp_step.specs.declared.out.Given.{Given}
@@ -16,7 +15,7 @@ use Rattle.warp_step.specs.Run.{Row, Run, RunFrom, state_at_end, given_at}
 use Rattle.warp_tag.specs.Table.{Event, live}
 use Rattle.warpd.specs.declared.line.Record.{Record}
 use Rattle.warpd.specs.declared.line.Record.TheVariants as entry
-use Rattle.warpd.specs.Answers.{with_record, table_of}
+use Rattle.warpd.specs.Gives.{with_record, table_of}
 
 -- one more record changes its one name
 pub table_more : (log : List Record) (said : Record) → table_of (log ++ said ∷ []) ≡ with_record (table_of log) said

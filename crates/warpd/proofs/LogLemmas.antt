@@ -1,11 +1,11 @@
 -- Lemmas on logs.
-use Rattle.std.proofs.Common.{◌≡◌, ℕ, ◌+◌, ◌-◌, ◌≤◌, ◌<◌, Bool, true, false, List, [], ◌∷◌, length, get_or, slice_get, Contains, Option, Some, position, refl, sym, ap, ◌∙◌, rules, arith}
+use Rattle.std.proofs.Common.{◌≡◌, ℕ, ◌+◌, ◌-◌, Bool, true, false, List, get_or, slice_get, Contains, Some, position, refl, sym, ap, ◌∙◌, rules, arith}
 use Rattle.std.specs.List.{list_any}
 use Rattle.std.specs.Cmp.Rules.{comparing}
 use Rattle.std.proofs.lemmas.List.Quantifiers.{position-Some}
 use Rattle.std.proofs.lemmas.Option.{slice_get-get_or}
 use Rattle.indexmap.proofs.CallerLemmas.{Contains-list_any}
-use Rattle.warpd.specs.Answers.{IsAt}
+use Rattle.warpd.specs.Gives.{IsAt}
 use Rattle.warpd.specs.declared.line.Record.{Record}
 use Rattle.warpd.specs.contracts.line.RecordPartialEq.TheImpl.{eq-value}
 

@@ -3,7 +3,7 @@ pub mod Lines
 pub mod Number
 pub mod Reply
 pub mod Stream
-pub mod Answers
+pub mod Gives
 pub mod Session
 pub mod Standing
 pub mod Local

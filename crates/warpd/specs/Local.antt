@@ -2,7 +2,7 @@
 use Rattle.warp_step.specs.Program.{rules_of}
 use Rattle.warp_line.specs.Timeline.{Standing}
 use Rattle.warpd.specs.declared.local.Local.{Local}
-use Rattle.warpd.specs.Answers.{table_of}
+use Rattle.warpd.specs.Gives.{table_of}
 use Rattle.warpd.specs.Standing.{StandsWith}
 
 -- its timeline stands for its program and the names of its log

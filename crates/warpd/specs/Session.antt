@@ -11,7 +11,7 @@ use Rattle.warpd.specs.declared.reply.Refusal.TheVariants.{Syntax, TooLong}
 use Rattle.warpd.specs.Line.{IsLine, spelling}
 use Rattle.warpd.specs.Lines.{Piece, Whole, Long, Torn, lines_of}
 use Rattle.warpd.specs.Reply.{reply_spelling}
-use Rattle.warpd.specs.Answers.{Gives}
+use Rattle.warpd.specs.Gives.{Gives}
 
 -- the bytes spell this line
 abbrev pub Spells : List ℕ → Line → Type 0
@@ -39,12 +39,12 @@ abbrev pub reply_line : Reply → List ℕ
 reply_line reply = reply_spelling reply ++ 10 ∷ []
 
 -- these lines may give this text, and leave this log
-abbrev pub Answers : Rules → List Record → List Piece → List ℕ → List Record → Type 0
-Answers P log pieces text log' = (replies : List Reply) × GivesAll P log pieces replies log' × (text ≡ flat_map reply_line replies)
+abbrev pub GivesText : Rules → List Record → List Piece → List ℕ → List Record → Type 0
+GivesText P log pieces text log' = (replies : List Reply) × GivesAll P log pieces replies log' × (text ≡ flat_map reply_line replies)
 
 -- from this log of this program a session over these bytes may write this text, and leave this log
 abbrev pub Session : Rules → List Record → List ℕ → List ℕ → List Record → Type 0
-Session P log bytes text log' = Answers P log (lines_of bytes) text log'
+Session P log bytes text log' = GivesText P log (lines_of bytes) text log'
 
 -- of a source that tells its bytes, the transcript of all of them was written behind what the sink tells
 abbrev pub Transcribes : Rules → List Record → Option (List ℕ) → Option (List ℕ) → Option (List ℕ) → List Record → Type 0

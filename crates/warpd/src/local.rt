@@ -3,7 +3,7 @@ ghost use Rattle.std.specs.Prelude.{◌≡◌, ℕ, ◌+◌, ◌<◌, ◌≤◌,
 ghost use Rattle.warp_step.specs.Program.{rules_of};
 ghost use Rattle.warp_step.specs.Run.{Row};
 ghost use Rattle.warp_line.specs.Timeline.{Standing, IsDone};
-ghost use Rattle.warpd.specs.Answers.{Gives, GivesPut, GivesVar, refusal_of, table_of, with_record};
+ghost use Rattle.warpd.specs.Gives.{Gives, GivesPut, GivesVar, refusal_of, table_of, with_record};
 ghost use Rattle.warpd.specs.Standing.{StandsWith};
 ghost use Rattle.warpd.specs.Reply.{IsReply};
 
@@ -57,7 +57,10 @@ fn refusal(program: &Program, record: &Record) -> Option<Refusal>
     ensures { result ≡ refusal_of (rules_of program.now) «record».now }
 {
     let Record::Event {
-        origin, tag, input, ..
+        origin,
+        tag,
+        input,
+        ..
     } = *record;
     if program.origins() <= origin {
         return Some(Refusal::NoOrigin);

@@ -29,7 +29,7 @@ impl Model for Log {
 }
 
 impl Log {
-    ghost use Rattle.warpd.specs.Answers.{IsAt};
+    ghost use Rattle.warpd.specs.Gives.{IsAt};
 
     /// A log of no records, which grows in `alloc`.
     pub fn new(alloc: Global) -> Log

@@ -122,3 +122,34 @@ fn answer<L: Ledger, M: Ledger>(rt: &HostRuntime, reads: Blank, writes: Blank) -
     let mut sink = Stream::<_, M>::new(rt.stdout(), writes);
     run_session(rt.alloc(), program, &mut source, &mut sink)
 }
+
+#[cfg(test)]
+mod tests {
+    use super::*;
+    use std::test::Fail;
+
+    #[test]
+    fn help_is_done_and_a_wrong_word_is_a_mistake(rt: HostRuntime) -> Result<(), Fail> {
+        let rows = [
+            (["warpd", "--help"].as_slice(), Outcome::Done, 0),
+            (["warpd", "-h"].as_slice(), Outcome::Done, 0),
+            (["warpd", "help", "run"].as_slice(), Outcome::Done, 0),
+            (["warpd", "run", "--help"].as_slice(), Outcome::Done, 0),
+            (["warpd"].as_slice(), Outcome::Words, 2),
+            (["warpd", "walk"].as_slice(), Outcome::Words, 2),
+            (["warpd", "run"].as_slice(), Outcome::Words, 2),
+            (["warpd", "run", "a", "b"].as_slice(), Outcome::Words, 2),
+        ];
+        for (line, wanted, code) in rows {
+            match words(rt.alloc(), line) {
+                Ok(job) => panic!(rt; "{job:?}"),
+                Err(error) => {
+                    let outcome = show(&rt, &error);
+                    assert_eq!(rt; outcome, wanted, "{line:?}");
+                    assert_eq!(rt; status(outcome), code, "{line:?}");
+                }
+            }
+        }
+        Ok(())
+    }
+}

@@ -1,11 +1,11 @@
 //! A session: lines come in as bytes, in any pieces, and their replies go out as bytes.
-ghost use Rattle.std.specs.Prelude.{◌≡◌, ℕ, ◌+◌, ◌<◌, ◌≤◌, List, [], ◌++◌, Option, Some, None, Result, IfOk, OnOk, IsOk, length, take, vec_len, vec_capacity};
+ghost use Rattle.std.specs.Prelude.{◌≡◌, ℕ, ◌+◌, ◌<◌, ◌≤◌, List, [], ◌++◌, Option, Some, None, Result, IfOk, IfSome, OnOk, IsOk, length, take, vec_len, vec_capacity};
 ghost use Rattle.std.specs.Io.KnownBytes.{Appends, Consumes, IsAtEnd};
 ghost use Rattle.warp_step.specs.Program.{rules_of};
 ghost use Rattle.warpd.specs.Lines.{IsOneLine, kept_of, piece_of};
 ghost use Rattle.warpd.specs.Local.{IsWhole};
 ghost use Rattle.warpd.specs.Session.{GivesPiece, Transcribes, TranscribesAll, reply_line};
-ghost use Rattle.warpd.specs.Turns.{Desk, Sends, Takes, Ends, Faults};
+ghost use Rattle.warpd.specs.Turns.{SessionState, Sends, Takes, Ends, Faults};
 
 use crate::feed::{Fed, Feed};
 use crate::line::read_line;
@@ -38,7 +38,7 @@ pub enum SessionEnd {
     ReadFault,
     /// A write failed.
     WriteFault,
-    /// There were more than `MAX_READS` reads.
+    /// `MAX_READS` reads came to no end.
     TooManyReads,
     /// No memory was to be had; nothing was read.
     NoMemory,
@@ -192,8 +192,8 @@ fn answer_end<T: Timeline, W: Sink>(
 {
     match feed.end() {
         Some(fed) => {
-            let reply = reply_to(alloc, local, fed);
-            send(sink, out, reply)?;
+            let last = reply_to(alloc, local, fed);
+            send(sink, out, last)?;
             flush(sink, out)
         }
         None => flush(sink, out),
@@ -226,15 +226,16 @@ fn serve<T: Timeline, R: Source, W: Sink>(
     requires room { REPLY_ROOM ≤ vec_capacity out.old }
     ensures bytes { result ≡ SessionEnd.End →
         Transcribes (rules_of local.old.program) local.old.log (R.left source.old)
-            (W.written sink.old) (W.written sink.new) local.new.log }
+        (W.written sink.old) (W.written sink.new) local.new.log }
     ensures read_fault { result ≡ SessionEnd.ReadFault → R.failures source.old < R.failures source.new }
     ensures write_fault { result ≡ SessionEnd.WriteFault → W.failures sink.old < W.failures sink.new }
+    ensures many { result ≡ SessionEnd.TooManyReads → IfSome (R.left source.old) (λ input. MAX_READS ≤ length input) }
     ensures memory { result ≡ SessionEnd.NoMemory → ⊥ }
     ensures whole { IsWhole T.stands_for local.new }
     ensures program { local.new.program ≡ local.old.program }
 {
     let mut feed = Feed::new();
-    'reads: for _ in 0..MAX_READS {
+    'reads: for _read in 0..MAX_READS {
         let count = match source.read(buffer) {
             Ok(count) => count,
             Err(Failed) => return SessionEnd::ReadFault,
@@ -265,9 +266,10 @@ pub fn session<T: Timeline, R: Source, W: Sink>(
     // At the end all bytes were read, and their transcript was written.
     ensures bytes { result ≡ SessionEnd.End →
         Transcribes (rules_of local.old.program) local.old.log (R.left source.old)
-            (W.written sink.old) (W.written sink.new) local.new.log }
+        (W.written sink.old) (W.written sink.new) local.new.log }
     ensures read_fault { result ≡ SessionEnd.ReadFault → R.failures source.old < R.failures source.new }
     ensures write_fault { result ≡ SessionEnd.WriteFault → W.failures sink.old < W.failures sink.new }
+    ensures many { result ≡ SessionEnd.TooManyReads → IfSome (R.left source.old) (λ input. MAX_READS ≤ length input) }
     ensures memory { result ≡ SessionEnd.NoMemory →
         (source.new ≡ source.old) × (sink.new ≡ sink.old) × (local.new.log ≡ local.old.log) }
     ensures whole { IsWhole T.stands_for local.new }
@@ -291,6 +293,7 @@ pub fn run_session<R: Source, W: Sink>(
         TranscribesAll (rules_of program) (R.left source.old) (W.written sink.old) (W.written sink.new) }
     ensures read_fault { result ≡ SessionEnd.ReadFault → R.failures source.old < R.failures source.new }
     ensures write_fault { result ≡ SessionEnd.WriteFault → W.failures sink.old < W.failures sink.new }
+    ensures many { result ≡ SessionEnd.TooManyReads → IfSome (R.left source.old) (λ input. MAX_READS ≤ length input) }
     // Without memory nothing was read or written.
     ensures memory { result ≡ SessionEnd.NoMemory → (source.new ≡ source.old) × (sink.new ≡ sink.old) }
 {
@@ -380,10 +383,19 @@ mod tests {
             for most in [1, 7, 4_096] {
                 let reader = MemoryReader::new(lines.as_bytes(), most, None);
                 let writer = MemoryWriter::new(Vec::new(alloc), most, None);
-                let (end, written) =
-                    run::<_, Brand, Brand>(alloc, reader, writer, Blank::new(1), Blank::new(1))?;
+                let (end, written) = run::<_, Brand, Brand>(
+                    alloc,
+                    reader,
+                    writer,
+                    Blank::new(1),
+                    Blank::new(1),
+                )?;
                 assert_eq!(rt; end, SessionEnd::End);
-                assert_eq!(rt; written.as_slice(), answers.as_bytes(), "{lines} in pieces of {most}");
+                assert_eq!(rt;
+                    written.as_slice(),
+                    answers.as_bytes(),
+                    "{lines} in pieces of {most}"
+                );
             }
         }
         Ok(())
@@ -397,8 +409,13 @@ mod tests {
             let first = MemoryReader::new(&bytes[..cut], 4_096, None);
             let second = MemoryReader::new(&bytes[cut..], 4_096, None);
             let writer = MemoryWriter::new(Vec::new(alloc), 4_096, None);
-            let (end, written) =
-                run::<_, Brand, Brand>(alloc, first.chain(second), writer, Blank::new(1), Blank::new(1))?;
+            let (end, written) = run::<_, Brand, Brand>(
+                alloc,
+                first.chain(second),
+                writer,
+                Blank::new(1),
+                Blank::new(1),
+            )?;
             assert_eq!(rt; end, SessionEnd::End);
             assert_eq!(rt; written.as_slice(), REFUSALS.as_bytes(), "cut at {cut}");
         }
@@ -418,8 +435,13 @@ mod tests {
             // The first read gives the first line.
             let reader = MemoryReader::new(FIRST_RUN.as_bytes(), 16, sound_reads);
             let writer = MemoryWriter::new(Vec::new(alloc), 3, sound_writes);
-            let (end, written) =
-                run::<_, Brand, Brand>(alloc, reader, writer, Blank::new(1), Blank::new(1))?;
+            let (end, written) = run::<_, Brand, Brand>(
+                alloc,
+                reader,
+                writer,
+                Blank::new(1),
+                Blank::new(1),
+            )?;
             assert_eq!(rt; end, wanted);
             assert_eq!(rt; written.as_slice(), answers.as_bytes());
         }

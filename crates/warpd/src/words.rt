@@ -1,9 +1,9 @@
 //! The words of the command line.
-ghost use Rattle.std.specs.Prelude.{◌≡◌, ◌⊎◌, IfErr, IfOk, None, Some, map, option_map};
+ghost use Rattle.std.specs.Prelude.{◌≡◌, [], IfErr, IfOk, Some, map, option_map};
 ghost use Rattle.std.specs.Prelude.{false};
-ghost use Rattle.clap.specs.Words.{app_of, fault_of, HasKind, subcommand_of, subcommand_rows_of};
+ghost use Rattle.clap.specs.Words.{app_of, fault_of, HasKind, kind_of, subcommand_of, subcommand_rows_of};
 ghost use Rattle.clap.specs.declared.builder.command.Command.TheViews.{out-Command as fields_of};
-ghost use Rattle.warpd.specs.Words.{program_in, program_of, program_value, run_command, warpd_command};
+ghost use Rattle.warpd.specs.Words.{program_in, program_of, program_value, run_command, warpd_command, words_fault};
 
 use clap::error::ErrorKind;
 use clap::{Arg, ArgMatches, Command, Error};
@@ -23,9 +23,8 @@ const ABOUT: &str =
     "Runs a deterministic reactor program over events that may come late";
 
 const LONG_ABOUT: &str = "\
-warpd runs a deterministic reactor program. It executes at once what it has. Where an event
-comes late, what came too early is executed again, so each answer is that of the program run
-over all events in the order of their tags.";
+warpd runs a deterministic reactor program. Events may come late and in any order: each
+answer is that of the program run over all of them in the order of their tags.";
 
 const STATUSES: &str = "\
 Exit status:
@@ -61,9 +60,9 @@ const PROGRAM_HELP: &str = "The program to run; this version has builtin:twice";
 /// Reads the words of the command line, of which the first is the program's own name.
 /// An error is a mistake in the words, a request for help, or want of memory; its text is for the user.
 pub fn words<'a>(alloc: Global, line: &'a [&'a str]) -> Result<Job<'a>, Error>
-    ensures ok { IfOk result (λ job. program_in (map (λ word. word.now) line.entry.now) ≡ Some (program_of job)) }
-    ensures err { IfErr result (λ e. (program_in (map (λ word. word.now) line.entry.now) ≡ None)
-        ⊎ HasKind (fault_of warpd_command (map (λ word. word.now) line.entry.now)) e) }
+    ensures ok { IfOk result (λ job. (fault_of warpd_command (map (λ word. word.now) line.entry.now) ≡ [])
+        × (program_in (map (λ word. word.now) line.entry.now) ≡ Some (program_of job))) }
+    ensures err { IfErr result (HasKind (words_fault (map (λ word. word.now) line.entry.now))) }
 {
     let matches = matches(alloc, line)?;
     match program(&matches) {
@@ -74,7 +73,8 @@ pub fn words<'a>(alloc: Global, line: &'a [&'a str]) -> Result<Job<'a>, Error>
 
 /// What the parser makes of the words.
 fn matches<'a>(alloc: Global, line: &'a [&'a str]) -> Result<ArgMatches<'a>, Error>
-    ensures ok { IfOk result (λ m. subcommand_rows_of m ≡ subcommand_of warpd_command (map (λ word. word.now) line.entry.now)) }
+    ensures ok { IfOk result (λ m. (fault_of warpd_command (map (λ word. word.now) line.entry.now) ≡ [])
+        × (subcommand_rows_of m ≡ subcommand_of warpd_command (map (λ word. word.now) line.entry.now))) }
     ensures err { IfErr result (HasKind (fault_of warpd_command (map (λ word. word.now) line.entry.now))) }
 {
     command(alloc)?.try_get_matches_from(line)
@@ -91,7 +91,9 @@ fn program<'a>(matches: &ArgMatches<'a>) -> Option<&'a str>
 }
 
 /// The error of a command line without its program, which the parser itself finds first.
-fn missing(alloc: Global) -> Result<Error, AllocError> {
+fn missing(alloc: Global) -> Result<Error, AllocError>
+    ensures { IfOk result (λ e. kind_of e ≡ ErrorKind.MissingRequiredArgument) }
+{
     command(alloc)?.error(
         ErrorKind::MissingRequiredArgument,
         "the word PROGRAM is missing",
@@ -211,7 +213,7 @@ mod tests {
     fn help_tells_how_to_begin(rt: HostRuntime) -> Result<(), Fail> {
         let rows = [
             (["warpd", "--help"].as_slice(), "Usage: warpd <COMMAND>"),
-            (["warpd", "--help"].as_slice(), "executed again"),
+            (["warpd", "--help"].as_slice(), "in any order"),
             (["warpd", "--help"].as_slice(), "Exit status:"),
             (
                 ["warpd", "run", "--help"].as_slice(),

@@ -9,9 +9,9 @@ abbrev pub invariant-loop-at : goal.invariant-loop-at
 invariant-loop-at g l = record {
   within : l.at ≤ length l.bytes;
   takes : Takes (rules_of l.initial.local.program)
-  (record { log = l.initial.local.log; kept = l.initial.feed; written = g.W.Sink.written l.initial.sink; gathered = l.initial.out.items })
-  (record { log = l.local.log; kept = l.feed; written = g.W.Sink.written l.sink; gathered = l.out.items })
-  (take l.at l.bytes);
+      (record { log = l.initial.local.log; kept = l.initial.feed; written = g.W.Sink.written l.initial.sink; gathered = l.initial.out.items })
+      (record { log = l.local.log; kept = l.feed; written = g.W.Sink.written l.sink; gathered = l.out.items })
+      (take l.at l.bytes);
   whole : IsWhole g.T.Timeline.stands_for l.local;
   program : l.local.program ≡ l.initial.local.program;
   room : vec_capacity l.initial.out ≤ vec_capacity l.out;

@@ -8,7 +8,7 @@ pub returns-in_ok-send-in-Some-clause-ends : goal.returns-in_ok-send-in-Some-cla
 returns-in_ok-send-in-Some-clause-ends g c =
     on_ok_weaker c.flush.result
     (Ends-line (rules_of c.args.local.now.program)
-        (record { log = c.args.local.now.log; kept = c.args.feed; written = g.W.Sink.written c.args.sink.now; gathered = c.args.out.now.items })
-        c.reply_to-reply.new.local.log (g.W.Sink.written c.send.new.sink) (g.W.Sink.written c.flush.new.sink) c.send.new.out.items
-        (piece_of c.in-Some.fed) c.reply_to-reply.result c.in-Some.ensures c.reply_to-reply.ensures.gives (c.in_ok-send-in-Some.ensures.sends))
+    (record { log = c.args.local.now.log; kept = c.args.feed; written = g.W.Sink.written c.args.sink.now; gathered = c.args.out.now.items })
+    c.reply_to-last.new.local.log (g.W.Sink.written c.send.new.sink) (g.W.Sink.written c.flush.new.sink) c.send.new.out.items
+    (piece_of c.in-Some.fed) c.reply_to-last.result c.in-Some.ensures c.reply_to-last.ensures.gives (c.in_ok-send-in-Some.ensures.sends))
     c.flush.ensures.written

@@ -1,4 +1,4 @@
-use Rattle.std.proofs.Common.{None, sym, ap, ◌∙◌, is_some, true, false, true≢false, refl}
+use Rattle.std.proofs.Common.{sym, true≢false, refl}
 use Rattle.warp_step.specs.Program.{rules_of}
 use Rattle.warpd.proofs.TurnsLemmas.{Takes-given, Takes-kept}
 use Rattle.warpd.proofs.session.answer_next.Goals as goal

@@ -1,4 +1,4 @@
-use Rattle.std.proofs.Common.{◌∙◌, ap, length, drop, length-drop, length-take, take, ◌-◌, arith}
+use Rattle.std.proofs.Common.{◌∙◌, length, drop, length-drop, length-take, ◌-◌, arith}
 use Rattle.warpd.proofs.TurnsLemmas.{sent_more}
 use Rattle.warpd.proofs.session.flush.Goals as goal
 

@@ -1,9 +1,9 @@
-use Rattle.std.proofs.Common.{◌≤◌, ◌++◌, ◌∙◌, [], ap, sym, subst, take, refl, arith}
+use Rattle.std.proofs.Common.{◌++◌, ◌∙◌, [], ap, sym, subst, take, refl, arith}
 use Rattle.std.proofs.KnownBytes.{Consumes-nil, Consumes-trans}
 use Rattle.warp_step.specs.Program.{rules_of}
 use Rattle.warpd.specs.Lines.{kept_of}
 use Rattle.warpd.specs.Turns.{Takes}
-use Rattle.warpd.proofs.TurnsLemmas.{Takes-nil, Takes-read, transcribed_at_end}
+use Rattle.warpd.proofs.TurnsLemmas.{Takes-nil, Takes-read, transcribed_at_end, read_more, many_bytes}
 use Rattle.warpd.proofs.session.serve.Goals as goal
 
 pub reads-init : goal.reads-init
@@ -12,9 +12,13 @@ reads-init g c =
     let log = c.args.local.now.log in
     let written = g.W.Sink.written c.args.sink.now in
     record {
-      takes = ([], Consumes-nil (g.R.Source.left c.args.source.now),
-          subst (λ k. Takes P (record { log = log; kept = kept_of []; written = written; gathered = [] }) (record { log = log; kept = k; written = written; gathered = [] }) [])
-          (sym c.new-feed.ensures) (Takes-nil P (record { log = log; kept = kept_of []; written = written; gathered = [] })));
+      takes = (
+        [],
+        Consumes-nil (g.R.Source.left c.args.source.now),
+        subst (λ k. Takes P (record { log = log; kept = kept_of []; written = written; gathered = [] }) (record { log = log; kept = k; written = written; gathered = [] }) [])
+            (sym c.new-feed.ensures) (Takes-nil P (record { log = log; kept = kept_of []; written = written; gathered = [] })),
+        omega arith,
+      );
       empty = c.requires.empty;
       whole = c.requires.whole;
       program = refl;
@@ -38,15 +42,18 @@ reads-preserved g c =
     let was = c.reads.invariant in
     let told = c.in-Ok-answer_piece.ensures in
     record {
-      takes = (was.takes.0 ++ take c.in-Ok.count c.read.new.buffer,
-          Consumes-trans (g.R.Source.left c.args.source.now) (g.R.Source.left c.reads.source) (g.R.Source.left c.read.new.self)
-          was.takes.0 (take c.in-Ok.count c.read.new.buffer) was.takes.1 c.in-Ok.ensures.bytes.0,
-          Takes-read (rules_of c.args.local.now.program) (rules_of c.reads.local.program)
-          (record { log = c.args.local.now.log; kept = kept_of []; written = g.W.Sink.written c.args.sink.now; gathered = [] })
-          c.reads.local.log c.reads.feed (g.W.Sink.written c.reads.sink) c.reads.out.items
-          (record { log = c.answer_piece.new.local.log; kept = c.answer_piece.new.feed; written = g.W.Sink.written c.answer_piece.new.sink; gathered = [] })
-          was.takes.0 (take c.in-Ok.count c.read.new.buffer)
-          (ap rules_of was.program) was.empty was.takes.2 told.takes);
+      takes = (
+        was.takes.0 ++ take c.in-Ok.count c.read.new.buffer,
+        Consumes-trans (g.R.Source.left c.args.source.now) (g.R.Source.left c.reads.source) (g.R.Source.left c.read.new.self)
+            was.takes.0 (take c.in-Ok.count c.read.new.buffer) was.takes.1 c.in-Ok.ensures.bytes.0,
+        Takes-read (rules_of c.args.local.now.program) (rules_of c.reads.local.program)
+            (record { log = c.args.local.now.log; kept = kept_of []; written = g.W.Sink.written c.args.sink.now; gathered = [] })
+            c.reads.local.log c.reads.feed (g.W.Sink.written c.reads.sink) c.reads.out.items
+            (record { log = c.answer_piece.new.local.log; kept = c.answer_piece.new.feed; written = g.W.Sink.written c.answer_piece.new.sink; gathered = [] })
+            was.takes.0 (take c.in-Ok.count c.read.new.buffer)
+            (ap rules_of was.program) was.empty was.takes.2 told.takes,
+        read_more was.takes.0 c.read.new.buffer c.in-Ok.count c.reads._read was.takes.3 c.in-Ok.ensures.bound c.if-count-eq0.false,
+      );
       empty = told.empty;
       whole = told.whole;
       program = told.program ∙ was.program;
@@ -54,3 +61,8 @@ reads-preserved g c =
       reads_sound = c.in-Ok.ensures.failures ∙ was.reads_sound;
       writes_sound = told.faults ∙ was.writes_sound;
     }
+
+pub returns-clause-many : goal.returns-clause-many
+returns-clause-many g c = λ end.
+    let was = c.reads.invariant in
+    many_bytes (g.R.Source.left c.args.source.now) (g.R.Source.left c.reads.source) was.takes.0 was.takes.1 (omega (arith, was.takes.3))

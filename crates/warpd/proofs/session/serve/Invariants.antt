@@ -1,5 +1,5 @@
 -- The bytes read so far were taken, all replies are out, and nothing failed.
-use Rattle.std.proofs.Common.{◌≡◌, ◌≤◌, ◌<◌, ℕ, List, [], length, vec_capacity}
+use Rattle.std.proofs.Common.{◌≡◌, ◌≤◌, ℕ, List, [], length, vec_capacity}
 use Rattle.std.specs.Io.KnownBytes.{Consumes}
 use Rattle.warp_step.specs.Program.{rules_of}
 use Rattle.warpd.specs.Lines.{kept_of}
@@ -10,9 +10,9 @@ use Rattle.warpd.proofs.session.serve.Given as goal
 abbrev pub invariant-reads : goal.invariant-reads
 invariant-reads g l = record {
   takes : (seen : List ℕ) × Consumes (g.R.Source.left l.initial.source) (g.R.Source.left l.source) seen × Takes (rules_of l.initial.local.program)
-  (record { log = l.initial.local.log; kept = kept_of []; written = g.W.Sink.written l.initial.sink; gathered = [] })
-  (record { log = l.local.log; kept = l.feed; written = g.W.Sink.written l.sink; gathered = [] })
-  seen;
+      (record { log = l.initial.local.log; kept = kept_of []; written = g.W.Sink.written l.initial.sink; gathered = [] })
+      (record { log = l.local.log; kept = l.feed; written = g.W.Sink.written l.sink; gathered = [] })
+      seen × (l._read ≤ length seen);
   empty : l.out.items ≡ [];
   whole : IsWhole g.T.Timeline.stands_for l.local;
   program : l.local.program ≡ l.initial.local.program;

@@ -1,6 +1,6 @@
 use Rattle.std.proofs.Common.{◌∙◌, ap, subst, sym, arith}
 use Rattle.warp_step.specs.Program.{rules_of}
-use Rattle.warpd.specs.Answers.{table_of}
+use Rattle.warpd.specs.Gives.{table_of}
 use Rattle.warpd.proofs.AnswersLemmas.{length-table_of, table_more}
 use Rattle.warpd.proofs.local.Local.add.Goals as goal
 

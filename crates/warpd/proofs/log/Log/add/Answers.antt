@@ -1,4 +1,4 @@
-use Rattle.std.proofs.Common.{◌≡◌, ◌+◌, ◌++◌, ◌∷◌, [], length, Contains, ap, sym, subst, ◌∙◌, length-append, if◌then◌else◌, false, true, arith}
+use Rattle.std.proofs.Common.{◌++◌, ◌∷◌, [], length, Contains, ap, sym, subst, ◌∙◌, length-append, if◌then◌else◌, arith}
 use Rattle.warpd.proofs.LogLemmas.{not_listed}
 use Rattle.warpd.proofs.log.Log.add.Goals as goal
 

@@ -1,6 +1,6 @@
-use Rattle.std.proofs.Common.{◌≤◌, ◌+◌, subst, sym, arith}
+use Rattle.std.proofs.Common.{◌+◌, subst, sym, arith}
 use Rattle.warpd.proofs.LogLemmas.{found_at}
-use Rattle.warpd.specs.Answers.{IsAt}
+use Rattle.warpd.specs.Gives.{IsAt}
 use Rattle.warpd.proofs.log.Log.position.Goals as goal
 
 pub returns-clause-found : goal.returns-clause-found

@@ -1,5 +1,5 @@
 -- What a line gives on a log of records.
-use Rattle.std.specs.Prelude.{◌≡◌, ◌⊎◌, ℕ, ◌+◌, ◌-◌, ◌<◌, ◌≤◌, ◌==◌, nat_lt, nat_le, List, [], ◌∷◌, ◌++◌, length, map, fold, Contains, slice_get, slice_index, Option, Some, None, if◌then◌else◌}
+use Rattle.std.specs.Prelude.{◌≡◌, ℕ, ◌+◌, ◌-◌, ◌<◌, ◌≤◌, ◌==◌, nat_lt, nat_le, List, [], ◌∷◌, ◌++◌, length, map, fold, Contains, slice_get, slice_index, Option, Some, None, if◌then◌else◌}
 use Rattle.warp_tag.specs.Table.{changed, with_event, live}
 use Rattle.warp_tag.specs.declared.entry.Entry.{Entry}
 use Rattle.warp_step.specs.Rules.{Rules}
@@ -71,7 +71,7 @@ abbrev pub GivesVar : Rules → List Record → ℕ → Reply → Type 0
 GivesVar P log number (reply.Var n value) =
     (n ≡ length log) × (number < length P.starts)
     × ((trace : List Row) × Run P (live (table_of log)) trace
-        × (slice_get (state_at_end (start_state P) trace).vars number ≡ Some value))
+    × (slice_get (state_at_end (start_state P) trace).vars number ≡ Some value))
 GivesVar P log number (reply.Refused refusal) = HidesVar P number refusal
 GivesVar P log number (reply.Taken place) = ⊥
 GivesVar P log number (reply.Known place) = ⊥

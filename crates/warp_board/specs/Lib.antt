@@ -1,0 +1,5 @@
+pub mod Spelling
+pub mod Board
+pub mod Notes
+pub mod Rule
+pub mod Steps

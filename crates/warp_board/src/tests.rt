@@ -1,0 +1,156 @@
+ghost use Rattle.std.specs.Prelude.{◌≡◌, ◌<◌, IfSome};
+
+use crate::{
+    Board, Full, PORTS, Reader, Writer, board, join_readers, meet, read_row, spell_row,
+    split_reader,
+};
+use std::test::Fail;
+use std::thread;
+use std::thread::Threads;
+use warp_step::Out;
+use warp_tag::Tag;
+
+fn out(time: u64, micro: u32, port: u32, value: i64) -> Option<Out>
+    requires { port < PORTS }
+    ensures { IfSome result (λ row. row.port < PORTS) }
+{
+    let tag = Tag::new(time, micro)?;
+    Some(Out { tag, port, value })
+}
+
+#[test]
+fn spells_and_reads_rows(rt: HostRuntime) -> Result<(), Fail> {
+    let rows = [
+        (out(2, 1, 3, -5), (131_331, 18_446_744_073_709_551_611)),
+        (out(5, 0, 0, 3), (327_680, 3)),
+    ];
+    for (row, words) in rows {
+        let row = row.ok_or("no tag")?;
+        assert_eq!(rt; read_row(words.0, words.1), Some(row));
+    }
+    let first = out(2, 1, 3, -5).ok_or("no tag")?;
+    assert_eq!(rt; spell_row(first), (131_331, 18_446_744_073_709_551_611));
+    let second = out(5, 0, 0, 3).ok_or("no tag")?;
+    assert_eq!(rt; spell_row(second), (327_680, 3));
+    // Port 64, microstep 16, and a time past the last.
+    for word in [327_744, 331_776, 65_536_131_072] {
+        assert_eq!(rt; read_row(word, 3), None, "at {word}");
+    }
+    Ok(())
+}
+
+#[test]
+fn a_board_of_one_row_is_full(rt: HostRuntime) -> Result<(), Fail> {
+    let (board, mut writer, mut reader) = board(rt.alloc(), 1)?;
+    let row = out(5, 0, 0, 3).ok_or("no tag")?;
+    assert_eq!(rt; writer.append(&board, row), Ok(()));
+    assert_eq!(rt; reader.row(&board, 0), None);
+    assert_eq!(rt; reader.count(&board), 1);
+    assert_eq!(rt; reader.row(&board, 0), Some(row));
+    assert_eq!(rt; reader.row(&board, 1), None);
+    assert_eq!(rt; writer.append(&board, row), Err(Full));
+    assert_eq!(rt; reader.count(&board), 1);
+    assert_eq!(rt; writer.rows().len(), 1);
+    assert!(rt; !reader.frozen(&board) && !writer.is_frozen());
+    writer.freeze(&board);
+    assert!(rt; reader.frozen(&board) && writer.is_frozen());
+    assert_eq!(rt; reader.row(&board, 0), Some(row));
+    Ok(())
+}
+
+const ROWS: u64 = 1000;
+
+// The row that the writer of the test below puts at this place.
+fn row_at(place: u64) -> Option<Out>
+    ensures { IfSome result (λ row. row.port < PORTS) }
+{
+    out(
+        place,
+        (place % 16) as u32,
+        (place % 64) as u32,
+        500 - (place % ROWS) as i64,
+    )
+}
+
+fn fill(board: &Board, mut writer: Writer) -> Writer
+    requires { writer.board ≡ board.now }
+    ensures { result.board ≡ board.now }
+{
+    for place in 0..ROWS {
+        if let Some(row) = row_at(place) {
+            let _ = writer.append(board, row);
+        }
+    }
+    writer.freeze(board);
+    writer
+}
+
+// Whether each of these rows is the one for its place.
+fn has_rows(board: &Board, reader: &mut Reader, from: u64, to: u64) -> bool
+    requires { reader.old.board ≡ board.now }
+    ensures { reader.new.board ≡ board.now }
+{
+    for place in from..to {
+        if reader.row(board, place) != row_at(place) {
+            return false;
+        }
+    }
+    true
+}
+
+// Follows the board for so many turns, and says whether each row that came was the one for its place.
+fn follow(board: &Board, mut reader: Reader, turns: u32) -> (Reader, bool)
+    requires { reader.board ≡ board.now }
+    ensures { result.0.board ≡ board.now }
+{
+    let mut seen = 0;
+    let mut is_right = true;
+    for _turn in 0..turns {
+        let count = reader.count(board);
+        is_right = has_rows(board, &mut reader, seen, count) && is_right;
+        seen = count;
+        thread::yield_now();
+    }
+    (reader, is_right)
+}
+
+// Two readers follow the board, each in a thread of its own.
+fn follow_both<R: Threads>(
+    rt: &R,
+    board: &Board,
+    left: Reader,
+    right: Reader,
+) -> ((Reader, bool), (Reader, bool))
+    requires left { left.board ≡ board.now }
+    requires right { right.board ≡ board.now }
+    ensures left { result.0.0.board ≡ board.now }
+    ensures right { result.1.0.board ≡ board.now }
+{
+    thread::join(
+        rt,
+        move || follow(board, left, 2000),
+        move || follow(board, right, 2000),
+    )
+}
+
+#[test]
+fn two_readers_follow_a_writer(rt: HostRuntime) -> Result<(), Fail> {
+    let (board, writer, reader) = board(rt.alloc(), ROWS as usize)?;
+    let Ok((left, right)) = split_reader(&board, reader) else {
+        return Err(Fail::from("no memory"));
+    };
+    let board = &board;
+    let (mut writer, (left, right)) = thread::join(
+        &rt,
+        move || fill(board, writer),
+        || follow_both(&rt, board, left, right),
+    );
+    assert!(rt; left.1 && right.1);
+    let mut reader = join_readers(board, left.0, right.0);
+    assert_eq!(rt; meet(board, &mut writer, &mut reader), Ok(()));
+    assert_eq!(rt; reader.count(board), ROWS);
+    assert!(rt; has_rows(board, &mut reader, 0, ROWS) && reader.frozen(board));
+    assert_eq!(rt; reader.row(board, ROWS), None);
+    assert_eq!(rt; writer.rows().len(), 1000);
+    Ok(())
+}
