@@ -7,6 +7,8 @@
 mod expr;
 mod place;
 mod stmt;
+#[cfg(test)]
+mod tests;
 
 pub use expr::{Expr, eval};
 pub use place::{Present, Sizes, Vars};

@@ -12,7 +12,7 @@ live-append xs ys = filter_map-append live_event xs ys
 
 -- one more entry gives one more, where it is live
 pub given_more : (xs : List Entry) (i : ℕ) (d : Entry) → i < length xs →
-  map given_of (live (take (i + 1) xs)) ≡ map given_of (live (take i xs)) ++ map given_of (live (get_or xs i d ∷ []))
+    map given_of (live (take (i + 1) xs)) ≡ map given_of (live (take i xs)) ++ map given_of (live (get_or xs i d ∷ []))
 given_more xs i d lt =
     ap (λ (es : List Entry). map given_of (live es)) (take_more xs i d lt)
     ∙ ap (map given_of) (live-append (take i xs) (get_or xs i d ∷ []))

@@ -24,18 +24,21 @@ run_of p m settled h = subst (λ (b : Bool). MatchBool b (IsRun p m) (m.done ≡
 -- a settled value is settled again at no cost
 pub settled_stands : (p : Plain) (m : Standing) → p.settled ≡ true → StandsFor p m → (done : List Row) × Settles StandsFor p m 0 done × IsDone (record m { done = done })
 settled_stands p m settled h =
-    let r = run_of p m settled h in
-    (m.done, record {
-      stands = h;
-      kept = omega arith;
-      bound = λ trace run.
-        let same : trace ≡ m.done = one_rest m.rules (live m.table) None (start_state m.rules) trace m.done run r.done in
-        let lengths : length trace ≡ length m.done = ap length same in
-        omega arith;
-    }, r.done)
+    let r = run_of p m settled h in (
+      m.done,
+      record {
+        stands = h;
+        kept = omega arith;
+        bound = λ trace run.
+            let same : trace ≡ m.done = one_rest m.rules (live m.table) None (start_state m.rules) trace m.done run r.done in
+            let lengths : length trace ≡ length m.done = ap length same in
+            omega arith;
+      },
+      r.done,
+    )
 
 pub event_good : (P : Rules) (origin : ℕ) (tag : Moment) (input : ℕ) (value : ℤ) → IsEventOf P origin tag input
-  → IsTrue (event_fits P (record { origin = origin; tag = tag; input = input; value = value }))
+    → IsTrue (event_fits P (record { origin = origin; tag = tag; input = input; value = value }))
 event_good P origin tag input value h =
     let a = h.origin_declared in
     let b = h.not_past_stop in
@@ -74,24 +77,27 @@ after_event origin tag input value es = changed (with_event input value) origin 
 
 -- where the live events changed, nothing is known to be done
 pub put_changed : (p q : Plain) (m : Standing) (origin : ℕ) (tag : Moment) (input : ℕ) (value : ℤ) → StandsFor p m → IsEventOf m.rules origin tag input
-  → q.entries.items ≡ after_event origin tag input value p.entries.items → IsTable q.entries.items → length q.entries.items ≤ 4000000000
-  → (live q.entries.items ≡ live p.entries.items → ⊥)
-  → ((t : Event → Bool) → IsTrue (list_all t (live p.entries.items)) → IsTrue (t (record { origin = origin; tag = tag; input = input; value = value })) → IsTrue (list_all t (live q.entries.items)))
-  → q.settled ≡ false → NowStands StandsFor 4000000000 tag q m (after_event origin tag input value m.table)
+    → q.entries.items ≡ after_event origin tag input value p.entries.items → IsTable q.entries.items → length q.entries.items ≤ 4000000000
+    → (live q.entries.items ≡ live p.entries.items → ⊥)
+    → ((t : Event → Bool) → IsTrue (list_all t (live p.entries.items)) → IsTrue (t (record { origin = origin; tag = tag; input = input; value = value })) → IsTrue (list_all t (live q.entries.items)))
+    → q.settled ≡ false → NowStands StandsFor 4000000000 tag q m (after_event origin tag input value m.table)
 put_changed p q m origin tag input value h good is ordered few differs events unsettled =
     let table : q.entries.items ≡ after_event origin tag input value m.table = is ∙ ap (after_event origin tag input value) h.table in
     let fits = events (event_fits m.rules) (subst (λ (es : List Entry). IsTrue (list_all (event_fits m.rules) (live es))) (sym h.table) h.events) (event_good m.rules origin tag input value good) in
-    let new : Standing = record { rules = m.rules; table = after_event origin tag input value m.table; done = [] } in
-    ([], record {
-      table = table;
-      ordered = subst IsTable table ordered;
-      events = subst (λ (es : List Entry). IsTrue (list_all (event_fits m.rules) (live es))) table fits;
-      rows = subst (λ (b : Bool). MatchBool b (IsRun q new) (new.done ≡ [])) (sym unsettled) refl;
-    }, record {
-      front = λ before after rb ra u enough.
-        few_before m.rules (after_event origin tag input value m.table) after (lesser tag u) 0 (subst (λ (es : List Entry). length es ≤ 4000000000) table few) ra;
-      unchanged = λ same. absurd (differs (ap live table ∙ same ∙ ap live (sym h.table)));
-    })
+    let new : Standing = record { rules = m.rules; table = after_event origin tag input value m.table; done = [] } in (
+      [],
+      record {
+        table = table;
+        ordered = subst IsTable table ordered;
+        events = subst (λ (es : List Entry). IsTrue (list_all (event_fits m.rules) (live es))) table fits;
+        rows = subst (λ (b : Bool). MatchBool b (IsRun q new) (new.done ≡ [])) (sym unsettled) refl;
+      },
+      record {
+        front = λ before after rb ra u enough.
+            few_before m.rules (after_event origin tag input value m.table) after (lesser tag u) 0 (subst (λ (es : List Entry). length es ≤ 4000000000) table few) ra;
+        unchanged = λ same. absurd (differs (ap live table ∙ same ∙ ap live (sym h.table)));
+      },
+    )
 
 carried : (p q : Plain) (m n : Standing) (b : Bool) → MatchBool b (IsRun p m) (m.done ≡ []) → (IsRun p m → IsRun q n) → MatchBool b (IsRun q n) (m.done ≡ [])
 carried p q m n true h k = k h
@@ -99,25 +105,28 @@ carried p q m n false h k = h
 
 -- where they stayed, what was done stays done
 pub put_same : (p q : Plain) (m : Standing) (origin : ℕ) (tag : Moment) (input : ℕ) (value : ℤ) → StandsFor p m → IsEventOf m.rules origin tag input
-  → q.entries.items ≡ after_event origin tag input value p.entries.items → IsTable q.entries.items → length q.entries.items ≤ 4000000000
-  → live q.entries.items ≡ live p.entries.items
-  → q.settled ≡ p.settled → q.state ≡ p.state → q.outputs ≡ p.outputs → NowStands StandsFor 4000000000 tag q m (after_event origin tag input value m.table)
+    → q.entries.items ≡ after_event origin tag input value p.entries.items → IsTable q.entries.items → length q.entries.items ≤ 4000000000
+    → live q.entries.items ≡ live p.entries.items
+    → q.settled ≡ p.settled → q.state ≡ p.state → q.outputs ≡ p.outputs → NowStands StandsFor 4000000000 tag q m (after_event origin tag input value m.table)
 put_same p q m origin tag input value h good is ordered few same settled state outputs =
     let table : q.entries.items ≡ after_event origin tag input value m.table = is ∙ ap (after_event origin tag input value) h.table in
     let lives : live (after_event origin tag input value m.table) ≡ live m.table = ap live (sym table) ∙ same ∙ ap live h.table in
-    let new : Standing = record { rules = m.rules; table = after_event origin tag input value m.table; done = m.done } in
-    (m.done, record {
-      table = table;
-      ordered = subst IsTable table ordered;
-      events = subst (λ (E : List Event). IsTrue (list_all (event_fits m.rules) E)) (sym lives) h.events;
-      rows = subst (λ (b : Bool). MatchBool b (IsRun q new) (m.done ≡ [])) (sym settled) (carried p q m new p.settled h.rows
-        (λ r. record {
-          done = subst (λ (E : List Event). Run m.rules E m.done) (sym lives) r.done;
-          state = state ∙ r.state;
-          outputs = ap (λ (v : _). v.items) outputs ∙ r.outputs;
-        }));
-    }, record {
-      front = λ before after rb ra u enough.
-        few_before m.rules (after_event origin tag input value m.table) after (lesser tag u) (length m.done) (subst (λ (es : List Entry). length es ≤ 4000000000) table few) ra;
-      unchanged = λ kept. omega arith;
-    })
+    let new : Standing = record { rules = m.rules; table = after_event origin tag input value m.table; done = m.done } in (
+      m.done,
+      record {
+        table = table;
+        ordered = subst IsTable table ordered;
+        events = subst (λ (E : List Event). IsTrue (list_all (event_fits m.rules) E)) (sym lives) h.events;
+        rows = subst (λ (b : Bool). MatchBool b (IsRun q new) (m.done ≡ [])) (sym settled) (carried p q m new p.settled h.rows
+            (λ r. record {
+              done = subst (λ (E : List Event). Run m.rules E m.done) (sym lives) r.done;
+              state = state ∙ r.state;
+              outputs = ap (λ (v : _). v.items) outputs ∙ r.outputs;
+            }));
+      },
+      record {
+        front = λ before after rb ra u enough.
+            few_before m.rules (after_event origin tag input value m.table) after (lesser tag u) (length m.done) (subst (λ (es : List Entry). length es ≤ 4000000000) table few) ra;
+        unchanged = λ kept. omega arith;
+      },
+    )

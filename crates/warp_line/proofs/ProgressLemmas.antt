@@ -51,19 +51,22 @@ progress_start P entries before = record {
 }
 
 pub progress_bound : (P : Rules) (entries rest : List Entry) (s : Snapshot) (outs : List Out) (before now : ℕ) → Progress P entries rest s outs before now
-  → (trace : List Row) → Run P (live entries) trace → now ≤ before + length trace
+    → (trace : List Row) → Run P (live entries) trace → now ≤ before + length trace
 progress_bound P entries rest s outs before now p trace run =
     let less : length p.done ≤ length trace = runs_front P (live entries) None p.last (start_state P) s p.done trace p.rows run in
     let ticked = p.ticked in
     omega arith
 
 pub progress_end : (P : Rules) (entries : List Entry) (s : Snapshot) (outs : List Out) (before now : ℕ) → Progress P entries [] s outs before now
-  → (done : List Row) × Run P (live entries) done × (s ≡ state_at_end (start_state P) done) × (outs ≡ outputs_of done)
+    → (done : List Row) × Run P (live entries) done × (s ≡ state_at_end (start_state P) done) × (outs ≡ outputs_of done)
 progress_end P entries s outs before now p =
     let all : entries ≡ p.front = p.whole ∙ search rules in
-    let past_all : IsTrue (past p.last (live entries)) = subst (λ (es : List Entry). IsTrue (past p.last (live es))) (sym all) p.past_front in
-    (p.done, runs_whole P (live entries) None p.last (start_state P) s p.done p.rows (end_quiet (live entries) p.last s p.quiet (none_left p.last (live entries) past_all)),
-    sym (runs_state P (live entries) None p.last (start_state P) s p.done p.rows), p.outputs)
+    let past_all : IsTrue (past p.last (live entries)) = subst (λ (es : List Entry). IsTrue (past p.last (live es))) (sym all) p.past_front in (
+      p.done,
+      runs_whole P (live entries) None p.last (start_state P) s p.done p.rows (end_quiet (live entries) p.last s p.quiet (none_left p.last (live entries) past_all)),
+      sym (runs_state P (live entries) None p.last (start_state P) s p.done p.rows),
+      p.outputs,
+    )
 
 -- the first tag of a rest that is all after the last row is after it
 head_after : (last : Option Moment) (rest : List Entry) (n : ℕ) → 0 < n → n ≤ length rest → IsTrue (list_all (λ e. is_after last e.tag) rest) → is_after last (head_tag rest) ≡ true
@@ -87,7 +90,7 @@ both_past last front part h k =
 
 -- past the entries of one tag, with the step at it
 stepped : (P : Rules) (entries rest : List Entry) (s s' : Snapshot) (outs outs' : List Out) (before now now' n : ℕ) (G : List Event) → Progress P entries rest s outs before now
-  → Passes rest n → live (take n rest) ≡ G → GoesOn P (head_tag rest) (map given_of G) s s' outs outs' now now' → s'.pending ≡ [] → Progress P entries (drop n rest) s' outs' before now'
+    → Passes rest n → live (take n rest) ≡ G → GoesOn P (head_tag rest) (map given_of G) s s' outs outs' now now' → s'.pending ≡ [] → Progress P entries (drop n rest) s' outs' before now'
 stepped P entries rest s s' outs outs' before now now' n [] p passes none goes quiet = record {
   front = p.front ++ take n rest;
   done = p.done;
@@ -120,17 +123,17 @@ stepped P entries rest s s' outs outs' before now now' n (e ∷ G) p passes is g
       whole = longer entries p.front rest n p.whole;
       rows = runs_more P E None p.last (start_state P) s p.done row p.rows next step;
       outputs = goes.1 ∙ ap (λ (xs : List Out). xs ++ outputs_after P s t (map given_of (e ∷ G))) p.outputs
-        ∙ ap (λ (X : List Given). outputs_of p.done ++ outputs_after P s t X) (sym given)
-        ∙ search (rules, flat_map-append (λ (r : Row). r.outputs) p.done (row ∷ []));
+          ∙ ap (λ (X : List Given). outputs_of p.done ++ outputs_after P s t X) (sym given)
+          ∙ search (rules, flat_map-append (λ (r : Row). r.outputs) p.done (row ∷ []));
       ticked = (let was = p.ticked in let now_is = goes.2 in let len = length-append p.done (row ∷ []) in omega arith);
       quiet = quiet;
       past_front = both_past (Some t) p.front (take n rest) (past_more p.last t A p.past_front after)
-        (subst (λ (xs : List Event). IsTrue (past (Some t) xs)) (sym is) (past_at t (e ∷ G) at));
+          (subst (λ (xs : List Event). IsTrue (past (Some t) xs)) (sym is) (past_at t (e ∷ G) at));
       later = passes.later;
     }
 
 pub progress_on : (P : Rules) (entries rest : List Entry) (s s' : Snapshot) (outs outs' : List Out) (before now now' n : ℕ) → Progress P entries rest s outs before now
-  → Passes rest n → GoesOn P (head_tag rest) (map given_of (live (take n rest))) s s' outs outs' now now' → s'.pending ≡ [] → Progress P entries (drop n rest) s' outs' before now'
+    → Passes rest n → GoesOn P (head_tag rest) (map given_of (live (take n rest))) s s' outs outs' now now' → s'.pending ≡ [] → Progress P entries (drop n rest) s' outs' before now'
 progress_on P entries rest s s' outs outs' before now now' n p passes goes quiet =
     stepped P entries rest s s' outs outs' before now now' n (live (take n rest)) p passes refl goes quiet
 

@@ -47,7 +47,7 @@ later_rest e (d ∷ ds) a table other =
     grind (arith, nat_tests)
 
 pub passes : (rest : List Entry) (n : ℕ) → 0 < length rest → IsTable rest → n ≤ length rest
-  → IsTrue (list_all (λ e. is_same (head_tag rest) e.tag) (take n rest)) → HasOtherHead (head_tag rest) (drop n rest) → Passes rest n
+    → IsTrue (list_all (λ e. is_same (head_tag rest) e.tag) (take n rest)) → HasOtherHead (head_tag rest) (drop n rest) → Passes rest n
 passes [] n some table within here other = absurd (omega arith)
 passes (e ∷ es) zero some table within here other =
     let same : is_same e.tag e.tag ≡ true = grind (arith, nat_tests) in
@@ -81,7 +81,7 @@ fits_cons p (Some x) E h =
 
 -- a live event has the name of its entry
 parts : (b : Bool) (ev : Option (ℕ × ℤ)) (o : ℕ) (t : Moment) (v : Event)
-  → (if b then None else option_map (λ p. record { origin = o; tag = t; input = p.0; value = p.1 }) ev) ≡ Some v → (v.origin ≡ o) × (v.tag ≡ t)
+    → (if b then None else option_map (λ p. record { origin = o; tag = t; input = p.0; value = p.1 }) ev) ≡ Some v → (v.origin ≡ o) × (v.tag ≡ t)
 parts true ev o t v is = cc
 parts false None o t v is = cc
 parts false (Some p) o t v is =
@@ -96,12 +96,12 @@ abbrev inputs_of : List Event → List ℕ
 inputs_of E = map (λ g. g.input) (map given_of E)
 
 any_cons : (input : ℕ) (o : Option Event) (E : List Event) → ((v : Event) → o ≡ Some v → (v.input == input) ≡ false) → list_any (λ m. m == input) (inputs_of E) ≡ false
-  → list_any (λ m. m == input) (inputs_of (cons_option o E)) ≡ false
+    → list_any (λ m. m == input) (inputs_of (cons_option o E)) ≡ false
 any_cons input None E h k = k
 any_cons input (Some v) E h k = let e : (v.input == input) ≡ false = h v refl in grind (arith, nat_tests)
 
 distinct_cons : (o : Option Event) (E : List Event) → ((v : Event) → o ≡ Some v → list_any (λ m. m == v.input) (inputs_of E) ≡ false) → IsTrue (is_distinct (inputs_of E))
-  → IsTrue (is_distinct (inputs_of (cons_option o E)))
+    → IsTrue (is_distinct (inputs_of (cons_option o E)))
 distinct_cons None E h k = k
 distinct_cons (Some v) E h k = let e : list_any (λ m. m == v.input) (inputs_of E) ≡ false = h v refl in grind (arith, nat_tests)
 
@@ -117,8 +117,8 @@ differs P i j o own less = elim (split (j == i)) [
 
 -- an event of a later origin of the same tag has another input
 other_input : (P : Rules) (o : ℕ) (t : Moment) (input : ℕ) (ds : List Entry) → owner P input ≡ o → IsTrue (list_all (event_fits P) (live ds))
-  → AllByRecursion (λ d. IsTrue (name_before o t d)) ds → IsTrue (list_all (λ d. is_same t d.tag) ds)
-  → list_any (λ m. m == input) (inputs_of (live ds)) ≡ false
+    → AllByRecursion (λ d. IsTrue (name_before o t d)) ds → IsTrue (list_all (λ d. is_same t d.tag) ds)
+    → list_any (λ m. m == input) (inputs_of (live ds)) ≡ false
 other_input P o t input [] own fits after same = refl
 other_input P o t input (d ∷ ds) own fits after same =
     let parts_of = fits_cons (event_fits P) (live_event d) (live ds) fits in
@@ -127,16 +127,16 @@ other_input P o t input (d ∷ ds) own fits after same =
     let behind : o < d.origin = grind (arith, nat_tests) in
     any_cons input (live_event d) (live ds)
     (λ v is.
-      let good : IsTrue (event_fits P v) = parts_of.0 v is in
-      let owned : owner P v.input ≡ v.origin = grind (arith, nat_tests) in
-      let names : v.origin ≡ d.origin = (live_name d v is).0 in
-      let less : o < owner P v.input = omega arith in
-      differs P input v.input o own less)
+    let good : IsTrue (event_fits P v) = parts_of.0 v is in
+    let owned : owner P v.input ≡ v.origin = grind (arith, nat_tests) in
+    let names : v.origin ≡ d.origin = (live_name d v is).0 in
+    let less : o < owner P v.input = omega arith in
+    differs P input v.input o own less)
     (other_input P o t input ds own parts_of.1 after.1 rest)
 
 -- no input is given twice at a tag
 pub once : (P : Rules) (t : Moment) (es : List Entry) → IsTable es → IsTrue (list_all (λ e. is_same t e.tag) es) → IsTrue (list_all (event_fits P) (live es))
-  → IsTrue (is_distinct (inputs_of (live es)))
+    → IsTrue (is_distinct (inputs_of (live es)))
 once P t [] table same fits = refl
 once P t (e ∷ es) table same fits =
     let parts_of = fits_cons (event_fits P) (live_event e) (live es) fits in
@@ -145,19 +145,19 @@ once P t (e ∷ es) table same fits =
     let rest_here : IsTrue (list_all (λ d. is_same e.tag d.tag) es) = subst (λ (u : Moment). IsTrue (list_all (λ d. is_same u d.tag) es)) (same_is t e.tag here) rest in
     distinct_cons (live_event e) (live es)
     (λ v is.
-      let good : IsTrue (event_fits P v) = parts_of.0 v is in
-      let owned : owner P v.input ≡ v.origin = grind (arith, nat_tests) in
-      other_input P e.origin e.tag v.input es (owned ∙ (live_name e v is).0) parts_of.1 table.0 rest_here)
+    let good : IsTrue (event_fits P v) = parts_of.0 v is in
+    let owned : owner P v.input ≡ v.origin = grind (arith, nat_tests) in
+    other_input P e.origin e.tag v.input es (owned ∙ (live_name e v is).0) parts_of.1 table.0 rest_here)
     (once P t es table.1 rest parts_of.1)
 
 -- a live event of the tag is not past the stop
 time_cons : (P : Rules) (t : Moment) (o : Option Event) (E : List Event) → ((v : Event) → o ≡ Some v → t.time ≤ P.stop) → (0 < length (map given_of E) → t.time ≤ P.stop)
-  → 0 < length (map given_of (cons_option o E)) → t.time ≤ P.stop
+    → 0 < length (map given_of (cons_option o E)) → t.time ≤ P.stop
 time_cons P t None E h k some = k some
 time_cons P t (Some v) E h k some = h v refl
 
 in_time : (P : Rules) (t : Moment) (es : List Entry) → IsTrue (list_all (λ e. is_same t e.tag) es) → IsTrue (list_all (event_fits P) (live es))
-  → 0 < length (map given_of (live es)) → t.time ≤ P.stop
+    → 0 < length (map given_of (live es)) → t.time ≤ P.stop
 in_time P t [] same fits some = absurd (omega arith)
 in_time P t (e ∷ es) same fits some =
     let parts_of = fits_cons (event_fits P) (live_event e) (live es) fits in
@@ -165,16 +165,16 @@ in_time P t (e ∷ es) same fits some =
     let rest : IsTrue (list_all (λ d. is_same t d.tag) es) = grind (arith, nat_tests) in
     time_cons P t (live_event e) (live es)
     (λ v is.
-      let good : IsTrue (event_fits P v) = parts_of.0 v is in
-      let tags : v.tag ≡ e.tag = (live_name e v is).1 in
-      let times : v.tag.time ≡ t.time = ap (λ (u : Moment). u.time) (tags ∙ sym (same_is t e.tag here)) in
-      let fits_v : v.tag.time ≤ P.stop = grind (arith, nat_tests) in
-      omega arith)
+    let good : IsTrue (event_fits P v) = parts_of.0 v is in
+    let tags : v.tag ≡ e.tag = (live_name e v is).1 in
+    let times : v.tag.time ≡ t.time = ap (λ (u : Moment). u.time) (tags ∙ sym (same_is t e.tag here)) in
+    let fits_v : v.tag.time ≤ P.stop = grind (arith, nat_tests) in
+    omega arith)
     (in_time P t es rest parts_of.1) some
 
 -- what the live entries of the first tag give may be stepped with
 pub can_step : (P : Rules) (s : Snapshot) (t : Moment) (es : List Entry) (X : List Given) → IsTable es → IsTrue (list_all (λ e. is_same t e.tag) es) → IsTrue (list_all (event_fits P) (live es))
-  → X ≡ map given_of (live es) → 0 < length X → IsStateOf P s → s.pending ≡ [] → CanStep P s t X
+    → X ≡ map given_of (live es) → 0 < length X → IsStateOf P s → s.pending ≡ [] → CanStep P s t X
 can_step P s t es X table same fits is some state quiet =
     let some_live : 0 < length (map given_of (live es)) = subst (λ (Y : List Given). 0 < length Y) is some in
     subst (λ (Y : List Given). CanStep P s t Y) (sym is) (record {

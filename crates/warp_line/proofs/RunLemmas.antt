@@ -28,10 +28,12 @@ RunsTo P E last s (row ∷ rows) last' s' =
 
 -- one more row
 pub runs_more : (P : Rules) (E : List Event) (last last' : Option Moment) (s s' : Snapshot) (rows : List Row) (row : Row) → RunsTo P E last s rows last' s' → IsNext E last' s' row.tag
-  → Step P s' row.tag (given_at row.tag E) row.state row.outputs → RunsTo P E last s (rows ++ row ∷ []) (Some row.tag) row.state
-runs_more P E last last' s s' [] row h next step =
-    (subst (λ (l : Option Moment). IsNext E l s row.tag) (sym h.0) (subst (λ (x : Snapshot). IsNext E last' x row.tag) (sym h.1) next),
-    subst (λ (x : Snapshot). Step P x row.tag (given_at row.tag E) row.state row.outputs) (sym h.1) step, (refl, refl))
+    → Step P s' row.tag (given_at row.tag E) row.state row.outputs → RunsTo P E last s (rows ++ row ∷ []) (Some row.tag) row.state
+runs_more P E last last' s s' [] row h next step = (
+  subst (λ (l : Option Moment). IsNext E l s row.tag) (sym h.0) (subst (λ (x : Snapshot). IsNext E last' x row.tag) (sym h.1) next),
+  subst (λ (x : Snapshot). Step P x row.tag (given_at row.tag E) row.state row.outputs) (sym h.1) step,
+  (refl, refl),
+)
 runs_more P E last last' s s' (r ∷ rows) row h next step = (h.0, h.1, runs_more P E (Some r.tag) last' r.state s' rows row h.2 next step)
 
 -- they are the whole run where nothing waits after them
@@ -103,7 +105,7 @@ stands-append u (e ∷ es) B = let rest = stands-append u es B in grind (arith, 
 
 -- with these events before, at and behind a tag, that tag is the next
 pub next_at : (last : Option Moment) (t : Moment) (s : Snapshot) (A : List Event) (e : Event) (G B : List Event) → IsTrue (past last A) → IsTrue (all_at t (e ∷ G)) → IsTrue (behind t B)
-  → is_after last t ≡ true → s.pending ≡ [] → IsNext (A ++ ((e ∷ G) ++ B)) last s t
+    → is_after last t ≡ true → s.pending ≡ [] → IsNext (A ++ ((e ∷ G) ++ B)) last s t
 next_at last t s A e G B a g b after quiet = next_quiet (A ++ ((e ∷ G) ++ B)) last s t quiet (record {
   after = after;
   stood = (let x = stands-append t A ((e ∷ G) ++ B) in let y = stands-append t (e ∷ G) B in grind (arith, nat_tests));
@@ -141,7 +143,7 @@ none_behind t (e ∷ es) h =
 
 -- and what is given there is what those at it give
 pub given_there : (last : Option Moment) (t : Moment) (A G B : List Event) → IsTrue (past last A) → IsTrue (all_at t G) → IsTrue (behind t B) → is_after last t ≡ true
-  → given_at t (A ++ (G ++ B)) ≡ map given_of G
+    → given_at t (A ++ (G ++ B)) ≡ map given_of G
 given_there last t A G B a g b after =
     let p = λ (e : Event). is_same t e.tag in
     let first : filter p (A ++ (G ++ B)) ≡ filter p A ++ filter p (G ++ B) = filter-append p A (G ++ B) in

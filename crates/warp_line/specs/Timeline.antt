@@ -39,7 +39,7 @@ lesser t u = if is_before u t then u else t
 -- before the lesser of u and that tag; and where the live events stay, what was done stays done.
 pub record KeepsDone (slack : ℕ) (tag : Moment) (old new : Standing) : Type 0 where
   pub front : (before after : List Row) → Run old.rules (live old.table) before → Run new.rules (live new.table) after →
-    (u : Moment) → rows_before u before ≤ length old.done + slack → rows_before (lesser tag u) after ≤ length new.done + slack
+      (u : Moment) → rows_before u before ≤ length old.done + slack → rows_before (lesser tag u) after ≤ length new.done + slack
   pub unchanged : live new.table ≡ live old.table → length old.done ≤ length new.done
 
 -- Some such rows are done now of the standing with this table, and the value stands for that.

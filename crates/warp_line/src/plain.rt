@@ -52,7 +52,12 @@ impl Timeline for Plain {
         }
     }
 
-    fn settle<M: Meter>(&mut self, alloc: Global, program: &Program, meter: &mut M) -> Result<(), OutOfMemory> {
+    fn settle<M: Meter>(
+        &mut self,
+        alloc: Global,
+        program: &Program,
+        meter: &mut M,
+    ) -> Result<(), OutOfMemory> {
         if !self.settled {
             let (state, outputs) = replay(alloc, program, &self.entries, meter)?;
             self.state = state;

@@ -23,7 +23,9 @@ fn has_tag(entry: &Entry, tag: Tag) -> bool
 fn add_given(entry: &Entry, given: &mut Vec<Given>) -> Result<(), OutOfMemory>
     ensures { OnOk result (given.new.items ≡ given.old.items ++ map given_of (live (entry.now ∷ []))) }
 {
-    if !entry.withdrawn && let Some((input, value)) = entry.event {
+    if !entry.withdrawn
+        && let Some((input, value)) = entry.event
+    {
         given.push(Given { input, value })?;
     }
     Ok(())
@@ -48,7 +50,15 @@ fn gather(rest: &[Entry], tag: Tag, given: &mut Vec<Given>) -> Result<usize, Out
 
 /// Goes past the entries of the first tag, with a step where one of them is live.
 #[tactic(auto, using(crate::proofs::ReplayLemmas::passes))]
-fn advance<M: Meter>(program: &Program, rest: &[Entry], state: &mut State, scratch: &mut Scratch, given: &mut Vec<Given>, outputs: &mut Vec<Out>, meter: &mut M) -> Result<usize, OutOfMemory>
+fn advance<M: Meter>(
+    program: &Program,
+    rest: &[Entry],
+    state: &mut State,
+    scratch: &mut Scratch,
+    given: &mut Vec<Given>,
+    outputs: &mut Vec<Out>,
+    meter: &mut M,
+) -> Result<usize, OutOfMemory>
     requires some { 0 < length rest.now }
     requires table { IsTable rest.now }
     requires events { IsTrue (list_all (event_fits (rules_of program.now)) (live rest.now)) }
@@ -81,7 +91,12 @@ fn skip(entries: &[Entry], count: usize) -> &[Entry]
 }
 
 /// Runs a program from its start over the live events of a sorted table.
-pub(crate) fn replay<M: Meter>(alloc: Global, program: &Program, entries: &[Entry], meter: &mut M) -> Result<(State, Vec<Out>), OutOfMemory>
+pub(crate) fn replay<M: Meter>(
+    alloc: Global,
+    program: &Program,
+    entries: &[Entry],
+    meter: &mut M,
+) -> Result<(State, Vec<Out>), OutOfMemory>
     requires table { IsTable entries.now }
     requires events { IsTrue (list_all (event_fits (rules_of program.now)) (live entries.now)) }
     ensures ok { IfOk result (λ r. (done : List Row) × Run (rules_of program.now) (live entries.now) done
@@ -95,7 +110,15 @@ pub(crate) fn replay<M: Meter>(alloc: Global, program: &Program, entries: &[Entr
     let mut outputs = Vec::new(alloc);
     let mut rest = entries;
     'rows: while !rest.is_empty() {
-        let count = advance(program, rest, &mut state, &mut scratch, &mut given, &mut outputs, meter)?;
+        let count = advance(
+            program,
+            rest,
+            &mut state,
+            &mut scratch,
+            &mut given,
+            &mut outputs,
+            meter,
+        )?;
         rest = skip(rest, count);
     }
     Ok((state, outputs))

@@ -48,7 +48,12 @@ pub trait Timeline: Sized {
 
     /// Executes what is not done. At an `Err` it stands done through some tag, whole, and may be settled later.
     /// Of a settled value it changes nothing, ticks nothing, and cannot fail.
-    fn settle<M: Meter>(&mut self, alloc: Global, program: &Program, meter: &mut M) -> Result<(), OutOfMemory>
+    fn settle<M: Meter>(
+        &mut self,
+        alloc: Global,
+        program: &Program,
+        meter: &mut M,
+    ) -> Result<(), OutOfMemory>
         requires { (m : Standing) × stands_for self.old m × (m.rules ≡ rules_of program.now) }
         ensures stands { (m : Standing) → stands_for self.old m → m.rules ≡ rules_of program.now →
             (done : List Row) × Settles stands_for self.new m (M.ticks meter.new - M.ticks meter.old) done × OnOk result (IsDone (record m { done = done })) }

@@ -6,6 +6,8 @@
 
 mod entry;
 mod tag;
+#[cfg(test)]
+mod tests;
 
 pub use entry::Entry;
 pub use std::alloc::AllocError as OutOfMemory;

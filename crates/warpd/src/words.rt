@@ -19,8 +19,7 @@ pub enum Job<'a> {
     },
 }
 
-const ABOUT: &str =
-    "Runs a deterministic reactor program over events that may come late";
+const ABOUT: &str = "Runs a deterministic reactor program over events that may come late";
 
 const LONG_ABOUT: &str = "\
 warpd runs a deterministic reactor program. Events may come late and in any order: each

@@ -21,7 +21,7 @@ rows-init g c =
     let ticks = g.M.Meter.ticks c.args.meter.now in
     record {
       progress = subst (λ (s : Snapshot). Progress P table table s c.new-outputs.result.items ticks ticks) (sym started)
-        (subst (λ (outs : List Out). Progress P table table (start_state P) outs ticks ticks) (sym empty) (progress_start P table ticks));
+          (subst (λ (outs : List Out). Progress P table table (start_state P) outs ticks ticks) (sym empty) (progress_start P table ticks));
       table = c.requires.table;
       events = c.requires.events;
       state = ap (λ (s : Snapshot). length s.vars) started;
@@ -31,7 +31,7 @@ rows-init g c =
 pub returns-in_err-count-clause-bound : goal.returns-in_err-count-clause-bound
 returns-in_err-count-clause-bound g c = λ trace run.
     let bound : g.M.Meter.ticks c.rows.meter ≤ g.M.Meter.ticks c.args.meter.now + length trace =
-      progress_bound (rules_of c.args.program.now) c.args.entries.now c.rows.rest.now c.rows.state c.rows.outputs.items _ _ c.rows.invariant.progress trace run in
+    progress_bound (rules_of c.args.program.now) c.args.entries.now c.rows.rest.now c.rows.state c.rows.outputs.items _ _ c.rows.invariant.progress trace run in
     let same : g.M.Meter.ticks c.advance.new.meter ≡ g.M.Meter.ticks c.rows.meter = search rules in
     omega arith
 
@@ -42,7 +42,7 @@ rows-preserved g c =
     let rest = c.rows.rest.now in
     let back : c.skip-rest.result.now ≡ drop n rest = c.skip-rest.ensures in
     let next = progress_on P c.args.entries.now rest c.rows.state c.advance.new.state c.rows.outputs.items c.advance.new.outputs.items _ _ _ n
-      c.rows.invariant.progress c.in_ok-count.ensures.passes c.in_ok-count.ensures.goes c.in_ok-count.ensures.quiet in
+    c.rows.invariant.progress c.in_ok-count.ensures.passes c.in_ok-count.ensures.goes c.in_ok-count.ensures.quiet in
     record {
       progress = subst (λ (es : List Entry). Progress P c.args.entries.now es c.advance.new.state c.advance.new.outputs.items (g.M.Meter.ticks c.args.meter.now) (g.M.Meter.ticks c.advance.new.meter)) (sym back) next;
       table = subst (λ (es : List Entry). IsTable es) (sym back) (table_drop n rest c.rows.invariant.table);
