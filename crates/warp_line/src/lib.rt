@@ -7,6 +7,8 @@
 mod plain;
 mod replay;
 mod table;
+#[cfg(test)]
+mod tests;
 mod timeline;
 
 pub use plain::Plain;

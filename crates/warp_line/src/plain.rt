@@ -29,7 +29,7 @@ impl Timeline for Plain {
 
     ghost done_is_front = { plain_front };
 
-    /// More than any run has rows.
+    /// No table has more names, and in this version no run has more rows than its table has names.
     const SLACK: u64 = 4_000_000_000;
 
     fn start(alloc: Global, program: &Program) -> Result<Plain, OutOfMemory> {

@@ -32,7 +32,7 @@ pub trait Timeline: Sized {
     fn start(alloc: Global, program: &Program) -> Result<Self, OutOfMemory>
         ensures { IfOk result (λ t. stands_for t (record { rules = rules_of program.now; table = []; done = [] })) };
 
-    /// Makes room for one name, of fewer than 4,000,000,001. An `Err` changes nothing.
+    /// Makes room for one name more than the fewer than 4,000,000,000 that are there. An `Err` changes nothing.
     fn prepare(&mut self, alloc: Global) -> Result<(), OutOfMemory>
         requires { (m : Standing) × stands_for self.old m × (length m.table < 4000000000) }
         ensures stands { (m : Standing) → stands_for self.old m → stands_for self.new m }

@@ -50,7 +50,8 @@ abbrev pub outputs_from : ℕ → Moment → Presence → List ℕ → List Out
 outputs_from number t present [] = []
 outputs_from number t present (port ∷ ports) = with_output number t (port_at present port) (outputs_from (number + 1) t present ports)
 
--- the state after the step: the entries at the tag are taken out of the pending ones
+-- The state after the step: the entries at the tag are taken out of the pending ones. In this version nothing is ever
+-- pending, since programs have no actions, timers and links: no entry makes anything present, and there are no wishes.
 abbrev pub state_after : Rules → Snapshot → Moment → List Given → Snapshot
 state_after P s t X = record {
   vars = (reacted P s X).vars;

@@ -13,6 +13,8 @@ mod program;
 mod react;
 mod reaction;
 mod state;
+#[cfg(test)]
+mod tests;
 
 pub use law::one_trace;
 pub use meter::Meter;

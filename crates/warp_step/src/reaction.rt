@@ -8,7 +8,7 @@ use warp_tag::OutOfMemory;
 /// A reaction: it runs at a tag at which one of its triggers is present.
 #[derive(Debug, Drop)]
 pub struct Reaction {
-    /// The numbers of the input ports that trigger it.
+    /// The numbers of the ports that trigger it.
     pub triggers: Vec<u32>,
     /// What it does.
     pub body: Vec<Stmt>,

