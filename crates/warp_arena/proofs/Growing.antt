@@ -1,0 +1,188 @@
+-- The arena at its start, and after it grew by one unused node.
+use Rattle.std.proofs.Common.{◌≡◌, ◌≢◌, ℕ, ◌+◌, ◌-◌, ◌<◌, Bool, cond, eqb, ltb, List, [], ◌∷◌, ◌++◌, length, refl, sym, ap, ◌∙◌, subst, inl, inr, arith, map, get_or, replicate, max}
+use Rattle.std.specs.List.{AllByRecursion}
+use Rattle.std.proofs.lemmas.Bool.{cases_lt, cases_order, eq-eqb, ne_eqb, lt-ltb, le-ltb}
+use Rattle.std.proofs.lemmas.List.{length-append, get_or_append_left, get_or_push, get_or_past, get_or-replicate, length-replicate}
+use Rattle.warp_tag.specs.Table.{IsTable}
+use Rattle.warp_tag.specs.declared.entry.Entry.{Entry}
+use Rattle.warp_arena.specs.declared.arena.Arena.TheInside.{Inside}
+use Rattle.warp_arena.specs.declared.node.Links.{Links}
+use Rattle.warp_arena.specs.declared.node.Node.{Node}
+use Rattle.warp_arena.specs.declared.node.TheConstants.{NO_NODE, MAX_USED}
+use Rattle.warp_arena.specs.Places.{Place}
+use Rattle.warp_arena.specs.Shape.{Threads, IsArena, IsWhole, threads_of, contents_of, used_of, unused_of, count_of, node_at, entry_at, by_tag, of_origin, place_at, members, no_node, no_links, next_in, prev_in, free_ends, walk, IsChain}
+use Rattle.warp_arena.proofs.Rings.{IsSame, All-both, All-weaker, IsChain-frame, length-walk}
+use Rattle.warp_arena.proofs.Tables.{All-filter, map_agree}
+use Rattle.warp_arena.proofs.Shapes.{all_used_below, members_agree, none_unused}
+use Rattle.warp_arena.proofs.Walks.{threads, used, next_in-at}
+use Rattle.warp_arena.proofs.Reading.{places}
+use Rattle.warp_arena.proofs.Wholes.{IsWhole-from, used_is, first_unused}
+use Rattle.warp_arena.proofs.Inserted.{same_contents}
+
+-- ---- the start
+
+start_shape : (own : List Links) (n : ℕ) → own ≡ replicate n no_links → IsArena (threads_of [] own no_links NO_NODE) [] []
+start_shape own n e =
+    record {
+      small = omega arith;
+      sorted = tt;
+      declared = tt;
+      spelled = (refl, refl);
+      own = λ o h.
+          let l : get_or own o no_links ≡ no_links =
+          ap (λ xs. get_or xs o no_links) e
+          ∙ get_or-replicate n o no_links no_links (omega (arith, ap length e, length-replicate n no_links)) in
+          (ap (λ (k : Links). k.next) l, ap (λ (k : Links). k.prev) l);
+      free = refl;
+      once = λ i. sym (ap (λ b. cond b 1 0) (le-ltb i 0 (omega arith)));
+    }
+
+pub start_whole : (nodes : List Node) (own : List Links) (n : ℕ) → nodes ≡ [] → own ≡ replicate n no_links → IsWhole (threads_of nodes own no_links NO_NODE) 0
+start_whole nodes own n e f =
+    subst (λ ns. IsWhole (threads_of ns own no_links NO_NODE) 0) (sym e)
+    (IsWhole-from (threads_of [] own no_links NO_NODE) [] [] 0 (start_shape own n f) refl refl)
+
+-- ---- one more node
+
+node_pushed : (nodes : List Node) (n : Node) (i : ℕ) → i ≢ length nodes → node_at (nodes ++ n ∷ []) i ≡ node_at nodes i
+node_pushed nodes n i other =
+    elim (cases_lt i (length nodes)) [
+      | inl below ↦ get_or_append_left nodes (n ∷ []) no_node i below
+      | inr above ↦
+          get_or_past (nodes ++ n ∷ []) i no_node (omega (arith, length-append nodes (n ∷ [])))
+          ∙ sym (get_or_past nodes i no_node above)
+    ]
+
+-- no node is free where the free list is empty
+pub none_free : (a : Inside) → IsWhole (threads a) a.used → a.free ≡ NO_NODE → a.used ≡ length a.nodes.items
+none_free a w e =
+    elim (cases_lt a.used (length a.nodes.items)) [
+      | inl below ↦
+          let u = first_unused (threads a) a.used below in
+          absurd ((none_unused (threads a) (used a) (a.free ∷ u.rest) (subst (λ fs. IsArena (threads a) (used a) fs) u.parts w.shape)).0 e)
+      | inr above ↦ omega (arith, w.fits)
+    ]
+
+count_of_walk : (next : ℕ → ℕ) (i m : ℕ) → m ≡ 0 → count_of i (walk next m NO_NODE) ≡ 0
+count_of_walk next i m e = ap (λ k. count_of i (walk next k NO_NODE)) e
+
+module _ (a : Inside) (w : IsWhole (threads a) a.used) (full : a.used ≡ length a.nodes.items) (room : length a.nodes.items < MAX_USED) (n : Node) (free : n.by_tag.next ≡ NO_NODE) where
+  size : ℕ
+  size = length a.nodes.items
+
+  abbrev new : List Node
+  new = a.nodes.items ++ n ∷ []
+
+  new_len : length new ≡ length a.nodes.items + 1
+  new_len = omega (arith, length-append a.nodes.items (n ∷ []))
+
+  abbrev t' : Threads
+  t' = threads_of new a.origin_ends.items a.ends (length a.nodes.items)
+
+  off_new : (is : List ℕ) → AllByRecursion (λ i. i < length a.nodes.items) is → AllByRecursion (λ i. node_at new i ≡ node_at a.nodes.items i) is
+  off_new is below =
+      All-weaker (λ i. i < length a.nodes.items) (λ i. node_at new i ≡ node_at a.nodes.items i) (λ i h. node_pushed a.nodes.items n i (omega arith)) is below
+
+  used_below : AllByRecursion (λ i. i < length a.nodes.items) (used a)
+  used_below = all_used_below (threads a) (used a) (unused_of (threads a) ((threads a).size - a.used)) w.shape
+
+  same_nodes : AllByRecursion (λ i. node_at new i ≡ node_at a.nodes.items i) (used a)
+  same_nodes = off_new (used a) used_below
+
+  same_entries : AllByRecursion (λ i. entry_at new i ≡ entry_at a.nodes.items i) (used a)
+  same_entries =
+      All-weaker (λ i. node_at new i ≡ node_at a.nodes.items i) (λ i. entry_at new i ≡ entry_at a.nodes.items i) (λ i e. ap (λ k. k.entry) e) (used a) same_nodes
+
+  chain_kept : (f : Node → Links) (e : Links) (is : List ℕ) → AllByRecursion (λ i. node_at new i ≡ node_at a.nodes.items i) is
+      → IsChain (next_in e (λ i. f (node_at a.nodes.items i))) (prev_in e (λ i. f (node_at a.nodes.items i))) NO_NODE is NO_NODE
+      → IsChain (next_in e (λ i. f (node_at new i))) (prev_in e (λ i. f (node_at new i))) NO_NODE is NO_NODE
+  chain_kept f e is same chain =
+      let old_links : ℕ → Links = λ i. f (node_at a.nodes.items i) in
+      let new_links : ℕ → Links = λ i. f (node_at new i) in
+      IsChain-frame (next_in e old_links) (prev_in e old_links) (next_in e new_links) (prev_in e new_links) NO_NODE is NO_NODE chain refl
+      (All-weaker (λ i. node_at new i ≡ node_at a.nodes.items i) (IsSame (next_in e old_links) (next_in e new_links))
+      (λ i h. ap (λ m. cond (eqb i NO_NODE) e.next (f m).next) h) is same)
+      (All-weaker (λ i. node_at new i ≡ node_at a.nodes.items i) (IsSame (prev_in e old_links) (prev_in e new_links))
+      (λ i h. ap (λ m. cond (eqb i NO_NODE) e.prev (f m).prev) h) is same)
+      refl
+
+  old_once : (i : ℕ) → count_of i (used a) ≡ cond (ltb i (length a.nodes.items)) 1 0
+  old_once i =
+      let none : count_of i (unused_of (threads a) ((threads a).size - a.used)) ≡ 0 =
+      count_of_walk (next_in (free_ends a.free) (threads a).links) i (length a.nodes.items - a.used) (omega arith) in
+      omega (arith, w.shape.once i, none)
+
+  once_pushed : (i : ℕ) → count_of i (used a) + count_of i (length a.nodes.items ∷ []) ≡ cond (ltb i (length new)) 1 0
+  once_pushed i =
+      let K : Bool → ℕ = λ b. cond b 1 0 in
+      elim (cases_order i (length a.nodes.items)) [
+        | inl same ↦
+            omega (
+              arith,
+              old_once i,
+              ap K (le-ltb i (length a.nodes.items) (omega arith)),
+              ap K (lt-ltb i (length new) (omega (arith, new_len))),
+              ap K (eq-eqb (length a.nodes.items) i (sym same)),
+            )
+        | inr other ↦
+            elim other [
+              | inl below ↦
+                  omega (
+                    arith,
+                    old_once i,
+                    ap K (lt-ltb i (length a.nodes.items) below),
+                    ap K (lt-ltb i (length new) (omega (arith, new_len))),
+                    ap K (ne_eqb (length a.nodes.items) i (λ e. omega arith)),
+                  )
+              | inr above ↦
+                  omega (
+                    arith,
+                    old_once i,
+                    ap K (le-ltb i (length a.nodes.items) (omega arith)),
+                    ap K (le-ltb i (length new) (omega (arith, new_len))),
+                    ap K (ne_eqb (length a.nodes.items) i (λ e. omega arith)),
+                  )
+            ]
+      ]
+
+  shape' : IsArena t' (used a) (length a.nodes.items ∷ [])
+  shape' =
+      let not_none : length a.nodes.items ≢ NO_NODE = λ e. omega arith in
+      record {
+        small = omega (arith, new_len);
+        sorted = subst IsTable (sym (map_agree (entry_at a.nodes.items) (entry_at new) (used a) same_entries)) w.shape.sorted;
+        declared =
+            All-both (λ i. entry_at new i ≡ entry_at a.nodes.items i) (λ i. (entry_at a.nodes.items i).origin < length a.origin_ends.items)
+            (λ i. (entry_at new i).origin < length a.origin_ends.items) (λ i p q. subst (λ d. d.origin < length a.origin_ends.items) (sym p) q) (used a) same_entries w.shape.declared;
+        spelled = chain_kept (λ (m : Node). m.by_tag) a.ends (used a) same_nodes w.shape.spelled;
+        own = λ o h.
+            let ms : List ℕ = members (entry_at a.nodes.items) o (used a) in
+            subst (λ is. IsChain (next_in (get_or a.origin_ends.items o no_links) (of_origin new)) (prev_in (get_or a.origin_ends.items o no_links) (of_origin new)) NO_NODE is NO_NODE)
+            (sym (members_agree (entry_at a.nodes.items) (entry_at new) o (used a) same_entries))
+            (chain_kept (λ (m : Node). m.of_origin) (get_or a.origin_ends.items o no_links) ms
+            (All-filter (λ i. node_at new i ≡ node_at a.nodes.items i) (λ i. eqb (entry_at a.nodes.items i).origin o) (used a) same_nodes)
+            (w.shape.own o h));
+        free = (
+          refl,
+          next_in-at (free_ends (length a.nodes.items)) (by_tag new) (length a.nodes.items) not_none
+              ∙ ap (λ (m : Node). m.by_tag.next) (get_or_push a.nodes.items n no_node (length a.nodes.items) refl) ∙ free,
+        );
+        once = λ i. once_pushed i;
+      }
+
+  used_len : length (used a) ≡ a.used
+  used_len = length-walk (next_in a.ends (threads a).links) a.used NO_NODE
+
+  pub whole_grown : IsWhole (threads_of (a.nodes.items ++ n ∷ []) a.origin_ends.items a.ends (length a.nodes.items)) a.used
+  whole_grown = IsWhole-from t' (used a) (length a.nodes.items ∷ []) a.used shape' used_len (omega (arith, new_len, full))
+
+  pub contents_grown : contents_of (threads_of (a.nodes.items ++ n ∷ []) a.origin_ends.items a.ends (length a.nodes.items)) a.used
+      ≡ record { origins = length a.origin_ends.items; places = places a; free = max 1 (length a.nodes.items - a.used) }
+  contents_grown =
+      same_contents (length a.origin_ends.items) (length a.origin_ends.items) (map (place_at (entry_at new)) (used_of t' a.used)) (places a)
+      (length new - a.used) (max 1 (length a.nodes.items - a.used)) refl
+      (ap (map (place_at (entry_at new))) (used_is t' (used a) (length a.nodes.items ∷ []) a.used shape' used_len)
+      ∙ map_agree (place_at (entry_at a.nodes.items)) (place_at (entry_at new)) (used a)
+      (All-weaker (λ i. entry_at new i ≡ entry_at a.nodes.items i) (λ i. place_at (entry_at new) i ≡ place_at (entry_at a.nodes.items) i)
+      (λ i e. ap (λ (d : Entry). let p : Place = record { node = i; entry = d } in p) e) (used a) same_entries))
+      (omega (arith, new_len, full))

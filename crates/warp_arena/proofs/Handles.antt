@@ -1,0 +1,180 @@
+-- What handles name after a change, and that the handles which calls answer name something.
+use Rattle.std.proofs.Common.{◌≡◌, ◌≢◌, ℕ, Bool, true, false, cond, eqb, List, [], ◌∷◌, ◌++◌, refl, sym, ap, ◌∙◌, subst, inl, inr, map, filter, find, nat_eq, Option, Some, None, IsSome, IfSome}
+use Rattle.std.specs.List.{AllByRecursion, IsDistinct}
+use Rattle.std.specs.Option.{option_map, is_some}
+use Rattle.std.proofs.lemmas.Bool.{cases_eq, cases_Bool, eq-eqb, ne_eqb, false≢true}
+use Rattle.warp_tag.specs.Moment.{Moment}
+use Rattle.warp_tag.specs.Table.{name_before, has_name}
+use Rattle.warp_tag.specs.declared.entry.Entry.{Entry}
+use Rattle.warp_arena.specs.Places.{Place, entry_of, node_of, first_node, last_node, places_after, places_before, with_place, with_change}
+use Rattle.warp_arena.proofs.Tables.{filter-here, filter-past}
+use Rattle.warp_arena.proofs.Reading.{entry_of-here, entry_of-other}
+
+some_not_none : {X : Type 0} (x : X) → Some x ≡ None → ⊥
+some_not_none x e = cc
+
+same_some : {X : Type 0} (x y : X) → Some x ≡ Some y → x ≡ y
+same_some x y e = cc
+
+-- ---- a place comes in
+
+pub entry_of-with_place_other : (p : Place) (ps : List Place) (m : ℕ) → m ≢ p.node → entry_of m (with_place p ps) ≡ entry_of m ps
+entry_of-with_place_other p [] m n = entry_of-other p [] m (λ e. n (sym e))
+entry_of-with_place_other p (q ∷ qs) m n =
+    elim (cases_Bool (name_before p.entry.origin p.entry.tag q.entry)) [
+      | inl so ↦
+          ap (λ b. entry_of m (cond b (p ∷ q ∷ qs) (q ∷ with_place p qs))) so ∙ entry_of-other p (q ∷ qs) m (λ e. n (sym e))
+      | inr not_so ↦
+          ap (λ b. entry_of m (cond b (p ∷ q ∷ qs) (q ∷ with_place p qs))) not_so
+          ∙ elim (cases_eq q.node m) [
+            | inl same ↦ entry_of-here q (with_place p qs) m same ∙ sym (entry_of-here q qs m same)
+            | inr other ↦
+                entry_of-other q (with_place p qs) m other ∙ entry_of-with_place_other p qs m n ∙ sym (entry_of-other q qs m other)
+          ]
+    ]
+
+pub entry_of-with_place_same : (p : Place) (ps : List Place) → entry_of p.node ps ≡ None → entry_of p.node (with_place p ps) ≡ Some p.entry
+entry_of-with_place_same p [] h = entry_of-here p [] p.node refl
+entry_of-with_place_same p (q ∷ qs) h =
+    elim (cases_Bool (name_before p.entry.origin p.entry.tag q.entry)) [
+      | inl so ↦
+          ap (λ b. entry_of p.node (cond b (p ∷ q ∷ qs) (q ∷ with_place p qs))) so ∙ entry_of-here p (q ∷ qs) p.node refl
+      | inr not_so ↦
+          ap (λ b. entry_of p.node (cond b (p ∷ q ∷ qs) (q ∷ with_place p qs))) not_so
+          ∙ elim (cases_eq q.node p.node) [
+            | inl same ↦ absurd (some_not_none q.entry (sym (entry_of-here q qs p.node same) ∙ h))
+            | inr other ↦
+                entry_of-other q (with_place p qs) p.node other
+                ∙ entry_of-with_place_same p qs (sym (entry_of-other q qs p.node other) ∙ h)
+          ]
+    ]
+
+-- ---- an entry changes
+
+pub entry_of-with_change_other : (change : Entry → Entry) (n : ℕ) (ps : List Place) (m : ℕ) → m ≢ n → entry_of m (with_change change n ps) ≡ entry_of m ps
+entry_of-with_change_other change n [] m d = refl
+entry_of-with_change_other change n (q ∷ qs) m d =
+    let q' : Place = record { node = q.node; entry = change q.entry } in
+    let rest : List Place = with_change change n qs in
+    elim (cases_eq q.node n) [
+      | inl same ↦
+          let other : q.node ≢ m = λ e. d (sym e ∙ same) in
+          ap (λ b. entry_of m (cond b q' q ∷ rest)) (eq-eqb q.node n same)
+          ∙ entry_of-other q' rest m other ∙ entry_of-with_change_other change n qs m d ∙ sym (entry_of-other q qs m other)
+      | inr apart ↦
+          ap (λ b. entry_of m (cond b q' q ∷ rest)) (ne_eqb q.node n apart)
+          ∙ elim (cases_eq q.node m) [
+            | inl same ↦ entry_of-here q rest m same ∙ sym (entry_of-here q qs m same)
+            | inr other ↦ entry_of-other q rest m other ∙ entry_of-with_change_other change n qs m d ∙ sym (entry_of-other q qs m other)
+          ]
+    ]
+
+pub entry_of-with_change_same : (change : Entry → Entry) (n : ℕ) (ps : List Place) → entry_of n (with_change change n ps) ≡ option_map change (entry_of n ps)
+entry_of-with_change_same change n [] = refl
+entry_of-with_change_same change n (q ∷ qs) =
+    let q' : Place = record { node = q.node; entry = change q.entry } in
+    let rest : List Place = with_change change n qs in
+    elim (cases_eq q.node n) [
+      | inl same ↦
+          ap (λ b. entry_of n (cond b q' q ∷ rest)) (eq-eqb q.node n same)
+          ∙ entry_of-here q' rest n same ∙ sym (ap (option_map change) (entry_of-here q qs n same))
+      | inr apart ↦
+          ap (λ b. entry_of n (cond b q' q ∷ rest)) (ne_eqb q.node n apart)
+          ∙ entry_of-other q rest n apart ∙ entry_of-with_change_same change n qs ∙ sym (ap (option_map change) (entry_of-other q qs n apart))
+    ]
+
+-- ---- a part of the places
+
+some_more : (q : Place) (qs : List Place) (m : ℕ) → IsSome (entry_of m qs) → IsSome (entry_of m (q ∷ qs))
+some_more q qs m h =
+    elim (cases_eq q.node m) [
+      | inl same ↦ ap is_some (entry_of-here q qs m same)
+      | inr other ↦ ap is_some (entry_of-other q qs m other) ∙ h
+    ]
+
+pub some_first : (ps : List Place) (m : ℕ) → Some m ≡ first_node ps → IsSome (entry_of m ps)
+some_first [] m e = absurd (some_not_none m e)
+some_first (p ∷ ps) m e = ap is_some (entry_of-here p ps m (same_some p.node m (sym e)))
+
+pub some_last : (ps : List Place) (m : ℕ) → Some m ≡ last_node ps → IsSome (entry_of m ps)
+some_last [] m e = absurd (some_not_none m e)
+some_last (p ∷ []) m e = ap is_some (entry_of-here p [] m (same_some p.node m (sym e)))
+some_last (p ∷ q ∷ ps) m e = some_more p (q ∷ ps) m (some_last (q ∷ ps) m e)
+
+pub some_after : (n : ℕ) (ps : List Place) (m : ℕ) → IsSome (entry_of m (places_after n ps)) → IsSome (entry_of m ps)
+some_after n [] m h = h
+some_after n (p ∷ ps) m h =
+    elim (cases_Bool (eqb p.node n)) [
+      | inl so ↦ some_more p ps m (subst (λ b. IsSome (entry_of m (cond b ps (places_after n ps)))) so h)
+      | inr not_so ↦ some_more p ps m (some_after n ps m (subst (λ b. IsSome (entry_of m (cond b ps (places_after n ps)))) not_so h))
+    ]
+
+pub some_before : (n : ℕ) (ps : List Place) (m : ℕ) → IsSome (entry_of m (places_before n ps)) → IsSome (entry_of m ps)
+some_before n [] m h = h
+some_before n (p ∷ ps) m h =
+    elim (cases_Bool (eqb p.node n)) [
+      | inl so ↦ absurd (false≢true (subst (λ b. IsSome (entry_of m (cond b [] (p ∷ places_before n ps)))) so h))
+      | inr not_so ↦
+          let k : IsSome (entry_of m (p ∷ places_before n ps)) = subst (λ b. IsSome (entry_of m (cond b [] (p ∷ places_before n ps)))) not_so h in
+          elim (cases_eq p.node m) [
+            | inl same ↦ ap is_some (entry_of-here p ps m same)
+            | inr other ↦ some_more p ps m (some_before n ps m (sym (ap is_some (entry_of-other p (places_before n ps) m other)) ∙ k))
+          ]
+    ]
+
+pub some_filter : (q : Place → Bool) (ps : List Place) (m : ℕ) → IsSome (entry_of m (filter q ps)) → IsSome (entry_of m ps)
+some_filter q [] m h = h
+some_filter q (p ∷ ps) m h =
+    elim (cases_Bool (q p)) [
+      | inl so ↦
+          elim (cases_eq p.node m) [
+            | inl same ↦ ap is_some (entry_of-here p ps m same)
+            | inr other ↦
+                some_more p ps m (some_filter q ps m
+                (sym (ap is_some (entry_of-other p (filter q ps) m other)) ∙ subst (λ xs. IsSome (entry_of m xs)) (filter-here q p ps so) h))
+          ]
+      | inr not_so ↦ some_more p ps m (some_filter q ps m (subst (λ xs. IsSome (entry_of m xs)) (filter-past q p ps not_so) h))
+    ]
+
+-- ---- handles that are apart
+
+all_named : (P : ℕ → Type 0) (ps : List Place) (m : ℕ) → AllByRecursion P (map (λ (p : Place). p.node) ps) → IsSome (entry_of m ps) → P m
+all_named P [] m a h = absurd (false≢true h)
+all_named P (p ∷ ps) m a h =
+    elim (cases_eq p.node m) [
+      | inl same ↦ subst P same a.0
+      | inr other ↦ all_named P ps m a.1 (sym (ap is_some (entry_of-other p ps m other)) ∙ h)
+    ]
+
+some_append : (front back : List Place) (m : ℕ) → IsSome (entry_of m back) → IsSome (entry_of m (front ++ back))
+some_append [] back m h = h
+some_append (p ∷ front) back m h = some_more p (front ++ back) m (some_append front back m h)
+
+-- behind a front that went, each handle names what it named
+pub entry_of-back : (front back : List Place) → IsDistinct nat_eq (map (λ (p : Place). p.node) (front ++ back)) → (m : ℕ) → IsSome (entry_of m back) → entry_of m back ≡ entry_of m (front ++ back)
+unfolding IsDistinct
+entry_of-back [] back d m h = refl
+entry_of-back (p ∷ front) back d m h =
+    let apart : p.node ≢ m = λ e. false≢true (sym (all_named (λ y. eqb p.node y ≡ false) (front ++ back) m d.0 (some_append front back m h)) ∙ eq-eqb p.node m e) in
+    entry_of-back front back d.1 m h ∙ sym (entry_of-other p (front ++ back) m apart)
+
+-- the handle of a name names an entry of that name
+pub entry_of-node_of : (o : ℕ) (g : Moment) (ps : List Place) → IsDistinct nat_eq (map (λ (p : Place). p.node) ps) → (m : ℕ) → Some m ≡ node_of o g ps → (e : Entry) × (entry_of m ps ≡ Some e) × (has_name o g e ≡ true)
+unfolding IsDistinct
+entry_of-node_of o g [] d m e = absurd (some_not_none m e)
+entry_of-node_of o g (p ∷ ps) d m e =
+    elim (cases_Bool (has_name o g p.entry)) [
+      | inl so ↦
+          let here : Some m ≡ Some p.node = e ∙ ap (λ b. option_map (λ (q : Place). q.node) (cond b (Some p) (find (λ (q : Place). has_name o g q.entry) ps))) so in
+          (p.entry, entry_of-here p ps m (sym (same_some m p.node here)), so)
+      | inr not_so ↦
+          let rest : Some m ≡ node_of o g ps = e ∙ ap (λ b. option_map (λ (q : Place). q.node) (cond b (Some p) (find (λ (q : Place). has_name o g q.entry) ps))) not_so in
+          let r = entry_of-node_of o g ps d.1 m rest in
+          let apart : p.node ≢ m = λ h. false≢true (sym (all_named (λ y. eqb p.node y ≡ false) ps m d.0 (ap is_some r.1)) ∙ eq-eqb p.node m h) in
+          (r.0, entry_of-other p ps m apart ∙ r.1, r.2)
+    ]
+
+-- a fact of the value, if there is one
+pub if_some : {X : Type 0} (o : Option X) (P : X → Type 0) → ((x : X) → Some x ≡ o → P x) → IfSome o P
+if_some None P h = tt
+if_some (Some x) P h = h x refl

@@ -1,0 +1,17 @@
+pub mod Rings
+pub mod Names
+pub mod Tables
+pub mod Shapes
+pub mod Walks
+pub mod Inserting
+pub mod Removing
+pub mod Setting
+pub mod Reading
+pub mod Wholes
+pub mod Inserted
+pub mod Removed
+pub mod Changed
+pub mod Freeing
+pub mod Growing
+pub mod Finding
+pub mod Handles

@@ -1,0 +1,236 @@
+-- From the lists of an arena to its links and back.
+use Rattle.std.proofs.Common.{◌≡◌, ◌≢◌, ℕ, zero, suc, ◌+◌, ◌-◌, ◌<◌, Bool, true, false, cond, eqb, List, [], ◌∷◌, ◌++◌, length, refl, sym, ap, ◌∙◌, subst, inl, inr, arith, map, filter, get_or, Option, Some, None, find, not, nat_eq}
+use Rattle.std.specs.List.{AllByRecursion, IsDistinct}
+use Rattle.std.specs.Option.{option_map}
+use Rattle.std.proofs.lemmas.Bool.{cases_Bool, ne_eqb, eqb-true}
+use Rattle.std.proofs.lemmas.List.{map-append}
+use Rattle.std.proofs.lemmas.List.Elements.{filter-append}
+use Rattle.warp_tag.specs.Moment.{Moment, is_before}
+use Rattle.warp_tag.specs.Table.{name_before, has_name, IsTable}
+use Rattle.warp_tag.specs.declared.entry.Entry.{Entry}
+use Rattle.warp_arena.specs.declared.arena.Arena.TheInside.{Inside}
+use Rattle.warp_arena.specs.declared.node.TheConstants.{NO_NODE}
+use Rattle.warp_arena.specs.Places.{Place, places_of, node_of, entries_of, IsOrdered}
+use Rattle.warp_arena.specs.Shape.{Threads, IsArena, IsWhole, Splits, contents_of, used_of, unused_of, members, place_at, IsChain, last_or, first_or, next_in, prev_in, free_ends, walk, no_links}
+use Rattle.warp_arena.specs.Changes.{IsPlace}
+use Rattle.warp_arena.proofs.Names.{before_own}
+use Rattle.warp_arena.proofs.Rings.{IsOff, IsApart, All-both, All-weaker, All-left, All-right, first_holds, last_holds, IsChain-split, walk_path, length-walk, IsPath-chain, count_of-here}
+use Rattle.warp_arena.proofs.Tables.{All-filter, All-kept, All-map, All-unmap, filter-here, filter-past, nodes_of-places, places_of-members}
+use Rattle.warp_arena.proofs.Shapes.{unused_below, used_apart, none_unused, unused_off, all_used_below, members-append}
+use Rattle.warp_arena.proofs.Walks.{threads, used}
+use Rattle.warp_arena.proofs.Reading.{places}
+
+-- the lists that the links spell are these
+pub used_is : (t : Threads) (is fs : List ℕ) (count : ℕ) → IsArena t is fs → length is ≡ count → used_of t count ≡ is
+used_is t is fs count a e =
+    ap (λ n. walk (next_in t.ends t.links) n NO_NODE) (sym e)
+    ∙ walk_path (next_in t.ends t.links) NO_NODE is NO_NODE (IsPath-chain (next_in t.ends t.links) (prev_in t.ends t.links) NO_NODE is NO_NODE a.spelled)
+
+unused_is : (t : Threads) (is fs : List ℕ) (count : ℕ) → IsArena t is fs → length fs ≡ count → unused_of t count ≡ fs
+unused_is t is fs count a e =
+    ap (λ n. walk (next_in (free_ends t.free) t.links) n NO_NODE) (sym e)
+    ∙ walk_path (next_in (free_ends t.free) t.links) NO_NODE fs NO_NODE a.free
+
+pub IsWhole-from : (t : Threads) (is fs : List ℕ) (count : ℕ) → IsArena t is fs → length is ≡ count → length fs + count ≡ t.size → IsWhole t count
+IsWhole-from t is fs count a e f =
+    record {
+      fits = omega arith;
+      shape =
+          subst (λ js. IsArena t js (unused_of t (t.size - count))) (sym (used_is t is fs count a e))
+          (subst (λ gs. IsArena t is gs) (sym (unused_is t is fs (t.size - count) a (omega arith))) a);
+    }
+
+-- the first of the unused nodes
+pub record FirstUnused (t : Threads) (count : ℕ) : Type 0 where
+  pub rest : List ℕ
+  pub parts : unused_of t (t.size - count) ≡ t.free ∷ rest
+  pub len : length rest + suc count ≡ t.size
+
+first_of_walk : (t : Threads) (m : ℕ) → 0 < m → (rest : List ℕ) × (walk (next_in (free_ends t.free) t.links) m NO_NODE ≡ t.free ∷ rest) × (suc (length rest) ≡ m)
+first_of_walk t zero h = absurd (omega arith)
+first_of_walk t (suc m) h =
+    (walk (next_in (free_ends t.free) t.links) m t.free, refl, ap suc (length-walk (next_in (free_ends t.free) t.links) m t.free))
+
+pub first_unused : (t : Threads) (count : ℕ) → count < t.size → FirstUnused t count
+first_unused t count h =
+    let n : ℕ = t.size - count in
+    let step : (m : ℕ) → 0 < m → (rest : List ℕ) × (walk (next_in (free_ends t.free) t.links) m NO_NODE ≡ t.free ∷ rest) × (suc (length rest) ≡ m) =
+    λ m. first_of_walk t m in
+    let r = step n (omega arith) in
+    record { rest = r.0; parts = r.1; len = omega (arith, r.2) }
+
+-- ---- parts of a list of places
+
+pub replaced : (entry : ℕ → Entry) (ps : List Place) → AllByRecursion (λ p. place_at entry p.node ≡ p) ps → map (place_at entry) (map (λ (p : Place). p.node) ps) ≡ ps
+replaced entry [] a = refl
+replaced entry (p ∷ ps) a = ap (λ q. q ∷ map (place_at entry) (map (λ (r : Place). r.node) ps)) a.0 ∙ ap (λ qs. p ∷ qs) (replaced entry ps a.1)
+
+pub all_placed : (entry : ℕ → Entry) (is : List ℕ) → AllByRecursion (λ p. place_at entry p.node ≡ p) (map (place_at entry) is)
+all_placed entry [] = tt
+all_placed entry (i ∷ is) = (refl, all_placed entry is)
+
+-- the elements that fail a test are the front, where those of a back pass it
+pub filter_front : {X : Type 0} (q : X → Bool) (xs ys : List X) → AllByRecursion (λ x. q x ≡ false) xs → AllByRecursion (λ x. q x ≡ true) ys → filter (λ x. not (q x)) (xs ++ ys) ≡ xs
+filter_front q [] [] a b = refl
+filter_front q [] (y ∷ ys) a b = filter-past (λ x. not (q x)) y ys (ap not b.0) ∙ filter_front q [] ys tt b.1
+filter_front q (x ∷ xs) ys a b = filter-here (λ z. not (q z)) x (xs ++ ys) (ap not a.0) ∙ ap (λ zs. x ∷ zs) (filter_front q xs ys a.1 b)
+
+pub some_not_none : {X : Type 0} (x : X) → Some x ≡ None → ⊥
+some_not_none x e = cc
+
+pub find_none : {X : Type 0} (q : X → Bool) (xs : List X) → find q xs ≡ None → AllByRecursion (λ x. q x ≡ false) xs
+find_none q [] e = tt
+find_none q (x ∷ xs) e =
+    elim (cases_Bool (q x)) [
+      | inl so ↦ absurd (some_not_none x (sym (ap (λ b. cond b (Some x) (find q xs)) so) ∙ e))
+      | inr not_so ↦ (not_so, find_none q xs (sym (ap (λ b. cond b (Some x) (find q xs)) not_so) ∙ e))
+    ]
+
+pub none_of_map : {X Y : Type 0} (f : X → Y) (o : Option X) → option_map f o ≡ None → o ≡ None
+none_of_map f None e = refl
+none_of_map f (Some x) e = absurd (some_not_none (f x) e)
+
+-- ---- before a node comes in
+
+-- where the node goes, and what is known there
+pub record Ready (a : Inside) (o : ℕ) (g : Moment) (before own_before : ℕ) : Type 0 where
+  pub xs : List ℕ
+  pub ys : List ℕ
+  pub fs : List ℕ
+  pub parts : used a ≡ xs ++ ys
+  pub shape : IsArena (threads a) (xs ++ ys) (a.free ∷ fs)
+  pub len : length fs + suc a.used ≡ length a.nodes.items
+  pub used_len : length (xs ++ ys) ≡ a.used
+  pub before_is : before ≡ last_or NO_NODE xs
+  pub own_before_is : own_before ≡ last_or NO_NODE (members (threads a).entry o xs)
+  pub through : AllByRecursion (λ i. name_before o g ((threads a).entry i) ≡ false) xs
+  pub past : AllByRecursion (λ i. name_before o g ((threads a).entry i) ≡ true) ys
+  pub absent : AllByRecursion (λ i. has_name o g ((threads a).entry i) ≡ false) xs
+
+pub ready : (a : Inside) → IsWhole (threads a) a.used → (o : ℕ) (g : Moment) (before own_before : ℕ) → 0 < length a.nodes.items - a.used → Splits (name_before o g) (places a) before → Splits (λ e. is_before g e.tag) (places_of o (places a)) own_before → node_of o g (places a) ≡ None → Ready a o g before own_before
+ready a w o g before own_before room s r absent =
+    let entry : ℕ → Entry = (threads a).entry in
+    let place : ℕ → Place = place_at entry in
+    let node : Place → ℕ = λ p. p.node in
+    let xs : List ℕ = map node s.front in
+    let ys : List ℕ = map node s.back in
+    let placed : AllByRecursion (λ p. place_at entry p.node ≡ p) (s.front ++ s.back) =
+    subst (AllByRecursion (λ p. place_at entry p.node ≡ p)) s.parts (all_placed entry (used a)) in
+    let front_is : map place xs ≡ s.front = replaced entry s.front (All-left (λ p. place_at entry p.node ≡ p) s.front s.back placed) in
+    let back_is : map place ys ≡ s.back = replaced entry s.back (All-right (λ p. place_at entry p.node ≡ p) s.front s.back placed) in
+    let parts : used a ≡ xs ++ ys = sym (nodes_of-places entry (used a)) ∙ ap (map node) s.parts ∙ map-append node s.front s.back in
+    let u = first_unused (threads a) a.used (omega arith) in
+    let later : Place → Bool = λ p. is_before g p.entry.tag in
+    let own_test : Place → Bool = λ p. eqb p.entry.origin o in
+    let own_through : AllByRecursion (λ p. later p ≡ false) (places_of o s.front) =
+    All-both (λ p. own_test p ≡ true) (λ p. name_before o g p.entry ≡ false) (λ p. later p ≡ false)
+    (λ p h k. sym (before_own o g p.entry (eqb-true p.entry.origin o h)) ∙ k) (places_of o s.front)
+    (All-kept own_test s.front) (All-filter (λ p. name_before o g p.entry ≡ false) own_test s.front s.through) in
+    let own_past : AllByRecursion (λ p. later p ≡ true) (places_of o s.back) =
+    All-both (λ p. own_test p ≡ true) (λ p. name_before o g p.entry ≡ true) (λ p. later p ≡ true)
+    (λ p h k. sym (before_own o g p.entry (eqb-true p.entry.origin o h)) ∙ k) (places_of o s.back)
+    (All-kept own_test s.back) (All-filter (λ p. name_before o g p.entry ≡ true) own_test s.back s.past) in
+    let own_front : r.front ≡ places_of o s.front =
+    sym (filter_front later r.front r.back r.through r.past)
+    ∙ ap (filter (λ p. not (later p))) (sym r.parts ∙ ap (places_of o) s.parts ∙ filter-append own_test s.front s.back)
+    ∙ filter_front later (places_of o s.front) (places_of o s.back) own_through own_past in
+    let own_nodes : map node r.front ≡ members entry o xs =
+    ap (map node) (own_front ∙ ap (places_of o) (sym front_is) ∙ places_of-members entry o xs) ∙ nodes_of-places entry (members entry o xs) in
+    let none : AllByRecursion (λ p. has_name o g p.entry ≡ false) (s.front ++ s.back) =
+    subst (AllByRecursion (λ p. has_name o g p.entry ≡ false)) s.parts
+    (find_none (λ (p : Place). has_name o g p.entry) (places a) (none_of_map node (find (λ (p : Place). has_name o g p.entry) (places a)) absent)) in
+    record {
+      xs = xs;
+      ys = ys;
+      fs = u.rest;
+      parts = parts;
+      shape = subst (λ is. IsArena (threads a) is (a.free ∷ u.rest)) parts (subst (λ fs. IsArena (threads a) (used a) fs) u.parts w.shape);
+      len = u.len;
+      used_len = ap length (sym parts) ∙ length-walk (next_in a.ends (threads a).links) a.used NO_NODE;
+      before_is = s.last;
+      own_before_is = r.last ∙ ap (last_or NO_NODE) own_nodes;
+      through = All-unmap (λ p. name_before o g p.entry ≡ false) place xs (subst (AllByRecursion (λ p. name_before o g p.entry ≡ false)) (sym front_is) s.through);
+      past = All-unmap (λ p. name_before o g p.entry ≡ true) place ys (subst (AllByRecursion (λ p. name_before o g p.entry ≡ true)) (sym back_is) s.past);
+      absent =
+          All-unmap (λ p. has_name o g p.entry ≡ false) place xs
+          (subst (AllByRecursion (λ p. has_name o g p.entry ≡ false)) (sym front_is)
+          (All-left (λ p. has_name o g p.entry ≡ false) s.front s.back none));
+    }
+
+-- what threading the node asks for
+pub record Threadable (size : ℕ) (next own_next : ℕ → ℕ) (b c x : ℕ) : Type 0 where
+  pub before : IsPlace size b
+  pub after : IsPlace size (next b)
+  pub own_before : IsPlace size c
+  pub own_after : IsPlace size (own_next c)
+  pub at : x < size
+  pub node : x ≢ NO_NODE
+  pub not_before : b ≢ x
+  pub not_after : next b ≢ x
+  pub not_own_before : c ≢ x
+  pub not_own_after : own_next c ≢ x
+
+-- a place at the split of a list that the links spell
+at_split : (size : ℕ) (next prev : ℕ → ℕ) (xs ys : List ℕ) (x before : ℕ) → IsChain next prev NO_NODE (xs ++ ys) NO_NODE → AllByRecursion (λ i. i < size) (xs ++ ys) → IsOff x (xs ++ ys) → NO_NODE ≢ x → before ≡ last_or NO_NODE xs → IsPlace size before × IsPlace size (next before) × (before ≢ x) × (next before ≢ x)
+at_split size next prev xs ys x before chain below off none e =
+    let after : next before ≡ first_or ys NO_NODE = ap next e ∙ (IsChain-split next prev NO_NODE xs ys NO_NODE chain).0 in
+    let is_place : (i : ℕ) → i < size → IsPlace size i = λ i h _. h in
+    let end_place : IsPlace size NO_NODE = λ n. absurd (n refl) in (
+      subst (IsPlace size) (sym e)
+          (last_holds (IsPlace size) NO_NODE xs end_place (All-weaker (λ i. i < size) (IsPlace size) is_place xs (All-left (λ i. i < size) xs ys below))),
+      subst (IsPlace size) (sym after)
+          (first_holds (IsPlace size) ys NO_NODE (All-weaker (λ i. i < size) (IsPlace size) is_place ys (All-right (λ i. i < size) xs ys below)) end_place),
+      subst (λ k. k ≢ x) (sym e) (last_holds (λ k. k ≢ x) NO_NODE xs none (All-left (λ i. i ≢ x) xs ys off)),
+      subst (λ k. k ≢ x) (sym after) (first_holds (λ k. k ≢ x) ys NO_NODE (All-right (λ i. i ≢ x) xs ys off) none),
+    )
+
+pub threadable : (a : Inside) (o : ℕ) (g : Moment) (before own_before : ℕ) → Ready a o g before own_before → o < length a.origin_ends.items → Threadable (length a.nodes.items) (next_in a.ends (threads a).links) (next_in (get_or a.origin_ends.items o no_links) (threads a).own_links) before own_before a.free
+threadable a o g before own_before r h =
+    let t = threads a in
+    let x : ℕ = a.free in
+    let off : IsOff x (r.xs ++ r.ys) = unused_off t (r.xs ++ r.ys) (x ∷ r.fs) r.shape x (omega (arith, count_of-here x r.fs)) in
+    let not_none : x ≢ NO_NODE = (none_unused t (r.xs ++ r.ys) (x ∷ r.fs) r.shape).0 in
+    let none : NO_NODE ≢ x = (λ e. not_none (sym e)) in
+    let below = all_used_below t (r.xs ++ r.ys) (x ∷ r.fs) r.shape in
+    let p = at_split t.size (next_in t.ends t.links) (prev_in t.ends t.links) r.xs r.ys x before r.shape.spelled below off none r.before_is in
+    let own_parts = members-append t.entry o r.xs r.ys in
+    let test : ℕ → Bool = λ i. eqb (t.entry i).origin o in
+    let q = at_split t.size (next_in (t.own_ends o) t.own_links) (prev_in (t.own_ends o) t.own_links) (members t.entry o r.xs) (members t.entry o r.ys) x own_before
+    (subst (λ is. IsChain (next_in (t.own_ends o) t.own_links) (prev_in (t.own_ends o) t.own_links) NO_NODE is NO_NODE) own_parts (r.shape.own o h))
+    (subst (AllByRecursion (λ i. i < t.size)) own_parts (All-filter (λ i. i < t.size) test (r.xs ++ r.ys) below))
+    (subst (IsOff x) own_parts (All-filter (λ i. i ≢ x) test (r.xs ++ r.ys) off))
+    none r.own_before_is in
+    record {
+      before = p.0;
+      after = p.1;
+      own_before = q.0;
+      own_after = q.1;
+      at = unused_below t (r.xs ++ r.ys) (x ∷ r.fs) r.shape x (omega (arith, count_of-here x r.fs));
+      node = not_none;
+      not_before = p.2;
+      not_after = p.3;
+      not_own_before = q.2;
+      not_own_after = q.3;
+    }
+
+-- ---- what contracts see is in order
+
+pub entries_of-places : (entry : ℕ → Entry) (is : List ℕ) → entries_of (map (place_at entry) is) ≡ map entry is
+entries_of-places entry [] = refl
+entries_of-places entry (i ∷ is) = ap (λ es. entry i ∷ es) (entries_of-places entry is)
+
+IsDistinct-apart : (is : List ℕ) → IsApart is → IsDistinct nat_eq is
+unfolding IsDistinct
+IsDistinct-apart [] a = tt
+IsDistinct-apart (i ∷ is) a =
+    (All-weaker (λ j. j ≢ i) (λ j. eqb i j ≡ false) (λ j n. ne_eqb i j (λ e. n (sym e))) is a.0, IsDistinct-apart is a.1)
+
+pub ordered : (a : Inside) → IsWhole (threads a) a.used → IsOrdered (contents_of (threads a) a.used)
+ordered a w =
+    record {
+      table = subst IsTable (sym (entries_of-places (threads a).entry (used a))) w.shape.sorted;
+      declared = All-map (λ p. p.entry.origin < length a.origin_ends.items) (place_at (threads a).entry) (used a) w.shape.declared;
+      handles =
+          subst (IsDistinct nat_eq) (sym (nodes_of-places (threads a).entry (used a)))
+          (IsDistinct-apart (used a) (used_apart (threads a) (used a) (unused_of (threads a) ((threads a).size - a.used)) w.shape));
+    }

@@ -1,0 +1,167 @@
+use Rattle.std.proofs.Common.{◌≡◌, ◌≢◌, ℕ, ◌<◌, ◌+◌, ◌-◌, arith, sym, ap, ◌∙◌, subst, None, length, List, get_or, set}
+use Rattle.std.proofs.lemmas.List.{with_items_is}
+use Rattle.warp_tag.specs.Moment.{Moment, is_before}
+use Rattle.warp_tag.specs.Table.{name_before, fresh}
+use Rattle.warp_arena.specs.declared.arena.Arena.TheInside.{Inside}
+use Rattle.warp_arena.specs.declared.node.Links.{Links}
+use Rattle.warp_arena.specs.declared.node.Node.{Node}
+use Rattle.warp_arena.specs.Places.{Place, Contents, places_of, node_of, entry_of, with_place}
+use Rattle.warp_arena.specs.Changes.{Threaded, IsPlace}
+use Rattle.warp_arena.specs.Shape.{Splits, IsWhole, threads_of, contents_of, next_in, by_tag, of_origin, no_links}
+use Rattle.warp_arena.proofs.Walks.{threads, node_read, ends_read}
+use Rattle.warp_arena.proofs.Wholes.{Ready, Threadable, ready, threadable}
+use Rattle.warp_arena.proofs.Inserted.{new_handle, whole_inserted, contents_inserted}
+use Rattle.warp_arena.proofs.Handles.{entry_of-with_place_same, entry_of-with_place_other}
+use Rattle.warp_arena.proofs.arena.Arena.insert.Goals as goal
+
+-- what is known before the node comes in
+record Before (a : Inside) (o : ℕ) (g : Moment) (b c : ℕ) : Type 0 where
+  declared : o < length a.origin_ends.items
+  is_ready : Ready a o g b c
+  can_thread : Threadable (length a.nodes.items) (next_in a.ends (by_tag a.nodes.items)) (next_in (get_or a.origin_ends.items o no_links) (of_origin a.nodes.items)) b c a.free
+
+before_insert : (a : Inside) (v : Contents) (o : ℕ) (g : Moment) (b c : ℕ) → contents_of (threads a) a.used ≡ v → IsWhole (threads a) a.used → o < v.origins → 0 < v.free → node_of o g v.places ≡ None → Splits (name_before o g) v.places b → Splits (λ e. is_before g e.tag) (places_of o v.places) c → Before a o g b c
+before_insert a v o g b c is w declared room absent s r =
+    let h : o < length a.origin_ends.items = omega (arith, ap (λ u. u.origins) is) in
+    let q = ready a w o g b c
+    (omega (arith, ap (λ u. u.free) is))
+    (subst (λ u. Splits (name_before o g) u.places b) (sym is) s)
+    (subst (λ u. Splits (λ e. is_before g e.tag) (places_of o u.places) c) (sym is) r)
+    (ap (λ u. node_of o g u.places) is ∙ absent) in
+    record { declared = h; is_ready = q; can_thread = threadable a o g b c q h }
+
+pub index-requires : goal.index-requires
+index-requires c =
+    let b = before_insert c.self.inside c.args.self.now c.args.origin c.args.tag c.last_through-before.result c.last_of_origin_through-own_before.result
+    c.self.view_is c.self.invariant c.requires.origin c.requires.reserved c.requires.absent c.last_through-before.ensures c.last_of_origin_through-own_before.ensures in
+    omega (arith, c.self.inside.nodes.ok.0, b.can_thread.at)
+
+pub thread_node-requires-clause-before : goal.thread_node-requires-clause-before
+thread_node-requires-clause-before c =
+    let b = before_insert c.self.inside c.args.self.now c.args.origin c.args.tag c.last_through-before.result c.last_of_origin_through-own_before.result
+    c.self.view_is c.self.invariant c.requires.origin c.requires.reserved c.requires.absent c.last_through-before.ensures c.last_of_origin_through-own_before.ensures in
+    let P = λ (ns : List Node) (l : Links). IsPlace (length ns) c.last_through-before.result in
+    let own : c.index-2.result.now ≡ get_or c.self.inside.origin_ends.items c.args.origin no_links = ends_read c.self.inside.origin_ends.items c.args.origin c.index-2.result.now b.declared c.index-2.ensures in
+    subst (λ ns. P ns c.index-2.result.now) (sym c.deref_mut.ensures.value) (subst (λ l. P c.self.inside.nodes.items l) (sym own) b.can_thread.before)
+
+pub thread_node-requires-clause-after : goal.thread_node-requires-clause-after
+thread_node-requires-clause-after c =
+    let b = before_insert c.self.inside c.args.self.now c.args.origin c.args.tag c.last_through-before.result c.last_of_origin_through-own_before.result
+    c.self.view_is c.self.invariant c.requires.origin c.requires.reserved c.requires.absent c.last_through-before.ensures c.last_of_origin_through-own_before.ensures in
+    let P = λ (ns : List Node) (l : Links). IsPlace (length ns) (next_in c.self.inside.ends (by_tag ns) c.last_through-before.result) in
+    let own : c.index-2.result.now ≡ get_or c.self.inside.origin_ends.items c.args.origin no_links = ends_read c.self.inside.origin_ends.items c.args.origin c.index-2.result.now b.declared c.index-2.ensures in
+    subst (λ ns. P ns c.index-2.result.now) (sym c.deref_mut.ensures.value) (subst (λ l. P c.self.inside.nodes.items l) (sym own) b.can_thread.after)
+
+pub thread_node-requires-clause-own_before : goal.thread_node-requires-clause-own_before
+thread_node-requires-clause-own_before c =
+    let b = before_insert c.self.inside c.args.self.now c.args.origin c.args.tag c.last_through-before.result c.last_of_origin_through-own_before.result
+    c.self.view_is c.self.invariant c.requires.origin c.requires.reserved c.requires.absent c.last_through-before.ensures c.last_of_origin_through-own_before.ensures in
+    let P = λ (ns : List Node) (l : Links). IsPlace (length ns) c.last_of_origin_through-own_before.result in
+    let own : c.index-2.result.now ≡ get_or c.self.inside.origin_ends.items c.args.origin no_links = ends_read c.self.inside.origin_ends.items c.args.origin c.index-2.result.now b.declared c.index-2.ensures in
+    subst (λ ns. P ns c.index-2.result.now) (sym c.deref_mut.ensures.value) (subst (λ l. P c.self.inside.nodes.items l) (sym own) b.can_thread.own_before)
+
+pub thread_node-requires-clause-own_after : goal.thread_node-requires-clause-own_after
+thread_node-requires-clause-own_after c =
+    let b = before_insert c.self.inside c.args.self.now c.args.origin c.args.tag c.last_through-before.result c.last_of_origin_through-own_before.result
+    c.self.view_is c.self.invariant c.requires.origin c.requires.reserved c.requires.absent c.last_through-before.ensures c.last_of_origin_through-own_before.ensures in
+    let P = λ (ns : List Node) (l : Links). IsPlace (length ns) (next_in l (of_origin ns) c.last_of_origin_through-own_before.result) in
+    let own : c.index-2.result.now ≡ get_or c.self.inside.origin_ends.items c.args.origin no_links = ends_read c.self.inside.origin_ends.items c.args.origin c.index-2.result.now b.declared c.index-2.ensures in
+    subst (λ ns. P ns c.index-2.result.now) (sym c.deref_mut.ensures.value) (subst (λ l. P c.self.inside.nodes.items l) (sym own) b.can_thread.own_after)
+
+pub thread_node-requires-clause-at : goal.thread_node-requires-clause-at
+thread_node-requires-clause-at c =
+    let b = before_insert c.self.inside c.args.self.now c.args.origin c.args.tag c.last_through-before.result c.last_of_origin_through-own_before.result
+    c.self.view_is c.self.invariant c.requires.origin c.requires.reserved c.requires.absent c.last_through-before.ensures c.last_of_origin_through-own_before.ensures in
+    let P = λ (ns : List Node) (l : Links). c.self.inside.free < length ns in
+    let own : c.index-2.result.now ≡ get_or c.self.inside.origin_ends.items c.args.origin no_links = ends_read c.self.inside.origin_ends.items c.args.origin c.index-2.result.now b.declared c.index-2.ensures in
+    subst (λ ns. P ns c.index-2.result.now) (sym c.deref_mut.ensures.value) (subst (λ l. P c.self.inside.nodes.items l) (sym own) b.can_thread.at)
+
+pub thread_node-requires-clause-node : goal.thread_node-requires-clause-node
+thread_node-requires-clause-node c =
+    let b = before_insert c.self.inside c.args.self.now c.args.origin c.args.tag c.last_through-before.result c.last_of_origin_through-own_before.result
+    c.self.view_is c.self.invariant c.requires.origin c.requires.reserved c.requires.absent c.last_through-before.ensures c.last_of_origin_through-own_before.ensures in
+    b.can_thread.node
+
+pub thread_node-requires-clause-not_before : goal.thread_node-requires-clause-not_before
+thread_node-requires-clause-not_before c =
+    let b = before_insert c.self.inside c.args.self.now c.args.origin c.args.tag c.last_through-before.result c.last_of_origin_through-own_before.result
+    c.self.view_is c.self.invariant c.requires.origin c.requires.reserved c.requires.absent c.last_through-before.ensures c.last_of_origin_through-own_before.ensures in
+    b.can_thread.not_before
+
+pub thread_node-requires-clause-not_after : goal.thread_node-requires-clause-not_after
+thread_node-requires-clause-not_after c =
+    let b = before_insert c.self.inside c.args.self.now c.args.origin c.args.tag c.last_through-before.result c.last_of_origin_through-own_before.result
+    c.self.view_is c.self.invariant c.requires.origin c.requires.reserved c.requires.absent c.last_through-before.ensures c.last_of_origin_through-own_before.ensures in
+    let P = λ (ns : List Node) (l : Links). next_in c.self.inside.ends (by_tag ns) c.last_through-before.result ≢ c.self.inside.free in
+    let own : c.index-2.result.now ≡ get_or c.self.inside.origin_ends.items c.args.origin no_links = ends_read c.self.inside.origin_ends.items c.args.origin c.index-2.result.now b.declared c.index-2.ensures in
+    subst (λ ns. P ns c.index-2.result.now) (sym c.deref_mut.ensures.value) (subst (λ l. P c.self.inside.nodes.items l) (sym own) b.can_thread.not_after)
+
+pub thread_node-requires-clause-not_own_before : goal.thread_node-requires-clause-not_own_before
+thread_node-requires-clause-not_own_before c =
+    let b = before_insert c.self.inside c.args.self.now c.args.origin c.args.tag c.last_through-before.result c.last_of_origin_through-own_before.result
+    c.self.view_is c.self.invariant c.requires.origin c.requires.reserved c.requires.absent c.last_through-before.ensures c.last_of_origin_through-own_before.ensures in
+    b.can_thread.not_own_before
+
+pub thread_node-requires-clause-not_own_after : goal.thread_node-requires-clause-not_own_after
+thread_node-requires-clause-not_own_after c =
+    let b = before_insert c.self.inside c.args.self.now c.args.origin c.args.tag c.last_through-before.result c.last_of_origin_through-own_before.result
+    c.self.view_is c.self.invariant c.requires.origin c.requires.reserved c.requires.absent c.last_through-before.ensures c.last_of_origin_through-own_before.ensures in
+    let P = λ (ns : List Node) (l : Links). next_in l (of_origin ns) c.last_of_origin_through-own_before.result ≢ c.self.inside.free in
+    let own : c.index-2.result.now ≡ get_or c.self.inside.origin_ends.items c.args.origin no_links = ends_read c.self.inside.origin_ends.items c.args.origin c.index-2.result.now b.declared c.index-2.ensures in
+    subst (λ ns. P ns c.index-2.result.now) (sym c.deref_mut.ensures.value) (subst (λ l. P c.self.inside.nodes.items l) (sym own) b.can_thread.not_own_after)
+
+pub invariant_of-self : goal.invariant_of-self
+invariant_of-self c =
+    let a = c.self.inside in
+    let b = before_insert c.self.inside c.args.self.now c.args.origin c.args.tag c.last_through-before.result c.last_of_origin_through-own_before.result
+    c.self.view_is c.self.invariant c.requires.origin c.requires.reserved c.requires.absent c.last_through-before.ensures c.last_of_origin_through-own_before.ensures in
+    let own = ends_read a.origin_ends.items c.args.origin c.index-2.result.now b.declared c.index-2.ensures in
+    let free = ap (λ n. n.by_tag.next) (node_read a.nodes.items a.free c.index.result.now b.can_thread.at c.index.ensures) in
+    let change = subst (λ ns. Threaded ns c.thread_node.new.nodes a.ends c.thread_node.new.ends c.index-2.result.now c.thread_node.new.own_ends
+    c.last_through-before.result c.last_of_origin_through-own_before.result a.free (fresh c.args.origin c.args.tag)) c.deref_mut.ensures.value c.thread_node.ensures in
+    let items = with_items_is a.nodes c.thread_node.new.nodes (omega (arith, change.len, a.nodes.ok.0)) in
+    subst (λ ns. IsWhole (threads_of ns (set a.origin_ends.items c.args.origin c.thread_node.new.own_ends) c.thread_node.new.ends c.index.result.now.by_tag.next) (a.used + 1)) (sym items)
+    (whole_inserted a c.args.origin c.args.tag c.last_through-before.result c.last_of_origin_through-own_before.result b.is_ready b.declared
+    c.thread_node.new.nodes c.index-2.result.now c.thread_node.new.ends c.thread_node.new.own_ends c.index.result.now.by_tag.next own free change)
+
+pub returns-clause-places : goal.returns-clause-places
+returns-clause-places c =
+    let a = c.self.inside in
+    let b = before_insert c.self.inside c.args.self.now c.args.origin c.args.tag c.last_through-before.result c.last_of_origin_through-own_before.result
+    c.self.view_is c.self.invariant c.requires.origin c.requires.reserved c.requires.absent c.last_through-before.ensures c.last_of_origin_through-own_before.ensures in
+    let own = ends_read a.origin_ends.items c.args.origin c.index-2.result.now b.declared c.index-2.ensures in
+    let free = ap (λ n. n.by_tag.next) (node_read a.nodes.items a.free c.index.result.now b.can_thread.at c.index.ensures) in
+    let change = subst (λ ns. Threaded ns c.thread_node.new.nodes a.ends c.thread_node.new.ends c.index-2.result.now c.thread_node.new.own_ends
+    c.last_through-before.result c.last_of_origin_through-own_before.result a.free (fresh c.args.origin c.args.tag)) c.deref_mut.ensures.value c.thread_node.ensures in
+    let items = with_items_is a.nodes c.thread_node.new.nodes (omega (arith, change.len, a.nodes.ok.0)) in
+    let v = c.args.self.now in
+    ap (λ ns. contents_of (threads_of ns (set a.origin_ends.items c.args.origin c.thread_node.new.own_ends) c.thread_node.new.ends c.index.result.now.by_tag.next) (a.used + 1)) items
+    ∙ contents_inserted a c.args.origin c.args.tag c.last_through-before.result c.last_of_origin_through-own_before.result b.is_ready b.declared
+    c.thread_node.new.nodes c.index-2.result.now c.thread_node.new.ends c.thread_node.new.own_ends c.index.result.now.by_tag.next own free change
+    ∙ ap (λ u. let w : Contents = record { origins = u.origins; places = with_place (record { node = a.free; entry = fresh c.args.origin c.args.tag }) u.places; free = u.free - 1 } in w) c.self.view_is
+    ∙ ap (λ n. let w : Contents = record { origins = v.origins; places = with_place (record { node = n; entry = fresh c.args.origin c.args.tag }) v.places; free = v.free - 1 } in w) (sym c.new.ensures)
+
+pub returns-clause-new_handle : goal.returns-clause-new_handle
+returns-clause-new_handle c =
+    let a = c.self.inside in
+    let b = before_insert c.self.inside c.args.self.now c.args.origin c.args.tag c.last_through-before.result c.last_of_origin_through-own_before.result
+    c.self.view_is c.self.invariant c.requires.origin c.requires.reserved c.requires.absent c.last_through-before.ensures c.last_of_origin_through-own_before.ensures in
+    ap (λ n. entry_of n c.args.self.now.places) c.new.ensures
+    ∙ ap (λ u. entry_of a.free u.places) (sym c.self.view_is)
+    ∙ new_handle a c.args.origin c.args.tag c.last_through-before.result c.last_of_origin_through-own_before.result b.is_ready b.declared
+
+-- the place that came in
+new_place : ℕ → ℕ → Moment → Place
+new_place n o g = record { node = n; entry = fresh o g }
+
+pub returns-clause-entry : goal.returns-clause-entry
+unfolding new_place
+returns-clause-entry c =
+    ap (λ v. entry_of c.new.result v.places) (returns-clause-places c)
+    ∙ entry_of-with_place_same (new_place c.new.result c.args.origin c.args.tag) c.args.self.now.places (returns-clause-new_handle c)
+
+pub returns-clause-others : goal.returns-clause-others
+unfolding new_place
+returns-clause-others c = λ other n.
+    ap (λ v. entry_of other v.places) (returns-clause-places c)
+    ∙ entry_of-with_place_other (new_place c.new.result c.args.origin c.args.tag) c.args.self.now.places other n

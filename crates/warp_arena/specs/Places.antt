@@ -1,0 +1,86 @@
+-- What an arena holds, as contracts see it: the entries in order, each with the handle that names it.
+use Rattle.std.specs.Prelude.{ℕ, ◌<◌, nat_eq, unwrap_or, ◌==◌, not, Option, Some, None, List, [], ◌∷◌, if◌then◌else◌, find, filter, map}
+use Rattle.std.specs.Option.{option_map}
+use Rattle.std.specs.List.{AllByRecursion, IsDistinct}
+use Rattle.warp_tag.specs.Moment.{Moment, is_before}
+use Rattle.warp_tag.specs.Table.{name_before, has_name, IsTable}
+use Rattle.warp_tag.specs.declared.entry.Entry.{Entry}
+
+-- an entry, and the handle that names it
+pub record Place : Type 0 where
+  pub node : ℕ
+  pub entry : Entry
+
+-- what an arena holds: how many origins it has, its places in order of tag, then of origin, and how many nodes
+-- are free
+pub record Contents : Type 0 where
+  pub origins : ℕ
+  pub places : List Place
+  pub free : ℕ
+
+-- the entries, in order
+abbrev pub entries_of : List Place → List Entry
+entries_of places = map (λ p. p.entry) places
+
+-- what the handle names
+abbrev pub entry_of : ℕ → List Place → Option Entry
+entry_of node places = option_map (λ p. p.entry) (find (λ p. p.node == node) places)
+
+-- the handle that names the entry of this name
+abbrev pub node_of : ℕ → Moment → List Place → Option ℕ
+node_of origin tag places = option_map (λ p. p.node) (find (λ p. has_name origin tag p.entry) places)
+
+-- the handle of the first place
+abbrev pub first_node : List Place → Option ℕ
+first_node [] = None
+first_node (p ∷ ps) = Some p.node
+
+-- the handle of the last place
+abbrev pub last_node : List Place → Option ℕ
+last_node [] = None
+last_node (p ∷ []) = Some p.node
+last_node (p ∷ q ∷ ps) = last_node (q ∷ ps)
+
+-- the places after the handle's
+abbrev pub places_after : ℕ → List Place → List Place
+places_after node [] = []
+places_after node (p ∷ ps) = if p.node == node then ps else places_after node ps
+
+-- the places before the handle's
+abbrev pub places_before : ℕ → List Place → List Place
+places_before node [] = []
+places_before node (p ∷ ps) = if p.node == node then [] else p ∷ places_before node ps
+
+-- the places of one origin
+abbrev pub places_of : ℕ → List Place → List Place
+places_of origin places = filter (λ p. p.entry.origin == origin) places
+
+-- the places with one more, which comes where the order has it
+abbrev pub with_place : Place → List Place → List Place
+with_place p [] = p ∷ []
+with_place p (q ∷ qs) =
+    if name_before p.entry.origin p.entry.tag q.entry then p ∷ q ∷ qs else q ∷ with_place p qs
+
+-- the places after a change of the entry that the handle names
+abbrev pub with_change : (Entry → Entry) → ℕ → List Place → List Place
+with_change change node places =
+    map (λ p. if p.node == node then record { node = p.node; entry = change p.entry } else p) places
+
+-- the places whose tag is after this one
+abbrev pub places_past : Moment → List Place → List Place
+places_past tag places = filter (λ p. is_before tag p.entry.tag) places
+
+-- the places whose tag is not after this one
+abbrev pub places_through : Moment → List Place → List Place
+places_through tag places = filter (λ p. not (is_before tag p.entry.tag)) places
+
+-- the origin of the entry that the handle names
+abbrev pub origin_of : ℕ → List Place → ℕ
+origin_of node places = unwrap_or (option_map (λ e. e.origin) (entry_of node places)) 0
+
+-- the entries are in order of tag, then of origin, each name once; each is of an origin of the arena; each has a
+-- handle of its own
+pub record IsOrdered (a : Contents) : Type 0 where
+  pub table : IsTable (entries_of a.places)
+  pub declared : AllByRecursion (λ p. p.entry.origin < a.origins) a.places
+  pub handles : IsDistinct nat_eq (map (λ p. p.node) a.places)

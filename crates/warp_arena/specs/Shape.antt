@@ -1,0 +1,157 @@
+-- The shape of an arena: how its links spell its lists. No public clause cites this module.
+use Rattle.std.specs.Prelude.{Bool, true, ◌++◌, ◌≡◌, ℕ, zero, suc, ◌+◌, ◌-◌, ◌<◌, ◌≤◌, ◌==◌, nat_lt, List, [], ◌∷◌, if◌then◌else◌, false, map, filter, length, slice_index_or}
+use Rattle.std.specs.List.{AllByRecursion}
+use Rattle.warp_tag.specs.Table.{IsTable, fresh}
+use Rattle.warp_tag.specs.declared.entry.Entry.{Entry}
+use Rattle.warp_arena.specs.declared.node.Links.{Links}
+use Rattle.warp_arena.specs.declared.node.Node.{Node}
+use Rattle.warp_arena.specs.declared.node.TheConstants.{NO_NODE, MAX_USED}
+use Rattle.warp_arena.specs.Places.{Place, Contents}
+
+-- the links of a list without a node
+abbrev pub no_links : Links
+no_links = record { next = NO_NODE; prev = NO_NODE }
+
+-- what a read past the nodes gives
+abbrev pub no_node : Node
+no_node =
+    record { entry = fresh 0 (record { time = 0; microstep = 0 }); by_tag = no_links; of_origin = no_links }
+
+-- the node at an index
+abbrev pub node_at : List Node → ℕ → Node
+node_at nodes i = slice_index_or nodes i no_node
+
+-- the entry at an index
+abbrev pub entry_at : List Node → ℕ → Entry
+entry_at nodes i = (node_at nodes i).entry
+
+-- a node's links in the tag list
+abbrev pub by_tag : List Node → ℕ → Links
+by_tag nodes i = (node_at nodes i).by_tag
+
+-- a node's links in its origin's list
+abbrev pub of_origin : List Node → ℕ → Links
+of_origin nodes i = (node_at nodes i).of_origin
+
+-- the place after a place of a list, where NO_NODE stands for both ends of the list
+abbrev pub next_in : Links → (ℕ → Links) → ℕ → ℕ
+next_in ends links i = if i == NO_NODE then ends.next else (links i).next
+
+-- the place before a place of a list
+abbrev pub prev_in : Links → (ℕ → Links) → ℕ → ℕ
+prev_in ends links i = if i == NO_NODE then ends.prev else (links i).prev
+
+-- the first of these indices, or this one where there is none
+abbrev pub first_or : List ℕ → ℕ → ℕ
+first_or [] to = to
+first_or (i ∷ is) to = i
+
+-- the last of these indices, or this one where there is none
+abbrev pub last_or : ℕ → List ℕ → ℕ
+last_or from [] = from
+last_or from (i ∷ is) = last_or i is
+
+-- so many indices, read off the links after a place
+abbrev pub walk : (ℕ → ℕ) → ℕ → ℕ → List ℕ
+walk next zero from = []
+walk next (suc count) from = next from ∷ walk next count (next from)
+
+-- the links lead from one place through these indices to the other place
+abbrev pub IsPath : (ℕ → ℕ) → ℕ → List ℕ → ℕ → Type 0
+IsPath next from [] to = next from ≡ to
+IsPath next from (i ∷ is) to = (next from ≡ i) × IsPath next i is to
+
+-- the links lead from one place through these indices to the other place, and back
+abbrev pub IsChain : (ℕ → ℕ) → (ℕ → ℕ) → ℕ → List ℕ → ℕ → Type 0
+IsChain next prev from [] to = (next from ≡ to) × (prev to ≡ from)
+IsChain next prev from (i ∷ is) to = (next from ≡ i) × (prev i ≡ from) × IsChain next prev i is to
+
+-- how often an index stands in a list
+abbrev pub count_of : ℕ → List ℕ → ℕ
+count_of i [] = 0
+count_of i (j ∷ js) = (if j == i then 1 else 0) + count_of i js
+
+-- what an arena's nodes say, each at its index: the entries, the links of the tag list and of the origins'
+-- lists with their ends, and the first unused node
+pub record Threads : Type 0 where
+  pub size : ℕ
+  pub origins : ℕ
+  pub entry : ℕ → Entry
+  pub links : ℕ → Links
+  pub ends : Links
+  pub own_links : ℕ → Links
+  pub own_ends : ℕ → Links
+  pub free : ℕ
+
+-- the ends of the free list
+abbrev pub free_ends : ℕ → Links
+free_ends free = record { next = free; prev = NO_NODE }
+
+-- the indices of one origin's entries
+abbrev pub members : (ℕ → Entry) → ℕ → List ℕ → List ℕ
+members entry origin is = filter (λ i. (entry i).origin == origin) is
+
+-- The shape of an arena with these used nodes, in order of tag, then of origin, and these unused ones. The
+-- forward links spell the used nodes and the backward links spell them backwards; each origin's forward and
+-- backward links spell its own nodes in order; the free links spell the unused ones; each index is used once or
+-- unused once.
+pub record IsArena (t : Threads) (used unused : List ℕ) : Type 0 where
+  pub small : t.size ≤ MAX_USED
+  pub sorted : IsTable (map t.entry used)
+  pub declared : AllByRecursion (λ i. (t.entry i).origin < t.origins) used
+  pub spelled : IsChain (next_in t.ends t.links) (prev_in t.ends t.links) NO_NODE used NO_NODE
+  pub own : (o : ℕ) → o < t.origins
+      → IsChain (next_in (t.own_ends o) t.own_links) (prev_in (t.own_ends o) t.own_links) NO_NODE
+      (members t.entry o used) NO_NODE
+  pub free : IsPath (next_in (free_ends t.free) t.links) NO_NODE unused NO_NODE
+  pub once : (i : ℕ) → count_of i used + count_of i unused ≡ (if nat_lt i t.size then 1 else 0)
+
+-- what these nodes, with these ends of lists, say
+abbrev pub threads_of : List Node → List Links → Links → ℕ → Threads
+threads_of nodes origins ends free =
+    record {
+      size = length nodes;
+      origins = length origins;
+      entry = entry_at nodes;
+      links = by_tag nodes;
+      ends = ends;
+      own_links = of_origin nodes;
+      own_ends = λ o. slice_index_or origins o no_links;
+      free = free;
+    }
+
+-- the used nodes, read off the links of the tag list
+abbrev pub used_of : Threads → ℕ → List ℕ
+used_of t count = walk (next_in t.ends t.links) count NO_NODE
+
+-- the unused nodes, read off the links of the free list
+abbrev pub unused_of : Threads → ℕ → List ℕ
+unused_of t count = walk (next_in (free_ends t.free) t.links) count NO_NODE
+
+-- the place of the entry at an index
+abbrev pub place_at : (ℕ → Entry) → ℕ → Place
+place_at entry i = record { node = i; entry = entry i }
+
+-- what an arena with these nodes and so many used ones holds
+abbrev pub contents_of : Threads → ℕ → Contents
+contents_of t count =
+    record {
+      origins = t.origins;
+      places = map (place_at t.entry) (used_of t count);
+      free = t.size - count;
+    }
+
+-- so many nodes are used, and the links give them the shape of an arena
+pub record IsWhole (t : Threads) (count : ℕ) : Type 0 where
+  pub fits : count ≤ t.size
+  pub shape : IsArena t (used_of t count) (unused_of t (t.size - count))
+
+-- Where a walk from the end of these places stops, at the last one that is not later, or at NO_NODE where all
+-- are: the places up to there are not later, the others are.
+pub record Splits (later : Entry → Bool) (places : List Place) (at : ℕ) : Type 0 where
+  pub front : List Place
+  pub back : List Place
+  pub parts : places ≡ front ++ back
+  pub last : at ≡ last_or NO_NODE (map (λ p. p.node) front)
+  pub through : AllByRecursion (λ p. later p.entry ≡ false) front
+  pub past : AllByRecursion (λ p. later p.entry ≡ true) back

@@ -1,0 +1,270 @@
+use crate::links::{
+    comes_before, greater_payload, handle, name_comes_before, thread_node, unthread_node,
+};
+use crate::node::{Links, MAX_USED, NO_NODE, Node, NodeId};
+use std::alloc::Global;
+use std::marker::Model;
+use warp_tag::{Entry, OutOfMemory, Tag};
+
+/// Entries of names, in order of tag, then of origin, each at a handle. Contracts see it as its `Contents`: the
+/// number of its origins, its places (a handle and its entry) in order, and the number of its free nodes.
+///
+/// Only `start` and `reserve_one` take memory.
+#[derive(Drop)]
+pub struct Arena {
+    nodes: Vec<Node>,
+    origin_ends: Vec<Links>,
+    ends: Links,
+    free: u32,
+    used: usize,
+}
+
+impl Model for Arena {
+    ghost use Rattle.warp_arena.specs.Places.{Contents};
+
+    ghost Value = { Contents };
+
+    ghost use Rattle.warp_arena.specs.Shape.{threads_of, contents_of, IsWhole};
+
+    ghost view = { λ a. contents_of (threads_of a.nodes.items a.origin_ends.items a.ends a.free) a.used };
+
+    ghost invariant = { λ a. IsWhole (threads_of a.nodes.items a.origin_ends.items a.ends a.free) a.used };
+}
+
+impl Arena {
+    ghost use Rattle.std.specs.Prelude.{◌≡◌, ◌≢◌, ℕ, ◌↔◌, ◌<◌, ◌+◌, ◌-◌, [], ◌∷◌, IsTrue, IsOk, IsSome, IfSome, IsSomeAnd, IfOk, OnOk, OnErr, None, Some, length, map, drop, max, ◌==◌, filter};
+    ghost use Rattle.std.specs.Option.{option_map};
+    ghost use Rattle.warp_tag.specs.Moment.{is_before};
+    ghost use Rattle.warp_tag.specs.Table.{name_before, has_name, fresh, with_event, with_withdrawal};
+    ghost use Rattle.warp_arena.specs.Places.{places_of, node_of, entry_of, first_node, last_node, places_after, places_before, with_place, with_change, places_past, places_through, IsOrdered, origin_of};
+    ghost use Rattle.warp_arena.specs.Shape.{Splits};
+
+    /// An arena without entries, for origins below this number. The only error is want of memory.
+    pub fn start(alloc: Global, origins: u32) -> Result<Arena, OutOfMemory>
+        ensures { IfOk result (λ a. a ≡ record { origins = origins; places = []; free = 0 }) }
+    {
+        let mut origin_ends = Vec::with_capacity(alloc, origins as usize)?;
+        for _ in 0..origins {
+            origin_ends.push(Links::EMPTY)?;
+        }
+        Ok(Arena {
+            nodes: Vec::new(alloc),
+            origin_ends,
+            ends: Links::EMPTY,
+            free: NO_NODE,
+            used: 0,
+        })
+    }
+
+    /// Makes sure that a node is free, so that one `insert` can follow. It takes memory only where none is free,
+    /// and then grows at most once, geometrically. The only error is want of memory; then all is as before.
+    pub fn reserve_one(&mut self, _alloc: Global) -> Result<(), OutOfMemory>
+        requires { length self.old.places < MAX_USED }
+        ensures ok { OnOk result (self.new ≡ record self.old { free = max 1 self.old.free }) }
+        ensures err { OnErr result (self.new ≡ self.old) }
+        ensures spare { 0 < self.old.free → IsOk result }
+    {
+        if self.free == NO_NODE {
+            let index = self.nodes.len() as u32;
+            self.nodes.push(Node::unused())?;
+            self.free = index;
+        }
+        Ok(())
+    }
+
+    /// The handle of this name, or none where the arena does not hold it. It walks the list of the origin alone,
+    /// from its end to the first node that is not after the tag.
+    pub fn find(&self, origin: u32, tag: Tag) -> Option<NodeId>
+        ensures handle { result ≡ node_of origin tag self.now.places }
+        ensures named { IfSome result
+            (λ node. IsSomeAnd (entry_of node self.now.places) (λ e. IsTrue (has_name origin tag e))) }
+    {
+        if origin as usize >= self.origin_ends.len() {
+            return None;
+        }
+        let at = self.last_of_origin_through(origin, tag);
+        if at != NO_NODE && tag == self.nodes[at as usize].entry.tag {
+            Some(NodeId::new(at))
+        } else {
+            None
+        }
+    }
+
+    /// Takes in this name, of which nothing is known yet, and answers its handle. Every other handle keeps naming
+    /// its entry.
+    pub fn insert(&mut self, origin: u32, tag: Tag) -> NodeId
+        requires origin { origin < self.old.origins }
+        requires reserved { 0 < self.old.free }
+        requires absent { node_of origin tag self.old.places ≡ None }
+        ensures places { self.new ≡ record self.old {
+          places = with_place (record { node = result; entry = fresh origin tag }) self.old.places;
+          free = self.old.free - 1;
+        } }
+        ensures new_handle { entry_of result self.old.places ≡ None }
+        ensures entry { entry_of result self.new.places ≡ Some (fresh origin tag) }
+        ensures others { (node : ℕ) → node ≢ result → entry_of node self.new.places ≡ entry_of node self.old.places }
+    {
+        let before = self.last_through(origin, tag);
+        let own_before = self.last_of_origin_through(origin, tag);
+        let at = self.free;
+        self.free = self.nodes[at as usize].by_tag.next;
+        let mut own_ends = self.origin_ends[origin as usize];
+        let entry = Entry {
+            origin,
+            tag,
+            event: None,
+            withdrawn: false,
+        };
+        thread_node(
+            &mut self.nodes,
+            &mut self.ends,
+            &mut own_ends,
+            before,
+            own_before,
+            at,
+            entry,
+        );
+        self.origin_ends[origin as usize] = own_ends;
+        self.used += 1;
+        NodeId::new(at)
+    }
+
+    /// Records an event of the handle's name: of several payloads the greatest counts, by input, then by value.
+    pub fn set_event(&mut self, node: NodeId, input: u32, value: i64)
+        requires { IsSome (entry_of node self.old.places) }
+        ensures places { self.new ≡ record self.old { places = with_change (with_event input value) node self.old.places } }
+        ensures entry { entry_of node self.new.places ≡ option_map (with_event input value) (entry_of node self.old.places) }
+        ensures others { (other : ℕ) → other ≢ node → entry_of other self.new.places ≡ entry_of other self.old.places }
+    {
+        let entry = &mut self.nodes[node.index() as usize].entry;
+        entry.event = Some(greater_payload(entry.event, (input, value)));
+    }
+
+    /// Records that the handle's name is withdrawn, which holds for good.
+    pub fn set_withdrawn(&mut self, node: NodeId)
+        requires { IsSome (entry_of node self.old.places) }
+        ensures places { self.new ≡ record self.old { places = with_change with_withdrawal node self.old.places } }
+        ensures entry { entry_of node self.new.places ≡ option_map with_withdrawal (entry_of node self.old.places) }
+        ensures others { (other : ℕ) → other ≢ node → entry_of other self.new.places ≡ entry_of other self.old.places }
+    {
+        self.nodes[node.index() as usize].entry.withdrawn = true;
+    }
+
+    /// The entry that the handle names.
+    pub fn entry(&self, node: NodeId) -> Entry
+        requires { IsSome (entry_of node self.now.places) }
+        ensures { entry_of node self.now.places ≡ Some result }
+    {
+        self.nodes[node.index() as usize].entry
+    }
+
+    /// The handle of the first entry, or none where there is no entry.
+    pub fn first(&self) -> Option<NodeId>
+        ensures handle { result ≡ first_node self.now.places }
+        ensures used { IfSome result (λ at. IsSome (entry_of at self.now.places)) }
+    {
+        handle(self.ends.next)
+    }
+
+    /// The handle of the entry after the handle's, or none at the last one.
+    pub fn next(&self, node: NodeId) -> Option<NodeId>
+        requires { IsSome (entry_of node self.now.places) }
+        ensures handle { result ≡ first_node (places_after node self.now.places) }
+        ensures used { IfSome result (λ at. IsSome (entry_of at self.now.places)) }
+    {
+        handle(self.nodes[node.index() as usize].by_tag.next)
+    }
+
+    /// The handle of the entry before the handle's, or none at the first one.
+    pub fn prev(&self, node: NodeId) -> Option<NodeId>
+        requires { IsSome (entry_of node self.now.places) }
+        ensures handle { result ≡ last_node (places_before node self.now.places) }
+        ensures used { IfSome result (λ at. IsSome (entry_of at self.now.places)) }
+    {
+        handle(self.nodes[node.index() as usize].by_tag.prev)
+    }
+
+    /// The handle of the next entry of the same origin, or none at its last one.
+    pub fn next_of_origin(&self, node: NodeId) -> Option<NodeId>
+        requires { IsSome (entry_of node self.now.places) }
+        ensures handle { result ≡ first_node (places_of (origin_of node self.now.places) (places_after node self.now.places)) }
+        ensures used { IfSome result (λ at. IsSome (entry_of at self.now.places)) }
+    {
+        handle(self.nodes[node.index() as usize].of_origin.next)
+    }
+
+    /// How many entries the arena holds.
+    pub fn len(&self) -> usize
+        ensures length { result ≡ length self.now.places }
+        ensures ordered { IsOrdered self.now }
+    {
+        self.used
+    }
+
+    /// Whether the arena holds no entry.
+    pub fn is_empty(&self) -> bool
+        ensures { IsTrue result ↔ (self.now.places ≡ []) }
+    {
+        self.used == 0
+    }
+
+    /// Frees every node whose tag is not after this one, and says how many they were. Every handle of an entry
+    /// that stays keeps naming it. The work is that of what it frees.
+    pub fn free_through(&mut self, tag: Tag) -> usize
+        ensures places { self.new ≡ record self.old {
+          places = places_past tag self.old.places;
+          free = self.old.free + result;
+        } }
+        ensures count { result ≡ length (places_through tag self.old.places) }
+        ensures front { self.new.places ≡ drop result self.old.places }
+        ensures handles { (node : ℕ) → IsSome (entry_of node self.new.places)
+            → entry_of node self.new.places ≡ entry_of node self.old.places }
+    {
+        let before = self.len();
+        while let Some(first) = self.first() {
+            if comes_before(tag, self.entry(first).tag) {
+                break;
+            }
+            self.free_first();
+        }
+        before - self.len()
+    }
+
+    /// Frees the first node of the tag list, which is the first of its origin's list too.
+    fn free_first(&mut self)
+        requires { 0 < length self.old.places }
+        ensures { self.new ≡ record self.old { places = drop 1 self.old.places; free = self.old.free + 1 } }
+    {
+        let at = self.ends.next;
+        let origin = self.nodes[at as usize].entry.origin as usize;
+        let mut own_ends = self.origin_ends[origin];
+        let free = self.free;
+        unthread_node(&mut self.nodes, &mut self.ends, &mut own_ends, at, free);
+        self.origin_ends[origin] = own_ends;
+        self.free = at;
+        self.used -= 1;
+    }
+
+    /// The last node of the tag list whose name is not after this one.
+    fn last_through(&self, origin: u32, tag: Tag) -> u32
+        ensures { Splits (name_before origin tag) self.now.places result }
+    {
+        let mut at = self.ends.prev;
+        while at != NO_NODE && name_comes_before(origin, tag, &self.nodes[at as usize].entry) {
+            at = self.nodes[at as usize].by_tag.prev;
+        }
+        at
+    }
+
+    /// The last node of the origin's list whose tag is not after this one.
+    fn last_of_origin_through(&self, origin: u32, tag: Tag) -> u32
+        requires { origin < self.now.origins }
+        ensures { Splits (λ e. is_before tag e.tag) (places_of origin self.now.places) result }
+    {
+        let mut at = self.origin_ends[origin as usize].prev;
+        while at != NO_NODE && comes_before(tag, self.nodes[at as usize].entry.tag) {
+            at = self.nodes[at as usize].of_origin.prev;
+        }
+        at
+    }
+}

@@ -1,0 +1,16 @@
+//! The node arena: entries of names (origin, tag), threaded in two orders without moving one.
+//!
+//! An `Arena` is a `Vec` of nodes. Each used node is in the doubly linked tag list (by tag, then by origin) and
+//! in the doubly linked list of its origin (by tag); the unused ones are in a free list. Contracts see none of
+//! these links: they see the entries in order, each with the handle that names it, and how many nodes are free.
+#![tactic(auto)]
+
+mod arena;
+mod links;
+mod node;
+#[cfg(test)]
+mod tests;
+
+pub use arena::Arena;
+pub use node::{MAX_USED, NodeId};
+pub use warp_tag::{Entry, OutOfMemory};

@@ -1,0 +1,238 @@
+ghost use Rattle.std.specs.Prelude.{◌≡◌, ◌≢◌, ℕ, ◌<◌, Bool, length, None, Some, if◌then◌else◌, ◌==◌};
+ghost use Rattle.warp_tag.specs.Moment.{Moment, is_before};
+ghost use Rattle.warp_tag.specs.Table.{name_before, greater};
+ghost use Rattle.warp_arena.specs.Shape.{by_tag, of_origin, next_in, prev_in, no_links};
+ghost use Rattle.warp_arena.specs.Changes.{IsPlace, SetsNext, SetsPrev, KeepsButTags, KeepsButOwn, Inserts, Skips, Threaded, Unthreaded};
+
+use crate::node::{Links, NO_NODE, Node, NodeId};
+use warp_tag::{Entry, Tag};
+
+/// Whether the tag comes before the other one.
+pub(crate) fn comes_before(tag: Tag, other: Tag) -> bool
+    ensures { result ≡ is_before tag other }
+{
+    tag < other
+}
+
+/// Whether the name (origin, tag) comes before the entry's.
+pub(crate) fn name_comes_before(origin: u32, tag: Tag, entry: &Entry) -> bool
+    ensures { result ≡ name_before origin tag entry.now }
+{
+    comes_before(tag, entry.tag) || (tag == entry.tag && origin < entry.origin)
+}
+
+/// The payload (input, value) that counts: the greater one, by input, then by value.
+pub(crate) fn greater_payload(known: Option<(u32, i64)>, other: (u32, i64)) -> (u32, i64)
+    ensures { result ≡ greater known other }
+{
+    match known {
+        Some(known) if !(known.0 < other.0 || (known.0 == other.0 && known.1 < other.1)) => known,
+        _ => other,
+    }
+}
+
+/// The handle of the node at this index, or none for `NO_NODE`.
+pub(crate) fn handle(index: u32) -> Option<NodeId>
+    ensures { result ≡ (if index == NO_NODE then None else Some index) }
+{
+    if index == NO_NODE {
+        None
+    } else {
+        Some(NodeId::new(index))
+    }
+}
+
+/// Makes this place of the tag list lead on to another; `NO_NODE` stands for the list's end.
+pub(crate) fn set_next_by_tag(nodes: &mut [Node], ends: &mut Links, at: u32, to: u32)
+    requires { IsPlace (length nodes.old) at }
+    ensures sets { SetsNext ends.old ends.new (by_tag nodes.old) (by_tag nodes.new) at to }
+    ensures keeps { KeepsButTags nodes.old nodes.new }
+{
+    if at == NO_NODE {
+        ends.next = to;
+    } else {
+        nodes[at as usize].by_tag.next = to;
+    }
+}
+
+/// Makes this place of the tag list lead back to another.
+pub(crate) fn set_prev_by_tag(nodes: &mut [Node], ends: &mut Links, at: u32, to: u32)
+    requires { IsPlace (length nodes.old) at }
+    ensures sets { SetsPrev ends.old ends.new (by_tag nodes.old) (by_tag nodes.new) at to }
+    ensures keeps { KeepsButTags nodes.old nodes.new }
+{
+    if at == NO_NODE {
+        ends.prev = to;
+    } else {
+        nodes[at as usize].by_tag.prev = to;
+    }
+}
+
+/// Makes this place of an origin's list lead on to another.
+pub(crate) fn set_next_of_origin(nodes: &mut [Node], ends: &mut Links, at: u32, to: u32)
+    requires { IsPlace (length nodes.old) at }
+    ensures sets { SetsNext ends.old ends.new (of_origin nodes.old) (of_origin nodes.new) at to }
+    ensures keeps { KeepsButOwn nodes.old nodes.new }
+{
+    if at == NO_NODE {
+        ends.next = to;
+    } else {
+        nodes[at as usize].of_origin.next = to;
+    }
+}
+
+/// Makes this place of an origin's list lead back to another.
+pub(crate) fn set_prev_of_origin(nodes: &mut [Node], ends: &mut Links, at: u32, to: u32)
+    requires { IsPlace (length nodes.old) at }
+    ensures sets { SetsPrev ends.old ends.new (of_origin nodes.old) (of_origin nodes.new) at to }
+    ensures keeps { KeepsButOwn nodes.old nodes.new }
+{
+    if at == NO_NODE {
+        ends.prev = to;
+    } else {
+        nodes[at as usize].of_origin.prev = to;
+    }
+}
+
+/// The place after this one in the tag list.
+pub(crate) fn next_by_tag(nodes: &[Node], ends: &Links, at: u32) -> u32
+    requires { IsPlace (length nodes.now) at }
+    ensures { result ≡ next_in ends.now (by_tag nodes.now) at }
+{
+    if at == NO_NODE {
+        ends.next
+    } else {
+        nodes[at as usize].by_tag.next
+    }
+}
+
+/// The place after this one in an origin's list.
+pub(crate) fn next_of_origin(nodes: &[Node], ends: &Links, at: u32) -> u32
+    requires { IsPlace (length nodes.now) at }
+    ensures { result ≡ next_in ends.now (of_origin nodes.now) at }
+{
+    if at == NO_NODE {
+        ends.next
+    } else {
+        nodes[at as usize].of_origin.next
+    }
+}
+
+/// Puts the node into the tag list, after this place.
+pub(crate) fn thread_by_tag(nodes: &mut [Node], ends: &mut Links, before: u32, at: u32)
+    requires before { IsPlace (length nodes.old) before }
+    requires after { IsPlace (length nodes.old) (next_in ends.old (by_tag nodes.old) before) }
+    requires at { at < length nodes.old }
+    requires node { at ≢ NO_NODE }
+    requires not_before { before ≢ at }
+    requires not_after { next_in ends.old (by_tag nodes.old) before ≢ at }
+    ensures keeps { KeepsButTags nodes.old nodes.new }
+    ensures inserts { Inserts (next_in ends.old (by_tag nodes.old)) (prev_in ends.old (by_tag nodes.old))
+        (next_in ends.new (by_tag nodes.new)) (prev_in ends.new (by_tag nodes.new))
+        before at (next_in ends.old (by_tag nodes.old) before) }
+{
+    let after = next_by_tag(nodes, ends, before);
+    set_next_by_tag(nodes, ends, before, at);
+    set_prev_by_tag(nodes, ends, after, at);
+    nodes[at as usize].by_tag = Links {
+        next: after,
+        prev: before,
+    };
+}
+
+/// Puts the node into its origin's list, after this place.
+pub(crate) fn thread_of_origin(nodes: &mut [Node], ends: &mut Links, before: u32, at: u32)
+    requires before { IsPlace (length nodes.old) before }
+    requires after { IsPlace (length nodes.old) (next_in ends.old (of_origin nodes.old) before) }
+    requires at { at < length nodes.old }
+    requires node { at ≢ NO_NODE }
+    requires not_before { before ≢ at }
+    requires not_after { next_in ends.old (of_origin nodes.old) before ≢ at }
+    ensures keeps { KeepsButOwn nodes.old nodes.new }
+    ensures inserts { Inserts (next_in ends.old (of_origin nodes.old)) (prev_in ends.old (of_origin nodes.old))
+        (next_in ends.new (of_origin nodes.new)) (prev_in ends.new (of_origin nodes.new))
+        before at (next_in ends.old (of_origin nodes.old) before) }
+{
+    let after = next_of_origin(nodes, ends, before);
+    set_next_of_origin(nodes, ends, before, at);
+    set_prev_of_origin(nodes, ends, after, at);
+    nodes[at as usize].of_origin = Links {
+        next: after,
+        prev: before,
+    };
+}
+
+/// Gives the node this entry, and puts it after these places into the tag list and into its origin's list.
+pub(crate) fn thread_node(
+    nodes: &mut [Node],
+    ends: &mut Links,
+    own_ends: &mut Links,
+    before: u32,
+    own_before: u32,
+    at: u32,
+    entry: Entry,
+)
+    requires before { IsPlace (length nodes.old) before }
+    requires after { IsPlace (length nodes.old) (next_in ends.old (by_tag nodes.old) before) }
+    requires own_before { IsPlace (length nodes.old) own_before }
+    requires own_after { IsPlace (length nodes.old) (next_in own_ends.old (of_origin nodes.old) own_before) }
+    requires at { at < length nodes.old }
+    requires node { at ≢ NO_NODE }
+    requires not_before { before ≢ at }
+    requires not_after { next_in ends.old (by_tag nodes.old) before ≢ at }
+    requires not_own_before { own_before ≢ at }
+    requires not_own_after { next_in own_ends.old (of_origin nodes.old) own_before ≢ at }
+    ensures { Threaded nodes.old nodes.new ends.old ends.new own_ends.old own_ends.new before own_before at entry }
+{
+    thread_by_tag(nodes, ends, before, at);
+    thread_of_origin(nodes, own_ends, own_before, at);
+    nodes[at as usize].entry = entry;
+}
+
+/// Takes the first node of the tag list out of it.
+pub(crate) fn unthread_by_tag(nodes: &mut [Node], ends: &mut Links, at: u32)
+    requires at { at < length nodes.old }
+    requires node { at ≢ NO_NODE }
+    requires after { IsPlace (length nodes.old) (next_in ends.old (by_tag nodes.old) at) }
+    ensures keeps { KeepsButTags nodes.old nodes.new }
+    ensures skips { Skips (next_in ends.old (by_tag nodes.old)) (prev_in ends.old (by_tag nodes.old))
+        (next_in ends.new (by_tag nodes.new)) (prev_in ends.new (by_tag nodes.new)) NO_NODE at }
+{
+    let after = next_by_tag(nodes, ends, at);
+    set_next_by_tag(nodes, ends, NO_NODE, after);
+    set_prev_by_tag(nodes, ends, after, NO_NODE);
+}
+
+/// Takes the first node of an origin's list out of it.
+pub(crate) fn unthread_of_origin(nodes: &mut [Node], ends: &mut Links, at: u32)
+    requires at { at < length nodes.old }
+    requires node { at ≢ NO_NODE }
+    requires after { IsPlace (length nodes.old) (next_in ends.old (of_origin nodes.old) at) }
+    ensures keeps { KeepsButOwn nodes.old nodes.new }
+    ensures skips { Skips (next_in ends.old (of_origin nodes.old)) (prev_in ends.old (of_origin nodes.old))
+        (next_in ends.new (of_origin nodes.new)) (prev_in ends.new (of_origin nodes.new)) NO_NODE at }
+{
+    let after = next_of_origin(nodes, ends, at);
+    set_next_of_origin(nodes, ends, NO_NODE, after);
+    set_prev_of_origin(nodes, ends, after, NO_NODE);
+}
+
+/// Takes the node, the first of the tag list and of its origin's list, out of both, and makes it lead to this
+/// first unused node.
+pub(crate) fn unthread_node(
+    nodes: &mut [Node],
+    ends: &mut Links,
+    own_ends: &mut Links,
+    at: u32,
+    free: u32,
+)
+    requires at { at < length nodes.old }
+    requires node { at ≢ NO_NODE }
+    requires after { IsPlace (length nodes.old) (next_in ends.old (by_tag nodes.old) at) }
+    requires own_after { IsPlace (length nodes.old) (next_in own_ends.old (of_origin nodes.old) at) }
+    ensures { Unthreaded nodes.old nodes.new ends.old ends.new own_ends.old own_ends.new at free }
+{
+    unthread_by_tag(nodes, ends, at);
+    unthread_of_origin(nodes, own_ends, at);
+    nodes[at as usize].by_tag.next = free;
+}

@@ -1,0 +1,87 @@
+use std::marker::Model;
+use warp_tag::{Entry, Tag};
+
+/// The most entries that an arena holds.
+pub const MAX_USED: usize = 4_000_000_000;
+
+/// Stands in a link for "no node": an end of a list.
+pub(crate) const NO_NODE: u32 = u32::MAX;
+
+/// The handle of a node of an arena. It names the same entry until the node is freed.
+#[derive(Clone, Copy, Debug, PartialEq, Eq)]
+pub struct NodeId {
+    index: u32,
+}
+
+impl Model for NodeId {
+    ghost use Rattle.std.specs.Prelude.{ℕ};
+
+    ghost Value = { ℕ };
+
+    ghost view = { λ n. n.index };
+
+    ghost inverse = { λ i. record { index = i } };
+}
+
+impl NodeId {
+    ghost use Rattle.std.specs.Prelude.{◌≡◌};
+
+    /// The handle of the node at this index.
+    pub(crate) fn new(index: u32) -> NodeId
+        ensures { result ≡ index }
+    {
+        NodeId { index }
+    }
+
+    /// The index of the node.
+    pub(crate) fn index(self) -> u32
+        ensures { result ≡ self }
+    {
+        self.index
+    }
+}
+
+/// The indices of a node's neighbours in a list, or `NO_NODE` at its ends. Where it stands for a list as a
+/// whole, `next` is the first node and `prev` the last.
+#[derive(Clone, Copy, Debug, PartialEq, Eq)]
+pub(crate) struct Links {
+    pub next: u32,
+    pub prev: u32,
+}
+
+impl Links {
+    /// A list without a node.
+    pub const EMPTY: Links = Links {
+        next: NO_NODE,
+        prev: NO_NODE,
+    };
+}
+
+/// A node: its entry, and its neighbours in the tag list and in its origin's list. Of an unused node only
+/// `by_tag.next` counts, the next node of the free list.
+#[derive(Clone, Copy, Debug, PartialEq, Eq)]
+pub(crate) struct Node {
+    pub entry: Entry,
+    pub by_tag: Links,
+    pub of_origin: Links,
+}
+
+impl Node {
+    ghost use Rattle.std.specs.Prelude.{◌≡◌};
+
+    /// A node that no list holds.
+    pub fn unused() -> Node
+        ensures { result.by_tag.next ≡ NO_NODE }
+    {
+        Node {
+            entry: Entry {
+                origin: 0,
+                tag: Tag::new(0, 0).unwrap(),
+                event: None,
+                withdrawn: false,
+            },
+            by_tag: Links::EMPTY,
+            of_origin: Links::EMPTY,
+        }
+    }
+}
