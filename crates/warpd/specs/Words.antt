@@ -1,9 +1,7 @@
 -- The command line of `warpd`, as the parser of the crate `clap` reads it.
-use Rattle.std.specs.Prelude.{ℕ, List, [], ◌∷◌, true, Option, codes, if◌then◌else◌, is_some, option_and_then}
-use Rattle.clap.specs.Kinds.{or_else}
-use Rattle.clap.specs.Words.{App, Kinds, Row, Text, fault_of, first_of, new_app, new_rule, subcommand_of, with_rule, with_subcommand}
+use Rattle.std.specs.Prelude.{ℕ, List, true, Option, codes, option_and_then}
+use Rattle.clap.specs.Words.{App, Row, Text, first_of, new_app, new_rule, subcommand_of, with_rule, with_subcommand}
 use Rattle.clap.specs.Simple.{on_top}
-use Rattle.clap.specs.declared.error.kind.ErrorKind.TheVariants.{MissingRequiredArgument}
 use Rattle.warpd.specs.declared.words.Job.{Job}
 use Rattle.warpd.specs.declared.words.Job.TheVariants.{Run}
 
@@ -24,11 +22,6 @@ program_value run = option_and_then (λ found. first_of (codes "PROGRAM") found.
 -- the word in the place of PROGRAM among these
 abbrev pub program_in : List Text → Option Text
 program_in words = program_value (subcommand_of warpd_command words)
-
--- the kinds of error that these words may give: the parser's, and where it has none, that PROGRAM is missing
-abbrev pub words_fault : List Text → Kinds
-words_fault words = or_else (fault_of warpd_command words)
-    (if is_some (program_in words) then [] else MissingRequiredArgument ∷ [])
 
 -- the word that names the program to run
 abbrev pub program_of : Job → List ℕ

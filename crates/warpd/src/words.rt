@@ -1,11 +1,10 @@
 //! The words of the command line.
 ghost use Rattle.std.specs.Prelude.{◌≡◌, [], IfErr, IfOk, Some, map, option_map};
 ghost use Rattle.std.specs.Prelude.{false};
-ghost use Rattle.clap.specs.Words.{app_of, fault_of, HasKind, kind_of, subcommand_of, subcommand_rows_of};
+ghost use Rattle.clap.specs.Words.{app_of, fault_of, HasKind, subcommand_of, subcommand_rows_of};
 ghost use Rattle.clap.specs.declared.builder.command.Command.TheViews.{out-Command as fields_of};
-ghost use Rattle.warpd.specs.Words.{program_in, program_of, program_value, run_command, warpd_command, words_fault};
+ghost use Rattle.warpd.specs.Words.{program_in, program_of, program_value, run_command, warpd_command};
 
-use clap::error::ErrorKind;
 use clap::{Arg, ArgMatches, Command, Error};
 use std::alloc::{AllocError, Global};
 
@@ -61,12 +60,12 @@ const PROGRAM_HELP: &str = "The program to run; this version has builtin:twice";
 pub fn words<'a>(alloc: Global, line: &'a [&'a str]) -> Result<Job<'a>, Error>
     ensures ok { IfOk result (λ job. (fault_of warpd_command (map (λ word. word.now) line.entry.now) ≡ [])
         × (program_in (map (λ word. word.now) line.entry.now) ≡ Some (program_of job))) }
-    ensures err { IfErr result (HasKind (words_fault (map (λ word. word.now) line.entry.now))) }
+    ensures err { IfErr result (HasKind (fault_of warpd_command (map (λ word. word.now) line.entry.now))) }
 {
     let matches = matches(alloc, line)?;
     match program(&matches) {
         Some(program) => Ok(Job::Run { program }),
-        None => Err(missing(alloc)?),
+        None => unreachable!(),
     }
 }
 
@@ -87,16 +86,6 @@ fn program<'a>(matches: &ArgMatches<'a>) -> Option<&'a str>
         Some((_, run)) => run.get_str(PROGRAM),
         None => None,
     }
-}
-
-/// The error of a command line without its program, which the parser itself finds first.
-fn missing(alloc: Global) -> Result<Error, AllocError>
-    ensures { IfOk result (λ e. kind_of e ≡ ErrorKind.MissingRequiredArgument) }
-{
-    command(alloc)?.error(
-        ErrorKind::MissingRequiredArgument,
-        "the word PROGRAM is missing",
-    )
 }
 
 /// The command line of `warpd`.
@@ -129,6 +118,7 @@ fn run<'a>(alloc: Global) -> Result<Command<'a>, AllocError>
 #[cfg(test)]
 mod tests {
     use super::*;
+    use clap::error::ErrorKind;
     use std::test::Fail;
 
     #[test]
