@@ -1,5 +1,5 @@
 -- What is present at a tag.
-use Rattle.std.specs.Prelude.{ℕ, ℤ, pos, List, length, Option, None, unwrap_or, slice_index_or}
+use Rattle.std.specs.Prelude.{ℕ, ℤ, pos, List, Option, None, unwrap_or, slice_index_or}
 
 -- each port absent, or present with one value
 pub record Presence : Type 0 where

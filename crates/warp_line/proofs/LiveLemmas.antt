@@ -1,6 +1,5 @@
 -- Live events of parts of a table.
-use Rattle.std.proofs.Common.{◌≡◌, ℕ, ◌+◌, ◌<◌, length, List, ◌++◌, ◌∷◌, [], take, get_or, map, ap, sym, ◌∙◌, refl, rules, arith}
-use Rattle.std.specs.List.{filter_map}
+use Rattle.std.proofs.Common.{◌≡◌, ℕ, ◌+◌, ◌<◌, length, List, ◌++◌, ◌∷◌, [], take, get_or, map, ap, ◌∙◌}
 use Rattle.std.proofs.lemmas.List.{take_more, map-append}
 use Rattle.std.proofs.lemmas.List.Elements.{filter_map-append}
 use Rattle.warp_tag.specs.Table.{live, live_event}

@@ -1,6 +1,6 @@
 -- What an event does to what a `Plain` stands for.
-use Rattle.std.proofs.Common.{◌≡◌, ℕ, ℤ, ◌+◌, ◌<◌, ◌≤◌, length, List, ◌∷◌, [], ap, sym, subst, ◌∙◌, refl, rules, arith, IsTrue, Bool, true, false, ◌&&◌, nat_lt, Option, Some, None}
-use Rattle.std.specs.Prelude.{MatchBool, nat_le, ◌==◌, slice_index, map, count_by}
+use Rattle.std.proofs.Common.{◌≡◌, ℕ, ℤ, ◌+◌, ◌≤◌, length, List, ◌∷◌, [], ap, sym, subst, ◌∙◌, refl, arith, IsTrue, Bool, true, false, Option, Some, None}
+use Rattle.std.specs.Prelude.{MatchBool}
 use Rattle.std.specs.List.{list_all, cons_option}
 use Rattle.std.proofs.lemmas.List.Sums.{count_by-le-length}
 use Rattle.std.proofs.lemmas.Bool.Decides.{nat_tests}
@@ -8,11 +8,11 @@ use Rattle.warp_tag.specs.Moment.{Moment, is_before}
 use Rattle.warp_tag.specs.Table.{Event, IsTable, changed, with_event, live, live_event}
 use Rattle.warp_tag.specs.declared.entry.Entry.{Entry}
 use Rattle.warp_step.specs.Rules.{Rules}
-use Rattle.warp_step.specs.Snapshot.{Snapshot, start_state}
-use Rattle.warp_step.specs.Run.{Row, Run, state_at_end, outputs_of}
-use Rattle.warp_step.proofs.TraceExists.{left, rows_left, left_few}
+use Rattle.warp_step.specs.Snapshot.{start_state}
+use Rattle.warp_step.specs.Run.{Row, Run}
+use Rattle.warp_step.proofs.TraceExists.{rows_left, left_few}
 use Rattle.warp_step.proofs.TraceLemmas.{one_rest}
-use Rattle.warp_line.specs.Timeline.{Standing, IsDone, IsEventOf, KeepsDone, NowStands, Settles, rows_before, lesser}
+use Rattle.warp_line.specs.Timeline.{Standing, IsDone, IsEventOf, NowStands, Settles, rows_before, lesser}
 use Rattle.warp_line.specs.Replay.{event_fits}
 use Rattle.warp_line.specs.Plain.{StandsFor, IsRun}
 use Rattle.warp_line.specs.declared.plain.Plain.{Plain}

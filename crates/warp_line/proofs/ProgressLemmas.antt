@@ -1,6 +1,6 @@
 -- How far a replay has come: a front of the table, and the front of the run over it.
-use Rattle.std.proofs.Common.{◌≡◌, ℕ, zero, suc, ◌+◌, ◌<◌, ◌≤◌, length, List, ◌++◌, ◌∷◌, [], take, drop, map, ap, sym, subst, ◌∙◌, refl, rules, arith, IsTrue, Bool, true, false, not, ◌&&◌, ◌||◌, Option, Some, None, append_assoc, take-append-drop, length-append}
-use Rattle.std.specs.List.{list_all, flat_map}
+use Rattle.std.proofs.Common.{◌≡◌, ℕ, ◌+◌, ◌<◌, ◌≤◌, length, List, ◌++◌, ◌∷◌, [], take, drop, map, ap, sym, subst, ◌∙◌, refl, rules, arith, IsTrue, true, not, Option, Some, None, append_assoc, take-append-drop, length-append}
+use Rattle.std.specs.List.{list_all}
 use Rattle.std.proofs.lemmas.Bool.Decides.{nat_tests}
 use Rattle.std.proofs.lemmas.List.Folds.{list_all-append}
 use Rattle.std.proofs.lemmas.Grind.{flat_map-append}

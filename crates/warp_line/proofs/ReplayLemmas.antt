@@ -1,8 +1,8 @@
 -- The entries of the first tag of a table, and the step that they allow.
-use Rattle.std.proofs.Common.{◌≡◌, ◌⊎◌, inl, inr, ℕ, ℤ, zero, suc, ◌+◌, ◌<◌, ◌≤◌, length, List, ◌++◌, ◌∷◌, [], take, drop, get_or, map, ap, sym, subst, ◌∙◌, refl, rules, arith, IsTrue, Bool, true, false, not, ◌&&◌, ◌||◌, nat_lt, Option, Some, None, filter}
-use Rattle.std.specs.Prelude.{nat_le, ◌==◌, slice_index, if◌then◌else◌}
+use Rattle.std.proofs.Common.{◌≡◌, inl, inr, ℕ, ℤ, zero, suc, ◌<◌, ◌≤◌, length, List, ◌∷◌, [], take, drop, map, ap, sym, subst, ◌∙◌, refl, arith, IsTrue, Bool, true, false, nat_lt, Option, Some, None}
+use Rattle.std.specs.Prelude.{◌==◌, slice_index, if◌then◌else◌}
 use Rattle.std.specs.Option.{option_map}
-use Rattle.std.specs.List.{filter_map, cons_option, list_all, list_any, AllByRecursion}
+use Rattle.std.specs.List.{cons_option, list_all, list_any, AllByRecursion}
 use Rattle.std.proofs.lemmas.Bool.Decides.{nat_tests}
 use Rattle.warp_tag.specs.Moment.{Moment, is_before, is_same}
 use Rattle.warp_tag.specs.Table.{Event, IsTable, name_before, live, live_event}
@@ -10,12 +10,11 @@ use Rattle.warp_tag.specs.declared.entry.Entry.{Entry}
 use Rattle.warp_step.specs.Rules.{Rules}
 use Rattle.warp_step.specs.Valid.{is_distinct}
 use Rattle.warp_step.specs.Snapshot.{Snapshot, IsStateOf}
-use Rattle.warp_step.specs.Step.{CanStep, AreInputs, state_after, outputs_after}
+use Rattle.warp_step.specs.Step.{CanStep}
 use Rattle.warp_step.specs.Run.{given_of}
 use Rattle.warp_step.specs.declared.out.Given.{Given}
-use Rattle.warp_step.specs.declared.out.Out.{Out}
-use Rattle.warp_step.proofs.TraceExists.{split, same_is, before_trans}
-use Rattle.warp_line.specs.Replay.{event_fits, head_tag, HasOtherHead, GoesOn, Passes}
+use Rattle.warp_step.proofs.TraceExists.{split, same_is}
+use Rattle.warp_line.specs.Replay.{event_fits, head_tag, HasOtherHead, Passes}
 
 -- what holds of all holds of a rest
 pub all_drop : {X : Type 0} (P : X → Type 0) (n : ℕ) (xs : List X) → AllByRecursion P xs → AllByRecursion P (drop n xs)

@@ -1,24 +1,16 @@
 -- A front of a run, and how it grows by the entries of one tag.
-use Rattle.std.proofs.Common.{◌≡◌, ◌⊎◌, inl, inr, ℕ, zero, suc, ◌+◌, ◌<◌, ◌≤◌, length, List, ◌++◌, ◌∷◌, [], take, drop, map, ap, sym, subst, ◌∙◌, refl, rules, arith, IsTrue, Bool, true, false, not, ◌&&◌, ◌||◌, nat_lt, Option, Some, None, filter, append_assoc, take-append-drop}
-use Rattle.std.specs.Prelude.{◌==◌, if◌then◌else◌}
-use Rattle.std.specs.List.{list_all, list_any, flat_map}
+use Rattle.std.proofs.Common.{◌≡◌, inl, inr, ◌≤◌, length, List, ◌++◌, ◌∷◌, [], map, ap, sym, subst, ◌∙◌, refl, rules, arith, IsTrue, Bool, true, false, not, ◌||◌, Option, Some, filter}
+use Rattle.std.specs.List.{list_all}
 use Rattle.std.proofs.lemmas.Bool.Decides.{nat_tests}
 use Rattle.std.proofs.lemmas.List.Elements.{filter-append}
-use Rattle.std.proofs.lemmas.List.Folds.{list_all-append}
-use Rattle.std.proofs.lemmas.Grind.{flat_map-append}
 use Rattle.warp_tag.specs.Moment.{Moment, is_before, is_same}
-use Rattle.warp_tag.specs.Table.{Event, live, live_event, IsTable}
-use Rattle.warp_tag.specs.declared.entry.Entry.{Entry}
+use Rattle.warp_tag.specs.Table.{Event}
 use Rattle.warp_step.specs.Rules.{Rules}
-use Rattle.warp_step.specs.Snapshot.{Snapshot, IsStateOf, start_state}
-use Rattle.warp_step.specs.Step.{Step, state_after, outputs_after}
-use Rattle.warp_step.specs.Run.{Row, Run, RunFrom, IsNext, waits, is_after, given_of, given_at, state_at_end, outputs_of}
-use Rattle.warp_step.specs.declared.out.Given.{Given}
-use Rattle.warp_step.specs.declared.out.Out.{Out}
+use Rattle.warp_step.specs.Snapshot.{Snapshot}
+use Rattle.warp_step.specs.Step.{Step}
+use Rattle.warp_step.specs.Run.{Row, RunFrom, IsNext, waits, is_after, given_of, given_at, state_at_end}
 use Rattle.warp_step.proofs.TraceLemmas.{one_next, one_row}
-use Rattle.warp_step.proofs.TraceExists.{split, same_is, is_same_self, not_before_self, before_trans, after_trans, stands, Least, NoneLeft, next_quiet, end_quiet}
-use Rattle.warp_line.specs.Replay.{event_fits, head_tag, GoesOn, Passes}
-use Rattle.warp_line.proofs.LiveLemmas.{live-append}
+use Rattle.warp_step.proofs.TraceExists.{split, same_is, after_trans, stands, NoneLeft, next_quiet}
 
 -- these rows begin the run from a last tag and a state, and lead to another
 abbrev pub RunsTo : Rules → List Event → Option Moment → Snapshot → List Row → Option Moment → Snapshot → Type 0

@@ -1,8 +1,7 @@
 -- What a `Plain` stands for.
-use Rattle.std.specs.Prelude.{◌≡◌, ℕ, ◌<◌, ◌≤◌, Bool, true, false, IsTrue, MatchBool, [], length, vec_len, vec_capacity}
+use Rattle.std.specs.Prelude.{◌≡◌, ◌<◌, IsTrue, MatchBool, [], vec_len, vec_capacity}
 use Rattle.std.specs.List.{list_all}
 use Rattle.warp_tag.specs.Table.{IsTable, live}
-use Rattle.warp_step.specs.Valid.{is_valid}
 use Rattle.warp_step.specs.Snapshot.{start_state}
 use Rattle.warp_step.specs.Run.{state_at_end, outputs_of}
 use Rattle.warp_line.specs.Timeline.{Standing, IsDone}

@@ -1,5 +1,5 @@
 -- What a `Plain` has done is a front of the run.
-use Rattle.std.proofs.Common.{◌≡◌, List, ◌++◌, [], Bool, true, false, ◌∙◌, sym, ap, refl, rules}
+use Rattle.std.proofs.Common.{◌≡◌, List, ◌++◌, [], Bool, true, false, ◌∙◌, sym, ap, rules}
 use Rattle.std.specs.Prelude.{MatchBool, None}
 use Rattle.warp_tag.specs.Table.{live}
 use Rattle.warp_step.specs.Snapshot.{start_state}

@@ -1,13 +1,13 @@
 -- A trace that fits: from each row to the least tag that an event after it has, until no event is left.
-use Rattle.std.proofs.Common.{◌≡◌, ◌⊎◌, inl, inr, ℕ, zero, suc, ◌+◌, ◌<◌, ◌≤◌, Bool, true, false, ◌&&◌, ◌||◌, not, List, [], ◌∷◌, length, map, ap, sym, ◌∙◌, refl, nat_lt, subst, arith, rules, IsTrue, Option, Some, None, filter}
-use Rattle.std.specs.Prelude.{if◌then◌else◌, ◌==◌}
+use Rattle.std.proofs.Common.{◌≡◌, ◌⊎◌, inl, inr, ℕ, zero, suc, ◌+◌, ◌<◌, ◌≤◌, Bool, true, false, ◌&&◌, List, [], ◌∷◌, length, ap, sym, ◌∙◌, refl, subst, arith, rules, Option, Some, None}
+use Rattle.std.specs.Prelude.{if◌then◌else◌}
 use Rattle.std.specs.List.{list_any}
 use Rattle.std.proofs.lemmas.Bool.Decides.{nat_tests}
 use Rattle.warp_tag.specs.Moment.{Moment, is_before, is_same}
 use Rattle.warp_tag.specs.Table.{Event}
 use Rattle.warp_step.specs.Rules.{Rules}
-use Rattle.warp_step.specs.Snapshot.{Snapshot, Waiting, start_state}
-use Rattle.warp_step.specs.Step.{Step, state_after, outputs_after}
+use Rattle.warp_step.specs.Snapshot.{Snapshot, start_state}
+use Rattle.warp_step.specs.Step.{state_after, outputs_after}
 use Rattle.warp_step.specs.Run.{Row, Run, RunFrom, IsNext, waits, is_after, given_at}
 
 pub split : (b : Bool) → (b ≡ true) ⊎ (b ≡ false)

@@ -1,16 +1,12 @@
 -- Exactly one trace fits a program and its events.
-use Rattle.std.proofs.Common.{◌≡◌, ℕ, zero, suc, ◌+◌, ◌<◌, ◌≤◌, Bool, true, false, ◌&&◌, ◌||◌, not, cond, List, [], ◌∷◌, map, ap, sym, ◌∙◌, refl, nat_lt, subst, arith, rules, IsTrue, Option, Some, None, filter}
-use Rattle.std.specs.Prelude.{if◌then◌else◌, ◌==◌}
-use Rattle.std.specs.List.{list_any}
-use Rattle.std.specs.List.{count_by}
+use Rattle.std.proofs.Common.{◌≡◌, true, false, List, [], ◌∷◌, ap, sym, ◌∙◌, refl, subst, arith, rules, Option, Some}
 use Rattle.std.proofs.lemmas.Bool.Decides.{nat_tests}
-use Rattle.warp_tag.specs.Moment.{Moment, is_before, is_same}
+use Rattle.warp_tag.specs.Moment.{Moment, is_before}
 use Rattle.warp_tag.specs.Table.{Event}
 use Rattle.warp_step.specs.Rules.{Rules}
-use Rattle.warp_step.specs.Snapshot.{Snapshot, Waiting, start_state, earlier}
+use Rattle.warp_step.specs.Snapshot.{Snapshot}
 use Rattle.warp_step.specs.Step.{Step, state_after, outputs_after}
-use Rattle.warp_step.specs.Run.{Row, Run, RunFrom, IsNext, waits, is_after, given_at}
-use Rattle.warp_step.specs.declared.out.Out.{Out}
+use Rattle.warp_step.specs.Run.{Row, RunFrom, IsNext, given_at}
 
 -- two tags of which neither is before the other are one
 pub same_moment : (t u : Moment) → is_before t u ≡ false → is_before u t ≡ false → t ≡ u

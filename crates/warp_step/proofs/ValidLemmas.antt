@@ -1,11 +1,9 @@
 -- What a valid program's numbers are good for.
-use Rattle.std.proofs.Common.{◌≡◌, ℕ, zero, suc, ◌+◌, ◌<◌, ◌≤◌, Bool, true, false, ◌&&◌, not, cond, List, [], ◌∷◌, length, get_or, map, ap, sym, ◌∙◌, refl, nat_lt, arith, rules, IsTrue, add-one}
-use Rattle.std.specs.List.{list_all, list_any}
-use Rattle.std.proofs.lemmas.List.{get_or-map}
+use Rattle.std.proofs.Common.{ℕ, zero, suc, ◌<◌, ◌≤◌, Bool, List, [], ◌∷◌, length, get_or, nat_lt, arith, IsTrue}
+use Rattle.std.specs.List.{list_all}
 use Rattle.std.proofs.lemmas.Bool.Decides.{nat_tests}
-use Rattle.std.proofs.lemmas.Grind.{common_steps}
-use Rattle.warp_step.specs.Rules.{Rules, Rule}
-use Rattle.warp_step.specs.Valid.{is_valid, rule_fits, input_fits, is_distinct, program_sizes}
+use Rattle.warp_step.specs.Rules.{Rules}
+use Rattle.warp_step.specs.Valid.{is_valid, rule_fits, input_fits}
 use Rattle.warp_step.specs.declared.reaction.ProgramInput.{ProgramInput}
 
 -- what a test of all elements says of the one at an index

@@ -1,12 +1,12 @@
 -- One step of a program at a tag.
-use Rattle.std.specs.Prelude.{◌≡◌, ◌⊎◌, ℕ, ℤ, ◌+◌, ◌≤◌, ◌<◌, Bool, not, IsTrue, List, [], ◌∷◌, ◌++◌, length, map, filter, replicate, slice_set, slice_index, nat_lt, Option, Some, None, is_some, if◌then◌else◌, Any, All}
+use Rattle.std.specs.Prelude.{◌≡◌, ℕ, ℤ, ◌+◌, ◌≤◌, ◌<◌, Bool, not, IsTrue, List, [], ◌∷◌, length, map, filter, replicate, slice_set, slice_index, nat_lt, Option, Some, None, is_some, if◌then◌else◌}
 use Rattle.std.specs.List.{list_any, list_all}
 use Rattle.warp_tag.specs.Moment.{Moment, is_before, is_same}
 use Rattle.warp_body.specs.Presence.{Presence, port_at}
 use Rattle.warp_body.specs.Effect.{Effect, effect_of}
 use Rattle.warp_step.specs.Rules.{Rule, Rules}
 use Rattle.warp_step.specs.Valid.{is_distinct}
-use Rattle.warp_step.specs.Snapshot.{Snapshot, Waiting, IsStateOf}
+use Rattle.warp_step.specs.Snapshot.{Snapshot, IsStateOf}
 use Rattle.warp_step.specs.declared.out.Given.{Given}
 use Rattle.warp_step.specs.declared.out.Out.{Out}
 

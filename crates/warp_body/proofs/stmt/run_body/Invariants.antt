@@ -1,7 +1,7 @@
 -- the effect of the statements that are left, from here, is the effect of all, from the start
 use Rattle.std.proofs.Common.{◌≡◌, map, drop, length, IsTrue}
 use Rattle.warp_body.specs.Term.{sizes_of}
-use Rattle.warp_body.specs.Effect.{Effect, statement_of, effect_of, body_fits}
+use Rattle.warp_body.specs.Effect.{statement_of, effect_of, body_fits}
 use Rattle.warp_body.proofs.stmt.run_body.Given as goal
 
 abbrev pub invariant-loop-stmt : goal.invariant-loop-stmt

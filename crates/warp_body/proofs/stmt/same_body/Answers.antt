@@ -1,7 +1,7 @@
 -- statements that differ at one place make lists that differ
-use Rattle.std.proofs.Common.{rules, arith, ◌≡◌, ◌<◌, ◌∙◌, map, get_or, length, ap, sym, IsTrue, false}
+use Rattle.std.proofs.Common.{rules, arith, ◌≡◌, ◌<◌, ◌∙◌, map, get_or, length, ap, sym}
 use Rattle.std.proofs.lemmas.List.{get_or-map}
-use Rattle.warp_body.specs.Effect.{Statement, statement_of}
+use Rattle.warp_body.specs.Effect.{statement_of}
 use Rattle.warp_body.proofs.stmt.same_body.Goals as goal
 
 pub returns-then-not-same : goal.returns-then-not-same

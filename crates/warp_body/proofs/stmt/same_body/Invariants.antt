@@ -1,5 +1,5 @@
 -- the statements before are the same
-use Rattle.std.proofs.Common.{◌≡◌, map, take, length}
+use Rattle.std.proofs.Common.{◌≡◌, map, take}
 use Rattle.warp_body.specs.Effect.{statement_of}
 use Rattle.warp_body.proofs.stmt.same_body.Given as goal
 

@@ -1,5 +1,5 @@
 -- the live entries of the first tag may be stepped with
-use Rattle.std.proofs.Common.{rules, arith, ◌≡◌, ◌<◌, ◌∙◌, length, take}
+use Rattle.std.proofs.Common.{rules, ◌<◌, ◌∙◌, length, take}
 use Rattle.warp_step.specs.Program.{rules_of}
 use Rattle.warp_line.proofs.ReplayLemmas.{can_step, table_take, fits_take}
 use Rattle.warp_line.proofs.replay.advance.Goals as goal

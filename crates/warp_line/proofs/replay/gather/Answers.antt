@@ -1,12 +1,9 @@
 -- one more entry has the tag, and gives what it gives
-use Rattle.std.proofs.Common.{rules, arith, ◌≡◌, ◌<◌, ◌∙◌, ◌++◌, ◌∷◌, [], Bool, true, ◌&&◌, map, take, get_or, length, ap, sym}
-use Rattle.std.specs.List.{list_all}
+use Rattle.std.proofs.Common.{rules, arith, ◌≡◌, ◌<◌, true, get_or, length, sym}
 use Rattle.std.proofs.lemmas.List.Folds.{list_all_more}
 use Rattle.std.proofs.lemmas.Bool.Decides.{nat_tests}
 use Rattle.warp_tag.specs.Moment.{is_same}
-use Rattle.warp_tag.specs.Table.{live}
 use Rattle.warp_tag.specs.declared.entry.Entry.{Entry}
-use Rattle.warp_step.specs.Run.{given_of}
 use Rattle.warp_line.proofs.LiveLemmas.{given_more}
 use Rattle.warp_line.proofs.replay.gather.Goals as goal
 

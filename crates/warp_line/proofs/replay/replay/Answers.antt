@@ -1,10 +1,9 @@
 -- each turn goes on by the entries of one tag
-use Rattle.std.proofs.Common.{rules, arith, ◌≡◌, ◌∙◌, ◌+◌, ◌<◌, ◌≤◌, List, [], length, take, drop, ap, sym, subst, IsTrue}
+use Rattle.std.proofs.Common.{rules, arith, ◌≡◌, ◌∙◌, ◌+◌, ◌≤◌, List, [], length, drop, ap, sym, subst, IsTrue}
 use Rattle.warp_tag.specs.Table.{live, IsTable}
 use Rattle.warp_tag.specs.declared.entry.Entry.{Entry}
 use Rattle.warp_step.specs.Program.{rules_of}
-use Rattle.warp_step.specs.Snapshot.{Snapshot, start_state, IsStateOf}
-use Rattle.warp_step.specs.Run.{Row, Run}
+use Rattle.warp_step.specs.Snapshot.{Snapshot, start_state}
 use Rattle.warp_step.specs.declared.out.Out.{Out}
 use Rattle.std.specs.List.{list_all}
 use Rattle.warp_line.specs.Replay.{event_fits}

@@ -1,5 +1,5 @@
 -- `==` of inputs decides whether they are equal
-use Rattle.std.proofs.Common.{rules, arith, ℕ, ◌≡◌, Bool, ◌&&◌, true, nat_eq, refl, ap}
+use Rattle.std.proofs.Common.{rules, arith, ◌≡◌, ◌&&◌, nat_eq, ap}
 use Rattle.std.specs.Bool.{Decides}
 use Rattle.std.proofs.lemmas.Slice.Eq.{slice_eq-Decides}
 use Rattle.std.proofs.lemmas.Bool.Decides.{nat_tests}

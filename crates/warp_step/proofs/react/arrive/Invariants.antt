@@ -1,5 +1,5 @@
 -- what is left arrives on what came so far as all does on the start
-use Rattle.std.proofs.Common.{◌≡◌, ◌<◌, drop, length, nat_lt, IsTrue}
+use Rattle.std.proofs.Common.{◌≡◌, drop, length, nat_lt, IsTrue}
 use Rattle.std.specs.List.{list_all}
 use Rattle.warp_step.specs.Step.{arrived}
 use Rattle.warp_step.specs.Program.{rules_of}

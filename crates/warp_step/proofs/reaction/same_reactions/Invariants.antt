@@ -1,5 +1,5 @@
 -- the reactions before are the same
-use Rattle.std.proofs.Common.{◌≡◌, map, take, length}
+use Rattle.std.proofs.Common.{◌≡◌, map, take}
 use Rattle.warp_step.specs.Rules.{rule_of}
 use Rattle.warp_step.proofs.reaction.same_reactions.Given as goal
 

@@ -1,5 +1,5 @@
 -- the table has the event, and the rows stay done where the live events stayed
-use Rattle.std.proofs.Common.{rules, arith, ◌≡◌, ◌≤◌, length, refl, w64}
+use Rattle.std.proofs.Common.{arith, ◌≤◌, length, refl, w64}
 use Rattle.std.proofs.lemmas.Int.{to_z-of_z}
 use Rattle.warp_line.proofs.PlainLemmas.{put_changed, put_same}
 use Rattle.warp_line.proofs.plain.PlainTimeline.put.Goals as goal
