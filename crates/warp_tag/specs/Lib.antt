@@ -1,3 +1,5 @@
+pub mod Limits
+pub mod Lists
 pub mod Moment
 pub mod Landing
 pub mod Table

@@ -1,6 +1,6 @@
 -- Tags as definitions see them.
 use Rattle.std.specs.Prelude.{ℕ, ◌≤◌, Bool, ◌==◌, ◌&&◌, ◌||◌, nat_lt}
-use Rattle.warp_tag.specs.declared.tag.TheConstants.{MAX_TIME, LAST_MICROSTEP}
+use Rattle.warp_tag.specs.Limits.{last_time, last_microstep}
 
 -- a time and a microstep
 pub record Moment : Type 0 where
@@ -17,5 +17,5 @@ is_same a b = a.time == b.time && a.microstep == b.microstep
 
 -- the range of a tag
 pub record IsInRange (t : Moment) : Type 0 where
-  pub time : t.time ≤ MAX_TIME
-  pub microstep : t.microstep ≤ LAST_MICROSTEP
+  pub time : t.time ≤ last_time
+  pub microstep : t.microstep ≤ last_microstep

@@ -1,4 +1,6 @@
+//! Tags and landings: their ranges, their order, and where a delay leads.
 ghost use Rattle.std.specs.Prelude.{◌≡◌, ℕ, ◌≤◌, SomeIff};
+ghost use Rattle.warp_tag.specs.Limits.{last_microstep, longest_delay, longest_stop};
 
 use std::marker::Model;
 
@@ -46,7 +48,7 @@ pub enum Landing {
 }
 
 impl Tag {
-    ghost use Rattle.warp_tag.specs.Moment.{Moment, IsInRange};
+    ghost use Rattle.warp_tag.specs.Moment.{Moment, IsInRange, is_before, is_same};
     ghost use Rattle.warp_tag.specs.Landing.{landing};
 
     /// The tag of this time and microstep; `None` exactly where one of them is out of range.
@@ -76,13 +78,27 @@ impl Tag {
         self.micro
     }
 
+    /// Whether this tag comes before the other: by time, then by microstep.
+    pub fn is_before(self, other: Tag) -> bool
+        ensures { result ≡ is_before self other }
+    {
+        self < other
+    }
+
+    /// Whether the two tags are one.
+    pub fn is_same(self, other: Tag) -> bool
+        ensures { result ≡ is_same self other }
+    {
+        self == other
+    }
+
     /// Where a delay lands from this tag in a program with this stop: at the later time with microstep 0,
     /// or, for no delay, at the next microstep (Lohstroh et al. 2021).
     pub fn after(self, delay: u64, stop: u64) -> Landing
-        requires delay { delay ≤ MAX_DELAY }
-        requires stop { stop ≤ MAX_STOP }
+        requires delay { delay ≤ longest_delay }
+        requires stop { stop ≤ longest_stop }
         requires time { self.time ≤ stop }
-        ensures { result ≡ landing stop self delay }
+        ensures { result ≡ landing stop last_microstep self delay }
     {
         if delay > 0 {
             let time = self.time + delay;

@@ -1,0 +1,62 @@
+-- The limits of version 1: each number once. The code's constants are tied to them by the contracts that cite these names.
+use Rattle.std.specs.Prelude.{ℕ}
+
+-- the last time that a program can have as its stop
+abbrev pub longest_stop : ℕ
+longest_stop = 1000000
+
+-- the last time of a tag: one past the last stop, so that "everything up to the stop" has an end
+abbrev pub last_time : ℕ
+last_time = 1000001
+
+-- the last microstep of a time
+abbrev pub last_microstep : ℕ
+last_microstep = 15
+
+-- the longest delay that lands: two delays of a program, added
+abbrev pub longest_delay : ℕ
+longest_delay = 2000000
+
+-- the most origins of a program
+abbrev pub most_origins : ℕ
+most_origins = 32
+
+-- the most variables of a program
+abbrev pub most_variables : ℕ
+most_variables = 256
+
+-- the most ports of a program, inputs and outputs of its reactors together
+abbrev pub most_ports : ℕ
+most_ports = 256
+
+-- the most reactions of a program
+abbrev pub most_reactions : ℕ
+most_reactions = 256
+
+-- the most inputs of a program
+abbrev pub most_inputs : ℕ
+most_inputs = 64
+
+-- the most outputs of a program
+abbrev pub most_outputs : ℕ
+most_outputs = 64
+
+-- the greatest number of a variable that a line can name
+abbrev pub last_number : ℕ
+last_number = 4294967295
+
+-- the most names of a table
+abbrev pub most_names : ℕ
+most_names = 4000000000
+
+-- the most records of a log
+abbrev pub most_records : ℕ
+most_records = 100000
+
+-- the most bytes of a line, without its line feed
+abbrev pub longest_line : ℕ
+longest_line = 128
+
+-- the most reads of a session
+abbrev pub most_reads : ℕ
+most_reads = 1000000000
