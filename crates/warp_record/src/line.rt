@@ -1,9 +1,9 @@
 //! The lines that come in: their type, and reading them. Each has one spelling.
 ghost use Rattle.std.specs.Prelude.{◌≡◌, ℕ, ◌++◌, IfSome, IfNone, codes};
-ghost use Rattle.warpd.specs.declared.line.Line.{Line};
-ghost use Rattle.warpd.specs.declared.line.Query.{Query};
-ghost use Rattle.warpd.specs.declared.line.Record.{Record};
-ghost use Rattle.warpd.specs.Line.{IsLine, IsQuery, IsRecord, spelling};
+ghost use Rattle.warp_record.specs.declared.line.Line.{Line};
+ghost use Rattle.warp_record.specs.declared.line.Query.{Query};
+ghost use Rattle.warp_record.specs.declared.line.Record.{Record};
+ghost use Rattle.warp_record.specs.Line.{IsLine, IsQuery, IsRecord, spelling};
 
 use crate::number::{read_field, read_int, read_number, split_word};
 use warp_tag::{LAST_MICROSTEP, MAX_TIME, Tag};

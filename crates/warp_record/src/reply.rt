@@ -1,9 +1,12 @@
 //! The replies, and writing them.
-ghost use Rattle.std.specs.Prelude.{◌≡◌, ℕ, ◌+◌, ◌≤◌, [], ◌∷◌, ◌++◌, length, codes, vec_len, vec_capacity};
-ghost use Rattle.warpd.specs.declared.reply.Reply.{Reply};
-ghost use Rattle.warpd.specs.Reply.{refusal_number, reply_spelling};
+ghost use Rattle.std.specs.Prelude.{◌≡◌, ℕ, ◌+◌, ◌<◌, ◌≤◌, ◌∷◌, ◌++◌, length, codes, vec_len, vec_capacity};
+ghost use Rattle.warp_record.specs.declared.reply.Reply.{Reply};
+ghost use Rattle.warp_record.specs.Reply.{refusal_number, reply_spelling};
 
 use itoa::{Buffer, Integer};
+
+/// The room that writing one reply asks for, in bytes; a line feed behind it has room too.
+pub const REPLY_ROOM: usize = 128;
 
 /// Why a line was refused. The numbers 1 to 11 stand in this order.
 #[derive(Clone, Copy, Debug, PartialEq, Eq)]
@@ -94,11 +97,11 @@ fn append_number<I: Integer>(out: &mut Vec<u8>, number: I)
     append(out, buffer.format(number).as_bytes());
 }
 
-/// Appends the reply's spelling and a line feed, for which there is room. It takes no memory.
+/// Appends the reply's spelling, for which there is room, and leaves room for a line feed. It takes no memory.
 pub fn write_reply(out: &mut Vec<u8>, reply: Reply)
-    requires { vec_len out.old + 128 ≤ vec_capacity out.old }
-    ensures items { out.new.items ≡ out.old.items ++ (reply_spelling reply ++ 10 ∷ []) }
-    ensures len { vec_len out.new ≤ vec_len out.old + 128 }
+    requires { vec_len out.old + REPLY_ROOM ≤ vec_capacity out.old }
+    ensures items { out.new.items ≡ out.old.items ++ reply_spelling reply }
+    ensures len { vec_len out.new < vec_len out.old + REPLY_ROOM }
     ensures capacity { vec_capacity out.old ≤ vec_capacity out.new }
 {
     match reply {
@@ -120,7 +123,6 @@ pub fn write_reply(out: &mut Vec<u8>, reply: Reply)
             append_number(out, value);
         }
     }
-    out.push_reserved(b'\n');
 }
 
 #[cfg(test)]
@@ -131,17 +133,17 @@ mod tests {
     #[test]
     fn replies(rt: HostRuntime) -> Result<(), Fail> {
         let rows: [(Reply, &[u8]); 6] = [
-            (Reply::Taken(1), b"taken 1\n"),
-            (Reply::Known(100_000), b"known 100000\n"),
-            (Reply::Refused(Refusal::Syntax), b"refused 1\n"),
-            (Reply::Refused(Refusal::NoBoard), b"refused 11\n"),
-            (Reply::Var { log: 2, value: -5 }, b"var 2 -5\n"),
+            (Reply::Taken(1), b"taken 1"),
+            (Reply::Known(100_000), b"known 100000"),
+            (Reply::Refused(Refusal::Syntax), b"refused 1"),
+            (Reply::Refused(Refusal::NoBoard), b"refused 11"),
+            (Reply::Var { log: 2, value: -5 }, b"var 2 -5"),
             (
                 Reply::Var {
                     log: 1,
                     value: i64::MIN,
                 },
-                b"var 1 -9223372036854775808\n",
+                b"var 1 -9223372036854775808",
             ),
         ];
         for (reply, text) in rows {

@@ -4,7 +4,7 @@ ghost use Rattle.std.specs.Char.{digit_value};
 ghost use Rattle.std.specs.Fmt.{signed_decimal};
 ghost use Rattle.std.specs.Int.{w64};
 ghost use Rattle.std.specs.Str.Parse.{AllDigits, digits_value};
-ghost use Rattle.warpd.specs.Number.{IsOneWord};
+ghost use Rattle.warp_record.specs.Number.{IsOneWord};
 
 /// The number with one more digit, where the byte is a digit and it fits.
 fn with_digit(number: u64, byte: u8) -> Option<u64>

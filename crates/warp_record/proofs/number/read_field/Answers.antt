@@ -1,7 +1,7 @@
 use Rattle.std.proofs.Common.{ℕ, List, decimal, arith, sym, ◌∙◌, subst}
-use Rattle.warpd.specs.Number.{IsOneWord}
-use Rattle.warpd.proofs.SpacedWords.{no_word, one_split, decimal_one_word}
-use Rattle.warpd.proofs.number.read_field.Goals as goal
+use Rattle.warp_record.specs.Number.{IsOneWord}
+use Rattle.warp_record.proofs.SpacedWords.{no_word, one_split, decimal_one_word}
+use Rattle.warp_record.proofs.number.read_field.Goals as goal
 
 pub returns-in_err-word-clause-none : goal.returns-in_err-word-clause-none
 returns-in_err-word-clause-none c =

@@ -11,7 +11,7 @@ use Rattle.std.proofs.lemmas.List.{append_cancel_left, length-append}
 use Rattle.std.proofs.lemmas.List.Splits.{slice_split_at}
 use Rattle.std.proofs.lemmas.Fmt.{decimal_is_IsNumeral}
 use Rattle.std.proofs.lemmas.Str.Parse.{digit_at}
-use Rattle.warpd.specs.Number.{is_space, IsOneWord}
+use Rattle.warp_record.specs.Number.{is_space, IsOneWord}
 
 -- a list with a space in it is not one word
 pub no_word : (word rest : List ℕ) → IsOneWord (word ++ 32 ∷ rest) → ⊥

@@ -1,6 +1,6 @@
 use Rattle.std.proofs.Common.{◌≡◌, get_or, take, drop, length, ◌-◌, arith}
-use Rattle.warpd.proofs.Numerals.{minus_text, no_minus_zero}
-use Rattle.warpd.proofs.number.read_int.Goals as goal
+use Rattle.warp_record.proofs.Numerals.{minus_text, no_minus_zero}
+use Rattle.warp_record.proofs.number.read_int.Goals as goal
 
 pub returns-in_err-size-in-45-clause-none : goal.returns-in_err-size-in-45-clause-none
 returns-in_err-size-in-45-clause-none c =

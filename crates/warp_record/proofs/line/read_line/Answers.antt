@@ -1,7 +1,7 @@
 use Rattle.std.proofs.Common.{codes}
-use Rattle.warpd.proofs.SpacedWords.{other_word}
-use Rattle.warpd.proofs.Spellings.{line_has_space, no_other}
-use Rattle.warpd.proofs.line.read_line.Goals as goal
+use Rattle.warp_record.proofs.SpacedWords.{other_word}
+use Rattle.warp_record.proofs.Spellings.{line_has_space, no_other}
+use Rattle.warp_record.proofs.line.read_line.Goals as goal
 
 pub returns-in_err-word-clause-none : goal.returns-in_err-word-clause-none
 returns-in_err-word-clause-none c =

@@ -1,6 +1,6 @@
 use Rattle.std.proofs.Common.{arith}
-use Rattle.warpd.proofs.Spellings.{spelled, after_field}
-use Rattle.warpd.proofs.line.read_event.Goals as goal
+use Rattle.warp_record.proofs.Spellings.{spelled, after_field}
+use Rattle.warp_record.proofs.line.read_event.Goals as goal
 
 pub returns-in_err-time-clause-none : goal.returns-in_err-time-clause-none
 returns-in_err-time-clause-none c =

@@ -7,7 +7,7 @@ use Rattle.std.proofs.lemmas.List.Sums.{prefix_len-le-length, fails_before_first
 use Rattle.std.proofs.lemmas.Bool.{eqb-true}
 use Rattle.std.proofs.lemmas.List.{length-take, get_or-take}
 use Rattle.std.proofs.lemmas.List.Elements.{All-append}
-use Rattle.warpd.specs.Lines.{is_end, IsOneLine, ended, unended, pieces, lines_of, first_end}
+use Rattle.warp_record.specs.Lines.{is_end, IsOneLine, ended, unended, pieces, lines_of, first_end}
 
 chosen : (n m : ℕ) (b : Bool) → Some m ≡ cond b (Some n) None → (b ≡ true) × (m ≡ n)
 chosen n m true is = (refl, cc)

@@ -2,9 +2,9 @@
 use Rattle.std.specs.Prelude.{ℕ, ◌≡◌, Bool, false, ◌==◌, nat_le, List, [], ◌∷◌, Option, Some, None, length, All, if◌then◌else◌}
 use Rattle.std.specs.List.{slice_split, position_or_len}
 use Rattle.std.specs.Option.{option_to_list}
-use Rattle.warpd.specs.declared.feed.TheConstants.{MAX_LINE}
-use Rattle.warpd.specs.declared.feed.Fed.{Fed}
-use Rattle.warpd.specs.declared.feed.Fed.TheVariants as fed
+use Rattle.warp_tag.specs.Limits.{longest_line}
+use Rattle.warp_record.specs.declared.feed.Fed.{Fed}
+use Rattle.warp_record.specs.declared.feed.Fed.TheVariants as fed
 
 -- a line, as a session takes it: a whole one without its line feed, one of more than 128 bytes, or a last one
 -- of at most 128 bytes that has no line feed
@@ -23,12 +23,12 @@ IsOneLine bytes = All (λ byte. is_end byte ≡ false) bytes
 
 -- a line that a line feed ended
 abbrev pub ended : List ℕ → Piece
-ended line = if nat_le (length line) MAX_LINE then Whole line else Long
+ended line = if nat_le (length line) longest_line then Whole line else Long
 
 -- what stands after the last line feed, which counts if it isn't empty
 abbrev pub unended : List ℕ → Option Piece
 unended [] = None
-unended (byte ∷ line) = Some (if nat_le (length (byte ∷ line)) MAX_LINE then Torn else Long)
+unended (byte ∷ line) = Some (if nat_le (length (byte ∷ line)) longest_line then Torn else Long)
 
 -- of the parts between line feeds the last one has no line feed behind it
 abbrev pub pieces : List (List ℕ) → List Piece
@@ -46,7 +46,7 @@ first_end bytes = position_or_len is_end bytes
 
 -- what a feed keeps of the unfinished line: its bytes, or None where these are more than 128
 abbrev pub kept_of : List ℕ → Option (List ℕ)
-kept_of line = if nat_le (length line) MAX_LINE then Some line else None
+kept_of line = if nat_le (length line) longest_line then Some line else None
 
 -- the line that a feed gave
 abbrev pub piece_of : Fed → Piece

@@ -3,10 +3,11 @@ use Rattle.std.specs.Prelude.{ℕ, ◌≤◌, List, [], ◌∷◌, codes, decima
 use Rattle.std.specs.Int.{w64}
 use Rattle.std.specs.Fmt.{signed_decimal}
 use Rattle.std.specs.List.{join_with_byte}
-use Rattle.warpd.specs.declared.reply.Refusal.{Refusal}
-use Rattle.warpd.specs.declared.reply.Refusal.TheVariants.{Syntax, NoOrigin, PastStop, NoInput, NotYours, NoVar, LogFull, NoMemory, TooLong, Busy, NoBoard}
-use Rattle.warpd.specs.declared.reply.Reply.{Reply}
-use Rattle.warpd.specs.declared.reply.Reply.TheVariants.{Taken, Known, Refused, Var}
+use Rattle.warp_tag.specs.Limits.{most_records}
+use Rattle.warp_record.specs.declared.reply.Refusal.{Refusal}
+use Rattle.warp_record.specs.declared.reply.Refusal.TheVariants.{Syntax, NoOrigin, PastStop, NoInput, NotYours, NoVar, LogFull, NoMemory, TooLong, Busy, NoBoard}
+use Rattle.warp_record.specs.declared.reply.Reply.{Reply}
+use Rattle.warp_record.specs.declared.reply.Reply.TheVariants.{Taken, Known, Refused, Var}
 
 -- the number of a refusal
 abbrev pub refusal_number : Refusal → ℕ
@@ -24,10 +25,10 @@ refusal_number NoBoard = 11
 
 -- the ranges of a reply: places from 1, and lengths of the log
 abbrev pub IsReply : Reply → Type 0
-IsReply (Taken place) = (1 ≤ place) × (place ≤ 100000)
-IsReply (Known place) = (1 ≤ place) × (place ≤ 100000)
+IsReply (Taken place) = (1 ≤ place) × (place ≤ most_records)
+IsReply (Known place) = (1 ≤ place) × (place ≤ most_records)
 IsReply (Refused refusal) = Unit {0}
-IsReply (Var log value) = (log ≤ 100000) × FitsSigned w64 value
+IsReply (Var log value) = (log ≤ most_records) × FitsSigned w64 value
 
 -- the words of a reply
 abbrev pub reply_words : Reply → List (List ℕ)

@@ -1,22 +1,22 @@
 -- The lines that come in, their ranges, and the one spelling of each.
-use Rattle.std.specs.Prelude.{ℕ, ℤ, ◌≤◌, List, [], ◌∷◌, codes, decimal, FitsSigned}
+use Rattle.std.specs.Prelude.{ℕ, ℤ, ◌<◌, ◌≤◌, List, [], ◌∷◌, codes, decimal, FitsSigned}
 use Rattle.std.specs.Int.{w64}
 use Rattle.std.specs.Fmt.{signed_decimal}
 use Rattle.std.specs.List.{join_with_byte}
 use Rattle.warp_tag.specs.Moment.{Moment, IsInRange}
-use Rattle.warpd.specs.declared.line.TheConstants.{LAST_ORIGIN, LAST_INPUT}
-use Rattle.warpd.specs.declared.line.Record.{Record}
-use Rattle.warpd.specs.declared.line.Record.TheVariants.{Event}
-use Rattle.warpd.specs.declared.line.Query.{Query}
-use Rattle.warpd.specs.declared.line.Query.TheVariants.{Var}
-use Rattle.warpd.specs.declared.line.Line.{Line}
-use Rattle.warpd.specs.declared.line.Line.TheVariants.{Put, Ask}
+use Rattle.warp_tag.specs.Limits.{most_origins, most_inputs, last_number}
+use Rattle.warp_record.specs.declared.line.Record.{Record}
+use Rattle.warp_record.specs.declared.line.Record.TheVariants.{Event}
+use Rattle.warp_record.specs.declared.line.Query.{Query}
+use Rattle.warp_record.specs.declared.line.Query.TheVariants.{Var}
+use Rattle.warp_record.specs.declared.line.Line.{Line}
+use Rattle.warp_record.specs.declared.line.Line.TheVariants.{Put, Ask}
 
 -- the ranges of an event
 pub record IsEvent (origin : ℕ) (tag : Moment) (input : ℕ) (value : ℤ) : Type 0 where
-  pub origin_fits : origin ≤ LAST_ORIGIN
+  pub origin_fits : origin < most_origins
   pub tag_fits : IsInRange tag
-  pub input_fits : input ≤ LAST_INPUT
+  pub input_fits : input < most_inputs
   pub value_fits : FitsSigned w64 value
 
 -- the ranges of a record
@@ -25,7 +25,7 @@ IsRecord (Event origin tag input value) = IsEvent origin tag input value
 
 -- the ranges of a query
 abbrev pub IsQuery : Query → Type 0
-IsQuery (Var number) = number ≤ 4294967295
+IsQuery (Var number) = number ≤ last_number
 
 -- the ranges of a line
 abbrev pub IsLine : Line → Type 0

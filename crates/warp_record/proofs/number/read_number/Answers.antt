@@ -1,7 +1,7 @@
 use Rattle.std.proofs.Common.{◌≡◌, ◌<◌, length, get_or, arith}
-use Rattle.warpd.proofs.Numerals.{no_text, value_of_text, text_not_empty, text_no_leading_zero, text_of_digits, empty_length, some_length}
-use Rattle.warpd.proofs.number.read_number.Goals as goal
-use Rattle.warpd.proofs.number.read_number.Goals.{else-word-eq48-via-then-word-eq48+else-word-gt1, else-word-eq48-via-else-word-eq48}
+use Rattle.warp_record.proofs.Numerals.{no_text, value_of_text, text_not_empty, text_no_leading_zero, text_of_digits, empty_length, some_length}
+use Rattle.warp_record.proofs.number.read_number.Goals as goal
+use Rattle.warp_record.proofs.number.read_number.Goals.{else-word-eq48-via-then-word-eq48+else-word-gt1, else-word-eq48-via-else-word-eq48}
 
 pub returns-then-is_empty-clause-none : goal.returns-then-is_empty-clause-none
 returns-then-is_empty-clause-none c = λ n le is.

@@ -3,14 +3,14 @@ use Rattle.std.proofs.Common.{get_or, zero, suc, ◌⊎◌, inl, inr, ◌≡◌,
 use Rattle.std.specs.Fmt.{signed_decimal}
 use Rattle.std.proofs.lemmas.Fmt.{decimal_injective, signed_decimal_injective}
 use Rattle.warp_tag.specs.Moment.{Moment}
-use Rattle.warpd.specs.declared.line.Record.{Record}
-use Rattle.warpd.specs.declared.line.Record.TheVariants.{Event}
-use Rattle.warpd.specs.declared.line.Query.TheVariants.{Var}
-use Rattle.warpd.specs.declared.line.Line.{Line}
-use Rattle.warpd.specs.declared.line.Line.TheVariants.{Put, Ask}
-use Rattle.warpd.specs.Line.{IsEvent, IsRecord, IsLine, spelling}
-use Rattle.warpd.specs.Number.{IsOneWord}
-use Rattle.warpd.proofs.SpacedWords.{no_word, one_split, decimal_one_word}
+use Rattle.warp_record.specs.declared.line.Record.{Record}
+use Rattle.warp_record.specs.declared.line.Record.TheVariants.{Event}
+use Rattle.warp_record.specs.declared.line.Query.TheVariants.{Var}
+use Rattle.warp_record.specs.declared.line.Line.{Line}
+use Rattle.warp_record.specs.declared.line.Line.TheVariants.{Put, Ask}
+use Rattle.warp_record.specs.Line.{IsEvent, IsRecord, IsLine, spelling}
+use Rattle.warp_record.specs.Number.{IsOneWord}
+use Rattle.warp_record.proofs.SpacedWords.{no_word, one_split, decimal_one_word}
 
 -- a field and what follows it are fixed by the bytes
 pub same_field : (m n : ℕ) (x y : List ℕ) → m < 2 ^ 64 → n < 2 ^ 64 → decimal m ++ 32 ∷ x ≡ decimal n ++ 32 ∷ y → (m ≡ n) × (x ≡ y)

@@ -2,7 +2,7 @@
 ghost use Rattle.std.specs.Prelude.{◌≡◌, ℕ, ◌+◌, ◌<◌, ◌≤◌, ◌↔◌, [], ◌++◌, List, take, length, min, IsSome, IfSome, IfNone, OnSome, position};
 ghost use Rattle.std.specs.Option.{option_map};
 ghost use Rattle.std.specs.List.{before_first};
-ghost use Rattle.warpd.specs.Lines.{ended, unended, kept_of, piece_of, first_end, is_end};
+ghost use Rattle.warp_record.specs.Lines.{ended, unended, kept_of, piece_of, first_end, is_end};
 
 use arrayvec::ArrayVec;
 use std::marker::Model;

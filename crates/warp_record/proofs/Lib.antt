@@ -1,0 +1,4 @@
+pub mod LineCuts
+pub mod Numerals
+pub mod Spellings
+pub mod SpacedWords

@@ -1,0 +1,4 @@
+pub mod Line
+pub mod Lines
+pub mod Number
+pub mod Reply
