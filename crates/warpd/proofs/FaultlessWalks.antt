@@ -1,5 +1,5 @@
--- What a parse of the crate `clap` gives where it finds no fault: at any command with plain
--- arguments each required word and each value is there.
+-- A walk of the crate `clap` over words in which it finds no fault: what each use of an argument
+-- keeps of the rows, the walk keeps, and where it stops, it stops at a subcommand that may be entered.
 use Rattle.std.proofs.Common.{◌≡◌, ◌++◌, ◌&&◌, ◌||◌, ℕ, zero, suc, Bool, true, false, not, cond, List, [], ◌∷◌, Option, None, Some, codes, drop, length, fold, find, is_some, option_map, refl}
 use Rattle.std.specs.Prelude.{⊤, encode_utf8, slice_get, nat_lt, option_and_then}
 use Rattle.std.specs.List.{list_all, list_any}
@@ -23,27 +23,27 @@ use Rattle.clap.specs.declared.parser.matches.ValueSource.{ValueSource}
 use Rattle.clap.proofs.WalkLemmas.{both}
 
 -- two steps without a fault
-both_none : (a b : Kinds) → or_else a b ≡ [] → (a ≡ []) × (b ≡ [])
+pub both_none : (a b : Kinds) → or_else a b ≡ [] → (a ≡ []) × (b ≡ [])
 both_none [] b e = (refl, e)
 both_none (k ∷ ks) b e = (e, cc)
 
 -- ---- what each use keeps, a walk keeps
 
 -- a use of the argument without a fault keeps P of the rows
-abbrev Keeps : Bool → (List Row → Type 0) → Option Rule → Type 0
+abbrev pub Keeps : Bool → (List Row → Type 0) → Option Rule → Type 0
 Keeps again P None = ⊤
 Keeps again P (Some a) = (values : List Text) (rows : List Row) → use_fault again a values rows ≡ [] → P rows → P (used a values rows)
 
 -- the subcommand has Q where it is entered without a fault
-abbrev Enters : Shape → (Text → Type 0) → Option Text → Type 0
+abbrev pub Enters : Shape → (Text → Type 0) → Option Text → Type 0
 Enters s Q None = ⊤
 Enters s Q (Some name) = other_fault s (Some name) [] nothing_held ≡ [] → Q name
 
-abbrev StepHas : (Text → Type 0) → Step → Type 0
+abbrev pub StepHas : (Text → Type 0) → Step → Type 0
 StepHas Q (subcommand name) = Q name
 StepHas Q _ = ⊤
 
-abbrev StopHas : (Text → Type 0) → Option (Text × List Text) → Type 0
+abbrev pub StopHas : (Text → Type 0) → Option (Text × List Text) → Type 0
 StopHas Q None = ⊤
 StopHas Q (Some p) = Q p.0
 
@@ -56,7 +56,7 @@ module _ (s : Shape) (names : Names) (P : List Row → Type 0) (Q : Text → Typ
   abbrev again : Bool
   again = s.args_override_self
 
-  settled_keeps : (h : Held) → settle_fault c again h ≡ [] → P h.rows → P (settled c h).rows
+  pub settled_keeps : (h : Held) → settle_fault c again h ≡ [] → P h.rows → P (settled c h).rows
   settled_keeps h e q = go h.pending e
     where
       by_id : (o : Option Rule) (vs : List Text) → Keeps again P o → option_map_or (λ a. use_fault again a vs h.rows) o [] ≡ [] → P (used_by_id o vs h.rows)
@@ -188,195 +188,8 @@ module _ (s : Shape) (names : Names) (P : List Row → Type 0) (Q : Text → Typ
           step_holds word w (met_at w word).0 (met_at w word).1 parts.1 (word_good w.is_trailing w.waiting w.position word w.held parts.0 q.0) q.1
       go (Some p) e f = (q.0, f)
 
-  walk_holds : (words : List Text) (w : Walk) → walk_fault s names w words ≡ [] → Holds w → Holds (fold (walked c names) w words)
+  pub walk_holds : (words : List Text) (w : Walk) → walk_fault s names w words ≡ [] → Holds w → Holds (fold (walked c names) w words)
   unfolding walk_fault
   walk_holds [] w e q = q
   walk_holds (x ∷ xs) w e q =
       let parts = both_none (turn_fault s names w x) _ e in walk_holds xs (walked c names w x) parts.1 (turn_holds w x parts.0 q)
-
--- ---- each row that is found has a value
-
-abbrev Full : List Text → Type 0
-Full [] = ⊥
-Full (v ∷ vs) = ⊤
-
-abbrev AllFull : List Row → Type 0
-AllFull [] = ⊤
-AllFull (r ∷ rs) = Full r.values × AllFull rs
-
-more_full : (xs ys : List Text) → Full ys → Full (xs ++ ys)
-more_full [] ys f = f
-more_full (x ∷ xs) ys f = tt
-
-with_full : (id : Text) (how : Reading) (s : ValueSource) (values : List Text) (rows : List Row) → Full values → AllFull rows → AllFull (with_values id how s values rows)
-with_full id how s values [] f all = (f, tt)
-with_full id how s values (r ∷ rs) f all = go (bytes_eq r.id id) (with_full id how s values rs f all.1)
-  where
-    go : (b : Bool) → AllFull (with_values id how s values rs) → AllFull (cond b (more_values s values r ++ rs) (r ∷ with_values id how s values rs))
-    go true rest = (more_full r.values values f, all.1)
-    go false rest = (all.0, rest)
-
-without_full : (id : Text) (rows : List Row) → AllFull rows → AllFull (without id rows)
-without_full id [] all = tt
-without_full id (r ∷ rs) all = go (bytes_eq r.id id) (without_full id rs all.1)
-  where
-    go : (b : Bool) → AllFull (without id rs) → AllFull (cond b ([] ++ rs) (r ∷ without id rs))
-    go true rest = all.1
-    go false rest = (all.0, rest)
-
-used_full : (x : ArgAction) (id : Text) (how : Reading) (vs : List Text) (rows : List Row) → (is_request x ≡ false → Full vs) → AllFull rows → AllFull (used_as x id how vs rows)
-used_full Set id how vs rows f all = with_full id how _ vs (without id rows) (f refl) (without_full id rows all)
-used_full SetTrue id how vs rows f all = with_full id how _ vs (without id rows) (f refl) (without_full id rows all)
-used_full SetFalse id how vs rows f all = with_full id how _ vs (without id rows) (f refl) (without_full id rows all)
-used_full Append id how vs rows f all = with_full id how _ vs rows (f refl) all
-used_full Count id how [] rows f all = absurd (f refl)
-used_full Count id how (v ∷ vs) rows f all = with_full id how _ (v ∷ vs) (without id rows) tt (without_full id rows all)
-used_full Help id how vs rows f all = all
-used_full HelpShort id how vs rows f all = all
-used_full HelpLong id how vs rows f all = all
-used_full Version id how vs rows f all = all
-
-abbrev least : Rule → ℕ
-least a = (unwrap_or_range a.range).start_inclusive
-
--- a use of the argument has a value: it wants one, stands for one, or asks for help or the version
-abbrev is_fed : Rule → Bool
-is_fed a = is_request (action_of a) || (nat_lt 0 (least a) || not (is_empty a.missing))
-
-fed_keeps : (a : Rule) → is_fed a ≡ true → (more : Bool) → Keeps more AllFull (Some a)
-fed_keeps a fed more values rows e all = used_full (action_of a) a.id (reading_by a) (values_or_missing a values) rows (has values (both_none (range_kinds (least a) (most_values a) (length values)) _ e).0) all
-  where
-    some : (r l : Bool) (m : List Text) (k : ErrorKind) (others : Kinds) → (r || (l || not (is_empty m))) ≡ true → cond (l && true) (k ∷ []) others ≡ [] → r ≡ false → Full m
-    some true l m k others fed e r = cc
-    some false true m k others fed e r = cc
-    some false false [] k others fed e r = cc
-    some false false (x ∷ m) k others fed e r = tt
-
-    has : (vs : List Text) → range_kinds (least a) (most_values a) (length vs) ≡ [] → is_request (action_of a) ≡ false → Full (values_or_missing a vs)
-    has [] e r = some (is_request (action_of a)) (nat_lt 0 (least a)) a.missing kind.InvalidValue _ fed e r
-    has (v ∷ vs) e r = tt
-
-found_keeps : (rules : List Rule) → list_all is_fed rules ≡ true → (more : Bool) (p : Rule → Bool) → Keeps more AllFull (find p rules)
-found_keeps [] fed more p = tt
-found_keeps (a ∷ rest) fed more p = go (p a) (found_keeps rest (both (is_fed a) _ fed).1 more p)
-  where
-    go : (b : Bool) → Keeps more AllFull (find p rest) → Keeps more AllFull (cond b (Some a) (find p rest))
-    go true others = fed_keeps a (both (is_fed a) _ fed).0 more
-    go false others = others
-
-default_full : (rows : List Row) (a : Rule) → AllFull rows → AllFull (with_default rows a)
-default_full rows a all = go (has_row a.id rows) a.defaults
-  where
-    go : (b : Bool) (values : List Text) → AllFull (cond b rows (default_rows a.id (reading_by a) values rows))
-    go true values = all
-    go false [] = all
-    go false (v ∷ vs) = with_full a.id _ _ (v ∷ vs) rows tt all
-
-defaults_full : (c : List Rule) (rows : List Row) → AllFull rows → AllFull (fold with_default rows c)
-defaults_full [] rows all = all
-defaults_full (a ∷ c) rows all = defaults_full c (with_default rows a) (default_full rows a all)
-
-given_full : (id : Text) (rows : List Row) → AllFull rows → is_given id rows ≡ true → is_some (first_of id rows) ≡ true
-given_full id [] all e = cc
-given_full id (r ∷ rs) all e = go (bytes_eq r.id id) (given_full id rs all.1) e
-  where
-    first_full : (vs : List Text) → Full vs → is_some (slice_get vs 0) ≡ true
-    first_full [] f = absurd f
-    first_full (v ∷ vs) f = refl
-
-    go : (b : Bool) → (is_given id rs ≡ true → is_some (first_of id rs) ≡ true)
-        → option_map_or (λ (x : Row). explicit_source x.source) (cond b (Some r) (find (λ x. bytes_eq x.id id) rs)) false ≡ true
-        → is_some (option_and_then (λ (x : Row). slice_get x.values 0) (cond b (Some r) (find (λ x. bytes_eq x.id id) rs))) ≡ true
-    go true rest e = first_full r.values all.0
-    go false rest e = rest e
-
--- ---- a level of the parse without a fault
-
--- each argument that has to be there has a value
-abbrev pub AllGiven : List Rule → List Row → Type 0
-AllGiven [] rows = ⊤
-AllGiven (a ∷ rest) rows = (a.required ≡ true → is_some (first_of a.id rows) ≡ true) × AllGiven rest rows
-
-all_given : (rules : List Rule) (rows : List Row) → AllFull rows → list_any (λ a. a.required && not (is_given a.id rows)) rules ≡ false → AllGiven rules rows
-all_given [] rows all e = tt
-all_given (a ∷ rest) rows all e = go a.required (is_given a.id rows) (given_full a.id rows all) (all_given rest rows all) e
-  where
-    go : (wanted given : Bool) → (given ≡ true → is_some (first_of a.id rows) ≡ true)
-        → (list_any (λ a. a.required && not (is_given a.id rows)) rest ≡ false → AllGiven rest rows)
-        → ((wanted && not given) || list_any (λ a. a.required && not (is_given a.id rows)) rest) ≡ false
-        → (wanted ≡ true → is_some (first_of a.id rows) ≡ true) × AllGiven rest rows
-    go true true full others e = (λ _. full refl, others e)
-    go true false full others e = cc
-    go false given full others e = (λ wanted. cc, others e)
-
-checked : (help sub arg : Bool) → check_kinds help sub arg ≡ [] → (sub ≡ false) × (arg ≡ false)
-checked true sub arg e = cc
-checked false true arg e = cc
-checked false false true e = cc
-checked false false false e = (refl, refl)
-
-no_names : (s : Shape) (Q : Text → Type 0) (waiting : Waiting) (word : Text) → Enters s Q (subcommand_met [] waiting word)
-no_names s Q idle word = tt
-no_names s Q positional word = tt
-no_names s Q (option id) word = tt
-
--- at a subcommand
-pub level_given : (s : Shape) → list_all is_fed s.rules ≡ true → (words : List Text) → level_fault s [] nothing_held words false [] ≡ [] → AllGiven s.rules (rows_after s.rules [] words)
-level_given s fed words e =
-    let end = (walk s.rules [] nothing_held words).held in
-    let walked = both_none (walk_fault s [] (walk_from nothing_held) words) _ e in
-    let settled = both_none (settle_fault s.rules s.args_override_self end) _ walked.1 in
-    let filled = both_none _ (check_fault s (finished s.rules end) false) settled.1 in
-    let keeps = found_keeps s.rules fed s.args_override_self in
-    let held = walk_holds s [] AllFull (λ _. ⊤) keeps (no_names s (λ _. ⊤)) words (walk_from nothing_held) walked.0 (tt, tt) in
-    let rows = settled_keeps s [] AllFull (λ _. ⊤) keeps (no_names s (λ _. ⊤)) end settled.0 held.0 in
-    all_given s.rules _ (defaults_full s.rules _ rows) (go s.subcommand_negates_reqs (list_any (λ a. a.required && not (is_given a.id (finished s.rules end))) s.rules) (checked _ _ _ filled.1).1)
-  where
-    go : (n missing : Bool) → (not (n && false) && missing) ≡ false → missing ≡ false
-    go true missing e = e
-    go false missing e = e
-
--- ---- the whole command line without a fault
-
--- the subcommand of this name, where it has no fault, gives rows of which R holds
-abbrev pub Gives : App → (Option (Text × List Row) → Type 0) → Text → Type 0
-Gives a R name = (words : List Text) → entered_fault a (Some (name, words)) ≡ [] → R (entered a (Some (name, words)))
-
--- so does each subcommand that can be entered
-abbrev pub AllGive : App → (Option (Text × List Row) → Type 0) → Names → Type 0
-AllGive a R [] = ⊤
-AllGive a R (n ∷ rest) = Enters a.top (Gives a R) (Some n.0) × AllGive a R rest
-
-met_enters : (a : App) (R : Option (Text × List Row) → Type 0) (names : Names) → AllGive a R names → (waiting : Waiting) (word : Text)
-    → Enters a.top (Gives a R) (subcommand_met names waiting word)
-met_enters a R names all positional word = tt
-met_enters a R names all (option id) word = tt
-met_enters a R [] all idle word = tt
-met_enters a R (n ∷ rest) all idle word = go (answers_to word n) (met_enters a R rest all.1 idle word)
-  where
-    go : (b : Bool) → Enters a.top (Gives a R) (subcommand_met rest idle word)
-        → Enters a.top (Gives a R) (option_map (λ s. s.0) (cond b (Some n) (find (answers_to word) rest)))
-    go true more = all.0
-    go false more = more
-
-anything : (more : Bool) (o : Option Rule) → Keeps more (λ _. ⊤) o
-anything more None = tt
-anything more (Some a) = λ values rows e q. tt
-
--- at a command whose subcommand has to be there
-pub entered_gives : (a : App) (R : Option (Text × List Row) → Type 0) → a.top.subcommand_required ≡ true → AllGive a R (names_of a) → (words : List Text)
-    → built_fault a nothing_held words ≡ [] → R (entered a (stop_after a.top.rules (names_of a) words))
-entered_gives a R required all words e =
-    let s = a.top in
-    let at = walk s.rules (names_of a) nothing_held words in
-    let walked = both_none (walk_fault s (names_of a) (walk_from nothing_held) words) _ e in
-    let below = both_none (entered_fault a at.stopped) _ walked.1 in
-    let settled = both_none (settle_fault s.rules s.args_override_self at.held) _ below.1 in
-    let filled = both_none _ (check_fault s (finished s.rules at.held) (is_some (entered a at.stopped))) settled.1 in
-    let held = walk_holds s (names_of a) (λ _. ⊤) (Gives a R) (λ p. anything s.args_override_self (find p s.rules)) (met_enters a R (names_of a) all) words (walk_from nothing_held) walked.0 (tt, tt) in
-    go at.stopped held.1 below.0 (checked _ _ _ filled.1).0
-  where
-    go : (stop : Option (Text × List Text)) → StopHas (Gives a R) stop → entered_fault a stop ≡ [] → (not (is_some (entered a stop)) && a.top.subcommand_required) ≡ false
-        → R (entered a stop)
-    go None gives below wanted = cc
-    go (Some p) gives below wanted = gives p.1 below

@@ -1,3 +1,4 @@
+pub mod GivenArguments
 pub mod FaultlessWalks
 pub mod LogLemmas
 pub mod AnswersLemmas

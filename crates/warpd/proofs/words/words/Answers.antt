@@ -5,7 +5,7 @@ use Rattle.clap.specs.Walk.{Row, Text}
 use Rattle.clap.specs.Simple.{App, Shape, argument_words, built, help_shape, subcommand_of}
 use Rattle.clap.specs.Faults.{fault_of}
 use Rattle.warpd.specs.Words.{program_value, warpd_command}
-use Rattle.warpd.proofs.FaultlessWalks.{AllGive, Gives, entered_gives, level_given}
+use Rattle.warpd.proofs.GivenArguments.{AllGive, Gives, entered_gives, level_given}
 use Rattle.warpd.proofs.words.words.Goals as goal
 
 abbrev whole : App
@@ -19,7 +19,7 @@ abbrev HasProgram : Option (Text × List Row) → Type 0
 HasProgram run = is_some (program_value run) ≡ true
 
 run_gives : Gives whole HasProgram (codes "run")
-run_gives words e = (level_given (first_shape whole.subs) refl words e).0 refl
+run_gives words e = (level_given (first_shape whole.subs) (refl, refl) words e).0.there refl
 
 has_program : (words : List Text) → fault_of warpd_command words ≡ [] → HasProgram (subcommand_of warpd_command words)
 has_program words e = entered_gives whole HasProgram refl (λ _. run_gives, (λ help. cc, tt)) (argument_words warpd_command words) e
