@@ -85,7 +85,8 @@ impl Table {
 
     /// Whether it takes no further record, which is at `MAX_RECORDS` of them.
     pub fn is_full(&self) -> bool
-        ensures { IsTrue result ↔ (length self.now ≡ most_records) }
+        ensures full { IsTrue result ↔ (length self.now ≡ most_records) }
+        ensures bound { length self.now ≤ most_records }
     {
         self.len() == MAX_RECORDS
     }
