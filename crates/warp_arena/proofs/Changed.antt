@@ -5,13 +5,14 @@ use Rattle.std.proofs.lemmas.List.{length-set, get_or-set_same, get_or-set_other
 use Rattle.warp_tag.specs.Moment.{Moment, is_before, is_same}
 use Rattle.warp_tag.specs.Table.{name_before, IsTable}
 use Rattle.warp_tag.specs.declared.entry.Entry.{Entry}
+use Rattle.warp_tag.proofs.Lists.{All-weaker}
 use Rattle.warp_arena.specs.declared.arena.Arena.TheInside.{Inside}
 use Rattle.warp_arena.specs.declared.node.Links.{Links}
 use Rattle.warp_arena.specs.declared.node.Node.{Node}
 use Rattle.warp_arena.specs.declared.node.TheConstants.{NO_NODE}
 use Rattle.warp_arena.specs.Places.{Place, entry_of, with_change}
 use Rattle.warp_arena.specs.Shape.{IsArena, IsWhole, threads_of, contents_of, used_of, unused_of, node_at, entry_at, by_tag, of_origin, place_at, members, no_node, no_links, next_in, prev_in, free_ends, IsChain, IsPath}
-use Rattle.warp_arena.proofs.Rings.{All-weaker, length-walk}
+use Rattle.warp_arena.proofs.Rings.{length-walk}
 use Rattle.warp_arena.proofs.Tables.{Precedes, All-map, All-unmap}
 use Rattle.warp_arena.proofs.Walks.{threads, used}
 use Rattle.warp_arena.proofs.Reading.{places, used_found_below}

@@ -5,16 +5,17 @@ use Rattle.std.specs.Option.{option_map}
 use Rattle.std.proofs.lemmas.Bool.{cases_Bool, ne_eqb}
 use Rattle.std.proofs.lemmas.List.{map-append}
 use Rattle.std.proofs.lemmas.Bool.Decides.{nat_tests}
-use Rattle.warp_tag.specs.Moment.{Moment, is_before, is_same}
+use Rattle.warp_tag.specs.Moment.{Moment, is_before}
 use Rattle.warp_tag.specs.Table.{has_name, IsTable}
 use Rattle.warp_tag.specs.declared.entry.Entry.{Entry}
+use Rattle.warp_tag.proofs.Lists.{All-both, All-weaker, All-left, All-right, filter-here, filter-past, find_past, find_fails, find_filter}
+use Rattle.warp_tag.proofs.Names.{before_not_named, before_own, before_through}
 use Rattle.warp_arena.specs.declared.arena.Arena.TheInside.{Inside}
 use Rattle.warp_arena.specs.declared.node.TheConstants.{NO_NODE}
 use Rattle.warp_arena.specs.Places.{Place, node_of}
 use Rattle.warp_arena.specs.Shape.{IsWhole, Splits, place_at, last_or}
-use Rattle.warp_arena.proofs.Names.{before_own, before_not_same, before_through}
-use Rattle.warp_arena.proofs.Rings.{IsOff, All-both, All-weaker, All-left, All-right, by_last, last_or-push}
-use Rattle.warp_arena.proofs.Tables.{Precedes, IsTable-before, IsTable-members, All-unmap, All-map, filter-here, filter-past, nodes_of-places, places_of-members}
+use Rattle.warp_arena.proofs.Rings.{IsOff, by_last, last_or-push}
+use Rattle.warp_arena.proofs.Tables.{Precedes, IsTable-before, IsTable-members, All-unmap, All-map, nodes_of-places, places_of-members}
 use Rattle.warp_arena.proofs.Shapes.{members_own}
 use Rattle.warp_arena.proofs.Walks.{threads, used, owned, Listed-origin}
 use Rattle.warp_arena.proofs.Reading.{places}
@@ -47,29 +48,8 @@ split_at later entry is at s =
 
 -- ---- looking for a name among places
 
-pub find_past : {X : Type 0} (q : X → Bool) (xs ys : List X) → AllByRecursion (λ x. q x ≡ false) xs → find q (xs ++ ys) ≡ find q ys
-find_past q [] ys a = refl
-find_past q (x ∷ xs) ys a = ap (λ b. cond b (Some x) (find q (xs ++ ys))) a.0 ∙ find_past q xs ys a.1
-
-find_fails : {X : Type 0} (q : X → Bool) (xs : List X) → AllByRecursion (λ x. q x ≡ false) xs → find q xs ≡ None
-find_fails q [] a = refl
-find_fails q (x ∷ xs) a = ap (λ b. cond b (Some x) (find q xs)) a.0 ∙ find_fails q xs a.1
-
--- only places that pass a weaker test count
-find_filter : {X : Type 0} (q p : X → Bool) → ((x : X) → p x ≡ false → q x ≡ false) → (xs : List X) → find q xs ≡ find q (filter p xs)
-find_filter q p h [] = refl
-find_filter q p h (x ∷ xs) =
-    elim (cases_Bool (p x)) [
-      | inl so ↦ ap (λ o. cond (q x) (Some x) o) (find_filter q p h xs) ∙ ap (find q) (sym (filter-here p x xs so))
-      | inr not_so ↦
-          ap (λ b. cond b (Some x) (find q xs)) (h x not_so) ∙ find_filter q p h xs ∙ ap (find q) (sym (filter-past p x xs not_so))
-    ]
-
 other_origin : (o : ℕ) (g : Moment) (e : Entry) → eqb e.origin o ≡ false → has_name o g e ≡ false
 other_origin o g e h = grind (arith, nat_tests)
-
-own_name : (o : ℕ) (g : Moment) (e : Entry) → e.origin ≡ o → has_name o g e ≡ is_same g e.tag
-own_name o g e h = grind (arith, nat_tests)
 
 option_map_cond : {X Y : Type 0} (f : X → Y) (b : Bool) (x : X) → option_map f (cond b (Some x) None) ≡ cond b (Some (f x)) None
 option_map_cond f true x = refl
@@ -99,7 +79,7 @@ module _ (a : Inside) (w : IsWhole (threads a) a.used) (o : ℕ) (g : Moment) wh
     past_fails : AllByRecursion (λ i. has_name o g ((threads a).entry i) ≡ false) s.ys
     past_fails =
         All-both (λ i. ((threads a).entry i).origin ≡ o) (λ i. is_before g ((threads a).entry i).tag ≡ true) (λ i. has_name o g ((threads a).entry i) ≡ false)
-        (λ i p q. before_not_same o g ((threads a).entry i) (before_own o g ((threads a).entry i) p ∙ q)) s.ys
+        (λ i p q. before_not_named o g ((threads a).entry i) (before_own o g ((threads a).entry i) p ∙ q)) s.ys
         (All-right (λ i. ((threads a).entry i).origin ≡ o) s.xs s.ys all_own) s.past
 
     -- the walk passed all
@@ -120,7 +100,7 @@ module _ (a : Inside) (w : IsWhole (threads a) a.used) (o : ℕ) (g : Moment) wh
         ]
 
     -- the walk stopped at a node: the name is there or nowhere
-    pub node_of-at : at ≢ NO_NODE → (at < length a.nodes.items) × (node_of o g (places a) ≡ cond (is_same g ((threads a).entry at).tag) (Some at) None)
+    pub node_of-at : at ≢ NO_NODE → (at < length a.nodes.items) × (node_of o g (places a) ≡ cond (has_name o g ((threads a).entry at)) (Some at) None)
     node_of-at n =
         elim (by_last s.xs) [
           | inl none ↦ absurd (n (s.last ∙ ap (last_or NO_NODE) none))
@@ -146,17 +126,16 @@ module _ (a : Inside) (w : IsWhole (threads a) a.used) (o : ℕ) (g : Moment) wh
               let test : Place → Bool = λ p. has_name o g p.entry in
               let later : find test (map place s.ys) ≡ None =
               find_fails test (map place s.ys) (All-map (λ p. has_name o g p.entry ≡ false) place s.ys past_fails) in
-              let found : find test (map place (owned a o)) ≡ cond (is_same g ((threads a).entry k).tag) (Some (place k)) None =
+              let found : find test (map place (owned a o)) ≡ cond (has_name o g ((threads a).entry k)) (Some (place k)) None =
               ap (λ is. find test (map place is)) whole
               ∙ ap (find test) (map-append place fs (k ∷ s.ys))
               ∙ find_past test (map place fs) (place k ∷ map place s.ys) (All-map (λ p. has_name o g p.entry ≡ false) place fs fails)
-              ∙ ap (λ r. cond (has_name o g ((threads a).entry k)) (Some (place k)) r) later
-              ∙ ap (λ b. cond b (Some (place k)) None) (own_name o g ((threads a).entry k) own_k) in
+              ∙ ap (λ r. cond (has_name o g ((threads a).entry k)) (Some (place k)) r) later in
               let l = Listed-origin a w o declared in (
                 subst (λ j. j < length a.nodes.items) (sym here)
                     (All-right (λ i. i < length a.nodes.items) fs (k ∷ s.ys) (subst (AllByRecursion (λ i. i < length a.nodes.items)) whole l.below)).0,
                 node_of-own ∙ ap (option_map (λ (p : Place). p.node)) found
-                    ∙ option_map_cond (λ (p : Place). p.node) (is_same g ((threads a).entry k).tag) (place k)
-                    ∙ ap (λ j. cond (is_same g ((threads a).entry j).tag) (Some j) None) (sym here),
+                    ∙ option_map_cond (λ (p : Place). p.node) (has_name o g ((threads a).entry k)) (place k)
+                    ∙ ap (λ j. cond (has_name o g ((threads a).entry j)) (Some j) None) (sym here),
               )
         ]

@@ -5,10 +5,10 @@ use Rattle.std.proofs.lemmas.List.{length-append, drop_at, map-append}
 use Rattle.warp_tag.specs.Moment.{Moment, is_before}
 use Rattle.warp_tag.specs.Table.{IsTable}
 use Rattle.warp_tag.specs.declared.entry.Entry.{Entry}
+use Rattle.warp_tag.proofs.Lists.{All-weaker, All-append, filter-here, filter-past, some_not_none}
+use Rattle.warp_tag.proofs.Names.{before_tag}
 use Rattle.warp_arena.specs.Places.{Place, Contents, entries_of, entry_of, first_node, places_past, places_through}
-use Rattle.warp_arena.proofs.Names.{before_tag}
-use Rattle.warp_arena.proofs.Rings.{All-weaker, All-append}
-use Rattle.warp_arena.proofs.Tables.{Precedes, All-unmap, filter-here, filter-past}
+use Rattle.warp_arena.proofs.Tables.{Precedes, All-unmap}
 use Rattle.warp_arena.proofs.Reading.{entry_of-here}
 use Rattle.warp_arena.proofs.Wholes.{filter_front}
 use Rattle.warp_arena.proofs.Inserted.{same_contents}
@@ -23,9 +23,6 @@ pub record Freed (tag : Moment) (start now' : Contents) : Type 0 where
 
 some_same : {X : Type 0} (x y : X) → Some x ≡ Some y → x ≡ y
 some_same x y e = cc
-
-some_not_none : {X : Type 0} (x : X) → Some x ≡ None → ⊥
-some_not_none x e = cc
 
 -- the first place, by its handle
 first_place : (ps : List Place) (i : ℕ) (d : Entry) → Some i ≡ first_node ps → entry_of i ps ≡ Some d → (p : Place) × (qs : List Place) × (ps ≡ p ∷ qs) × (p.entry ≡ d)

@@ -3,16 +3,18 @@ use Rattle.std.proofs.Common.{◌≡◌, ◌≢◌, ℕ, ◌+◌, ◌-◌, ◌<�
 use Rattle.std.specs.List.{AllByRecursion}
 use Rattle.std.proofs.lemmas.Bool.{cases_lt, cases_order, eq-eqb, ne_eqb, lt-ltb, le-ltb}
 use Rattle.std.proofs.lemmas.List.{length-append, get_or_append_left, get_or_push, get_or_past, get_or-replicate, length-replicate}
+use Rattle.warp_tag.specs.Limits.{most_names}
 use Rattle.warp_tag.specs.Table.{IsTable}
 use Rattle.warp_tag.specs.declared.entry.Entry.{Entry}
+use Rattle.warp_tag.proofs.Lists.{All-both, All-weaker, All-filter}
 use Rattle.warp_arena.specs.declared.arena.Arena.TheInside.{Inside}
 use Rattle.warp_arena.specs.declared.node.Links.{Links}
 use Rattle.warp_arena.specs.declared.node.Node.{Node}
-use Rattle.warp_arena.specs.declared.node.TheConstants.{NO_NODE, MAX_USED}
+use Rattle.warp_arena.specs.declared.node.TheConstants.{NO_NODE}
 use Rattle.warp_arena.specs.Places.{Place}
 use Rattle.warp_arena.specs.Shape.{Threads, IsArena, IsWhole, threads_of, contents_of, used_of, unused_of, count_of, node_at, entry_at, by_tag, of_origin, place_at, members, no_node, no_links, next_in, prev_in, free_ends, walk, IsChain}
-use Rattle.warp_arena.proofs.Rings.{IsSame, All-both, All-weaker, IsChain-frame, length-walk}
-use Rattle.warp_arena.proofs.Tables.{All-filter, map_agree}
+use Rattle.warp_arena.proofs.Rings.{IsSame, IsChain-frame, length-walk}
+use Rattle.warp_arena.proofs.Tables.{map_agree}
 use Rattle.warp_arena.proofs.Shapes.{all_used_below, members_agree, none_unused}
 use Rattle.warp_arena.proofs.Walks.{threads, used, next_in-at}
 use Rattle.warp_arena.proofs.Reading.{places}
@@ -66,7 +68,7 @@ none_free a w e =
 count_of_walk : (next : ℕ → ℕ) (i m : ℕ) → m ≡ 0 → count_of i (walk next m NO_NODE) ≡ 0
 count_of_walk next i m e = ap (λ k. count_of i (walk next k NO_NODE)) e
 
-module _ (a : Inside) (w : IsWhole (threads a) a.used) (full : a.used ≡ length a.nodes.items) (room : length a.nodes.items < MAX_USED) (n : Node) (free : n.by_tag.next ≡ NO_NODE) where
+module _ (a : Inside) (w : IsWhole (threads a) a.used) (full : a.used ≡ length a.nodes.items) (room : length a.nodes.items < most_names) (n : Node) (free : n.by_tag.next ≡ NO_NODE) where
   size : ℕ
   size = length a.nodes.items
 

@@ -6,12 +6,9 @@ use Rattle.std.proofs.lemmas.Bool.{cases_eq, cases_Bool, eq-eqb, ne_eqb, false�
 use Rattle.warp_tag.specs.Moment.{Moment}
 use Rattle.warp_tag.specs.Table.{name_before, has_name}
 use Rattle.warp_tag.specs.declared.entry.Entry.{Entry}
+use Rattle.warp_tag.proofs.Lists.{filter-here, filter-past, some_not_none}
 use Rattle.warp_arena.specs.Places.{Place, entry_of, node_of, first_node, last_node, places_after, places_before, with_place, with_change}
-use Rattle.warp_arena.proofs.Tables.{filter-here, filter-past}
 use Rattle.warp_arena.proofs.Reading.{entry_of-here, entry_of-other}
-
-some_not_none : {X : Type 0} (x : X) → Some x ≡ None → ⊥
-some_not_none x e = cc
 
 same_some : {X : Type 0} (x y : X) → Some x ≡ Some y → x ≡ y
 same_some x y e = cc

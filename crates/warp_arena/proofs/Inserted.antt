@@ -5,6 +5,7 @@ use Rattle.std.proofs.lemmas.List.{map-append, length-set, length-append}
 use Rattle.warp_tag.specs.Moment.{Moment}
 use Rattle.warp_tag.specs.Table.{name_before, fresh}
 use Rattle.warp_tag.specs.declared.entry.Entry.{Entry}
+use Rattle.warp_tag.proofs.Lists.{All-weaker, All-left, All-right}
 use Rattle.warp_arena.specs.declared.arena.Arena.TheInside.{Inside}
 use Rattle.warp_arena.specs.declared.node.Links.{Links}
 use Rattle.warp_arena.specs.declared.node.Node.{Node}
@@ -12,7 +13,7 @@ use Rattle.warp_arena.specs.declared.node.TheConstants.{NO_NODE}
 use Rattle.warp_arena.specs.Changes.{Threaded}
 use Rattle.warp_arena.specs.Places.{Place, Contents, entry_of, with_place}
 use Rattle.warp_arena.specs.Shape.{IsArena, IsWhole, threads_of, contents_of, used_of, entry_at, by_tag, place_at, last_or, no_links}
-use Rattle.warp_arena.proofs.Rings.{IsOff, All-left, All-right, All-weaker, count_of-here}
+use Rattle.warp_arena.proofs.Rings.{IsOff, count_of-here}
 use Rattle.warp_arena.proofs.Tables.{All-map, map_agree}
 use Rattle.warp_arena.proofs.Shapes.{unused_off}
 use Rattle.warp_arena.proofs.Walks.{threads}

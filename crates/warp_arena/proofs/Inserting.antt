@@ -5,14 +5,15 @@ use Rattle.std.proofs.lemmas.Bool.{cases_eq}
 use Rattle.std.proofs.lemmas.List.{map-append, length-set, get_or-set_same, get_or-set_other}
 use Rattle.warp_tag.specs.Moment.{Moment}
 use Rattle.warp_tag.specs.Table.{name_before, has_name, fresh, IsTable}
+use Rattle.warp_tag.proofs.Lists.{All-both, All-weaker, All-append, All-left, All-right, All-filter}
+use Rattle.warp_tag.proofs.Names.{else_ahead}
 use Rattle.warp_arena.specs.declared.node.Links.{Links}
 use Rattle.warp_arena.specs.declared.node.Node.{Node}
 use Rattle.warp_arena.specs.declared.node.TheConstants.{NO_NODE}
 use Rattle.warp_arena.specs.Changes.{Threaded}
 use Rattle.warp_arena.specs.Shape.{IsArena, threads_of, count_of, members, entry_at, by_tag, of_origin, IsChain, IsPath, last_or, first_or, next_in, prev_in, free_ends, no_links}
-use Rattle.warp_arena.proofs.Names.{before_total}
-use Rattle.warp_arena.proofs.Rings.{IsOff, IsApart, IsSame, All-both, All-weaker, All-append, All-left, All-right, All-from_in, All-at, first_holds, last_holds, IsChain-split, IsChain-insert, IsChain-frame, IsPath-from, count_of-here, count_of-append}
-use Rattle.warp_arena.proofs.Tables.{Precedes, All-filter, All-map, IsTable-insert, map_agree}
+use Rattle.warp_arena.proofs.Rings.{IsOff, IsApart, IsSame, All-from_in, All-at, first_holds, last_holds, IsChain-split, IsChain-insert, IsChain-frame, IsPath-from, count_of-here, count_of-append}
+use Rattle.warp_arena.proofs.Tables.{Precedes, All-map, IsTable-insert, map_agree}
 use Rattle.warp_arena.proofs.Shapes.{IsApart-filter, used_apart, unused_apart, none_used, none_unused, unused_off, members_agree, members-append, members_here, members_past, members_own, members_not}
 use Rattle.warp_arena.proofs.Walks.{next_in-at, prev_in-at}
 
@@ -53,7 +54,7 @@ module _ (old new : List Node) (own : List Links) (ends ends' e' : Links) (free 
         (subst IsTable (map-append (entry_at old) xs ys) shape.sorted)
         (All-map (λ e. Precedes e (fresh o g)) (entry_at old) xs
         (All-both (λ i. name_before o g (entry_at old i) ≡ false) (λ i. has_name o g (entry_at old i) ≡ false) (λ i. Precedes (entry_at old i) (fresh o g))
-        (λ i p q. before_total o g (entry_at old i) p q) xs through absent))
+        (λ i p q. else_ahead o g (entry_at old i) p q) xs through absent))
         (All-map (λ e. Precedes (fresh o g) e) (entry_at old) ys past))
 
     declared_insert : AllByRecursion (λ i. (entry_at new i).origin < length own) (xs ++ x ∷ ys)

@@ -1,5 +1,4 @@
 pub mod Rings
-pub mod Names
 pub mod Tables
 pub mod Shapes
 pub mod Walks

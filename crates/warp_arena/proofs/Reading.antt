@@ -4,12 +4,13 @@ use Rattle.std.specs.List.{AllByRecursion}
 use Rattle.std.specs.Option.{option_map}
 use Rattle.std.proofs.lemmas.Bool.{cases_eq, eq-eqb, ne_eqb, false≢true}
 use Rattle.warp_tag.specs.declared.entry.Entry.{Entry}
+use Rattle.warp_tag.proofs.Lists.{All-left, All-right}
 use Rattle.warp_arena.specs.declared.arena.Arena.TheInside.{Inside}
 use Rattle.warp_arena.specs.declared.node.Links.{Links}
 use Rattle.warp_arena.specs.declared.node.TheConstants.{NO_NODE}
 use Rattle.warp_arena.specs.Places.{Place, places_of, entry_of, origin_of, first_node, last_node, places_after, places_before}
 use Rattle.warp_arena.specs.Shape.{IsWhole, members, place_at, IsChain, last_or, first_or, next_in, prev_in}
-use Rattle.warp_arena.proofs.Rings.{IsOff, All-left, All-right, IsChain-split, by_last, last_or-push}
+use Rattle.warp_arena.proofs.Rings.{IsOff, IsChain-split, by_last, last_or-push}
 use Rattle.warp_arena.proofs.Tables.{places_of-members}
 use Rattle.warp_arena.proofs.Shapes.{members-append, members_here}
 use Rattle.warp_arena.proofs.Walks.{Listed, threads, used, owned, Listed-tags, Listed-origin, next_in-at, prev_in-at}

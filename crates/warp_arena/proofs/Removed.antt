@@ -3,6 +3,7 @@ use Rattle.std.proofs.Common.{◌≡◌, ◌≢◌, ℕ, zero, suc, ◌+◌, ◌
 use Rattle.std.specs.List.{AllByRecursion}
 use Rattle.std.proofs.lemmas.List.{length-set, length-map}
 use Rattle.warp_tag.specs.declared.entry.Entry.{Entry}
+use Rattle.warp_tag.proofs.Lists.{All-weaker, All-filter}
 use Rattle.warp_arena.specs.declared.arena.Arena.TheInside.{Inside}
 use Rattle.warp_arena.specs.declared.node.Links.{Links}
 use Rattle.warp_arena.specs.declared.node.Node.{Node}
@@ -10,8 +11,8 @@ use Rattle.warp_arena.specs.declared.node.TheConstants.{NO_NODE}
 use Rattle.warp_arena.specs.Changes.{Unthreaded, IsPlace}
 use Rattle.warp_arena.specs.Places.{Place, Contents}
 use Rattle.warp_arena.specs.Shape.{IsArena, IsWhole, threads_of, contents_of, used_of, unused_of, entry_at, place_at, members, no_links, next_in, prev_in, walk, IsChain, free_ends}
-use Rattle.warp_arena.proofs.Rings.{All-weaker, first_holds, IsChain-split, length-walk}
-use Rattle.warp_arena.proofs.Tables.{All-filter, map_agree}
+use Rattle.warp_arena.proofs.Rings.{first_holds, IsChain-split, length-walk}
+use Rattle.warp_arena.proofs.Tables.{map_agree}
 use Rattle.warp_arena.proofs.Shapes.{all_used_below, none_used, members_here}
 use Rattle.warp_arena.proofs.Walks.{threads, used}
 use Rattle.warp_arena.proofs.Reading.{places}

@@ -4,13 +4,14 @@ use Rattle.std.specs.List.{AllByRecursion}
 use Rattle.std.proofs.lemmas.Bool.{cases_eq}
 use Rattle.std.proofs.lemmas.List.{length-set, get_or-set_same, get_or-set_other}
 use Rattle.warp_tag.specs.Table.{IsTable}
+use Rattle.warp_tag.proofs.Lists.{All-both, All-weaker, All-filter}
 use Rattle.warp_arena.specs.declared.node.Links.{Links}
 use Rattle.warp_arena.specs.declared.node.Node.{Node}
 use Rattle.warp_arena.specs.declared.node.TheConstants.{NO_NODE}
 use Rattle.warp_arena.specs.Changes.{Unthreaded}
 use Rattle.warp_arena.specs.Shape.{IsArena, threads_of, count_of, members, entry_at, by_tag, of_origin, IsChain, IsPath, first_or, next_in, prev_in, free_ends, no_links}
-use Rattle.warp_arena.proofs.Rings.{IsOff, IsApart, IsSame, All-both, All-weaker, All-from_in, All-at, first_holds, IsChain-split, IsChain-skip, IsChain-frame, IsPath-from}
-use Rattle.warp_arena.proofs.Tables.{All-filter, map_agree}
+use Rattle.warp_arena.proofs.Rings.{IsOff, IsApart, IsSame, All-from_in, All-at, first_holds, IsChain-split, IsChain-skip, IsChain-frame, IsPath-from}
+use Rattle.warp_arena.proofs.Tables.{map_agree}
 use Rattle.warp_arena.proofs.Shapes.{IsApart-filter, used_apart, none_used, none_unused, unused_off, members_agree, members_here, members_past, members_own, members_not}
 use Rattle.warp_arena.proofs.Walks.{next_in-at, prev_in-at}
 

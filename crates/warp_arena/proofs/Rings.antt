@@ -2,6 +2,7 @@
 use Rattle.std.proofs.Common.{◌≡◌, ◌≢◌, ◌⊎◌, ℕ, zero, suc, ◌+◌, ◌<◌, ◌≤◌, cond, eqb, List, [], ◌∷◌, ◌++◌, length, refl, sym, ap, ◌∙◌, subst, inl, inr, arith, eq-eqb, ne_eqb}
 use Rattle.std.specs.List.{AllByRecursion}
 use Rattle.std.proofs.lemmas.Bool.{cases_eq}
+use Rattle.warp_tag.proofs.Lists.{All-both, All-left, All-right}
 use Rattle.warp_arena.specs.Changes.{Inserts, Skips}
 use Rattle.warp_arena.specs.Shape.{walk, IsPath, IsChain, first_or, last_or, count_of}
 
@@ -15,27 +16,6 @@ IsOff x is = AllByRecursion (λ i. i ≢ x) is
 abbrev pub IsApart : List ℕ → Type 0
 IsApart [] = Unit {0}
 IsApart (i ∷ is) = IsOff i is × IsApart is
-
--- two facts of each element, joined
-pub All-both : {X : Type 0} (P Q R : X → Type 0) → ((x : X) → P x → Q x → R x) → (xs : List X) → AllByRecursion P xs → AllByRecursion Q xs → AllByRecursion R xs
-All-both P Q R f [] p q = tt
-All-both P Q R f (x ∷ xs) p q = (f x p.0 q.0, All-both P Q R f xs p.1 q.1)
-
-pub All-weaker : {X : Type 0} (P Q : X → Type 0) → ((x : X) → P x → Q x) → (xs : List X) → AllByRecursion P xs → AllByRecursion Q xs
-All-weaker P Q f [] p = tt
-All-weaker P Q f (x ∷ xs) p = (f x p.0, All-weaker P Q f xs p.1)
-
-pub All-append : {X : Type 0} (P : X → Type 0) (xs ys : List X) → AllByRecursion P xs → AllByRecursion P ys → AllByRecursion P (xs ++ ys)
-All-append P [] ys p q = q
-All-append P (x ∷ xs) ys p q = (p.0, All-append P xs ys p.1 q)
-
-pub All-left : {X : Type 0} (P : X → Type 0) (xs ys : List X) → AllByRecursion P (xs ++ ys) → AllByRecursion P xs
-All-left P [] ys p = tt
-All-left P (x ∷ xs) ys p = (p.0, All-left P xs ys p.1)
-
-pub All-right : {X : Type 0} (P : X → Type 0) (xs ys : List X) → AllByRecursion P (xs ++ ys) → AllByRecursion P ys
-All-right P [] ys p = p
-All-right P (x ∷ xs) ys p = All-right P xs ys p.1
 
 pub first_holds : (P : ℕ → Type 0) (ys : List ℕ) (to : ℕ) → AllByRecursion P ys → P to → P (first_or ys to)
 first_holds P [] to p h = h

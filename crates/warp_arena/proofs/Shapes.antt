@@ -3,11 +3,11 @@ use Rattle.std.proofs.Common.{◌≡◌, ◌≢◌, ℕ, ◌+◌, ◌<◌, ◌�
 use Rattle.std.specs.List.{AllByRecursion}
 use Rattle.std.proofs.lemmas.Bool.{cases_Bool, cases_lt, lt-ltb, le-ltb, eq-eqb, ne_eqb, eqb-true}
 use Rattle.warp_tag.specs.declared.entry.Entry.{Entry}
+use Rattle.warp_tag.proofs.Lists.{All-weaker, filter-here, filter-past, All-filter, All-kept}
 use Rattle.warp_arena.specs.Shape.{Threads, IsArena, count_of, members}
 use Rattle.warp_arena.specs.declared.node.TheConstants.{NO_NODE}
-use Rattle.warp_arena.proofs.Rings.{IsOff, IsApart, All-weaker, All-from_in, IsApart-count, IsOff-count}
+use Rattle.warp_arena.proofs.Rings.{IsOff, IsApart, All-from_in, IsApart-count, IsOff-count}
 use Rattle.std.proofs.lemmas.List.Elements.{filter-append}
-use Rattle.warp_arena.proofs.Tables.{All-filter, All-kept, filter-here, filter-past}
 
 pub IsApart-filter : (p : ℕ → Bool) (is : List ℕ) → IsApart is → IsApart (filter p is)
 IsApart-filter p [] h = tt

@@ -6,11 +6,12 @@ use Rattle.std.proofs.lemmas.List.{map-append, append-nil, length-append}
 use Rattle.warp_tag.specs.Moment.{Moment, is_before}
 use Rattle.warp_tag.specs.Table.{name_before, IsTable}
 use Rattle.warp_tag.specs.declared.entry.Entry.{Entry}
+use Rattle.warp_tag.proofs.Lists.{All-weaker, All-append, All-left, All-right, filter-here, filter-past, All-filter}
+use Rattle.warp_tag.proofs.Names.{before_tag, name_before_trans}
 use Rattle.warp_arena.specs.Places.{Place, places_of}
 use Rattle.warp_arena.specs.Shape.{members, place_at, IsChain, last_or, Splits}
 use Rattle.warp_arena.specs.declared.node.TheConstants.{NO_NODE}
-use Rattle.warp_arena.proofs.Names.{before_trans, before_tag}
-use Rattle.warp_arena.proofs.Rings.{IsOff, IsApart, All-weaker, All-append, All-left, All-right, IsChain-split, by_last, last_or-push, rank, rank_at, IsOff-front}
+use Rattle.warp_arena.proofs.Rings.{IsOff, IsApart, IsChain-split, by_last, last_or-push, rank, rank_at, IsOff-front}
 
 -- the entry comes before the other
 abbrev pub Precedes : Entry → Entry → Type 0
@@ -29,29 +30,6 @@ IsTable-insert (x ∷ xs) ys d t p q = (
 pub IsTable-before : (xs ys : List Entry) (d : Entry) → IsTable (xs ++ d ∷ ys) → AllByRecursion (λ e. Precedes e d) xs
 IsTable-before [] ys d t = tt
 IsTable-before (x ∷ xs) ys d t = ((All-right (λ e. Precedes x e) xs (d ∷ ys) t.0).0, IsTable-before xs ys d t.1)
-
-pub filter-here : {X : Type 0} (p : X → Bool) (x : X) (xs : List X) → p x ≡ true → filter p (x ∷ xs) ≡ x ∷ filter p xs
-filter-here p x xs h = ap (λ b. cond b (x ∷ filter p xs) (filter p xs)) h
-
-pub filter-past : {X : Type 0} (p : X → Bool) (x : X) (xs : List X) → p x ≡ false → filter p (x ∷ xs) ≡ filter p xs
-filter-past p x xs h = ap (λ b. cond b (x ∷ filter p xs) (filter p xs)) h
-
-pub All-filter : {X : Type 0} (P : X → Type 0) (p : X → Bool) (xs : List X) → AllByRecursion P xs → AllByRecursion P (filter p xs)
-All-filter P p [] a = tt
-All-filter P p (x ∷ xs) a =
-    elim (cases_Bool (p x)) [
-      | inl h ↦ subst (AllByRecursion P) (sym (filter-here p x xs h)) (a.0, All-filter P p xs a.1)
-      | inr h ↦ subst (AllByRecursion P) (sym (filter-past p x xs h)) (All-filter P p xs a.1)
-    ]
-
--- each kept element passes
-pub All-kept : {X : Type 0} (p : X → Bool) (xs : List X) → AllByRecursion (λ x. p x ≡ true) (filter p xs)
-All-kept p [] = tt
-All-kept p (x ∷ xs) =
-    elim (cases_Bool (p x)) [
-      | inl h ↦ subst (AllByRecursion (λ y. p y ≡ true)) (sym (filter-here p x xs h)) (h, All-kept p xs)
-      | inr h ↦ subst (AllByRecursion (λ y. p y ≡ true)) (sym (filter-past p x xs h)) (All-kept p xs)
-    ]
 
 pub filter-map_at : {X Y : Type 0} (p : Y → Bool) (f : X → Y) (xs : List X) → filter p (map f xs) ≡ map f (filter (λ x. p (f x)) xs)
 filter-map_at p f [] = refl
@@ -222,7 +200,7 @@ module _ (later : Entry → Bool) (stays : StaysLater later) (entry : ℕ → En
       }
 
 pub StaysLater-name : (o : ℕ) (g : Moment) → StaysLater (name_before o g)
-StaysLater-name o g e d h p = before_trans o g e d h p
+StaysLater-name o g e d h p = name_before_trans o g e d h p
 
 pub StaysLater-tag : (g : Moment) → StaysLater (λ e. is_before g e.tag)
 StaysLater-tag g e d h p = before_tag g e d h p

@@ -3,13 +3,14 @@ use Rattle.std.proofs.Common.{◌≡◌, ◌≢◌, ℕ, ◌-◌, ◌<◌, Bool,
 use Rattle.std.specs.List.{AllByRecursion}
 use Rattle.std.proofs.lemmas.Bool.{ne_eqb}
 use Rattle.std.proofs.lemmas.List.{append-nil, get_or_read}
+use Rattle.warp_tag.proofs.Lists.{All-right, All-filter}
 use Rattle.warp_arena.specs.declared.arena.Arena.TheInside.{Inside}
 use Rattle.warp_arena.specs.declared.node.Links.{Links}
 use Rattle.warp_arena.specs.declared.node.Node.{Node}
 use Rattle.warp_arena.specs.Shape.{Threads, IsArena, IsWhole, used_of, unused_of, threads_of, members, IsChain, last_or, first_or, next_in, prev_in, node_at, no_node, no_links}
 use Rattle.warp_arena.specs.declared.node.TheConstants.{NO_NODE}
-use Rattle.warp_arena.proofs.Rings.{IsOff, IsApart, All-right, IsChain-split}
-use Rattle.warp_arena.proofs.Tables.{All-filter, Stands, StandsAt-from, Stands-start, Stands-back, steps_left, steps_left-back}
+use Rattle.warp_arena.proofs.Rings.{IsOff, IsApart, IsChain-split}
+use Rattle.warp_arena.proofs.Tables.{Stands, StandsAt-from, Stands-start, Stands-back, steps_left, steps_left-back}
 use Rattle.warp_arena.proofs.Shapes.{used_apart, none_used, all_used_below, members_apart, none_member}
 
 -- the links spell these indices of nodes, each once

@@ -8,14 +8,15 @@ use Rattle.std.proofs.lemmas.List.Elements.{filter-append}
 use Rattle.warp_tag.specs.Moment.{Moment, is_before}
 use Rattle.warp_tag.specs.Table.{name_before, has_name, IsTable}
 use Rattle.warp_tag.specs.declared.entry.Entry.{Entry}
+use Rattle.warp_tag.proofs.Lists.{All-both, All-weaker, All-left, All-right, filter-here, filter-past, All-filter, All-kept, some_not_none, find_none}
+use Rattle.warp_tag.proofs.Names.{before_own}
 use Rattle.warp_arena.specs.declared.arena.Arena.TheInside.{Inside}
 use Rattle.warp_arena.specs.declared.node.TheConstants.{NO_NODE}
 use Rattle.warp_arena.specs.Places.{Place, places_of, node_of, entries_of, IsOrdered}
 use Rattle.warp_arena.specs.Shape.{Threads, IsArena, IsWhole, Splits, contents_of, used_of, unused_of, members, place_at, IsChain, last_or, first_or, next_in, prev_in, free_ends, walk, no_links}
 use Rattle.warp_arena.specs.Changes.{IsPlace}
-use Rattle.warp_arena.proofs.Names.{before_own}
-use Rattle.warp_arena.proofs.Rings.{IsOff, IsApart, All-both, All-weaker, All-left, All-right, first_holds, last_holds, IsChain-split, walk_path, length-walk, IsPath-chain, count_of-here}
-use Rattle.warp_arena.proofs.Tables.{All-filter, All-kept, All-map, All-unmap, filter-here, filter-past, nodes_of-places, places_of-members}
+use Rattle.warp_arena.proofs.Rings.{IsOff, IsApart, first_holds, last_holds, IsChain-split, walk_path, length-walk, IsPath-chain, count_of-here}
+use Rattle.warp_arena.proofs.Tables.{All-map, All-unmap, nodes_of-places, places_of-members}
 use Rattle.warp_arena.proofs.Shapes.{unused_below, used_apart, none_unused, unused_off, all_used_below, members-append}
 use Rattle.warp_arena.proofs.Walks.{threads, used}
 use Rattle.warp_arena.proofs.Reading.{places}
@@ -74,17 +75,6 @@ pub filter_front : {X : Type 0} (q : X → Bool) (xs ys : List X) → AllByRecur
 filter_front q [] [] a b = refl
 filter_front q [] (y ∷ ys) a b = filter-past (λ x. not (q x)) y ys (ap not b.0) ∙ filter_front q [] ys tt b.1
 filter_front q (x ∷ xs) ys a b = filter-here (λ z. not (q z)) x (xs ++ ys) (ap not a.0) ∙ ap (λ zs. x ∷ zs) (filter_front q xs ys a.1 b)
-
-pub some_not_none : {X : Type 0} (x : X) → Some x ≡ None → ⊥
-some_not_none x e = cc
-
-pub find_none : {X : Type 0} (q : X → Bool) (xs : List X) → find q xs ≡ None → AllByRecursion (λ x. q x ≡ false) xs
-find_none q [] e = tt
-find_none q (x ∷ xs) e =
-    elim (cases_Bool (q x)) [
-      | inl so ↦ absurd (some_not_none x (sym (ap (λ b. cond b (Some x) (find q xs)) so) ∙ e))
-      | inr not_so ↦ (not_so, find_none q xs (sym (ap (λ b. cond b (Some x) (find q xs)) not_so) ∙ e))
-    ]
 
 pub none_of_map : {X Y : Type 0} (f : X → Y) (o : Option X) → option_map f o ≡ None → o ≡ None
 none_of_map f None e = refl

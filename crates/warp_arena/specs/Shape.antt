@@ -1,11 +1,12 @@
 -- The shape of an arena: how its links spell its lists. No public clause cites this module.
 use Rattle.std.specs.Prelude.{Bool, true, ◌++◌, ◌≡◌, ℕ, zero, suc, ◌+◌, ◌-◌, ◌<◌, ◌≤◌, ◌==◌, nat_lt, List, [], ◌∷◌, if◌then◌else◌, false, map, filter, length, slice_index_or}
 use Rattle.std.specs.List.{AllByRecursion}
+use Rattle.warp_tag.specs.Limits.{most_names}
 use Rattle.warp_tag.specs.Table.{IsTable, fresh}
 use Rattle.warp_tag.specs.declared.entry.Entry.{Entry}
 use Rattle.warp_arena.specs.declared.node.Links.{Links}
 use Rattle.warp_arena.specs.declared.node.Node.{Node}
-use Rattle.warp_arena.specs.declared.node.TheConstants.{NO_NODE, MAX_USED}
+use Rattle.warp_arena.specs.declared.node.TheConstants.{NO_NODE}
 use Rattle.warp_arena.specs.Places.{Place, Contents}
 
 -- the links of a list without a node
@@ -96,7 +97,7 @@ members entry origin is = filter (λ i. (entry i).origin == origin) is
 -- backward links spell its own nodes in order; the free links spell the unused ones; each index is used once or
 -- unused once.
 pub record IsArena (t : Threads) (used unused : List ℕ) : Type 0 where
-  pub small : t.size ≤ MAX_USED
+  pub small : t.size ≤ most_names
   pub sorted : IsTable (map t.entry used)
   pub declared : AllByRecursion (λ i. (t.entry i).origin < t.origins) used
   pub spelled : IsChain (next_in t.ends t.links) (prev_in t.ends t.links) NO_NODE used NO_NODE

@@ -1,6 +1,5 @@
-use crate::links::{
-    comes_before, greater_payload, handle, name_comes_before, thread_node, unthread_node,
-};
+//! The arena: entries of names, in order, each at a handle.
+use crate::links::{handle, thread_node, unthread_node};
 use crate::node::{Links, MAX_USED, NO_NODE, Node, NodeId};
 use std::alloc::Global;
 use std::marker::Model;
@@ -32,8 +31,9 @@ impl Model for Arena {
 }
 
 impl Arena {
-    ghost use Rattle.std.specs.Prelude.{◌≡◌, ◌≢◌, ℕ, ◌↔◌, ◌<◌, ◌+◌, ◌-◌, [], ◌∷◌, IsTrue, IsOk, IsSome, IfSome, IsSomeAnd, IfOk, OnOk, OnErr, None, Some, length, map, drop, max, ◌==◌, filter};
+    ghost use Rattle.std.specs.Prelude.{◌≡◌, ◌≢◌, ℕ, ◌↔◌, ◌<◌, ◌≤◌, ◌+◌, ◌-◌, [], ◌∷◌, IsTrue, IsOk, IsSome, IfSome, IsSomeAnd, IfOk, OnOk, OnErr, None, Some, length, map, drop, max, ◌==◌, filter};
     ghost use Rattle.std.specs.Option.{option_map};
+    ghost use Rattle.warp_tag.specs.Limits.{most_names};
     ghost use Rattle.warp_tag.specs.Moment.{is_before};
     ghost use Rattle.warp_tag.specs.Table.{name_before, has_name, fresh, with_event, with_withdrawal};
     ghost use Rattle.warp_arena.specs.Places.{places_of, node_of, entry_of, first_node, last_node, places_after, places_before, with_place, with_change, places_past, places_through, IsOrdered, origin_of};
@@ -59,7 +59,7 @@ impl Arena {
     /// Makes sure that a node is free, so that one `insert` can follow. It takes memory only where none is free,
     /// and then grows at most once, geometrically. The only error is want of memory; then all is as before.
     pub fn reserve_one(&mut self, _alloc: Global) -> Result<(), OutOfMemory>
-        requires { length self.old.places < MAX_USED }
+        requires { length self.old.places < most_names }
         ensures ok { OnOk result (self.new ≡ record self.old { free = max 1 self.old.free }) }
         ensures err { OnErr result (self.new ≡ self.old) }
         ensures spare { 0 < self.old.free → IsOk result }
@@ -83,7 +83,7 @@ impl Arena {
             return None;
         }
         let at = self.last_of_origin_through(origin, tag);
-        if at != NO_NODE && tag == self.nodes[at as usize].entry.tag {
+        if at != NO_NODE && self.nodes[at as usize].entry.is_of(origin, tag) {
             Some(NodeId::new(at))
         } else {
             None
@@ -109,12 +109,7 @@ impl Arena {
         let at = self.free;
         self.free = self.nodes[at as usize].by_tag.next;
         let mut own_ends = self.origin_ends[origin as usize];
-        let entry = Entry {
-            origin,
-            tag,
-            event: None,
-            withdrawn: false,
-        };
+        let entry = Entry::fresh(origin, tag);
         thread_node(
             &mut self.nodes,
             &mut self.ends,
@@ -136,8 +131,9 @@ impl Arena {
         ensures entry { entry_of node self.new.places ≡ option_map (with_event input value) (entry_of node self.old.places) }
         ensures others { (other : ℕ) → other ≢ node → entry_of other self.new.places ≡ entry_of other self.old.places }
     {
-        let entry = &mut self.nodes[node.index() as usize].entry;
-        entry.event = Some(greater_payload(entry.event, (input, value)));
+        self.nodes[node.index() as usize]
+            .entry
+            .note_event(input, value);
     }
 
     /// Records that the handle's name is withdrawn, which holds for good.
@@ -147,7 +143,7 @@ impl Arena {
         ensures entry { entry_of node self.new.places ≡ option_map with_withdrawal (entry_of node self.old.places) }
         ensures others { (other : ℕ) → other ≢ node → entry_of other self.new.places ≡ entry_of other self.old.places }
     {
-        self.nodes[node.index() as usize].entry.withdrawn = true;
+        self.nodes[node.index() as usize].entry.withdraw();
     }
 
     /// The entry that the handle names.
@@ -208,6 +204,13 @@ impl Arena {
         self.used == 0
     }
 
+    /// Whether the arena holds as many entries as it can, so that no further node can be reserved.
+    pub fn is_full(&self) -> bool
+        ensures { IsTrue result ↔ (most_names ≤ length self.now.places) }
+    {
+        self.len() >= MAX_USED
+    }
+
     /// Frees every node whose tag is not after this one, and says how many they were. Every handle of an entry
     /// that stays keeps naming it. The work is that of what it frees.
     pub fn free_through(&mut self, tag: Tag) -> usize
@@ -222,7 +225,7 @@ impl Arena {
     {
         let before = self.len();
         while let Some(first) = self.first() {
-            if comes_before(tag, self.entry(first).tag) {
+            if tag.is_before(self.entry(first).tag) {
                 break;
             }
             self.free_first();
@@ -250,7 +253,7 @@ impl Arena {
         ensures { Splits (name_before origin tag) self.now.places result }
     {
         let mut at = self.ends.prev;
-        while at != NO_NODE && name_comes_before(origin, tag, &self.nodes[at as usize].entry) {
+        while at != NO_NODE && self.nodes[at as usize].entry.comes_after(origin, tag) {
             at = self.nodes[at as usize].by_tag.prev;
         }
         at
@@ -262,7 +265,7 @@ impl Arena {
         ensures { Splits (λ e. is_before tag e.tag) (places_of origin self.now.places) result }
     {
         let mut at = self.origin_ends[origin as usize].prev;
-        while at != NO_NODE && comes_before(tag, self.nodes[at as usize].entry.tag) {
+        while at != NO_NODE && tag.is_before(self.nodes[at as usize].entry.tag) {
             at = self.nodes[at as usize].of_origin.prev;
         }
         at

@@ -1,35 +1,10 @@
-ghost use Rattle.std.specs.Prelude.{◌≡◌, ◌≢◌, ℕ, ◌<◌, Bool, length, None, Some, if◌then◌else◌, ◌==◌};
-ghost use Rattle.warp_tag.specs.Moment.{Moment, is_before};
-ghost use Rattle.warp_tag.specs.Table.{name_before, greater};
-ghost use Rattle.warp_arena.specs.Shape.{by_tag, of_origin, next_in, prev_in, no_links};
+//! The links of an arena's nodes: how a node comes into its two lists and goes from them.
+ghost use Rattle.std.specs.Prelude.{◌≡◌, ◌≢◌, ℕ, ◌<◌, length, None, Some, if◌then◌else◌, ◌==◌};
+ghost use Rattle.warp_arena.specs.Shape.{by_tag, of_origin, next_in, prev_in};
 ghost use Rattle.warp_arena.specs.Changes.{IsPlace, SetsNext, SetsPrev, KeepsButTags, KeepsButOwn, Inserts, Skips, Threaded, Unthreaded};
 
 use crate::node::{Links, NO_NODE, Node, NodeId};
-use warp_tag::{Entry, Tag};
-
-/// Whether the tag comes before the other one.
-pub(crate) fn comes_before(tag: Tag, other: Tag) -> bool
-    ensures { result ≡ is_before tag other }
-{
-    tag < other
-}
-
-/// Whether the name (origin, tag) comes before the entry's.
-pub(crate) fn name_comes_before(origin: u32, tag: Tag, entry: &Entry) -> bool
-    ensures { result ≡ name_before origin tag entry.now }
-{
-    comes_before(tag, entry.tag) || (tag == entry.tag && origin < entry.origin)
-}
-
-/// The payload (input, value) that counts: the greater one, by input, then by value.
-pub(crate) fn greater_payload(known: Option<(u32, i64)>, other: (u32, i64)) -> (u32, i64)
-    ensures { result ≡ greater known other }
-{
-    match known {
-        Some(known) if !(known.0 < other.0 || (known.0 == other.0 && known.1 < other.1)) => known,
-        _ => other,
-    }
-}
+use warp_tag::Entry;
 
 /// The handle of the node at this index, or none for `NO_NODE`.
 pub(crate) fn handle(index: u32) -> Option<NodeId>

@@ -1,3 +1,4 @@
+//! The nodes of an arena: their entries, their links, and the handles that name them.
 use std::marker::Model;
 use warp_tag::{Entry, Tag};
 
@@ -74,12 +75,7 @@ impl Node {
         ensures { result.by_tag.next ≡ NO_NODE }
     {
         Node {
-            entry: Entry {
-                origin: 0,
-                tag: Tag::new(0, 0).unwrap(),
-                event: None,
-                withdrawn: false,
-            },
+            entry: Entry::fresh(0, Tag::new(0, 0).unwrap()),
             by_tag: Links::EMPTY,
             of_origin: Links::EMPTY,
         }

@@ -1,7 +1,8 @@
+//! The worked rows, and the arena beside a sorted `Vec` over thousands of calls.
 ghost use Rattle.std.specs.Prelude.{◌≡◌, ◌<◌, ◌≤◌, OnOk, IfOk, IsSome, length};
 ghost use Rattle.warp_arena.specs.Places.{entry_of};
 
-use crate::{Arena, Entry, MAX_USED, NodeId, OutOfMemory};
+use crate::{Arena, Entry, NodeId, OutOfMemory};
 use std::alloc::{AllocError, Global};
 use std::process::Abort;
 use std::test::Fail;
@@ -21,7 +22,7 @@ fn named(arena: &mut Arena, alloc: Global, origin: u32, tag: Tag) -> Result<Node
     if let Some(node) = arena.find(origin, tag) {
         return Ok(node);
     }
-    if arena.len() >= MAX_USED {
+    if arena.is_full() {
         return Err(AllocError);
     }
     arena.reserve_one(alloc)?;
@@ -153,7 +154,7 @@ fn worked_rows(rt: HostRuntime) -> Result<(), Fail> {
     assert_eq!(rt; arena.find(1, early), None);
     let first = arena.first().expect(&rt, "an entry");
     assert_eq!(rt; arena.next(first), None);
-    assert!(rt; arena.len() < MAX_USED);
+    assert!(rt; !arena.is_full());
     assert_eq!(rt; arena.reserve_one(alloc), Ok(()));
     Ok(())
 }

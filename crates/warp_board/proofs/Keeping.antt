@@ -9,7 +9,8 @@ use Rattle.atomic_table.specs.Table.{State, step, stepped, keeps, Allows, Splits
 use Rattle.atomic_table.proofs.Lists.{at_set, at_snoc, set_again, set_else}
 use Rattle.warp_step.specs.declared.out.Out.{Out}
 use Rattle.warp_board.specs.declared.notes.Notes.{Notes}
-use Rattle.warp_board.specs.Board.{BoardState, StartsWith}
+use Rattle.warp_tag.specs.Lists.{StartsWith}
+use Rattle.warp_board.specs.Board.{BoardState}
 use Rattle.warp_board.specs.Notes.{newcomer, no_notes, as_reader, taken_in}
 use Rattle.warp_board.specs.Rule.{IsSpelledBy, Fits, Keeps}
 use Rattle.warp_board.specs.Spelling.{Spells}

@@ -1,7 +1,11 @@
 -- What a board is, and what its writer and its readers know of it.
-use Rattle.std.specs.Prelude.{◌≡◌, ℕ, ◌-◌, ◌/◌, ◌++◌, Bool, List}
+use Rattle.std.specs.Prelude.{ℕ, ◌-◌, ◌/◌, Bool, List}
 use Rattle.atomic_table.specs.Seated.{TableId}
 use Rattle.warp_step.specs.declared.out.Out.{Out}
+
+-- the most rows for which a board can have room
+abbrev pub most_rows : ℕ
+most_rows = 4096
 
 -- for how many rows a board has room: two words each, behind the count and the flag
 abbrev pub room_of : TableId → ℕ
@@ -24,7 +28,3 @@ pub record ReaderState : Type 0 where
   pub board : TableId
   pub rows : List Out
   pub frozen : Bool
-
--- the rows begin with these
-abbrev pub StartsWith : List Out → List Out → Type 0
-StartsWith rows known = (later : List Out) × (rows ≡ known ++ later)

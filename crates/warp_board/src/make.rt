@@ -1,10 +1,10 @@
 //! A board, made with its writer and a first reader.
 ghost use Rattle.std.specs.Prelude.{◌≡◌, ◌≤◌, [], false, IfOk};
-ghost use Rattle.warp_board.specs.Board.{room_of};
+ghost use Rattle.warp_board.specs.Board.{most_rows, room_of};
 
 use crate::reader::Reader;
 use crate::rule::Copies;
-use crate::words::{Board, MAX_ROWS};
+use crate::words::Board;
 use crate::writer::Writer;
 use atomic_table::Table;
 use std::alloc::Global;
@@ -14,7 +14,7 @@ use warp_tag::OutOfMemory;
 /// room of the writer's copy, is taken here.
 pub fn board(alloc: Global, rows: usize) -> Result<(Board, Writer, Reader), OutOfMemory>
     requires least { 1 ≤ rows }
-    requires most { rows ≤ MAX_ROWS }
+    requires most { rows ≤ most_rows }
     ensures room { IfOk result (λ made. room_of made.0 ≡ rows) }
     ensures writer { IfOk result
         (λ made. made.1 ≡ record { board = made.0; rows = []; frozen = false }) }

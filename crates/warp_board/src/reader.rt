@@ -1,6 +1,7 @@
 //! The readers of a board.
 ghost use Rattle.std.specs.Prelude.{◌≡◌, ◌≤◌, true, ◌||◌, ◌↔◌, IsNone, IsOk, MatchResult, slice_get, length};
-ghost use Rattle.warp_board.specs.Board.{room_of, StartsWith};
+ghost use Rattle.warp_tag.specs.Lists.{StartsWith};
+ghost use Rattle.warp_board.specs.Board.{room_of};
 
 use crate::rule::{Copies, LoadCount, LoadFlag, LoadWord, TakesIn};
 use crate::spell::read_row;

@@ -1,5 +1,6 @@
 //! How a row is spelled in two words.
 ghost use Rattle.std.specs.Prelude.{◌≡◌, ◌<◌, ◌↔◌, Some};
+ghost use Rattle.warp_tag.specs.Limits.{most_outputs};
 ghost use Rattle.warp_step.specs.declared.out.Out.{Out};
 ghost use Rattle.warp_board.specs.Spelling.{Spells};
 
@@ -11,7 +12,7 @@ pub const PORTS: u32 = 64;
 
 /// The two words that spell the row: time * 65,536 + microstep * 256 + port, and the value's 64 bits.
 pub fn spell_row(row: Out) -> (u64, u64)
-    requires port { row.port < PORTS }
+    requires port { row.port < most_outputs }
     ensures { Spells row result.0 result.1 }
 {
     let first = row.tag.time() * 65_536 + u64::from(row.tag.micro()) * 256 + u64::from(row.port);

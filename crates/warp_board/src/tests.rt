@@ -1,4 +1,6 @@
+//! Spelled rows, a full board, and a writer that two readers follow from threads of their own.
 ghost use Rattle.std.specs.Prelude.{◌≡◌, ◌<◌, IfSome};
+ghost use Rattle.warp_tag.specs.Limits.{most_outputs};
 
 use crate::{
     Board, Full, PORTS, Reader, Writer, board, join_readers, meet, read_row, spell_row,
@@ -7,12 +9,13 @@ use crate::{
 use std::test::Fail;
 use std::thread;
 use std::thread::Threads;
+use std::time::{Clock, Duration};
 use warp_step::Out;
 use warp_tag::Tag;
 
 fn out(time: u64, micro: u32, port: u32, value: i64) -> Option<Out>
     requires { port < PORTS }
-    ensures { IfSome result (λ row. row.port < PORTS) }
+    ensures { IfSome result (λ row. row.port < most_outputs) }
 {
     let tag = Tag::new(time, micro)?;
     Some(Out { tag, port, value })
@@ -62,7 +65,7 @@ const ROWS: u64 = 1000;
 
 // The row that the writer of the test below puts at this place.
 fn row_at(place: u64) -> Option<Out>
-    ensures { IfSome result (λ row. row.port < PORTS) }
+    ensures { IfSome result (λ row. row.port < most_outputs) }
 {
     out(
         place,
@@ -72,13 +75,17 @@ fn row_at(place: u64) -> Option<Out>
     )
 }
 
-fn fill(board: &Board, mut writer: Writer) -> Writer
+// Appends the rows, with a pause after every hundred, and freezes the board.
+fn fill<R: Clock>(rt: &R, board: &Board, mut writer: Writer) -> Writer
     requires { writer.board ≡ board.now }
     ensures { result.board ≡ board.now }
 {
     for place in 0..ROWS {
         if let Some(row) = row_at(place) {
             let _ = writer.append(board, row);
+        }
+        if place % 100 == 99 {
+            thread::sleep(rt, Duration::from_millis(1));
         }
     }
     writer.freeze(board);
@@ -98,24 +105,28 @@ fn has_rows(board: &Board, reader: &mut Reader, from: u64, to: u64) -> bool
     true
 }
 
-// Follows the board for so many turns, and says whether each row that came was the one for its place.
-fn follow(board: &Board, mut reader: Reader, turns: u32) -> (Reader, bool)
+// Follows the board until all rows were seen, or gives up after 10,000 turns of a millisecond; whether all were seen, each
+// the one for its place.
+fn follow<R: Clock>(rt: &R, board: &Board, mut reader: Reader) -> (Reader, bool)
     requires { reader.board ≡ board.now }
     ensures { result.0.board ≡ board.now }
 {
     let mut seen = 0;
     let mut is_right = true;
-    for _turn in 0..turns {
+    for _turn in 0..10_000 {
         let count = reader.count(board);
         is_right = has_rows(board, &mut reader, seen, count) && is_right;
         seen = count;
-        thread::yield_now();
+        if seen == ROWS {
+            break;
+        }
+        thread::sleep(rt, Duration::from_millis(1));
     }
-    (reader, is_right)
+    (reader, is_right && seen == ROWS)
 }
 
 // Two readers follow the board, each in a thread of its own.
-fn follow_both<R: Threads>(
+fn follow_both<R: Threads + Clock + Sync>(
     rt: &R,
     board: &Board,
     left: Reader,
@@ -128,8 +139,8 @@ fn follow_both<R: Threads>(
 {
     thread::join(
         rt,
-        move || follow(board, left, 2000),
-        move || follow(board, right, 2000),
+        move || follow(rt, board, left),
+        move || follow(rt, board, right),
     )
 }
 
@@ -142,7 +153,7 @@ fn two_readers_follow_a_writer(rt: HostRuntime) -> Result<(), Fail> {
     let board = &board;
     let (mut writer, (left, right)) = thread::join(
         &rt,
-        move || fill(board, writer),
+        move || fill(&rt, board, writer),
         || follow_both(&rt, board, left, right),
     );
     assert!(rt; left.1 && right.1);

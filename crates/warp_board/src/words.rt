@@ -1,6 +1,6 @@
 //! The words that the seats of one board share.
 ghost use Rattle.std.specs.Prelude.{◌≡◌, ◌≤◌};
-ghost use Rattle.warp_board.specs.Board.{room_of};
+ghost use Rattle.warp_board.specs.Board.{most_rows, room_of};
 
 use crate::notes::Notes;
 use crate::rule::BoardRule;
@@ -23,7 +23,7 @@ pub struct Board {
 impl Model for Board {
     ghost use Rattle.std.specs.Prelude.{◌≡◌, ◌≤◌, ◌+◌, ◌*◌};
     ghost use Rattle.atomic_table.specs.Seated.{TableId, table_id_coded};
-    ghost use Rattle.warp_board.specs.declared.words.TheConstants.{MAX_ROWS};
+    ghost use Rattle.warp_board.specs.Board.{most_rows};
 
     ghost Value = { TableId };
 
@@ -32,7 +32,7 @@ impl Model for Board {
     ghost view = { λ b. b.table.shared.table_id };
 
     ghost invariant = { λ b. let rows = b.table.shared.key in
-        (b.table.shared.table_id.words ≡ 2 + 2 * rows) × (1 ≤ rows) × (rows ≤ MAX_ROWS) };
+        (b.table.shared.table_id.words ≡ 2 + 2 * rows) × (1 ≤ rows) × (rows ≤ most_rows) };
 }
 
 impl Board {
@@ -40,7 +40,7 @@ impl Board {
     pub(crate) fn room(&self) -> usize
         ensures room { result ≡ room_of self.now }
         ensures least { 1 ≤ result }
-        ensures most { result ≤ MAX_ROWS }
+        ensures most { result ≤ most_rows }
     {
         (self.table.word_count() - 2) / 2
     }

@@ -1,3 +1,4 @@
+//! Expressions: their values, copies and comparison.
 ghost use Rattle.std.specs.Prelude.{◌≡◌, ℕ, length, IsTrue, IfOk, ◌↔◌};
 ghost use Rattle.warp_body.specs.Presence.{Presence};
 ghost use Rattle.warp_body.specs.Term.{Term, term_of, value_of, term_fits, sizes_of};

@@ -1,3 +1,4 @@
+//! What a body reads and writes: the variables, and the ports that are present.
 ghost use Rattle.std.specs.Prelude.{◌≡◌, ℕ, ℤ, ◌<◌, List, length, slice_index_or, slice_set, Option, Some, None, pos, IfOk, replicate, ◌==◌};
 ghost use Rattle.warp_body.specs.Presence.{Presence};
 

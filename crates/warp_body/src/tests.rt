@@ -1,3 +1,4 @@
+//! What no clause says: that the calls succeed, and values at concrete types.
 use crate::{Expr, Present, Sizes, Stmt, Vars, Wishes, copy_body, eval, fits, run_body, same_body};
 use std::alloc::Global;
 use std::test::Fail;

@@ -1,3 +1,4 @@
 pub mod ValidLemmas
 pub mod TraceLemmas
 pub mod TraceExists
+pub mod EventLemmas

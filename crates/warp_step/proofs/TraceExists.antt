@@ -2,36 +2,15 @@
 use Rattle.std.proofs.Common.{◌≡◌, ◌⊎◌, inl, inr, ℕ, zero, suc, ◌+◌, ◌<◌, ◌≤◌, Bool, true, false, ◌&&◌, List, [], ◌∷◌, length, ap, sym, ◌∙◌, refl, subst, arith, rules, Option, Some, None}
 use Rattle.std.specs.Prelude.{if◌then◌else◌}
 use Rattle.std.specs.List.{list_any}
+use Rattle.std.proofs.lemmas.Bool.{cases_Bool}
 use Rattle.std.proofs.lemmas.Bool.Decides.{nat_tests}
 use Rattle.warp_tag.specs.Moment.{Moment, is_before, is_same}
 use Rattle.warp_tag.specs.Table.{Event}
-use Rattle.warp_step.specs.Rules.{Rules}
+use Rattle.warp_tag.proofs.Tags.{same_is, is_same_self, not_before_self, before_trans, not_before_trans}
+use Rattle.warp_step.specs.Program.{Program}
 use Rattle.warp_step.specs.Snapshot.{Snapshot, start_state}
 use Rattle.warp_step.specs.Step.{state_after, outputs_after}
 use Rattle.warp_step.specs.Run.{Row, Run, RunFrom, IsNext, waits, is_after, given_at}
-
-pub split : (b : Bool) → (b ≡ true) ⊎ (b ≡ false)
-split true = inl refl
-split false = inr refl
-
--- a test of sameness that holds makes the tags one
-pub same_is : (t u : Moment) → is_same t u ≡ true → t ≡ u
-same_is t u h =
-    let times : t.time ≡ u.time = grind (arith, nat_tests) in
-    let microsteps : t.microstep ≡ u.microstep = grind (arith, nat_tests) in
-    search rules
-
-pub is_same_self : (t : Moment) → is_same t t ≡ true
-is_same_self t = grind (arith, nat_tests)
-
-pub not_before_self : (t : Moment) → is_before t t ≡ false
-not_before_self t = grind (arith, nat_tests)
-
-pub before_trans : (t u v : Moment) → is_before t u ≡ true → is_before u v ≡ true → is_before t v ≡ true
-before_trans t u v h k = grind (arith, nat_tests)
-
-pub not_before_trans : (t u v : Moment) → is_before t v ≡ false → is_before u v ≡ true → is_before t u ≡ false
-not_before_trans t u v h k = grind (arith, nat_tests)
 
 pub after_trans : (last : Option Moment) (t u : Moment) → is_after last t ≡ true → is_before t u ≡ true → is_after last u ≡ true
 after_trans None t u h k = refl
@@ -52,7 +31,7 @@ pub record Least (last : Option Moment) (E : List Event) (t : Moment) : Type 0 w
 
 -- an event that is not after the last row stands at no tag that is
 skips : (last : Option Moment) (e : Event) (u : Moment) → is_after last e.tag ≡ false → is_after last u ≡ true → is_same u e.tag ≡ false
-skips last e u old after_it = elim (split (is_same u e.tag)) [
+skips last e u old after_it = elim (cases_Bool (is_same u e.tag)) [
   | inl same ↦ let one : true ≡ false = sym after_it ∙ ap (is_after last) (same_is u e.tag same) ∙ old in cc
   | inr other ↦ other
 ]
@@ -85,13 +64,13 @@ front last e es after_it (inl none) = (
         subst (λ (v : Moment). is_before v e.tag ≡ false) (sym (same_is u e.tag same)) (not_before_self e.tag);
   },
 )
-front last e es after_it (inr (t, l)) = elim (split (is_before e.tag t)) [
+front last e es after_it (inr (t, l)) = elim (cases_Bool (is_before e.tag t)) [
   | inl earlier ↦ (
     e.tag,
     record {
       after = after_it;
       stood = (let h = is_same_self e.tag in grind (arith, nat_tests));
-      least = λ u a s. elim (split (stands u es)) [
+      least = λ u a s. elim (cases_Bool (stands u es)) [
         | inl there ↦ not_before_trans u e.tag t (l.least u a there) earlier
         | inr gone ↦
             let same : is_same u e.tag ≡ true = grind (arith, nat_tests) in
@@ -104,7 +83,7 @@ front last e es after_it (inr (t, l)) = elim (split (is_before e.tag t)) [
     record {
       after = l.after;
       stood = (let h = l.stood in grind (arith, nat_tests));
-      least = λ u a s. elim (split (stands u es)) [
+      least = λ u a s. elim (cases_Bool (stands u es)) [
         | inl there ↦ l.least u a there
         | inr gone ↦
             let same : is_same u e.tag ≡ true = grind (arith, nat_tests) in
@@ -116,7 +95,7 @@ front last e es after_it (inr (t, l)) = elim (split (is_before e.tag t)) [
 
 pub next_or_none : (last : Option Moment) (E : List Event) → NoneLeft last E ⊎ ((t : Moment) × Least last E t)
 next_or_none last [] = inl (λ t a. refl)
-next_or_none last (e ∷ es) = elim (split (is_after last e.tag)) [
+next_or_none last (e ∷ es) = elim (cases_Bool (is_after last e.tag)) [
   | inl after_it ↦ inr (front last e es after_it (next_or_none last es))
   | inr not_so ↦ past last e es not_so (next_or_none last es)
 ]
@@ -131,15 +110,15 @@ fewer : (last : Option Moment) (t : Moment) (E : List Event) → is_after last t
 fewer last t [] a = omega arith
 fewer last t (e ∷ es) a =
     let rest : left (Some t) es ≤ left last es = fewer last t es a in
-    elim (split (is_before t e.tag)) [
+    elim (cases_Bool (is_before t e.tag)) [
       | inl later ↦ let also : is_after last e.tag ≡ true = after_trans last t e.tag a later in grind (arith, nat_tests)
-      | inr not_so ↦ elim (split (is_after last e.tag)) [ inl x ↦ grind (arith, nat_tests) | inr y ↦ grind (arith, nat_tests) ]
+      | inr not_so ↦ elim (cases_Bool (is_after last e.tag)) [ inl x ↦ grind (arith, nat_tests) | inr y ↦ grind (arith, nat_tests) ]
     ]
 
 -- and fewer where an event stands at it
 less : (last : Option Moment) (t : Moment) (E : List Event) → is_after last t ≡ true → stands t E ≡ true → left (Some t) E < left last E
 less last t [] a s = let no : false ≡ true = s in cc
-less last t (e ∷ es) a s = elim (split (is_same t e.tag)) [
+less last t (e ∷ es) a s = elim (cases_Bool (is_same t e.tag)) [
   | inl same ↦
       let here : is_before t e.tag ≡ false = subst (λ (v : Moment). is_before t v ≡ false) (same_is t e.tag same) (not_before_self t) in
       let was : is_after last e.tag ≡ true = subst (λ (v : Moment). is_after last v ≡ true) (same_is t e.tag same) a in
@@ -148,9 +127,9 @@ less last t (e ∷ es) a s = elim (split (is_same t e.tag)) [
   | inr other ↦
       let there : stands t es ≡ true = grind (arith, nat_tests) in
       let rest : left (Some t) es < left last es = less last t es a there in
-      elim (split (is_before t e.tag)) [
+      elim (cases_Bool (is_before t e.tag)) [
         | inl later ↦ let also : is_after last e.tag ≡ true = after_trans last t e.tag a later in grind (arith, nat_tests)
-        | inr not_so ↦ elim (split (is_after last e.tag)) [ inl x ↦ grind (arith, nat_tests) | inr y ↦ grind (arith, nat_tests) ]
+        | inr not_so ↦ elim (cases_Bool (is_after last e.tag)) [ inl x ↦ grind (arith, nat_tests) | inr y ↦ grind (arith, nat_tests) ]
       ]
 ]
 
@@ -169,17 +148,17 @@ next_quiet E last s t quiet l = record {
 }
 
 pub end_quiet : (E : List Event) (last : Option Moment) (s : Snapshot) → s.pending ≡ [] → NoneLeft last E → (t : Moment) → waits E last s t ≡ false
-end_quiet E last s quiet none t = elim (split (is_after last t)) [
+end_quiet E last s quiet none t = elim (cases_Bool (is_after last t)) [
   | inl a ↦ let b = none t a in let w = waits_quiet E last s t quiet in grind (arith, nat_tests)
   | inr a ↦ let w = waits_quiet E last s t quiet in grind (arith, nat_tests)
 ]
 
 -- nothing pending stays nothing pending
-pub stays_quiet : (P : Rules) (s : Snapshot) (t : Moment) (E : List Event) → s.pending ≡ [] → (state_after P s t (given_at t E)).pending ≡ []
+pub stays_quiet : (P : Program) (s : Snapshot) (t : Moment) (E : List Event) → s.pending ≡ [] → (state_after P s t (given_at t E)).pending ≡ []
 stays_quiet P s t E quiet = rw quiet refl
 
 -- a run has no more rows than events that are left
-pub rows_left : (P : Rules) (E : List Event) (last : Option Moment) (s : Snapshot) (rows : List Row) → s.pending ≡ [] → RunFrom P E last s rows → length rows ≤ left last E
+pub rows_left : (P : Program) (E : List Event) (last : Option Moment) (s : Snapshot) (rows : List Row) → s.pending ≡ [] → RunFrom P E last s rows → length rows ≤ left last E
 rows_left P E last s [] quiet run = omega arith
 rows_left P E last s (r ∷ rows) quiet run =
     let w = waits_quiet E last s r.tag quiet in
@@ -196,7 +175,7 @@ left_few last [] = omega arith
 left_few last (e ∷ es) = let rest = left_few last es in grind (arith, nat_tests)
 
 -- the rows from here on, with so many events left at the most
-pub exists_from : (n : ℕ) (P : Rules) (E : List Event) (last : Option Moment) (s : Snapshot) → s.pending ≡ [] → left last E ≤ n → (rows : List Row) × RunFrom P E last s rows
+pub exists_from : (n : ℕ) (P : Program) (E : List Event) (last : Option Moment) (s : Snapshot) → s.pending ≡ [] → left last E ≤ n → (rows : List Row) × RunFrom P E last s rows
 exists_from zero P E last s quiet few = elim (next_or_none last E) [
   | inl none ↦ ([], end_quiet E last s quiet none)
   | inr found ↦
@@ -215,7 +194,7 @@ exists_from (suc n) P E last s quiet few = elim (next_or_none last E) [
       (row ∷ rest.0, (next_quiet E last s t quiet found.1, record { state = refl; outputs = refl }, rest.1))
 ]
 
-pub exists : (P : Rules) (E : List Event) → (trace : List Row) × Run P E trace
+pub exists : (P : Program) (E : List Event) → (trace : List Row) × Run P E trace
 exists P E =
     let few : left None E ≤ left None E = omega arith in
     exists_from (left None E) P E None (start_state P) refl few

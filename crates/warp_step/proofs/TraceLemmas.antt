@@ -1,19 +1,12 @@
 -- Exactly one trace fits a program and its events.
-use Rattle.std.proofs.Common.{◌≡◌, true, false, List, [], ◌∷◌, ap, sym, ◌∙◌, refl, subst, arith, rules, Option, Some}
-use Rattle.std.proofs.lemmas.Bool.Decides.{nat_tests}
-use Rattle.warp_tag.specs.Moment.{Moment, is_before}
+use Rattle.std.proofs.Common.{◌≡◌, true, false, List, [], ◌∷◌, ap, sym, ◌∙◌, refl, subst, rules, Option, Some}
+use Rattle.warp_tag.specs.Moment.{Moment}
 use Rattle.warp_tag.specs.Table.{Event}
-use Rattle.warp_step.specs.Rules.{Rules}
+use Rattle.warp_tag.proofs.Tags.{same_moment}
+use Rattle.warp_step.specs.Program.{Program}
 use Rattle.warp_step.specs.Snapshot.{Snapshot}
 use Rattle.warp_step.specs.Step.{Step, state_after, outputs_after}
 use Rattle.warp_step.specs.Run.{Row, RunFrom, IsNext, given_at}
-
--- two tags of which neither is before the other are one
-pub same_moment : (t u : Moment) → is_before t u ≡ false → is_before u t ≡ false → t ≡ u
-same_moment t u h k =
-    let times : t.time ≡ u.time = grind (arith, nat_tests) in
-    let microsteps : t.microstep ≡ u.microstep = grind (arith, nat_tests) in
-    search rules
 
 -- one tag is the next
 pub one_next : (E : List Event) (last : Option Moment) (s : Snapshot) (t u : Moment) → IsNext E last s t → IsNext E last s u → t ≡ u
@@ -24,14 +17,14 @@ pub same_row : (r q : Row) → r.tag ≡ q.tag → r.state ≡ q.state → r.out
 same_row r q a b c = search rules
 
 -- a step from one state at one tag with the same given goes to one state with the same outputs
-pub one_row : (P : Rules) (E : List Event) (s : Snapshot) (r q : Row) → r.tag ≡ q.tag
+pub one_row : (P : Program) (E : List Event) (s : Snapshot) (r q : Row) → r.tag ≡ q.tag
     → Step P s r.tag (given_at r.tag E) r.state r.outputs → Step P s q.tag (given_at q.tag E) q.state q.outputs → r ≡ q
 one_row P E s r q tags h k =
     same_row r q tags
     (h.state ∙ ap (λ (t : Moment). state_after P s t (given_at t E)) tags ∙ sym k.state)
     (h.outputs ∙ ap (λ (t : Moment). outputs_after P s t (given_at t E)) tags ∙ sym k.outputs)
 
-pub one_rest : (P : Rules) (E : List Event) (last : Option Moment) (s : Snapshot) (a b : List Row) → RunFrom P E last s a → RunFrom P E last s b → a ≡ b
+pub one_rest : (P : Program) (E : List Event) (last : Option Moment) (s : Snapshot) (a b : List Row) → RunFrom P E last s a → RunFrom P E last s b → a ≡ b
 one_rest P E last s [] [] h k = refl
 one_rest P E last s [] (q ∷ b) h k = let no : false ≡ true = sym (h q.tag) ∙ k.0.waiting in cc
 one_rest P E last s (r ∷ a) [] h k = let no : false ≡ true = sym (k r.tag) ∙ h.0.waiting in cc

@@ -1,8 +1,9 @@
 -- What a valid program's numbers are good for.
-use Rattle.std.proofs.Common.{ℕ, zero, suc, ◌<◌, ◌≤◌, Bool, List, [], ◌∷◌, length, get_or, nat_lt, arith, IsTrue}
+use Rattle.std.proofs.Common.{◌≡◌, ℕ, zero, suc, ◌<◌, ◌≤◌, Bool, List, [], ◌∷◌, length, get_or, nat_lt, arith, IsTrue}
 use Rattle.std.specs.List.{list_all}
 use Rattle.std.proofs.lemmas.Bool.Decides.{nat_tests}
-use Rattle.warp_step.specs.Rules.{Rules}
+use Rattle.warp_tag.specs.Limits.{longest_stop, last_microstep, most_ports, most_outputs}
+use Rattle.warp_step.specs.Program.{Program}
 use Rattle.warp_step.specs.Valid.{is_valid, rule_fits, input_fits}
 use Rattle.warp_step.specs.declared.reaction.ProgramInput.{ProgramInput}
 
@@ -16,17 +17,19 @@ list_all_get p (x ∷ xs) (suc i) d h lt =
     list_all_get p xs i d rest less
 
 -- the parts of a valid program
-pub record Parts (P : Rules) : Type 0 where
-  pub stop : P.stop ≤ 1000000
-  pub ports : P.ports ≤ 256
-  pub outputs_few : length P.outputs ≤ 64
+pub record Parts (P : Program) : Type 0 where
+  pub stop : P.stop ≤ longest_stop
+  pub top : P.top ≡ last_microstep
+  pub ports : P.ports ≤ most_ports
+  pub outputs_few : length P.outputs ≤ most_outputs
   pub reactions : IsTrue (list_all (rule_fits P) P.reactions)
   pub inputs : IsTrue (list_all (input_fits P) P.inputs)
   pub outputs : IsTrue (list_all (λ p. nat_lt p P.ports) P.outputs)
 
-pub parts : (P : Rules) → IsTrue (is_valid P) → Parts P
+pub parts : (P : Program) → IsTrue (is_valid P) → Parts P
 parts P h = record {
   stop = grind (arith, nat_tests);
+  top = grind (arith, nat_tests);
   ports = grind (arith, nat_tests);
   outputs_few = grind (arith, nat_tests);
   reactions = grind (arith, nat_tests);
@@ -35,7 +38,7 @@ parts P h = record {
 }
 
 -- an input's port is one of the program's
-pub input_port : (P : Rules) (k : ℕ) (d : ProgramInput) → IsTrue (is_valid P) → k < length P.inputs → (get_or P.inputs k d).port < P.ports
+pub input_port : (P : Program) (k : ℕ) (d : ProgramInput) → IsTrue (is_valid P) → k < length P.inputs → (get_or P.inputs k d).port < P.ports
 input_port P k d h lt =
     let fits : IsTrue (input_fits P (get_or P.inputs k d)) = list_all_get (input_fits P) P.inputs k d (parts P h).inputs lt in
     grind (arith, nat_tests)

@@ -1,7 +1,9 @@
-pub mod Rules
+pub mod Program
+pub mod View
 pub mod Valid
 pub mod Snapshot
 pub mod Step
 pub mod Run
-pub mod Program
+pub mod Events
 pub mod Twice
+pub mod Counter

@@ -3,7 +3,7 @@ use Rattle.std.specs.Prelude.{◌≡◌, Bool, true, false, ◌&&◌, ◌||◌, 
 use Rattle.std.specs.List.{flat_map, list_any}
 use Rattle.warp_tag.specs.Moment.{Moment, is_before, is_same}
 use Rattle.warp_tag.specs.Table.{Event}
-use Rattle.warp_step.specs.Rules.{Rules}
+use Rattle.warp_step.specs.Program.{Program}
 use Rattle.warp_step.specs.Snapshot.{Snapshot, start_state}
 use Rattle.warp_step.specs.Step.{Step}
 use Rattle.warp_step.specs.declared.out.Given.{Given}
@@ -37,14 +37,14 @@ pub record IsNext (E : List Event) (last : Option Moment) (s : Snapshot) (t : Mo
   pub least : (u : Moment) → IsTrue (waits E last s u) → is_before u t ≡ false
 
 -- the rows from a state on: each at the least tag that waits and a step from the row before; after them nothing waits
-abbrev pub RunFrom : Rules → List Event → Option Moment → Snapshot → List Row → Type 0
+abbrev pub RunFrom : Program → List Event → Option Moment → Snapshot → List Row → Type 0
 RunFrom P E last s [] = (t : Moment) → waits E last s t ≡ false
 RunFrom P E last s (row ∷ rows) =
     IsNext E last s row.tag × Step P s row.tag (given_at row.tag E) row.state row.outputs
     × RunFrom P E (Some row.tag) row.state rows
 
 -- the trace of a program over events
-abbrev pub Run : Rules → List Event → List Row → Type 0
+abbrev pub Run : Program → List Event → List Row → Type 0
 Run P E trace = RunFrom P E None (start_state P) trace
 
 -- the state after these rows, from a state on

@@ -1,7 +1,7 @@
 -- The state of a program between two steps.
 use Rattle.std.specs.Prelude.{◌≡◌, ℕ, ℤ, List, [], ◌∷◌, length, Option, Some, None, if◌then◌else◌}
 use Rattle.warp_tag.specs.Moment.{Moment, is_before}
-use Rattle.warp_step.specs.Rules.{Rules}
+use Rattle.warp_step.specs.Program.{Program}
 
 -- what a pending entry leads to
 pub data Target : Type 0 where
@@ -23,11 +23,11 @@ pub record Snapshot : Type 0 where
   pub lost : ℕ
 
 -- the state that a program starts in; in this version nothing waits at the start
-abbrev pub start_state : Rules → Snapshot
+abbrev pub start_state : Program → Snapshot
 start_state P = record { vars = P.starts; pending = []; lost = 0 }
 
 -- a state of this program: it has its variables
-abbrev pub IsStateOf : Rules → Snapshot → Type 0
+abbrev pub IsStateOf : Program → Snapshot → Type 0
 IsStateOf P s = length s.vars ≡ length P.starts
 
 -- the earlier of a tag and one that may be missing

@@ -4,14 +4,14 @@ use Rattle.std.specs.List.{list_any, list_all}
 use Rattle.warp_tag.specs.Moment.{Moment, is_before, is_same}
 use Rattle.warp_body.specs.Presence.{Presence, port_at}
 use Rattle.warp_body.specs.Effect.{Effect, effect_of}
-use Rattle.warp_step.specs.Rules.{Rule, Rules}
+use Rattle.warp_step.specs.Program.{Rule, Program}
 use Rattle.warp_step.specs.Valid.{is_distinct}
 use Rattle.warp_step.specs.Snapshot.{Snapshot, IsStateOf}
 use Rattle.warp_step.specs.declared.out.Given.{Given}
 use Rattle.warp_step.specs.declared.out.Out.{Out}
 
 -- the port that a program input leads to
-abbrev pub port_of : Rules → ℕ → ℕ
+abbrev pub port_of : Program → ℕ → ℕ
 port_of P input = slice_index (map (λ i. i.port) P.inputs) input
 
 -- no port is present
@@ -19,7 +19,7 @@ abbrev pub nothing_present : ℕ → Presence
 nothing_present ports = record { ports = replicate ports None }
 
 -- each given input is present at its port
-abbrev pub arrived : Rules → List Given → Presence → Presence
+abbrev pub arrived : Program → List Given → Presence → Presence
 arrived P [] present = present
 arrived P (g ∷ gs) present = arrived P gs (record { ports = slice_set present.ports (port_of P g.input) (Some g.value) })
 
@@ -37,7 +37,7 @@ after_reactions [] now = now
 after_reactions (rule ∷ rules) now = after_reactions rules (react rule now)
 
 -- what the program's reactions make of the variables and of what is given
-abbrev pub reacted : Rules → Snapshot → List Given → Effect
+abbrev pub reacted : Program → Snapshot → List Given → Effect
 reacted P s X = after_reactions P.reactions (record { vars = s.vars; present = arrived P X (nothing_present P.ports); wishes = [] })
 
 -- one more output in front, where the port is present
@@ -52,7 +52,7 @@ outputs_from number t present (port ∷ ports) = with_output number t (port_at p
 
 -- The state after the step: the entries at the tag are taken out of the pending ones. In this version nothing is ever
 -- pending, since programs have no actions, timers and links: no entry makes anything present, and there are no wishes.
-abbrev pub state_after : Rules → Snapshot → Moment → List Given → Snapshot
+abbrev pub state_after : Program → Snapshot → Moment → List Given → Snapshot
 state_after P s t X = record {
   vars = (reacted P s X).vars;
   pending = filter (λ w. not (is_same w.tag t)) s.pending;
@@ -60,22 +60,22 @@ state_after P s t X = record {
 }
 
 -- the program outputs that are present, in order
-abbrev pub outputs_after : Rules → Snapshot → Moment → List Given → List Out
+abbrev pub outputs_after : Program → Snapshot → Moment → List Given → List Out
 outputs_after P s t X = outputs_from 0 t (reacted P s X).present P.outputs
 
 -- from a state, at a tag with what is given there, the program goes on to this state with these outputs
-pub record Step (P : Rules) (old : Snapshot) (t : Moment) (X : List Given) (new : Snapshot) (outs : List Out) : Type 0 where
+pub record Step (P : Program) (old : Snapshot) (t : Moment) (X : List Given) (new : Snapshot) (outs : List Out) : Type 0 where
   pub state : new ≡ state_after P old t X
   pub outputs : outs ≡ outputs_after P old t X
 
 -- each given input is one of the program's, and none is given twice
-pub record AreInputs (P : Rules) (X : List Given) : Type 0 where
+pub record AreInputs (P : Program) (X : List Given) : Type 0 where
   pub known : IsTrue (list_all (λ g. nat_lt g.input (length P.inputs)) X)
   pub once : IsTrue (is_distinct (map (λ g. g.input) X))
 
 -- a step may be made: the state is of this program, the tag is not past the stop, no pending entry stands before it,
 -- and something is given, whose inputs are the program's
-pub record CanStep (P : Rules) (s : Snapshot) (t : Moment) (X : List Given) : Type 0 where
+pub record CanStep (P : Program) (s : Snapshot) (t : Moment) (X : List Given) : Type 0 where
   pub state : IsStateOf P s
   pub time : t.time ≤ P.stop
   pub none_before : IsTrue (list_all (λ w. not (is_before w.tag t)) s.pending)

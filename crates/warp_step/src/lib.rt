@@ -1,10 +1,12 @@
 //! Programs, states, one step of a program, and the run that a program's events have.
 //!
 //! A program reacts at tags. At each it takes what is given, runs the reactions that something present
-//! triggers, in their order, and puts outputs. Contracts see a `Program` as its `Rules` and a `State` as
-//! its `Snapshot`; `Run` in `specs/` says which trace a program and its events have.
+//! triggers, in their order, and puts outputs. Contracts see a `Program` as the record of that name in
+//! `specs/`, without where it lies in memory, and a `State` as its `Snapshot`; `Run` says which trace a
+//! program and its events have, and `takes` which events those may be.
 #![tactic(auto)]
 
+mod counter;
 mod law;
 mod meter;
 mod one_step;
@@ -16,6 +18,7 @@ mod state;
 #[cfg(test)]
 mod tests;
 
+pub use counter::Counter;
 pub use law::one_trace;
 pub use meter::Meter;
 pub use one_step::{Scratch, step};

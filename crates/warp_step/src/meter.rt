@@ -1,3 +1,4 @@
+//! What counts the steps of a program.
 ghost use Rattle.std.specs.Prelude.{◌≡◌, ℕ, ◌+◌};
 
 /// Counts steps. To contracts it is a number without an upper end; what it keeps at run time is its own affair.

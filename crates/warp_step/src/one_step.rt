@@ -1,7 +1,7 @@
-ghost use Rattle.std.specs.Prelude.{◌≡◌, ℕ, ◌+◌, ◌≤◌, ◌++◌, IfOk, length, vec_len, vec_capacity};
+//! One step of a program, and the room that it works in.
+ghost use Rattle.std.specs.Prelude.{◌≡◌, ℕ, ◌+◌, ◌≤◌, ◌++◌, IfOk, List, length, vec_len, vec_capacity};
 ghost use Rattle.warp_step.specs.Snapshot.{Snapshot, IsStateOf};
-ghost use Rattle.warp_step.specs.Step.{CanStep, state_after, outputs_after};
-ghost use Rattle.warp_step.specs.Program.{rules_of};
+ghost use Rattle.warp_step.specs.Step.{CanStep, Step};
 
 use crate::meter::Meter;
 use crate::out::{Given, Out};
@@ -31,7 +31,7 @@ impl Model for Scratch {
 impl Scratch {
     /// Room for the steps of a program.
     pub fn new(alloc: Global, program: &Program) -> Result<Scratch, OutOfMemory>
-        ensures { IfOk result (λ s. s ≡ (rules_of program.now).ports) }
+        ensures { IfOk result (λ s. s ≡ program.now.ports) }
     {
         let present = Present::new(alloc, program.ports())?;
         Ok(Scratch {
@@ -53,12 +53,11 @@ pub fn step<M: Meter>(
     out: &mut Vec<Out>,
     meter: &mut M,
 )
-    requires can { CanStep (rules_of program.now) state.old tag given.now }
-    requires scratch { scratch.old ≡ (rules_of program.now).ports }
-    requires room { vec_len out.old + length (rules_of program.now).outputs ≤ vec_capacity out.old }
-    ensures state { state.new ≡ state_after (rules_of program.now) state.old tag given.now }
-    ensures outputs { out.new.items ≡ out.old.items ++ outputs_after (rules_of program.now) state.old tag given.now }
-    ensures of_program { IsStateOf (rules_of program.now) state.new }
+    requires can { CanStep program.now state.old tag given.now }
+    requires scratch { scratch.old ≡ program.now.ports }
+    requires room { vec_len out.old + length program.now.outputs ≤ vec_capacity out.old }
+    ensures step { (outs : List Out) × (out.new.items ≡ out.old.items ++ outs) × Step program.now state.old tag given.now state.new outs }
+    ensures of_program { IsStateOf program.now state.new }
     ensures scratch { scratch.new ≡ scratch.old }
     ensures capacity { vec_capacity out.old ≤ vec_capacity out.new }
     ensures ticks { M.ticks meter.new ≡ M.ticks meter.old + 1 }

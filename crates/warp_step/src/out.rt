@@ -1,3 +1,4 @@
+//! What goes into a step and what comes out of it.
 use warp_tag::Tag;
 
 /// A program input that is given at a tag, with its value.

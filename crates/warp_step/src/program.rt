@@ -1,10 +1,12 @@
+//! Programs: how the code keeps one, what it tells, copies, comparison, and the program `twice`.
 ghost use Rattle.std.specs.Prelude.{◌≡◌, ◌↔◌, ℕ, ◌<◌, IsTrue, IfOk, length, map};
-ghost use Rattle.warp_step.specs.Rules.{Rules, rule_of};
+ghost use Rattle.warp_step.specs.Program.{rule_of};
 ghost use Rattle.warp_step.specs.Valid.{is_valid};
 ghost use Rattle.warp_step.specs.Twice.{on_a, on_b};
 
 use crate::reaction::{ProgramInput, Reaction, copy_reactions, same_reactions};
 use std::alloc::Global;
+use std::marker::Model;
 use warp_body::{Expr, Stmt};
 use warp_tag::OutOfMemory;
 
@@ -18,52 +20,74 @@ pub struct Program {
     reactions: Vec<Reaction>,
     inputs: Vec<ProgramInput>,
     outputs: Vec<u32>,
-    ghost valid: { IsTrue (is_valid (record { stop = stop; origins = origins; starts = starts.items; ports = ports; reactions = map rule_of reactions.items; inputs = inputs.items; outputs = outputs.items })) },
+}
+
+impl Model for Program {
+    ghost use Rattle.std.specs.Prelude.{IsTrue};
+    ghost use Rattle.warp_step.specs.Program as specs;
+
+    ghost Value = { specs.Program };
+
+    ghost coded = { specs.program_code };
+
+    ghost use Rattle.warp_step.specs.View.{program_of};
+    ghost use Rattle.warp_step.specs.Valid.{is_valid};
+
+    ghost view = { program_of };
+
+    ghost invariant = { λ p. IsTrue (is_valid (program_of p)) };
 }
 
 impl Program {
-    ghost use Rattle.warp_step.specs.Program.{rules_of};
     ghost use Rattle.warp_step.specs.Twice.{twice};
     ghost use Rattle.warp_step.specs.Step.{port_of};
 
+    /// That the program is valid, as each is. It does nothing.
+    pub fn valid(&self)
+        ensures { IsTrue (is_valid self.now) }
+    {
+        // A look at a field shows it.
+        let _stop = &self.stop;
+    }
+
     /// The last time at which the program executes, 0 to 1,000,000 in its own unit.
     pub fn stop(&self) -> u64
-        ensures { result ≡ (rules_of self.now).stop }
+        ensures { result ≡ self.now.stop }
     {
         self.stop
     }
 
     /// How many origins there are, 1 to 32.
     pub fn origins(&self) -> u32
-        ensures { result ≡ (rules_of self.now).origins }
+        ensures { result ≡ self.now.origins }
     {
         self.origins
     }
 
     /// The start values of the variables, by number.
     pub fn starts(&self) -> &[i64]
-        ensures { result.now ≡ (rules_of self.now).starts }
+        ensures { result.now ≡ self.now.starts }
     {
         &self.starts
     }
 
     /// How many ports there are.
     pub fn ports(&self) -> usize
-        ensures { result ≡ (rules_of self.now).ports }
+        ensures { result ≡ self.now.ports }
     {
         self.ports
     }
 
     /// The reactions, in their order.
     pub fn reactions(&self) -> &[Reaction]
-        ensures { map rule_of result.now ≡ (rules_of self.now).reactions }
+        ensures { map rule_of result.now ≡ self.now.reactions }
     {
         &self.reactions
     }
 
     /// The program inputs, by number.
     pub fn inputs(&self) -> &[ProgramInput]
-        ensures { result.now ≡ (rules_of self.now).inputs }
+        ensures { result.now ≡ self.now.inputs }
     {
         &self.inputs
     }
@@ -71,23 +95,23 @@ impl Program {
     /// The port that a program input leads to.
     #[tactic(auto, using(crate::proofs::ValidLemmas::input_port))]
     pub fn port(&self, input: u32) -> u32
-        requires { input < length (rules_of self.now).inputs }
-        ensures port { result ≡ port_of (rules_of self.now) input }
-        ensures range { result < (rules_of self.now).ports }
+        requires { input < length self.now.inputs }
+        ensures port { result ≡ port_of self.now input }
+        ensures range { result < self.now.ports }
     {
         self.inputs[input as usize].port
     }
 
     /// The ports of the program outputs, by number.
     pub fn outputs(&self) -> &[u32]
-        ensures { result.now ≡ (rules_of self.now).outputs }
+        ensures { result.now ≡ self.now.outputs }
     {
         &self.outputs
     }
 
     /// The same program.
     pub fn copy(&self, alloc: Global) -> Result<Program, OutOfMemory>
-        ensures { IfOk result (λ p. rules_of p ≡ rules_of self.now) }
+        ensures { IfOk result (λ p. p ≡ self.now) }
     {
         let starts = self.starts.as_slice().to_vec(alloc)?;
         let reactions = copy_reactions(alloc, &self.reactions)?;
@@ -106,7 +130,7 @@ impl Program {
 
     /// Whether two programs are the same.
     pub fn is_same(&self, other: &Program) -> bool
-        ensures { IsTrue result ↔ (rules_of self.now ≡ rules_of other.now) }
+        ensures { IsTrue result ↔ (self.now ≡ other.now) }
     {
         if self.stop != other.stop || self.origins != other.origins || self.ports != other.ports {
             return false;
@@ -120,7 +144,7 @@ impl Program {
     /// The program `twice`, of two origins: an event of origin 0 doubles the total and adds its value, one of
     /// origin 1 subtracts its value; each puts the total.
     pub fn twice(alloc: Global) -> Result<Program, OutOfMemory>
-        ensures { IfOk result (λ p. rules_of p ≡ twice) }
+        ensures { IfOk result (λ p. p ≡ twice) }
     {
         let starts = vec![in alloc; 0]?;
         let reactions = vec![in alloc; on_a(alloc)?, on_b(alloc)?]?;

@@ -4,10 +4,9 @@ ghost use Rattle.std.specs.List.{list_all};
 ghost use Rattle.warp_body.specs.Presence.{Presence};
 ghost use Rattle.warp_body.specs.Effect.{Effect, body_fits};
 ghost use Rattle.warp_body.specs.Term.{sizes_of};
-ghost use Rattle.warp_step.specs.Rules.{Rules, rule_of};
+ghost use Rattle.warp_step.specs.Program.{rule_of};
 ghost use Rattle.warp_step.specs.Valid.{rule_fits, input_fits, program_sizes};
 ghost use Rattle.warp_step.specs.Step.{AreInputs, arrived, is_triggered, react, after_reactions, outputs_from};
-ghost use Rattle.warp_step.specs.Program.{rules_of};
 
 use crate::out::{Given, Out};
 use crate::program::Program;
@@ -17,9 +16,9 @@ use warp_tag::Tag;
 
 /// Makes the ports of the given inputs present.
 pub(crate) fn arrive(program: &Program, given: &[Given], present: &mut Present)
-    requires inputs { AreInputs (rules_of program.now) given.now }
-    requires ports { length present.old.ports ≡ (rules_of program.now).ports }
-    ensures present { present.new ≡ arrived (rules_of program.now) given.now present.old }
+    requires inputs { AreInputs program.now given.now }
+    requires ports { length present.old.ports ≡ program.now.ports }
+    ensures present { present.new ≡ arrived program.now given.now present.old }
     ensures ports { length present.new.ports ≡ length present.old.ports }
 {
     for g in given {
@@ -63,13 +62,14 @@ pub(crate) fn run_reactions(
     present: &mut Present,
     wishes: &mut Wishes,
 )
-    requires vars { length vars.old ≡ length (rules_of program.now).starts }
-    requires ports { length present.old.ports ≡ (rules_of program.now).ports }
+    requires vars { length vars.old ≡ length program.now.starts }
+    requires ports { length present.old.ports ≡ program.now.ports }
     ensures effect { record { vars = vars.new; present = present.new; wishes = wishes.new.items }
-        ≡ after_reactions (rules_of program.now).reactions (record { vars = vars.old; present = present.old; wishes = wishes.old.items }) }
+        ≡ after_reactions program.now.reactions (record { vars = vars.old; present = present.old; wishes = wishes.old.items }) }
     ensures vars { length vars.new ≡ length vars.old }
     ensures ports { length present.new.ports ≡ length present.old.ports }
 {
+    program.valid();
     for reaction in program.reactions() {
         run_reaction(reaction, vars, present, wishes);
     }
@@ -78,11 +78,12 @@ pub(crate) fn run_reactions(
 /// Appends an output for each program output that is present.
 #[tactic(auto, using(crate::proofs::ValidLemmas::parts))]
 pub(crate) fn put_outputs(program: &Program, tag: Tag, present: &Present, out: &mut Vec<Out>)
-    requires ports { length present.now.ports ≡ (rules_of program.now).ports }
-    requires room { vec_len out.old + length (rules_of program.now).outputs ≤ vec_capacity out.old }
-    ensures outputs { out.new.items ≡ out.old.items ++ outputs_from 0 tag present.now (rules_of program.now).outputs }
+    requires ports { length present.now.ports ≡ program.now.ports }
+    requires room { vec_len out.old + length program.now.outputs ≤ vec_capacity out.old }
+    ensures outputs { out.new.items ≡ out.old.items ++ outputs_from 0 tag present.now program.now.outputs }
     ensures capacity { vec_capacity out.old ≤ vec_capacity out.new }
 {
+    program.valid();
     for (number, port) in program.outputs().iter().enumerate() {
         if let Some(value) = present.get(*port) {
             let port = number as u32;

@@ -1,5 +1,6 @@
+//! Reactions and inputs of a program, their copies and comparison.
 ghost use Rattle.std.specs.Prelude.{◌≡◌, ◌↔◌, IsTrue, IfOk, map};
-ghost use Rattle.warp_step.specs.Rules.{Rule, rule_of};
+ghost use Rattle.warp_step.specs.Program.{rule_of};
 
 use std::alloc::Global;
 use warp_body::{Stmt, copy_body, same_body};

@@ -1,8 +1,8 @@
+//! The state of a program between two steps.
 ghost use Rattle.std.specs.Prelude.{◌≡◌, ℕ, [], length, IfOk};
 ghost use Rattle.warp_step.specs.Snapshot.{Snapshot, IsStateOf, start_state, least_pending};
 ghost use Rattle.warp_body.specs.Effect.{Effect};
 ghost use Rattle.warp_step.specs.Step.{after_reactions};
-ghost use Rattle.warp_step.specs.Program.{rules_of};
 
 use crate::program::Program;
 use crate::react::run_reactions;
@@ -29,7 +29,7 @@ impl Model for State {
 impl State {
     /// The state that a program starts in.
     pub fn start(alloc: Global, program: &Program) -> Result<State, OutOfMemory>
-        ensures { IfOk result (λ s. s ≡ start_state (rules_of program.now)) }
+        ensures { IfOk result (λ s. s ≡ start_state program.now) }
     {
         let starts = program.starts().to_vec(alloc)?;
         Ok(State {
@@ -58,12 +58,12 @@ impl State {
 
     /// Runs the triggered reactions on the variables.
     pub(crate) fn run(&mut self, program: &Program, present: &mut Present, wishes: &mut Wishes)
-        requires state { IsStateOf (rules_of program.now) self.old }
-        requires ports { length present.old.ports ≡ (rules_of program.now).ports }
+        requires state { IsStateOf program.now self.old }
+        requires ports { length present.old.ports ≡ program.now.ports }
         ensures effect { record { vars = self.new.vars; present = present.new; wishes = wishes.new.items }
-            ≡ after_reactions (rules_of program.now).reactions (record { vars = self.old.vars; present = present.old; wishes = wishes.old.items }) }
+            ≡ after_reactions program.now.reactions (record { vars = self.old.vars; present = present.old; wishes = wishes.old.items }) }
         ensures others { (self.new.pending ≡ []) × (self.old.pending ≡ []) × (self.new.lost ≡ 0) × (self.old.lost ≡ 0) }
-        ensures state { IsStateOf (rules_of program.now) self.new }
+        ensures state { IsStateOf program.now self.new }
         ensures ports { length present.new.ports ≡ length present.old.ports }
     {
         run_reactions(program, &mut self.vars, present, wishes);

@@ -1,58 +1,39 @@
 //! What no clause says: that the calls succeed, and the values of `twice`.
-ghost use Rattle.std.specs.Prelude.{◌≡◌, ℕ, ◌<◌, ◌≤◌, [], IfOk};
+ghost use Rattle.std.specs.Prelude.{◌≡◌, ◌<◌, ◌≤◌, [], IfOk};
 ghost use Rattle.warp_step.specs.Snapshot.{IsStateOf};
-ghost use Rattle.warp_step.specs.Program.{rules_of};
 ghost use Rattle.warp_step.specs.Twice.{twice};
+ghost use Rattle.warp_step.specs.Counter.{IsUnused};
 
-use crate::{Given, Meter, Out, Program, Scratch, State, step};
+use crate::{Counter, Given, Meter, Out, Program, Scratch, State, step};
 use std::alloc::Global;
-use std::marker::{Brand, Model};
-use std::sync::ledger::{Blank, Book, Ledger, Share};
+use std::marker::Brand;
+use std::sync::ledger::{Blank, Ledger};
 use std::test::Fail;
 use warp_tag::{OutOfMemory, Tag};
 
 /// A meter whose count can be read.
 #[derive(Drop)]
-struct Counter<L: Ledger> {
+struct Tally<L: Ledger> {
     count: u64,
-    book: Book<L>,
-    share: Share<L>,
+    ticks: Counter<L>,
 }
 
-impl<L: Ledger> Model for Counter<L> {
-    ghost use Rattle.std.specs.Prelude.{ℕ, ◌<◌};
-
-    ghost Value = { ℕ };
-
-    ghost view = { λ c. c.book.total };
-
-    ghost invariant = { λ c. 0 < c.share.parts };
-}
-
-impl<L: Ledger> Counter<L> {
-    fn new(blank: Blank) -> Counter<L>
-        requires name { blank.name ≡ L.name }
-        requires parts { blank.parts ≡ L.parts }
-        requires some { 0 < blank.parts }
+impl<L: Ledger> Tally<L> {
+    fn new(blank: Blank) -> Tally<L>
+        requires { IsUnused blank L.name L.parts }
     {
-        let (book, share) = blank.open::<L>();
-        Counter {
+        Tally {
             count: 0,
-            book,
-            share,
+            ticks: Counter::new(blank),
         }
     }
-
-    fn count(&self) -> u64 {
-        self.count
-    }
 }
 
-impl<L: Ledger> Meter for Counter<L> {
-    ghost ticks = { λ c. c };
+impl<L: Ledger> Meter for Tally<L> {
+    ghost ticks = { λ t. t.ticks };
 
     fn tick(&mut self) {
-        self.book.add(&mut self.share, 1);
+        self.ticks.grow();
         self.count = self.count.wrapping_add(1);
     }
 }
@@ -67,7 +48,7 @@ fn step_once<M: Meter>(
     out: &mut Vec<Out>,
     meter: &mut M,
 ) -> Result<(), OutOfMemory>
-    requires twice { rules_of program.now ≡ twice }
+    requires twice { program.now ≡ twice }
     requires time { tag.time ≤ 100 }
     requires input { given.input < 2 }
     requires state { IsStateOf twice state.old }
@@ -84,7 +65,7 @@ fn step_once<M: Meter>(
 
 /// The state and the scratch that `twice` starts with.
 fn begin(alloc: Global, program: &Program) -> Result<(State, Scratch), OutOfMemory>
-    requires twice { rules_of program.now ≡ twice }
+    requires twice { program.now ≡ twice }
     ensures state { IfOk result (λ r. IsStateOf twice r.0) }
     ensures quiet { IfOk result (λ r. r.0.pending ≡ []) }
     ensures scratch { IfOk result (λ r. r.1 ≡ 3) }
@@ -109,16 +90,14 @@ fn two_steps<L: Ledger>(
     first: Tag,
     second: Tag,
 ) -> Result<Seen, OutOfMemory>
-    requires name { blank.name ≡ L.name }
-    requires parts { blank.parts ≡ L.parts }
-    requires some { 0 < blank.parts }
+    requires unused { IsUnused blank L.name L.parts }
     requires first { first.time ≤ 100 }
     requires second { second.time ≤ 100 }
 {
     let program = Program::twice(alloc)?;
     let (mut state, mut scratch) = begin(alloc, &program)?;
     let mut out = Vec::new(alloc);
-    let mut counter = Counter::<L>::new(blank);
+    let mut tally = Tally::<L>::new(blank);
     let a = Given { input: 0, value: 3 };
     step_once(
         &program,
@@ -127,7 +106,7 @@ fn two_steps<L: Ledger>(
         first,
         a,
         &mut out,
-        &mut counter,
+        &mut tally,
     )?;
     let middle = state.copy(alloc)?;
     let b = Given { input: 1, value: 4 };
@@ -138,13 +117,13 @@ fn two_steps<L: Ledger>(
         second,
         b,
         &mut out,
-        &mut counter,
+        &mut tally,
     )?;
     Ok(Seen {
         middle,
         end: state,
         out,
-        ticks: counter.count(),
+        ticks: tally.count,
     })
 }
 

@@ -104,3 +104,7 @@ before_tag t e d h k = grind (arith, nat_tests)
 -- what comes before a name that is not after the tag is not of the tag's name
 pub before_through : (o : ℕ) (t : Moment) (e d : Entry) → name_before e.origin e.tag d ≡ true → d.origin ≡ o → e.origin ≡ o → is_before t d.tag ≡ false → has_name o t e ≡ false
 before_through o t e d h s r k = grind (arith, nat_tests)
+
+-- a name that comes before an entry's is another
+pub before_not_named : (o : ℕ) (t : Moment) (e : Entry) → name_before o t e ≡ true → has_name o t e ≡ false
+before_not_named o t e h = grind (arith, nat_tests)

@@ -1,6 +1,6 @@
 //! Tags and landings: their ranges, their order, and where a delay leads.
 ghost use Rattle.std.specs.Prelude.{◌≡◌, ℕ, ◌≤◌, SomeIff};
-ghost use Rattle.warp_tag.specs.Limits.{last_microstep, longest_delay, longest_stop};
+ghost use Rattle.warp_tag.specs.Limits.{last_microstep, last_time, longest_delay, longest_stop};
 
 use std::marker::Model;
 
@@ -118,3 +118,11 @@ impl Tag {
         }
     }
 }
+
+/// A law: the constants are the limits of the definitions.
+pub fn tag_limits()
+    ensures stop { longest_stop ≡ MAX_STOP }
+    ensures time { last_time ≡ MAX_TIME }
+    ensures microstep { last_microstep ≡ LAST_MICROSTEP }
+    ensures delay { longest_delay ≡ MAX_DELAY }
+{}

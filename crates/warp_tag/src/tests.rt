@@ -1,3 +1,4 @@
+//! What no clause says of tags: examples.
 use crate::{Landing, MAX_DELAY, MAX_STOP, Tag};
 use std::test::Fail;
 
@@ -52,22 +53,6 @@ fn delays_that_do_not_land(rt: HostRuntime) -> Result<(), Fail> {
         let tag = Tag::new(time, micro).ok_or("range")?;
         assert!(rt; time <= stop && stop <= MAX_STOP && delay <= MAX_DELAY);
         assert_eq!(rt; tag.after(delay, stop), want, "{tag:?} and {delay}");
-    }
-    Ok(())
-}
-
-#[test]
-fn order_of_tags(rt: HostRuntime) -> Result<(), Fail> {
-    for ((time, micro), (later, next)) in [
-        ((0, 0), (0, 1)),
-        ((0, 15), (1, 0)),
-        ((3, 4), (7, 1)),
-        ((9, 2), (10, 2)),
-    ] {
-        let a = Tag::new(time, micro).ok_or("range")?;
-        let b = Tag::new(later, next).ok_or("range")?;
-        assert!(rt; a < b && !(b < a) && !(a < a), "{a:?} and {b:?}");
-        assert!(rt; a == a && a != b, "{a:?} and {b:?}");
     }
     Ok(())
 }

@@ -1,3 +1,5 @@
+pub mod GivenArguments
+pub mod FaultlessWalks
 pub mod LogLemmas
 pub mod AnswersLemmas
 pub mod LineCuts

@@ -2,12 +2,11 @@
 use Rattle.std.proofs.Common.{◌≡◌, drop, length, nat_lt, IsTrue}
 use Rattle.std.specs.List.{list_all}
 use Rattle.warp_step.specs.Step.{arrived}
-use Rattle.warp_step.specs.Program.{rules_of}
 use Rattle.warp_step.proofs.react.arrive.Given as goal
 
 abbrev pub invariant-loop-g : goal.invariant-loop-g
 invariant-loop-g l = record {
-  rest : arrived (rules_of l.program) (drop l.g-index l.given) l.present ≡ arrived (rules_of l.program) l.given l.fn.present;
+  rest : arrived l.program (drop l.g-index l.given) l.present ≡ arrived l.program l.given l.fn.present;
   ports : length l.present.ports ≡ length l.fn.present.ports;
-  known : IsTrue (list_all (λ g. nat_lt g.input (length l.program.inputs.items)) (drop l.g-index l.given));
+  known : IsTrue (list_all (λ g. nat_lt g.input (length l.program.inputs)) (drop l.g-index l.given));
 }

@@ -1,7 +1,7 @@
 -- the triggers that are left are triggered exactly if all are
 use Rattle.std.proofs.Common.{◌≡◌, drop, length, nat_lt, IsTrue}
 use Rattle.std.specs.List.{list_all}
-use Rattle.warp_step.specs.Rules.{rule_of}
+use Rattle.warp_step.specs.Program.{rule_of}
 use Rattle.warp_step.specs.Step.{is_triggered}
 use Rattle.warp_step.proofs.react.triggered.Given as goal
 

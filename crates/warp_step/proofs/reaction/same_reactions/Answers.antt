@@ -1,7 +1,7 @@
 -- reactions that differ at one place make lists that differ
 use Rattle.std.proofs.Common.{rules, arith, ◌≡◌, ◌<◌, ◌∙◌, map, get_or, length, ap, sym}
 use Rattle.std.proofs.lemmas.List.{get_or-map}
-use Rattle.warp_step.specs.Rules.{rule_of}
+use Rattle.warp_step.specs.Program.{rule_of}
 use Rattle.warp_step.proofs.reaction.same_reactions.Goals as goal
 
 pub returns-then-not-is_same : goal.returns-then-not-is_same

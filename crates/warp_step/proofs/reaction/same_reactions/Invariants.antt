@@ -1,6 +1,6 @@
 -- the reactions before are the same
 use Rattle.std.proofs.Common.{◌≡◌, map, take}
-use Rattle.warp_step.specs.Rules.{rule_of}
+use Rattle.warp_step.specs.Program.{rule_of}
 use Rattle.warp_step.proofs.reaction.same_reactions.Given as goal
 
 abbrev pub invariant-loop-i : goal.invariant-loop-i

@@ -1,5 +1,5 @@
 use Rattle.std.proofs.Common.{IsTrue, IsSomeAnd, ◌≡◌, ℕ, ◌<◌, arith, sym, ap, ◌∙◌, subst, length, true, false, cond, Some, None}
-use Rattle.warp_tag.specs.Moment.{Moment, is_before, is_same}
+use Rattle.warp_tag.specs.Moment.{Moment, is_before}
 use Rattle.warp_tag.specs.declared.entry.Entry.{Entry}
 use Rattle.warp_arena.specs.declared.arena.Arena.TheInside.{Inside}
 use Rattle.warp_tag.specs.Table.{has_name}
@@ -12,7 +12,7 @@ use Rattle.warp_arena.proofs.Finding.{SplitAt, split_at, none_declared, node_of-
 use Rattle.warp_arena.proofs.Wholes.{ordered}
 use Rattle.warp_arena.proofs.Handles.{entry_of-node_of}
 use Rattle.warp_arena.proofs.arena.Arena.find.Goals as goal
-use Rattle.warp_arena.proofs.arena.Arena.find.Goals.{else-at-via-then-at+else-eq, else-at-via-else-at}
+use Rattle.warp_arena.proofs.arena.Arena.find.Goals.{else-at-via-then-at+else-is_of, else-at-via-else-at}
 
 pub returns-then-origin-len-clause-handle : goal.returns-then-origin-len-clause-handle
 returns-then-origin-len-clause-handle c =
@@ -34,15 +34,15 @@ index-requires c =
     let s = split_of a c.args.self.now c.args.origin c.args.tag at c.self.view_is c.last_of_origin_through-at.ensures in
     omega (arith, a.nodes.ok.0, (node_of-at a c.self.invariant c.args.origin c.args.tag declared at s c.if-at.true).0)
 
-pub returns-then-eq-clause-handle : goal.returns-then-eq-clause-handle
-returns-then-eq-clause-handle c =
+pub returns-then-is_of-clause-handle : goal.returns-then-is_of-clause-handle
+returns-then-is_of-clause-handle c =
     let a = c.self.inside in
     let declared : c.args.origin < length a.origin_ends.items = omega (arith, a.origin_ends.ok.0) in
     let at : ℕ = c.last_of_origin_through-at.result in
     let s = split_of a c.args.self.now c.args.origin c.args.tag at c.self.view_is c.last_of_origin_through-at.ensures in
     let r = node_of-at a c.self.invariant c.args.origin c.args.tag declared at s c.if-at.true in
     let read = node_read a.nodes.items at c.index.result.now r.0 c.index.ensures in
-    let same : is_same c.args.tag ((threads a).entry at).tag ≡ true = ap (λ n. is_same c.args.tag n.entry.tag) (sym read) ∙ sym c.eq.ensures ∙ c.if-eq.true in
+    let same : has_name c.args.origin c.args.tag ((threads a).entry at) ≡ true = ap (λ n. has_name c.args.origin c.args.tag n.entry) (sym read) ∙ sym c.is_of.ensures ∙ c.if-is_of.true in
     ap Some c.new.ensures
     ∙ sym (ap (λ v. node_of c.args.origin c.args.tag v.places) (sym c.self.view_is) ∙ r.1 ∙ ap (λ b. cond b (Some at) None) same)
 
@@ -54,19 +54,19 @@ returns-else-at-clause-handle c =
     let s = split_of a c.args.self.now c.args.origin c.args.tag at c.self.view_is c.last_of_origin_through-at.ensures in
     let none : node_of c.args.origin c.args.tag (places a) ≡ None =
     elim c.else-at.branch [
-      | else-at-via-then-at+else-eq w ↦
+      | else-at-via-then-at+else-is_of w ↦
           let r = node_of-at a c.self.invariant c.args.origin c.args.tag declared at s w.if-at.true in
           let read = node_read a.nodes.items at w.index.result.now r.0 w.index.ensures in
-          let other : is_same c.args.tag ((threads a).entry at).tag ≡ false = ap (λ n. is_same c.args.tag n.entry.tag) (sym read) ∙ sym w.eq.ensures ∙ w.if-eq.false in
+          let other : has_name c.args.origin c.args.tag ((threads a).entry at) ≡ false = ap (λ n. has_name c.args.origin c.args.tag n.entry) (sym read) ∙ sym w.is_of.ensures ∙ w.if-is_of.false in
           r.1 ∙ ap (λ b. cond b (Some at) None) other
       | else-at-via-else-at w ↦ node_of-none a c.self.invariant c.args.origin c.args.tag declared at s w.if-at.false
     ] in
     sym (ap (λ v. node_of c.args.origin c.args.tag v.places) (sym c.self.view_is) ∙ none)
 
-pub returns-then-eq-clause-named : goal.returns-then-eq-clause-named
-returns-then-eq-clause-named c =
+pub returns-then-is_of-clause-named : goal.returns-then-is_of-clause-named
+returns-then-is_of-clause-named c =
     let o = c.args.origin in
     let g = c.args.tag in
     let order = subst IsOrdered c.self.view_is (ordered c.self.inside c.self.invariant) in
-    let r = entry_of-node_of o g c.args.self.now.places order.handles c.new.result (returns-then-eq-clause-handle c) in
+    let r = entry_of-node_of o g c.args.self.now.places order.handles c.new.result (returns-then-is_of-clause-handle c) in
     subst (λ x. IsSomeAnd x (λ e. IsTrue (has_name o g e))) (sym r.1) r.2

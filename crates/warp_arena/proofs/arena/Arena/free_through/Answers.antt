@@ -4,12 +4,12 @@ use Rattle.std.specs.List.{IsDistinct}
 use Rattle.warp_arena.specs.Places.{Place, entry_of}
 use Rattle.warp_arena.proofs.Handles.{entry_of-back}
 use Rattle.warp_arena.proofs.arena.Arena.free_through.Goals as goal
-use Rattle.warp_arena.proofs.arena.Arena.free_through.Goals.{in-Some+then-comes_before, in_default}
+use Rattle.warp_arena.proofs.arena.Arena.free_through.Goals.{in-Some+then-is_before, in_default}
 
 pub loop-first-preserved : goal.loop-first-preserved
 loop-first-preserved c =
     Freed-more c.args.tag c.args.self.now c.loop-first.self c.loop-first.invariant c.entry.result c.in-Some.first
-    (sym c.in-Some.is ∙ c.first.ensures.handle) c.entry.ensures (sym c.comes_before.ensures ∙ c.if-comes_before.false) c.free_first.new.self c.free_first.ensures
+    (sym c.in-Some.is ∙ c.first.ensures.handle) c.entry.ensures (sym c.is_before.ensures ∙ c.if-is_before.false) c.free_first.new.self c.free_first.ensures
 
 pub returns-clause-places : goal.returns-clause-places
 returns-clause-places c =
@@ -17,9 +17,9 @@ returns-clause-places c =
     let e : n ≡ length c.args.self.now.places - length c.loop-first.self.places = omega (arith, c.len-before.ensures.length, c.len.ensures.length) in
     let stops : Stops c.args.tag c.args.self.now c.loop-first.self n =
     elim c.match-first.branch [
-      | in-Some+then-comes_before w ↦
+      | in-Some+then-is_before w ↦
           stops_at c.args.tag c.args.self.now c.loop-first.self c.loop-first.invariant c.len-before.ensures.ordered.table w.in-Some.first w.entry.result
-          (sym w.in-Some.is ∙ c.first.ensures.handle) w.entry.ensures (sym w.comes_before.ensures ∙ w.if-comes_before.true) n e
+          (sym w.in-Some.is ∙ c.first.ensures.handle) w.entry.ensures (sym w.is_before.ensures ∙ w.if-is_before.true) n e
       | in_default w ↦ stops_empty c.args.tag c.args.self.now c.loop-first.self c.loop-first.invariant (sym w.in_default.is ∙ c.first.ensures.handle) n e
     ] in
     stops.places
@@ -30,9 +30,9 @@ returns-clause-count c =
     let e : n ≡ length c.args.self.now.places - length c.loop-first.self.places = omega (arith, c.len-before.ensures.length, c.len.ensures.length) in
     let stops : Stops c.args.tag c.args.self.now c.loop-first.self n =
     elim c.match-first.branch [
-      | in-Some+then-comes_before w ↦
+      | in-Some+then-is_before w ↦
           stops_at c.args.tag c.args.self.now c.loop-first.self c.loop-first.invariant c.len-before.ensures.ordered.table w.in-Some.first w.entry.result
-          (sym w.in-Some.is ∙ c.first.ensures.handle) w.entry.ensures (sym w.comes_before.ensures ∙ w.if-comes_before.true) n e
+          (sym w.in-Some.is ∙ c.first.ensures.handle) w.entry.ensures (sym w.is_before.ensures ∙ w.if-is_before.true) n e
       | in_default w ↦ stops_empty c.args.tag c.args.self.now c.loop-first.self c.loop-first.invariant (sym w.in_default.is ∙ c.first.ensures.handle) n e
     ] in
     stops.count

@@ -2,6 +2,7 @@ use Rattle.std.proofs.Common.{◌≡◌, ◌≢◌, ℕ, ◌<◌, ◌+◌, ◌-�
 use Rattle.std.proofs.lemmas.List.{with_items_is}
 use Rattle.warp_tag.specs.Moment.{Moment, is_before}
 use Rattle.warp_tag.specs.Table.{name_before, fresh}
+use Rattle.warp_tag.specs.declared.entry.Entry.{Entry}
 use Rattle.warp_arena.specs.declared.arena.Arena.TheInside.{Inside}
 use Rattle.warp_arena.specs.declared.node.Links.{Links}
 use Rattle.warp_arena.specs.declared.node.Node.{Node}
@@ -117,8 +118,10 @@ invariant_of-self c =
     c.self.view_is c.self.invariant c.requires.origin c.requires.reserved c.requires.absent c.last_through-before.ensures c.last_of_origin_through-own_before.ensures in
     let own = ends_read a.origin_ends.items c.args.origin c.index-2.result.now b.declared c.index-2.ensures in
     let free = ap (λ n. n.by_tag.next) (node_read a.nodes.items a.free c.index.result.now b.can_thread.at c.index.ensures) in
-    let change = subst (λ ns. Threaded ns c.thread_node.new.nodes a.ends c.thread_node.new.ends c.index-2.result.now c.thread_node.new.own_ends
-    c.last_through-before.result c.last_of_origin_through-own_before.result a.free (fresh c.args.origin c.args.tag)) c.deref_mut.ensures.value c.thread_node.ensures in
+    let threaded = subst (λ (ns : List Node). Threaded ns c.thread_node.new.nodes a.ends c.thread_node.new.ends c.index-2.result.now c.thread_node.new.own_ends
+    c.last_through-before.result c.last_of_origin_through-own_before.result a.free c.fresh-entry.result) c.deref_mut.ensures.value c.thread_node.ensures in
+    let change = subst (λ (e : Entry). Threaded a.nodes.items c.thread_node.new.nodes a.ends c.thread_node.new.ends c.index-2.result.now c.thread_node.new.own_ends
+    c.last_through-before.result c.last_of_origin_through-own_before.result a.free e) c.fresh-entry.ensures threaded in
     let items = with_items_is a.nodes c.thread_node.new.nodes (omega (arith, change.len, a.nodes.ok.0)) in
     subst (λ ns. IsWhole (threads_of ns (set a.origin_ends.items c.args.origin c.thread_node.new.own_ends) c.thread_node.new.ends c.index.result.now.by_tag.next) (a.used + 1)) (sym items)
     (whole_inserted a c.args.origin c.args.tag c.last_through-before.result c.last_of_origin_through-own_before.result b.is_ready b.declared
@@ -131,8 +134,10 @@ returns-clause-places c =
     c.self.view_is c.self.invariant c.requires.origin c.requires.reserved c.requires.absent c.last_through-before.ensures c.last_of_origin_through-own_before.ensures in
     let own = ends_read a.origin_ends.items c.args.origin c.index-2.result.now b.declared c.index-2.ensures in
     let free = ap (λ n. n.by_tag.next) (node_read a.nodes.items a.free c.index.result.now b.can_thread.at c.index.ensures) in
-    let change = subst (λ ns. Threaded ns c.thread_node.new.nodes a.ends c.thread_node.new.ends c.index-2.result.now c.thread_node.new.own_ends
-    c.last_through-before.result c.last_of_origin_through-own_before.result a.free (fresh c.args.origin c.args.tag)) c.deref_mut.ensures.value c.thread_node.ensures in
+    let threaded = subst (λ (ns : List Node). Threaded ns c.thread_node.new.nodes a.ends c.thread_node.new.ends c.index-2.result.now c.thread_node.new.own_ends
+    c.last_through-before.result c.last_of_origin_through-own_before.result a.free c.fresh-entry.result) c.deref_mut.ensures.value c.thread_node.ensures in
+    let change = subst (λ (e : Entry). Threaded a.nodes.items c.thread_node.new.nodes a.ends c.thread_node.new.ends c.index-2.result.now c.thread_node.new.own_ends
+    c.last_through-before.result c.last_of_origin_through-own_before.result a.free e) c.fresh-entry.ensures threaded in
     let items = with_items_is a.nodes c.thread_node.new.nodes (omega (arith, change.len, a.nodes.ok.0)) in
     let v = c.args.self.now in
     ap (λ ns. contents_of (threads_of ns (set a.origin_ends.items c.args.origin c.thread_node.new.own_ends) c.thread_node.new.ends c.index.result.now.by_tag.next) (a.used + 1)) items

@@ -56,12 +56,12 @@ loop-at-preserved c =
     let below = Listed-below (length a.nodes.items) ((threads a).own_ends c.args.origin) (threads a).own_links (owned a c.args.origin) l later c.loop-at.at c.loop-at.invariant c.loop-at-test.true in
     let here : later c.loop-at.at ≡ true =
     ap (λ n. is_before c.args.tag n.entry.tag) (sym (node_read a.nodes.items c.loop-at.at _ below c.index-in-loop-at.ensures))
-    ∙ sym c.comes_before.ensures ∙ c.if-comes_before.true in
+    ∙ sym c.is_before.ensures ∙ c.if-is_before.true in
     Listed-back (length a.nodes.items) ((threads a).own_ends c.args.origin) (threads a).own_links (owned a c.args.origin) l later c.loop-at.at c.loop-at.invariant c.loop-at-test.true here _
     (ap (λ n. n.of_origin.prev) (node_read a.nodes.items c.loop-at.at _ below c.index-in-loop-at-2.ensures))
 
-pub returns-else-comes_before : goal.returns-else-comes_before
-returns-else-comes_before c =
+pub returns-else-is_before : goal.returns-else-is_before
+returns-else-is_before c =
     let a = c.self.inside in
     let o = c.args.origin in
     let h : o < length a.origin_ends.items = omega (arith, ap (λ v. v.origins) c.self.view_is) in
@@ -70,7 +70,7 @@ returns-else-comes_before c =
     let below = Listed-below (length a.nodes.items) ((threads a).own_ends o) (threads a).own_links (owned a o) l later c.loop-at.at c.loop-at.invariant c.loop-at-test.true in
     let here : later c.loop-at.at ≡ false =
     ap (λ n. is_before c.args.tag n.entry.tag) (sym (node_read a.nodes.items c.loop-at.at _ below c.index-in-loop-at.ensures))
-    ∙ sym c.comes_before.ensures ∙ c.if-comes_before.false in
+    ∙ sym c.is_before.ensures ∙ c.if-is_before.false in
     subst (λ v. Splits (λ e. is_before c.args.tag e.tag) (places_of o v.places) c.loop-at.at) c.self.view_is
     (subst (λ ps. Splits (λ e. is_before c.args.tag e.tag) ps c.loop-at.at) (sym (places_of-members (threads a).entry o (used a)))
     (Splits-from_walk (λ (e : Entry). is_before c.args.tag e.tag) (StaysLater-tag c.args.tag) (threads a).entry (owned a o) c.loop-at.at

@@ -48,19 +48,19 @@ loop-at-preserved c =
     let below = Listed-below (length a.nodes.items) a.ends (threads a).links (used a) l later c.loop-at.at c.loop-at.invariant c.loop-at-test.true in
     let here : later c.loop-at.at ≡ true =
     ap (λ n. name_before c.args.origin c.args.tag n.entry) (sym (node_read a.nodes.items c.loop-at.at _ below c.index.ensures))
-    ∙ sym c.name_comes_before.ensures ∙ c.if-name_comes_before.true in
+    ∙ sym c.comes_after.ensures ∙ c.if-comes_after.true in
     Listed-back (length a.nodes.items) a.ends (threads a).links (used a) l later c.loop-at.at c.loop-at.invariant c.loop-at-test.true here _
     (ap (λ n. n.by_tag.prev) (node_read a.nodes.items c.loop-at.at _ below c.index-in-loop-at.ensures))
 
-pub returns-else-name_comes_before : goal.returns-else-name_comes_before
-returns-else-name_comes_before c =
+pub returns-else-comes_after : goal.returns-else-comes_after
+returns-else-comes_after c =
     let a = c.self.inside in
     let later : ℕ → Bool = λ i. name_before c.args.origin c.args.tag (entry_at a.nodes.items i) in
     let l = Listed-tags a c.self.invariant in
     let below = Listed-below (length a.nodes.items) a.ends (threads a).links (used a) l later c.loop-at.at c.loop-at.invariant c.loop-at-test.true in
     let here : later c.loop-at.at ≡ false =
     ap (λ n. name_before c.args.origin c.args.tag n.entry) (sym (node_read a.nodes.items c.loop-at.at _ below c.index.ensures))
-    ∙ sym c.name_comes_before.ensures ∙ c.if-name_comes_before.false in
+    ∙ sym c.comes_after.ensures ∙ c.if-comes_after.false in
     subst (λ v. Splits (name_before c.args.origin c.args.tag) v.places c.loop-at.at) c.self.view_is
     (Splits-from_walk (name_before c.args.origin c.args.tag) (StaysLater-name c.args.origin c.args.tag) (threads a).entry (used a) c.loop-at.at
     c.loop-at.invariant c.self.invariant.shape.sorted l.none (λ _. here))

@@ -1,7 +1,7 @@
-use Rattle.std.proofs.Common.{◌≡◌, ℕ, ℤ, w64, Some, arith, refl, sym, ap, ◌∙◌, subst, IsSome, get_or, set}
+use Rattle.std.proofs.Common.{◌≡◌, w64, arith, refl, sym, ap, ◌∙◌, subst, IsSome, get_or, set}
 use Rattle.std.proofs.lemmas.Int.{to_z-of_z}
-use Rattle.warp_tag.specs.Table.{with_event, greater}
-use Rattle.warp_arena.specs.declared.node.Node.{Node}
+use Rattle.warp_tag.specs.Table.{with_event}
+use Rattle.warp_tag.specs.declared.entry.Entry.{Entry}
 use Rattle.warp_arena.specs.Places.{Contents, entry_of, with_change}
 use Rattle.warp_arena.specs.Shape.{IsWhole, threads_of, contents_of}
 use Rattle.warp_arena.proofs.Walks.{node_read}
@@ -22,10 +22,11 @@ invariant_of-self c =
     let h = subst (λ v. IsSome (entry_of c.args.node v.places)) (sym c.self.view_is) c.requires in
     let m = c.index_mut.result.now in
     let read = node_read a.nodes.items c.args.node m (used_found_below a c.self.invariant c.args.node h) (subst (λ i. m ≡ get_or a.nodes.items i m) c.index.ensures c.index_mut.ensures.value) in
-    let event : (x : ℕ × ℤ) → Node = λ x. record { entry = record { origin = m.entry.origin; tag = m.entry.tag; event = Some x; withdrawn = m.entry.withdrawn }; by_tag = m.by_tag; of_origin = m.of_origin } in
-    subst (λ x. IsWhole (threads_of (set a.nodes.items c.index.result (event x)) a.origin_ends.items a.ends a.free) a.used) (sym (c.greater_payload.ensures ∙ ap (λ z. greater m.entry.event (c.args.input, z)) (to_z-of_z w64 c.args.value c.ranges.value))) (
-    subst (λ i. IsWhole (threads_of (set a.nodes.items i (record { entry = (with_event c.args.input c.args.value) m.entry; by_tag = m.by_tag; of_origin = m.of_origin })) a.origin_ends.items a.ends a.free) a.used) (sym c.index.ensures)
-    (whole_changed a c.self.invariant c.args.node h m read ((with_event c.args.input c.args.value)) (λ _. refl) (λ _. refl)))
+    let noted : c.note_event.new.self ≡ with_event c.args.input c.args.value m.entry =
+    c.note_event.ensures.entry ∙ ap (λ z. with_event c.args.input z m.entry) (to_z-of_z w64 c.args.value c.ranges.value) in
+    subst (λ (e : Entry). IsWhole (threads_of (set a.nodes.items c.index.result (record { entry = e; by_tag = m.by_tag; of_origin = m.of_origin })) a.origin_ends.items a.ends a.free) a.used) (sym noted)
+    (subst (λ i. IsWhole (threads_of (set a.nodes.items i (record { entry = (with_event c.args.input c.args.value) m.entry; by_tag = m.by_tag; of_origin = m.of_origin })) a.origin_ends.items a.ends a.free) a.used) (sym c.index.ensures)
+    (whole_changed a c.self.invariant c.args.node h m read (with_event c.args.input c.args.value) (λ _. refl) (λ _. refl)))
 
 pub returns-clause-places : goal.returns-clause-places
 returns-clause-places c =
@@ -33,11 +34,12 @@ returns-clause-places c =
     let h = subst (λ v. IsSome (entry_of c.args.node v.places)) (sym c.self.view_is) c.requires in
     let m = c.index_mut.result.now in
     let read = node_read a.nodes.items c.args.node m (used_found_below a c.self.invariant c.args.node h) (subst (λ i. m ≡ get_or a.nodes.items i m) c.index.ensures c.index_mut.ensures.value) in
-    let event : (x : ℕ × ℤ) → Node = λ x. record { entry = record { origin = m.entry.origin; tag = m.entry.tag; event = Some x; withdrawn = m.entry.withdrawn }; by_tag = m.by_tag; of_origin = m.of_origin } in
-    ap (λ x. contents_of (threads_of (set a.nodes.items c.index.result (event x)) a.origin_ends.items a.ends a.free) a.used) (c.greater_payload.ensures ∙ ap (λ z. greater m.entry.event (c.args.input, z)) (to_z-of_z w64 c.args.value c.ranges.value)) ∙
-    ap (λ i. contents_of (threads_of (set a.nodes.items i (record { entry = (with_event c.args.input c.args.value) m.entry; by_tag = m.by_tag; of_origin = m.of_origin })) a.origin_ends.items a.ends a.free) a.used) c.index.ensures
-    ∙ contents_changed a c.self.invariant c.args.node h m read ((with_event c.args.input c.args.value)) (λ _. refl) (λ _. refl)
-    ∙ ap (λ v. let w : Contents = record { origins = v.origins; places = with_change ((with_event c.args.input c.args.value)) c.args.node v.places; free = v.free } in w) c.self.view_is
+    let noted : c.note_event.new.self ≡ with_event c.args.input c.args.value m.entry =
+    c.note_event.ensures.entry ∙ ap (λ z. with_event c.args.input z m.entry) (to_z-of_z w64 c.args.value c.ranges.value) in
+    ap (λ (e : Entry). contents_of (threads_of (set a.nodes.items c.index.result (record { entry = e; by_tag = m.by_tag; of_origin = m.of_origin })) a.origin_ends.items a.ends a.free) a.used) noted
+    ∙ ap (λ i. contents_of (threads_of (set a.nodes.items i (record { entry = (with_event c.args.input c.args.value) m.entry; by_tag = m.by_tag; of_origin = m.of_origin })) a.origin_ends.items a.ends a.free) a.used) c.index.ensures
+    ∙ contents_changed a c.self.invariant c.args.node h m read (with_event c.args.input c.args.value) (λ _. refl) (λ _. refl)
+    ∙ ap (λ v. let w : Contents = record { origins = v.origins; places = with_change (with_event c.args.input c.args.value) c.args.node v.places; free = v.free } in w) c.self.view_is
 
 pub returns-clause-entry : goal.returns-clause-entry
 returns-clause-entry c =
