@@ -1,5 +1,6 @@
 -- The arena after a change of one entry that keeps its name.
 use Rattle.std.proofs.Common.{◌≡◌, ◌≢◌, ℕ, ◌-◌, ◌<◌, Bool, cond, eqb, ltb, ◌&&◌, ◌||◌, List, [], ◌∷◌, length, refl, sym, ap, ◌∙◌, subst, inl, inr, arith, map, get_or, set, IsSome}
+use Rattle.std.specs.Vec.{vec_capacity}
 use Rattle.std.proofs.lemmas.Bool.{cases_eq, eq-eqb, ne_eqb}
 use Rattle.std.proofs.lemmas.List.{length-set, get_or-set_same, get_or-set_other}
 use Rattle.warp_tag.specs.Moment.{Moment, is_before, is_same}
@@ -138,17 +139,16 @@ module _ (a : Inside) (w : IsWhole (threads a) a.used) (i : ℕ) (found : IsSome
         IsWhole-from (threads_of (set a.nodes.items i changed_node) a.origin_ends.items a.ends a.free) (used a) (unused_of (threads a) ((threads a).size - a.used)) a.used shape' used_len
         (omega (arith, w.fits, length-set a.nodes.items i changed_node, length-walk (next_in (free_ends a.free) (threads a).links) ((threads a).size - a.used) NO_NODE))
 
-    pub contents_changed : contents_of (threads_of (set a.nodes.items i (record { entry = change m.entry; by_tag = m.by_tag; of_origin = m.of_origin })) a.origin_ends.items a.ends a.free) a.used
-        ≡ record { origins = length a.origin_ends.items; places = with_change change i (places a); free = length a.nodes.items - a.used }
+    pub contents_changed : contents_of (threads_of (set a.nodes.items i (record { entry = change m.entry; by_tag = m.by_tag; of_origin = m.of_origin })) a.origin_ends.items a.ends a.free) a.used (vec_capacity a.nodes)
+        ≡ record { origins = length a.origin_ends.items; places = with_change change i (places a); free = length a.nodes.items - a.used; room = vec_capacity a.nodes }
     unfolding changed_node
     contents_changed =
         let new : List Node = set a.nodes.items i changed_node in
         let t' = threads_of new a.origin_ends.items a.ends a.free in
-        same_contents (length a.origin_ends.items) (length a.origin_ends.items) (map (place_at (entry_at new)) (used_of t' a.used)) (with_change change i (places a))
-        (length new - a.used) (length a.nodes.items - a.used) refl
+        same_contents refl
         (ap (map (place_at (entry_at new))) (used_is t' (used a) (unused_of (threads a) ((threads a).size - a.used)) a.used shape' used_len)
         ∙ map_change change (threads a).entry (entry_at new) i
         (ap (λ n. n.entry) (node_here a.nodes.items i changed_node below) ∙ ap (λ n. change n.entry) read)
         (λ j n. ap (λ k. k.entry) (node_other a.nodes.items i changed_node j n))
         (used a))
-        (omega (arith, length-set a.nodes.items i changed_node))
+        (omega (arith, length-set a.nodes.items i changed_node)) refl

@@ -18,8 +18,7 @@ pub record Freed (tag : Moment) (start now' : Contents) : Type 0 where
   pub front : List Place
   pub parts : start.places ≡ front ++ now'.places
   pub through : AllByRecursion (λ p. is_before tag p.entry.tag ≡ false) front
-  pub free : now'.free ≡ start.free + length front
-  pub origins : now'.origins ≡ start.origins
+  pub others : now' ≡ record start { places = now'.places; free = start.free + length front }
 
 some_same : {X : Type 0} (x y : X) → Some x ≡ Some y → x ≡ y
 some_same x y e = cc
@@ -31,7 +30,7 @@ first_place (p ∷ qs) i d first entry =
     (p, qs, refl, some_same p.entry d (sym (entry_of-here p qs i (sym (some_same i p.node first))) ∙ entry))
 
 -- one more is freed
-pub Freed-more : (tag : Moment) (start now' : Contents) → Freed tag start now' → (d : Entry) (i : ℕ) → Some i ≡ first_node now'.places → entry_of i now'.places ≡ Some d → is_before tag d.tag ≡ false → (next : Contents) → next ≡ record { origins = now'.origins; places = drop 1 now'.places; free = now'.free + 1 } → Freed tag start next
+pub Freed-more : (tag : Moment) (start now' : Contents) → Freed tag start now' → (d : Entry) (i : ℕ) → Some i ≡ first_node now'.places → entry_of i now'.places ≡ Some d → is_before tag d.tag ≡ false → (next : Contents) → next ≡ record now' { places = drop 1 now'.places; free = now'.free + 1 } → Freed tag start next
 Freed-more tag start now' f d i first entry h next e =
     let r = first_place now'.places i d first entry in
     let p : Place = r.0 in
@@ -42,8 +41,10 @@ Freed-more tag start now' f d i first entry h next e =
       through =
           All-append (λ q. is_before tag q.entry.tag ≡ false) f.front (p ∷ []) f.through
           (ap (λ x. is_before tag x.tag) r.3 ∙ h, tt);
-      free = omega (arith, ap (λ v. v.free) e, f.free, length-append f.front (p ∷ []));
-      origins = ap (λ v. v.origins) e ∙ f.origins;
+      others =
+          same_contents (ap (λ v. v.origins) e ∙ ap (λ v. v.origins) f.others) refl
+          (omega (arith, ap (λ v. v.free) e, ap (λ v. v.free) f.others, length-append f.front (p ∷ [])))
+          (ap (λ v. v.room) e ∙ ap (λ v. v.room) f.others);
     }
 
 -- the elements that pass a test are the back, where those of a front fail it
@@ -54,7 +55,7 @@ filter_back q (x ∷ xs) ys a b = filter-past q x (xs ++ ys) a.0 ∙ filter_back
 
 -- what is left, where its first place is after the tag or it is empty
 pub record Stops (tag : Moment) (start now' : Contents) (n : ℕ) : Type 0 where
-  pub places : now' ≡ record { origins = start.origins; places = places_past tag start.places; free = start.free + n }
+  pub places : now' ≡ record start { places = places_past tag start.places; free = start.free + n }
   pub count : n ≡ length (places_through tag start.places)
   pub front : now'.places ≡ drop n start.places
 
@@ -63,8 +64,9 @@ stops_by tag start now' f past n e =
     let later : Place → Bool = λ p. is_before tag p.entry.tag in
     record {
       places =
-          same_contents now'.origins start.origins now'.places (places_past tag start.places) now'.free (start.free + n) f.origins
-          (sym (ap (filter later) f.parts ∙ filter_back later f.front now'.places f.through past)) (f.free ∙ ap (λ k. start.free + k) (sym e));
+          same_contents (ap (λ v. v.origins) f.others)
+          (sym (ap (filter later) f.parts ∙ filter_back later f.front now'.places f.through past))
+          (ap (λ v. v.free) f.others ∙ ap (λ k. start.free + k) (sym e)) (ap (λ v. v.room) f.others);
       count = e ∙ ap length (sym (ap (filter (λ p. not (later p))) f.parts ∙ filter_front later f.front now'.places f.through past));
       front = sym (ap (drop n) f.parts ∙ drop_at f.front now'.places n (sym e));
     }

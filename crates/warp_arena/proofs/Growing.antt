@@ -46,12 +46,12 @@ start_whole nodes own n e f =
 
 -- ---- one more node
 
-node_pushed : (nodes : List Node) (n : Node) (i : ℕ) → i ≢ length nodes → node_at (nodes ++ n ∷ []) i ≡ node_at nodes i
-node_pushed nodes n i other =
+node_pushed : (nodes : List Node) (i : ℕ) → i ≢ length nodes → node_at (nodes ++ no_node ∷ []) i ≡ node_at nodes i
+node_pushed nodes i other =
     elim (cases_lt i (length nodes)) [
-      | inl below ↦ get_or_append_left nodes (n ∷ []) no_node i below
+      | inl below ↦ get_or_append_left nodes (no_node ∷ []) no_node i below
       | inr above ↦
-          get_or_past (nodes ++ n ∷ []) i no_node (omega (arith, length-append nodes (n ∷ [])))
+          get_or_past (nodes ++ no_node ∷ []) i no_node (omega (arith, length-append nodes (no_node ∷ [])))
           ∙ sym (get_or_past nodes i no_node above)
     ]
 
@@ -68,22 +68,22 @@ none_free a w e =
 count_of_walk : (next : ℕ → ℕ) (i m : ℕ) → m ≡ 0 → count_of i (walk next m NO_NODE) ≡ 0
 count_of_walk next i m e = ap (λ k. count_of i (walk next k NO_NODE)) e
 
-module _ (a : Inside) (w : IsWhole (threads a) a.used) (full : a.used ≡ length a.nodes.items) (room : length a.nodes.items < most_names) (n : Node) (free : n.by_tag.next ≡ NO_NODE) where
+module _ (a : Inside) (w : IsWhole (threads a) a.used) (full : a.used ≡ length a.nodes.items) (room : length a.nodes.items < most_names) where
   size : ℕ
   size = length a.nodes.items
 
   abbrev new : List Node
-  new = a.nodes.items ++ n ∷ []
+  new = a.nodes.items ++ no_node ∷ []
 
   new_len : length new ≡ length a.nodes.items + 1
-  new_len = omega (arith, length-append a.nodes.items (n ∷ []))
+  new_len = omega (arith, length-append a.nodes.items (no_node ∷ []))
 
   abbrev t' : Threads
   t' = threads_of new a.origin_ends.items a.ends (length a.nodes.items)
 
   off_new : (is : List ℕ) → AllByRecursion (λ i. i < length a.nodes.items) is → AllByRecursion (λ i. node_at new i ≡ node_at a.nodes.items i) is
   off_new is below =
-      All-weaker (λ i. i < length a.nodes.items) (λ i. node_at new i ≡ node_at a.nodes.items i) (λ i h. node_pushed a.nodes.items n i (omega arith)) is below
+      All-weaker (λ i. i < length a.nodes.items) (λ i. node_at new i ≡ node_at a.nodes.items i) (λ i h. node_pushed a.nodes.items i (omega arith)) is below
 
   used_below : AllByRecursion (λ i. i < length a.nodes.items) (used a)
   used_below = all_used_below (threads a) (used a) (unused_of (threads a) ((threads a).size - a.used)) w.shape
@@ -167,7 +167,7 @@ module _ (a : Inside) (w : IsWhole (threads a) a.used) (full : a.used ≡ length
         free = (
           refl,
           next_in-at (free_ends (length a.nodes.items)) (by_tag new) (length a.nodes.items) not_none
-              ∙ ap (λ (m : Node). m.by_tag.next) (get_or_push a.nodes.items n no_node (length a.nodes.items) refl) ∙ free,
+              ∙ ap (λ (m : Node). m.by_tag.next) (get_or_push a.nodes.items no_node no_node (length a.nodes.items) refl),
         );
         once = λ i. once_pushed i;
       }
@@ -175,16 +175,15 @@ module _ (a : Inside) (w : IsWhole (threads a) a.used) (full : a.used ≡ length
   used_len : length (used a) ≡ a.used
   used_len = length-walk (next_in a.ends (threads a).links) a.used NO_NODE
 
-  pub whole_grown : IsWhole (threads_of (a.nodes.items ++ n ∷ []) a.origin_ends.items a.ends (length a.nodes.items)) a.used
+  pub whole_grown : IsWhole (threads_of (a.nodes.items ++ no_node ∷ []) a.origin_ends.items a.ends (length a.nodes.items)) a.used
   whole_grown = IsWhole-from t' (used a) (length a.nodes.items ∷ []) a.used shape' used_len (omega (arith, new_len, full))
 
-  pub contents_grown : contents_of (threads_of (a.nodes.items ++ n ∷ []) a.origin_ends.items a.ends (length a.nodes.items)) a.used
-      ≡ record { origins = length a.origin_ends.items; places = places a; free = max 1 (length a.nodes.items - a.used) }
-  contents_grown =
-      same_contents (length a.origin_ends.items) (length a.origin_ends.items) (map (place_at (entry_at new)) (used_of t' a.used)) (places a)
-      (length new - a.used) (max 1 (length a.nodes.items - a.used)) refl
+  pub contents_grown : (room' : ℕ) → contents_of (threads_of (a.nodes.items ++ no_node ∷ []) a.origin_ends.items a.ends (length a.nodes.items)) a.used room'
+      ≡ record { origins = length a.origin_ends.items; places = places a; free = 1; room = room' }
+  contents_grown room' =
+      same_contents refl
       (ap (map (place_at (entry_at new))) (used_is t' (used a) (length a.nodes.items ∷ []) a.used shape' used_len)
       ∙ map_agree (place_at (entry_at a.nodes.items)) (place_at (entry_at new)) (used a)
       (All-weaker (λ i. entry_at new i ≡ entry_at a.nodes.items i) (λ i. place_at (entry_at new) i ≡ place_at (entry_at a.nodes.items) i)
       (λ i e. ap (λ (d : Entry). let p : Place = record { node = i; entry = d } in p) e) (used a) same_entries))
-      (omega (arith, new_len, full))
+      (omega (arith, new_len, full)) refl

@@ -1,6 +1,7 @@
 -- The arena after `insert`.
 use Rattle.std.proofs.Common.{◌≡◌, ◌≢◌, ℕ, ◌+◌, ◌-◌, ◌<◌, true, false, cond, List, [], ◌∷◌, ◌++◌, length, refl, sym, ap, ◌∙◌, subst, arith, map, get_or, set, None}
 use Rattle.std.specs.List.{AllByRecursion}
+use Rattle.std.specs.Vec.{vec_capacity}
 use Rattle.std.proofs.lemmas.List.{map-append, length-set, length-append}
 use Rattle.warp_tag.specs.Moment.{Moment}
 use Rattle.warp_tag.specs.Table.{name_before, fresh}
@@ -32,11 +33,9 @@ entry_of-off : (entry : ℕ → Entry) (i : ℕ) (is : List ℕ) → IsOff i is 
 entry_of-off entry i [] off = refl
 entry_of-off entry i (j ∷ is) off = entry_of-other (place_at entry j) (map (place_at entry) is) i off.0 ∙ entry_of-off entry i is off.1
 
-pub same_contents : (o o' : ℕ) (ps ps' : List Place) (f f' : ℕ) → o ≡ o' → ps ≡ ps' → f ≡ f' → ◌≡◌ {A = Contents} (record { origins = o; places = ps; free = f }) (record { origins = o'; places = ps'; free = f' })
-same_contents o o' ps ps' f f' p q r =
-    ap (λ (x : ℕ). let c : Contents = record { origins = x; places = ps; free = f } in c) p
-    ∙ ap (λ (x : List Place). let c : Contents = record { origins = o'; places = x; free = f } in c) q
-    ∙ ap (λ (x : ℕ). let c : Contents = record { origins = o'; places = ps'; free = x } in c) r
+-- two contents that agree in each part
+pub same_contents : {o o' : ℕ} {ps ps' : List Place} {f f' r r' : ℕ} → o ≡ o' → ps ≡ ps' → f ≡ f' → r ≡ r' → ◌≡◌ {A = Contents} (record { origins = o; places = ps; free = f; room = r }) (record { origins = o'; places = ps'; free = f'; room = r' })
+same_contents o ps f r = λ i. record { origins = o i; places = ps i; free = f i; room = r i }
 
 module _ (a : Inside) (o : ℕ) (g : Moment) (before own_before : ℕ) (r : Ready a o g before own_before) (declared : o < length a.origin_ends.items) where
   came : IsOff a.free (r.xs ++ r.ys)
@@ -66,8 +65,8 @@ module _ (a : Inside) (o : ℕ) (g : Moment) (before own_before : ℕ) (r : Read
           IsWhole-from (threads_of new (set a.origin_ends.items o e') ends' free') (r.xs ++ a.free ∷ r.ys) r.fs (a.used + 1) shape' len'
           (omega (arith, r.len, change.len))
 
-      pub contents_inserted : contents_of (threads_of new (set a.origin_ends.items o e') ends' free') (a.used + 1)
-          ≡ record { origins = length a.origin_ends.items; places = with_place (record { node = a.free; entry = fresh o g }) (places a); free = length a.nodes.items - a.used - 1 }
+      pub contents_inserted : contents_of (threads_of new (set a.origin_ends.items o e') ends' free') (a.used + 1) (vec_capacity a.nodes)
+          ≡ record { origins = length a.origin_ends.items; places = with_place (record { node = a.free; entry = fresh o g }) (places a); free = length a.nodes.items - a.used - 1; room = vec_capacity a.nodes }
       contents_inserted =
           let t' = threads_of new (set a.origin_ends.items o e') ends' free' in
           let place : ℕ → Place = place_at (threads a).entry in
@@ -90,6 +89,4 @@ module _ (a : Inside) (o : ℕ) (g : Moment) (before own_before : ℕ) (r : Read
           (All-map (λ q. name_before o g q.entry ≡ false) place r.xs r.through)
           (All-map (λ q. name_before o g q.entry ≡ true) place r.ys r.past) in
           let sizes : length new - (a.used + 1) ≡ length a.nodes.items - a.used - 1 = omega (arith, change.len) in
-          same_contents (length (set a.origin_ends.items o e')) (length a.origin_ends.items) (map place' (used_of t' (a.used + 1))) (with_place p (places a))
-          (length new - (a.used + 1)) (length a.nodes.items - a.used - 1)
-          (length-set a.origin_ends.items o e') (new_places ∙ sym put) sizes
+          same_contents (length-set a.origin_ends.items o e') (new_places ∙ sym put) sizes refl

@@ -1,6 +1,7 @@
 -- The arena after its first node is freed.
 use Rattle.std.proofs.Common.{◌≡◌, ◌≢◌, ℕ, zero, suc, ◌+◌, ◌-◌, ◌<◌, eqb, List, [], ◌∷◌, length, refl, sym, ap, ◌∙◌, subst, arith, map, get_or, set, drop}
 use Rattle.std.specs.List.{AllByRecursion}
+use Rattle.std.specs.Vec.{vec_capacity}
 use Rattle.std.proofs.lemmas.List.{length-set, length-map}
 use Rattle.warp_tag.specs.declared.entry.Entry.{Entry}
 use Rattle.warp_tag.proofs.Lists.{All-weaker, All-filter}
@@ -49,7 +50,7 @@ leaving a w h =
 pub length-places : (a : Inside) → length (places a) ≡ a.used
 length-places a = length-map (used a) (place_at (threads a).entry) ∙ length-walk (next_in a.ends (threads a).links) a.used NO_NODE
 
-pub leaving_of : (a : Inside) (v : Contents) → contents_of (threads a) a.used ≡ v → IsWhole (threads a) a.used → 0 < length v.places → Leaving a
+pub leaving_of : (a : Inside) (v : Contents) → contents_of (threads a) a.used (vec_capacity a.nodes) ≡ v → IsWhole (threads a) a.used → 0 < length v.places → Leaving a
 leaving_of a v is w h = leaving a w (omega (arith, length-places a, ap (λ u. length u.places) is))
 
 -- what taking the node out asks for
@@ -99,8 +100,8 @@ module _ (a : Inside) (l : Leaving a) (new : List Node) (own ends' e' : Links) (
         IsWhole-from (threads_of new (set a.origin_ends.items o e') ends' a.ends.next) l.rest (a.ends.next ∷ l.fs) (a.used - 1) shape'
         (omega (arith, l.len)) (omega (arith, l.len, l.free_len, change.len))
 
-    pub contents_removed : contents_of (threads_of new (set a.origin_ends.items o e') ends' a.ends.next) (a.used - 1)
-        ≡ record { origins = length a.origin_ends.items; places = drop 1 (places a); free = length a.nodes.items - a.used + 1 }
+    pub contents_removed : contents_of (threads_of new (set a.origin_ends.items o e') ends' a.ends.next) (a.used - 1) (vec_capacity a.nodes)
+        ≡ record { origins = length a.origin_ends.items; places = drop 1 (places a); free = length a.nodes.items - a.used + 1; room = vec_capacity a.nodes }
     contents_removed =
         let t' = threads_of new (set a.origin_ends.items o e') ends' a.ends.next in
         let place : ℕ → Place = place_at (threads a).entry in
@@ -108,9 +109,7 @@ module _ (a : Inside) (l : Leaving a) (new : List Node) (own ends' e' : Links) (
         let same : map place' l.rest ≡ map place l.rest =
         map_agree place place' l.rest
         (All-same place place' l.rest (λ i. ap (λ (e : Entry). let q : Place = record { node = i; entry = e } in q) (change.entries i))) in
-        same_contents (length (set a.origin_ends.items o e')) (length a.origin_ends.items) (map place' (used_of t' (a.used - 1))) (drop 1 (places a))
-        (length new - (a.used - 1)) (length a.nodes.items - a.used + 1)
-        (length-set a.origin_ends.items o e')
+        same_contents (length-set a.origin_ends.items o e')
         (ap (map place') (used_is t' l.rest (a.ends.next ∷ l.fs) (a.used - 1) shape' (omega (arith, l.len))) ∙ same
         ∙ sym (ap (λ is. drop 1 (map place is)) l.parts))
-        (omega (arith, l.len, l.free_len, change.len))
+        (omega (arith, l.len, l.free_len, change.len)) refl

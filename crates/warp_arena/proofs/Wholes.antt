@@ -215,8 +215,8 @@ IsDistinct-apart [] a = tt
 IsDistinct-apart (i ∷ is) a =
     (All-weaker (λ j. j ≢ i) (λ j. eqb i j ≡ false) (λ j n. ne_eqb i j (λ e. n (sym e))) is a.0, IsDistinct-apart is a.1)
 
-pub ordered : (a : Inside) → IsWhole (threads a) a.used → IsOrdered (contents_of (threads a) a.used)
-ordered a w =
+pub ordered : (a : Inside) → IsWhole (threads a) a.used → (room : ℕ) → IsOrdered (contents_of (threads a) a.used room)
+ordered a w room =
     record {
       table = subst IsTable (sym (entries_of-places (threads a).entry (used a))) w.shape.sorted;
       declared = All-map (λ p. p.entry.origin < length a.origin_ends.items) (place_at (threads a).entry) (used a) w.shape.declared;

@@ -1,5 +1,5 @@
 -- What an arena holds, as contracts see it: the entries in order, each with the handle that names it.
-use Rattle.std.specs.Prelude.{ℕ, ◌<◌, nat_eq, unwrap_or, ◌==◌, not, Option, Some, None, List, [], ◌∷◌, if◌then◌else◌, find, filter, map}
+use Rattle.std.specs.Prelude.{ℕ, ◌+◌, ◌<◌, max, length, nat_eq, unwrap_or, ◌==◌, not, Option, Some, None, List, [], ◌∷◌, if◌then◌else◌, find, filter, map}
 use Rattle.std.specs.Option.{option_map}
 use Rattle.std.specs.List.{AllByRecursion, IsDistinct}
 use Rattle.warp_tag.specs.Moment.{Moment, is_before}
@@ -11,12 +11,22 @@ pub record Place : Type 0 where
   pub node : ℕ
   pub entry : Entry
 
--- what an arena holds: how many origins it has, its places in order of tag, then of origin, and how many nodes
--- are free
+-- what an arena holds: how many origins it has, its places in order of tag, then of origin, how many nodes are
+-- free, and for how many nodes in all it has taken memory
 pub record Contents : Type 0 where
   pub origins : ℕ
   pub places : List Place
   pub free : ℕ
+  pub room : ℕ
+
+-- the room where one more of so many nodes is to have a place: twice as much, and four at least, where none is left
+abbrev pub room_after : ℕ → ℕ → ℕ
+room_after nodes room = if nodes == room then room + max 4 room else room
+
+-- with a node free: where none was, it is a new one
+abbrev pub with_free : Contents → Contents
+with_free a =
+    if a.free == 0 then record a { free = 1; room = room_after (length a.places) a.room } else a
 
 -- the entries, in order
 abbrev pub entries_of : List Place → List Entry

@@ -133,13 +133,14 @@ unused_of t count = walk (next_in (free_ends t.free) t.links) count NO_NODE
 abbrev pub place_at : (ℕ → Entry) → ℕ → Place
 place_at entry i = record { node = i; entry = entry i }
 
--- what an arena with these nodes and so many used ones holds
-abbrev pub contents_of : Threads → ℕ → Contents
-contents_of t count =
+-- what an arena with these nodes, so many used ones and this room holds
+abbrev pub contents_of : Threads → ℕ → ℕ → Contents
+contents_of t count room =
     record {
       origins = t.origins;
       places = map (place_at t.entry) (used_of t count);
       free = t.size - count;
+      room = room;
     }
 
 -- so many nodes are used, and the links give them the shape of an arena

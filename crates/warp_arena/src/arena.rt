@@ -1,12 +1,13 @@
 //! The arena: entries of names, in order, each at a handle.
-use crate::links::{handle, thread_node, unthread_node};
+use crate::links::{add_node, handle, thread_node, unthread_node};
 use crate::node::{Links, MAX_USED, NO_NODE, Node, NodeId};
 use std::alloc::Global;
 use std::marker::Model;
 use warp_tag::{Entry, OutOfMemory, Tag};
 
 /// Entries of names, in order of tag, then of origin, each at a handle. Contracts see it as its `Contents`: the
-/// number of its origins, its places (a handle and its entry) in order, and the number of its free nodes.
+/// number of its origins, its places (a handle and its entry) in order, the number of its free nodes, and its room: for
+/// how many nodes in all memory was taken.
 ///
 /// Only `start` and `reserve_one` take memory.
 #[derive(Drop)]
@@ -23,25 +24,26 @@ impl Model for Arena {
 
     ghost Value = { Contents };
 
+    ghost use Rattle.std.specs.Vec.{vec_capacity};
     ghost use Rattle.warp_arena.specs.Shape.{threads_of, contents_of, IsWhole};
 
-    ghost view = { λ a. contents_of (threads_of a.nodes.items a.origin_ends.items a.ends a.free) a.used };
+    ghost view = { λ a. contents_of (threads_of a.nodes.items a.origin_ends.items a.ends a.free) a.used (vec_capacity a.nodes) };
 
     ghost invariant = { λ a. IsWhole (threads_of a.nodes.items a.origin_ends.items a.ends a.free) a.used };
 }
 
 impl Arena {
-    ghost use Rattle.std.specs.Prelude.{◌≡◌, ◌≢◌, ℕ, ◌↔◌, ◌<◌, ◌≤◌, ◌+◌, ◌-◌, [], ◌∷◌, IsTrue, IsOk, IsSome, IfSome, IsSomeAnd, IfOk, OnOk, OnErr, None, Some, length, map, drop, max, ◌==◌, filter};
+    ghost use Rattle.std.specs.Prelude.{◌≡◌, ◌≢◌, ℕ, ◌↔◌, ◌<◌, ◌≤◌, ◌+◌, ◌-◌, [], ◌∷◌, IsTrue, IsOk, IsSome, IfSome, IsSomeAnd, IfOk, OnOk, OnErr, None, Some, length, map, drop, ◌==◌, filter};
     ghost use Rattle.std.specs.Option.{option_map};
     ghost use Rattle.warp_tag.specs.Limits.{most_names};
     ghost use Rattle.warp_tag.specs.Moment.{is_before};
     ghost use Rattle.warp_tag.specs.Table.{name_before, has_name, fresh, with_event, with_withdrawal};
-    ghost use Rattle.warp_arena.specs.Places.{places_of, node_of, entry_of, first_node, last_node, places_after, places_before, with_place, with_change, places_past, places_through, IsOrdered, origin_of};
+    ghost use Rattle.warp_arena.specs.Places.{places_of, node_of, entry_of, first_node, last_node, places_after, places_before, with_place, with_change, with_free, places_past, places_through, IsOrdered, origin_of};
     ghost use Rattle.warp_arena.specs.Shape.{Splits};
 
     /// An arena without entries, for origins below this number. The only error is want of memory.
     pub fn start(alloc: Global, origins: u32) -> Result<Arena, OutOfMemory>
-        ensures { IfOk result (λ a. a ≡ record { origins = origins; places = []; free = 0 }) }
+        ensures { IfOk result (λ a. a ≡ record { origins = origins; places = []; free = 0; room = 0 }) }
     {
         let mut origin_ends = Vec::with_capacity(alloc, origins as usize)?;
         for _ in 0..origins {
@@ -56,17 +58,19 @@ impl Arena {
         })
     }
 
-    /// Makes sure that a node is free, so that one `insert` can follow. It takes memory only where none is free,
-    /// and then grows at most once, geometrically. The only error is want of memory; then all is as before.
+    /// Makes sure that a node is free, so that one `insert` can follow. Where one is, nothing changes. Else it makes
+    /// one, and takes memory only where no room is left: for twice as many nodes as before. The only error is want of
+    /// memory, where no node is free and no room is left; then all is as before.
     pub fn reserve_one(&mut self, _alloc: Global) -> Result<(), OutOfMemory>
         requires { length self.old.places < most_names }
-        ensures ok { OnOk result (self.new ≡ record self.old { free = max 1 self.old.free }) }
+        ensures ok { OnOk result (self.new ≡ with_free self.old) }
         ensures err { OnErr result (self.new ≡ self.old) }
         ensures spare { 0 < self.old.free → IsOk result }
+        ensures room { length self.old.places < self.old.room → IsOk result }
     {
         if self.free == NO_NODE {
             let index = self.nodes.len() as u32;
-            self.nodes.push(Node::unused())?;
+            add_node(&mut self.nodes)?;
             self.free = index;
         }
         Ok(())

@@ -1,10 +1,12 @@
 //! The links of an arena's nodes: how a node comes into its two lists and goes from them.
-ghost use Rattle.std.specs.Prelude.{◌≡◌, ◌≢◌, ℕ, ◌<◌, length, None, Some, if◌then◌else◌, ◌==◌};
-ghost use Rattle.warp_arena.specs.Shape.{by_tag, of_origin, next_in, prev_in};
+ghost use Rattle.std.specs.Prelude.{◌≡◌, ◌≢◌, ℕ, ◌<◌, [], ◌∷◌, ◌++◌, length, None, Some, if◌then◌else◌, ◌==◌, is_ok, IsOk, OnOk, OnErr};
+ghost use Rattle.std.specs.Vec.{vec_capacity};
+ghost use Rattle.warp_arena.specs.Places.{room_after};
+ghost use Rattle.warp_arena.specs.Shape.{by_tag, of_origin, next_in, prev_in, no_node};
 ghost use Rattle.warp_arena.specs.Changes.{IsPlace, SetsNext, SetsPrev, KeepsButTags, KeepsButOwn, Inserts, Skips, Threaded, Unthreaded};
 
 use crate::node::{Links, NO_NODE, Node, NodeId};
-use warp_tag::Entry;
+use warp_tag::{Entry, OutOfMemory};
 
 /// The handle of the node at this index, or none for `NO_NODE`.
 pub(crate) fn handle(index: u32) -> Option<NodeId>
@@ -15,6 +17,23 @@ pub(crate) fn handle(index: u32) -> Option<NodeId>
     } else {
         Some(NodeId::new(index))
     }
+}
+
+/// Adds an unused node at the end, and takes memory only where there is no room for it: for twice as many nodes as there
+/// are. The only error is want of memory; then all is as before.
+pub(crate) fn add_node(nodes: &mut Vec<Node>) -> Result<(), OutOfMemory>
+    ensures ok { OnOk result (nodes.new.items ≡ nodes.old.items ++ no_node ∷ []) }
+    ensures err { OnErr result (nodes.new.items ≡ nodes.old.items) }
+    ensures room { vec_capacity nodes.new
+        ≡ (if is_ok result then room_after (length nodes.old.items) (vec_capacity nodes.old) else vec_capacity nodes.old) }
+    ensures spare { length nodes.old.items < vec_capacity nodes.old → IsOk result }
+{
+    let count = nodes.len();
+    if count == nodes.capacity() {
+        nodes.reserve_exact(count.max(4))?;
+    }
+    nodes.push_reserved(Node::unused());
+    Ok(())
 }
 
 /// Makes this place of the tag list lead on to another; `NO_NODE` stands for the list's end.

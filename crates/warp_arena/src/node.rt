@@ -69,10 +69,11 @@ pub(crate) struct Node {
 
 impl Node {
     ghost use Rattle.std.specs.Prelude.{◌≡◌};
+    ghost use Rattle.warp_arena.specs.Shape.{no_node};
 
     /// A node that no list holds.
     pub fn unused() -> Node
-        ensures { result.by_tag.next ≡ NO_NODE }
+        ensures { result ≡ no_node }
     {
         Node {
             entry: Entry::fresh(0, Tag::new(0, 0).unwrap()),

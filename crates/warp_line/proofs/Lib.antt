@@ -2,5 +2,4 @@ pub mod LiveLemmas
 pub mod ReplayLemmas
 pub mod RunLemmas
 pub mod ProgressLemmas
-pub mod TableLemmas
 pub mod PlainLemmas

@@ -4,16 +4,17 @@ use Rattle.std.specs.Prelude.{MatchBool}
 use Rattle.std.specs.List.{list_all, cons_option}
 use Rattle.std.proofs.lemmas.List.Sums.{count_by-le-length}
 use Rattle.std.proofs.lemmas.Bool.Decides.{nat_tests}
+use Rattle.warp_tag.specs.Limits.{most_names}
 use Rattle.warp_tag.specs.Moment.{Moment, is_before}
 use Rattle.warp_tag.specs.Table.{Event, IsTable, changed, with_event, live, live_event}
 use Rattle.warp_tag.specs.declared.entry.Entry.{Entry}
-use Rattle.warp_step.specs.Rules.{Rules}
+use Rattle.warp_step.specs.Program.{Program}
 use Rattle.warp_step.specs.Snapshot.{start_state}
 use Rattle.warp_step.specs.Run.{Row, Run}
 use Rattle.warp_step.proofs.TraceExists.{rows_left, left_few}
 use Rattle.warp_step.proofs.TraceLemmas.{one_rest}
-use Rattle.warp_line.specs.Timeline.{Standing, IsDone, IsEventOf, NowStands, Settles, rows_before, lesser}
-use Rattle.warp_line.specs.Replay.{event_fits}
+use Rattle.warp_line.specs.Timeline.{Standing, IsDone, NowStands, Settles, rows_before, lesser}
+use Rattle.warp_step.specs.Events.{IsEventOf, event_fits}
 use Rattle.warp_line.specs.Plain.{StandsFor, IsRun}
 use Rattle.warp_line.specs.declared.plain.Plain.{Plain}
 
@@ -30,21 +31,12 @@ settled_stands p m settled h =
         stands = h;
         kept = omega arith;
         bound = λ trace run.
-            let same : trace ≡ m.done = one_rest m.rules (live m.table) None (start_state m.rules) trace m.done run r.done in
+            let same : trace ≡ m.done = one_rest m.program (live m.table) None (start_state m.program) trace m.done run r.done in
             let lengths : length trace ≡ length m.done = ap length same in
             omega arith;
       },
       r.done,
     )
-
-pub event_good : (P : Rules) (origin : ℕ) (tag : Moment) (input : ℕ) (value : ℤ) → IsEventOf P origin tag input
-    → IsTrue (event_fits P (record { origin = origin; tag = tag; input = input; value = value }))
-event_good P origin tag input value h =
-    let a = h.origin_declared in
-    let b = h.not_past_stop in
-    let d = h.input_there in
-    let e = h.input_own in
-    grind (arith, nat_tests)
 
 cons_few : (o : Option Event) (E : List Event) (n : ℕ) → length E ≤ n → length (cons_option o E) ≤ n + 1
 cons_few None E n h = omega arith
@@ -57,7 +49,7 @@ live_few (e ∷ es) =
     omega arith
 
 -- a run has no more rows than the table has names
-pub rows_few : (P : Rules) (es : List Entry) (trace : List Row) → Run P (live es) trace → length trace ≤ length es
+pub rows_few : (P : Program) (es : List Entry) (trace : List Row) → Run P (live es) trace → length trace ≤ length es
 rows_few P es trace run =
     let a = rows_left P (live es) None (start_state P) trace refl run in
     let b = left_few None (live es) in
@@ -65,7 +57,7 @@ rows_few P es trace run =
     omega arith
 
 -- with few names all rows together are within the slack
-few_before : (P : Rules) (es : List Entry) (trace : List Row) (u : Moment) (n : ℕ) → length es ≤ 4000000000 → Run P (live es) trace → rows_before u trace ≤ n + 4000000000
+few_before : (P : Program) (es : List Entry) (trace : List Row) (u : Moment) (n : ℕ) → length es ≤ most_names → Run P (live es) trace → rows_before u trace ≤ n + most_names
 few_before P es trace u n few run =
     let a = rows_few P es trace run in
     let b = count_by-le-length (λ (row : Row). is_before row.tag u) trace in
@@ -76,25 +68,25 @@ abbrev after_event : ℕ → Moment → ℕ → ℤ → List Entry → List Entr
 after_event origin tag input value es = changed (with_event input value) origin tag es
 
 -- where the live events changed, nothing is known to be done
-pub put_changed : (p q : Plain) (m : Standing) (origin : ℕ) (tag : Moment) (input : ℕ) (value : ℤ) → StandsFor p m → IsEventOf m.rules origin tag input
-    → q.entries.items ≡ after_event origin tag input value p.entries.items → IsTable q.entries.items → length q.entries.items ≤ 4000000000
+pub put_changed : (p q : Plain) (m : Standing) (origin : ℕ) (tag : Moment) (input : ℕ) (value : ℤ) → StandsFor p m → IsEventOf m.program origin tag input
+    → q.entries.items ≡ after_event origin tag input value p.entries.items → IsTable q.entries.items → length q.entries.items ≤ most_names
     → (live q.entries.items ≡ live p.entries.items → ⊥)
     → ((t : Event → Bool) → IsTrue (list_all t (live p.entries.items)) → IsTrue (t (record { origin = origin; tag = tag; input = input; value = value })) → IsTrue (list_all t (live q.entries.items)))
-    → q.settled ≡ false → NowStands StandsFor 4000000000 tag q m (after_event origin tag input value m.table)
+    → q.settled ≡ false → NowStands StandsFor most_names tag q m (after_event origin tag input value m.table)
 put_changed p q m origin tag input value h good is ordered few differs events unsettled =
     let table : q.entries.items ≡ after_event origin tag input value m.table = is ∙ ap (after_event origin tag input value) h.table in
-    let fits = events (event_fits m.rules) (subst (λ (es : List Entry). IsTrue (list_all (event_fits m.rules) (live es))) (sym h.table) h.events) (event_good m.rules origin tag input value good) in
-    let new : Standing = record { rules = m.rules; table = after_event origin tag input value m.table; done = [] } in (
+    let fits = events (event_fits m.program) (subst (λ (es : List Entry). IsTrue (list_all (event_fits m.program) (live es))) (sym h.table) h.events) good in
+    let new : Standing = record { program = m.program; table = after_event origin tag input value m.table; done = [] } in (
       [],
       record {
         table = table;
         ordered = subst IsTable table ordered;
-        events = subst (λ (es : List Entry). IsTrue (list_all (event_fits m.rules) (live es))) table fits;
+        events = subst (λ (es : List Entry). IsTrue (list_all (event_fits m.program) (live es))) table fits;
         rows = subst (λ (b : Bool). MatchBool b (IsRun q new) (new.done ≡ [])) (sym unsettled) refl;
       },
       record {
         front = λ before after rb ra u enough.
-            few_before m.rules (after_event origin tag input value m.table) after (lesser tag u) 0 (subst (λ (es : List Entry). length es ≤ 4000000000) table few) ra;
+            few_before m.program (after_event origin tag input value m.table) after (lesser tag u) 0 (subst (λ (es : List Entry). length es ≤ most_names) table few) ra;
         unchanged = λ same. absurd (differs (ap live table ∙ same ∙ ap live (sym h.table)));
       },
     )
@@ -104,29 +96,29 @@ carried p q m n true h k = k h
 carried p q m n false h k = h
 
 -- where they stayed, what was done stays done
-pub put_same : (p q : Plain) (m : Standing) (origin : ℕ) (tag : Moment) (input : ℕ) (value : ℤ) → StandsFor p m → IsEventOf m.rules origin tag input
-    → q.entries.items ≡ after_event origin tag input value p.entries.items → IsTable q.entries.items → length q.entries.items ≤ 4000000000
+pub put_same : (p q : Plain) (m : Standing) (origin : ℕ) (tag : Moment) (input : ℕ) (value : ℤ) → StandsFor p m → IsEventOf m.program origin tag input
+    → q.entries.items ≡ after_event origin tag input value p.entries.items → IsTable q.entries.items → length q.entries.items ≤ most_names
     → live q.entries.items ≡ live p.entries.items
-    → q.settled ≡ p.settled → q.state ≡ p.state → q.outputs ≡ p.outputs → NowStands StandsFor 4000000000 tag q m (after_event origin tag input value m.table)
+    → q.settled ≡ p.settled → q.state ≡ p.state → q.outputs ≡ p.outputs → NowStands StandsFor most_names tag q m (after_event origin tag input value m.table)
 put_same p q m origin tag input value h good is ordered few same settled state outputs =
     let table : q.entries.items ≡ after_event origin tag input value m.table = is ∙ ap (after_event origin tag input value) h.table in
     let lives : live (after_event origin tag input value m.table) ≡ live m.table = ap live (sym table) ∙ same ∙ ap live h.table in
-    let new : Standing = record { rules = m.rules; table = after_event origin tag input value m.table; done = m.done } in (
+    let new : Standing = record { program = m.program; table = after_event origin tag input value m.table; done = m.done } in (
       m.done,
       record {
         table = table;
         ordered = subst IsTable table ordered;
-        events = subst (λ (E : List Event). IsTrue (list_all (event_fits m.rules) E)) (sym lives) h.events;
+        events = subst (λ (E : List Event). IsTrue (list_all (event_fits m.program) E)) (sym lives) h.events;
         rows = subst (λ (b : Bool). MatchBool b (IsRun q new) (m.done ≡ [])) (sym settled) (carried p q m new p.settled h.rows
             (λ r. record {
-              done = subst (λ (E : List Event). Run m.rules E m.done) (sym lives) r.done;
+              done = subst (λ (E : List Event). Run m.program E m.done) (sym lives) r.done;
               state = state ∙ r.state;
               outputs = ap (λ (v : _). v.items) outputs ∙ r.outputs;
             }));
       },
       record {
         front = λ before after rb ra u enough.
-            few_before m.rules (after_event origin tag input value m.table) after (lesser tag u) (length m.done) (subst (λ (es : List Entry). length es ≤ 4000000000) table few) ra;
+            few_before m.program (after_event origin tag input value m.table) after (lesser tag u) (length m.done) (subst (λ (es : List Entry). length es ≤ most_names) table few) ra;
         unchanged = λ kept. omega arith;
       },
     )

@@ -7,20 +7,20 @@ use Rattle.std.proofs.lemmas.Grind.{flat_map-append}
 use Rattle.warp_tag.specs.Moment.{Moment, is_before, is_same}
 use Rattle.warp_tag.specs.Table.{Event, live}
 use Rattle.warp_tag.specs.declared.entry.Entry.{Entry}
-use Rattle.warp_step.specs.Rules.{Rules}
+use Rattle.warp_step.specs.Program.{Program}
 use Rattle.warp_step.specs.Snapshot.{Snapshot, start_state}
 use Rattle.warp_step.specs.Step.{Step, state_after, outputs_after}
 use Rattle.warp_step.specs.Run.{Row, Run, IsNext, is_after, given_of, given_at, state_at_end, outputs_of}
 use Rattle.warp_step.specs.declared.out.Given.{Given}
 use Rattle.warp_step.specs.declared.out.Out.{Out}
 use Rattle.warp_step.proofs.TraceExists.{end_quiet}
-use Rattle.warp_line.specs.Replay.{head_tag, GoesOn, Passes}
+use Rattle.warp_line.specs.inner.Replay.{head_tag, GoesOn, Passes}
 use Rattle.warp_line.proofs.LiveLemmas.{live-append}
 use Rattle.warp_line.proofs.ReplayLemmas.{live_tags, all_tags_drop}
 use Rattle.warp_line.proofs.RunLemmas.{RunsTo, runs_more, runs_whole, runs_front, runs_state, past, all_at, behind, next_at, given_there, past_more, past_at, none_left}
 
 -- the table is a front and this rest; the rows done are the front of the run over it; each ticked once
-pub record Progress (P : Rules) (entries rest : List Entry) (s : Snapshot) (outs : List Out) (before now : ℕ) : Type 0 where
+pub record Progress (P : Program) (entries rest : List Entry) (s : Snapshot) (outs : List Out) (before now : ℕ) : Type 0 where
   pub front : List Entry
   pub done : List Row
   pub last : Option Moment
@@ -36,7 +36,7 @@ all_after_none : (es : List Entry) → IsTrue (list_all (λ e. is_after None e.t
 all_after_none [] = refl
 all_after_none (e ∷ es) = all_after_none es
 
-pub progress_start : (P : Rules) (entries : List Entry) (before : ℕ) → Progress P entries entries (start_state P) [] before before
+pub progress_start : (P : Program) (entries : List Entry) (before : ℕ) → Progress P entries entries (start_state P) [] before before
 progress_start P entries before = record {
   front = [];
   done = [];
@@ -50,14 +50,14 @@ progress_start P entries before = record {
   later = all_after_none entries;
 }
 
-pub progress_bound : (P : Rules) (entries rest : List Entry) (s : Snapshot) (outs : List Out) (before now : ℕ) → Progress P entries rest s outs before now
+pub progress_bound : (P : Program) (entries rest : List Entry) (s : Snapshot) (outs : List Out) (before now : ℕ) → Progress P entries rest s outs before now
     → (trace : List Row) → Run P (live entries) trace → now ≤ before + length trace
 progress_bound P entries rest s outs before now p trace run =
     let less : length p.done ≤ length trace = runs_front P (live entries) None p.last (start_state P) s p.done trace p.rows run in
     let ticked = p.ticked in
     omega arith
 
-pub progress_end : (P : Rules) (entries : List Entry) (s : Snapshot) (outs : List Out) (before now : ℕ) → Progress P entries [] s outs before now
+pub progress_end : (P : Program) (entries : List Entry) (s : Snapshot) (outs : List Out) (before now : ℕ) → Progress P entries [] s outs before now
     → (done : List Row) × Run P (live entries) done × (s ≡ state_at_end (start_state P) done) × (outs ≡ outputs_of done)
 progress_end P entries s outs before now p =
     let all : entries ≡ p.front = p.whole ∙ search rules in
@@ -89,7 +89,7 @@ both_past last front part h k =
     subst (λ (E : List Event). IsTrue (past last E)) (sym (live-append front part)) (grind (arith, nat_tests))
 
 -- past the entries of one tag, with the step at it
-stepped : (P : Rules) (entries rest : List Entry) (s s' : Snapshot) (outs outs' : List Out) (before now now' n : ℕ) (G : List Event) → Progress P entries rest s outs before now
+stepped : (P : Program) (entries rest : List Entry) (s s' : Snapshot) (outs outs' : List Out) (before now now' n : ℕ) (G : List Event) → Progress P entries rest s outs before now
     → Passes rest n → live (take n rest) ≡ G → GoesOn P (head_tag rest) (map given_of G) s s' outs outs' now now' → s'.pending ≡ [] → Progress P entries (drop n rest) s' outs' before now'
 stepped P entries rest s s' outs outs' before now now' n [] p passes none goes quiet = record {
   front = p.front ++ take n rest;
@@ -132,7 +132,7 @@ stepped P entries rest s s' outs outs' before now now' n (e ∷ G) p passes is g
       later = passes.later;
     }
 
-pub progress_on : (P : Rules) (entries rest : List Entry) (s s' : Snapshot) (outs outs' : List Out) (before now now' n : ℕ) → Progress P entries rest s outs before now
+pub progress_on : (P : Program) (entries rest : List Entry) (s s' : Snapshot) (outs outs' : List Out) (before now now' n : ℕ) → Progress P entries rest s outs before now
     → Passes rest n → GoesOn P (head_tag rest) (map given_of (live (take n rest))) s s' outs outs' now now' → s'.pending ≡ [] → Progress P entries (drop n rest) s' outs' before now'
 progress_on P entries rest s s' outs outs' before now now' n p passes goes quiet =
     stepped P entries rest s s' outs outs' before now now' n (live (take n rest)) p passes refl goes quiet

@@ -3,18 +3,20 @@ use Rattle.std.proofs.Common.{◌≡◌, inl, inr, ℕ, ℤ, zero, suc, ◌<◌,
 use Rattle.std.specs.Prelude.{◌==◌, slice_index, if◌then◌else◌}
 use Rattle.std.specs.Option.{option_map}
 use Rattle.std.specs.List.{cons_option, list_all, list_any, AllByRecursion}
+use Rattle.std.proofs.lemmas.Bool.{cases_Bool}
 use Rattle.std.proofs.lemmas.Bool.Decides.{nat_tests}
 use Rattle.warp_tag.specs.Moment.{Moment, is_before, is_same}
+use Rattle.warp_tag.proofs.Tags.{same_is}
 use Rattle.warp_tag.specs.Table.{Event, IsTable, name_before, live, live_event}
 use Rattle.warp_tag.specs.declared.entry.Entry.{Entry}
-use Rattle.warp_step.specs.Rules.{Rules}
+use Rattle.warp_step.specs.Program.{Program}
 use Rattle.warp_step.specs.Valid.{is_distinct}
 use Rattle.warp_step.specs.Snapshot.{Snapshot, IsStateOf}
 use Rattle.warp_step.specs.Step.{CanStep}
 use Rattle.warp_step.specs.Run.{given_of}
 use Rattle.warp_step.specs.declared.out.Given.{Given}
-use Rattle.warp_step.proofs.TraceExists.{split, same_is}
-use Rattle.warp_line.specs.Replay.{event_fits, head_tag, HasOtherHead, Passes}
+use Rattle.warp_step.specs.Events.{event_fits}
+use Rattle.warp_line.specs.inner.Replay.{head_tag, HasOtherHead, Passes}
 
 -- what holds of all holds of a rest
 pub all_drop : {X : Type 0} (P : X → Type 0) (n : ℕ) (xs : List X) → AllByRecursion P xs → AllByRecursion P (drop n xs)
@@ -59,7 +61,7 @@ passes (e ∷ es) (suc n) some table within here other = record {
 }
 
 -- the inputs of live events of one tag: the program's, none twice
-known : (P : Rules) (E : List Event) → IsTrue (list_all (event_fits P) E) → IsTrue (list_all (λ g. nat_lt g.input (length P.inputs)) (map given_of E))
+known : (P : Program) (E : List Event) → IsTrue (list_all (event_fits P) E) → IsTrue (list_all (λ g. nat_lt g.input (length P.inputs)) (map given_of E))
 known P [] h = refl
 known P (e ∷ es) h =
     let rest : IsTrue (list_all (event_fits P) es) = grind (arith, nat_tests) in
@@ -67,7 +69,7 @@ known P (e ∷ es) h =
     grind (arith, nat_tests)
 
 -- the origin that owns an input
-abbrev owner : Rules → ℕ → ℕ
+abbrev owner : Program → ℕ → ℕ
 owner P input = slice_index (map (λ i. i.origin) P.inputs) input
 
 -- what holds of all with one more in front, where there is one
@@ -105,8 +107,8 @@ distinct_cons None E h k = k
 distinct_cons (Some v) E h k = let e : list_any (λ m. m == v.input) (inputs_of E) ≡ false = h v refl in grind (arith, nat_tests)
 
 -- an input of another owner is another input
-differs : (P : Rules) (i j o : ℕ) → owner P i ≡ o → o < owner P j → (j == i) ≡ false
-differs P i j o own less = elim (split (j == i)) [
+differs : (P : Program) (i j o : ℕ) → owner P i ≡ o → o < owner P j → (j == i) ≡ false
+differs P i j o own less = elim (cases_Bool (j == i)) [
   | inl same ↦
       let one : j ≡ i = grind (arith, nat_tests) in
       let owners : owner P j ≡ owner P i = ap (owner P) one in
@@ -115,7 +117,7 @@ differs P i j o own less = elim (split (j == i)) [
 ]
 
 -- an event of a later origin of the same tag has another input
-other_input : (P : Rules) (o : ℕ) (t : Moment) (input : ℕ) (ds : List Entry) → owner P input ≡ o → IsTrue (list_all (event_fits P) (live ds))
+other_input : (P : Program) (o : ℕ) (t : Moment) (input : ℕ) (ds : List Entry) → owner P input ≡ o → IsTrue (list_all (event_fits P) (live ds))
     → AllByRecursion (λ d. IsTrue (name_before o t d)) ds → IsTrue (list_all (λ d. is_same t d.tag) ds)
     → list_any (λ m. m == input) (inputs_of (live ds)) ≡ false
 other_input P o t input [] own fits after same = refl
@@ -134,7 +136,7 @@ other_input P o t input (d ∷ ds) own fits after same =
     (other_input P o t input ds own parts_of.1 after.1 rest)
 
 -- no input is given twice at a tag
-pub once : (P : Rules) (t : Moment) (es : List Entry) → IsTable es → IsTrue (list_all (λ e. is_same t e.tag) es) → IsTrue (list_all (event_fits P) (live es))
+pub once : (P : Program) (t : Moment) (es : List Entry) → IsTable es → IsTrue (list_all (λ e. is_same t e.tag) es) → IsTrue (list_all (event_fits P) (live es))
     → IsTrue (is_distinct (inputs_of (live es)))
 once P t [] table same fits = refl
 once P t (e ∷ es) table same fits =
@@ -150,12 +152,12 @@ once P t (e ∷ es) table same fits =
     (once P t es table.1 rest parts_of.1)
 
 -- a live event of the tag is not past the stop
-time_cons : (P : Rules) (t : Moment) (o : Option Event) (E : List Event) → ((v : Event) → o ≡ Some v → t.time ≤ P.stop) → (0 < length (map given_of E) → t.time ≤ P.stop)
+time_cons : (P : Program) (t : Moment) (o : Option Event) (E : List Event) → ((v : Event) → o ≡ Some v → t.time ≤ P.stop) → (0 < length (map given_of E) → t.time ≤ P.stop)
     → 0 < length (map given_of (cons_option o E)) → t.time ≤ P.stop
 time_cons P t None E h k some = k some
 time_cons P t (Some v) E h k some = h v refl
 
-in_time : (P : Rules) (t : Moment) (es : List Entry) → IsTrue (list_all (λ e. is_same t e.tag) es) → IsTrue (list_all (event_fits P) (live es))
+in_time : (P : Program) (t : Moment) (es : List Entry) → IsTrue (list_all (λ e. is_same t e.tag) es) → IsTrue (list_all (event_fits P) (live es))
     → 0 < length (map given_of (live es)) → t.time ≤ P.stop
 in_time P t [] same fits some = absurd (omega arith)
 in_time P t (e ∷ es) same fits some =
@@ -172,7 +174,7 @@ in_time P t (e ∷ es) same fits some =
     (in_time P t es rest parts_of.1) some
 
 -- what the live entries of the first tag give may be stepped with
-pub can_step : (P : Rules) (s : Snapshot) (t : Moment) (es : List Entry) (X : List Given) → IsTable es → IsTrue (list_all (λ e. is_same t e.tag) es) → IsTrue (list_all (event_fits P) (live es))
+pub can_step : (P : Program) (s : Snapshot) (t : Moment) (es : List Entry) (X : List Given) → IsTable es → IsTrue (list_all (λ e. is_same t e.tag) es) → IsTrue (list_all (event_fits P) (live es))
     → X ≡ map given_of (live es) → 0 < length X → IsStateOf P s → s.pending ≡ [] → CanStep P s t X
 can_step P s t es X table same fits is some state quiet =
     let some_live : 0 < length (map given_of (live es)) = subst (λ (Y : List Given). 0 < length Y) is some in
@@ -195,7 +197,7 @@ table_take zero es h = tt
 table_take (suc n) [] h = h
 table_take (suc n) (e ∷ es) h = (all_take (λ d. IsTrue (name_before e.origin e.tag d)) n es h.0, table_take n es h.1)
 
-together : (P : Rules) (o : Option Event) (E F : List Event) → IsTrue (list_all (event_fits P) (cons_option o E)) → (IsTrue (list_all (event_fits P) E) → IsTrue (list_all (event_fits P) F)) → IsTrue (list_all (event_fits P) (cons_option o F))
+together : (P : Program) (o : Option Event) (E F : List Event) → IsTrue (list_all (event_fits P) (cons_option o E)) → (IsTrue (list_all (event_fits P) E) → IsTrue (list_all (event_fits P) F)) → IsTrue (list_all (event_fits P) (cons_option o F))
 together P None E F h k = k h
 together P (Some v) E F h k =
     let both = fits_cons (event_fits P) (Some v) E h in
@@ -203,12 +205,12 @@ together P (Some v) E F h k =
     let rest : IsTrue (list_all (event_fits P) F) = k both.1 in
     grind (arith, nat_tests)
 
-pub fits_take : (P : Rules) (n : ℕ) (es : List Entry) → IsTrue (list_all (event_fits P) (live es)) → IsTrue (list_all (event_fits P) (live (take n es)))
+pub fits_take : (P : Program) (n : ℕ) (es : List Entry) → IsTrue (list_all (event_fits P) (live es)) → IsTrue (list_all (event_fits P) (live (take n es)))
 fits_take P zero es h = refl
 fits_take P (suc n) [] h = h
 fits_take P (suc n) (e ∷ es) h = together P (live_event e) (live es) (live (take n es)) h (fits_take P n es)
 
-pub fits_drop : (P : Rules) (n : ℕ) (es : List Entry) → IsTrue (list_all (event_fits P) (live es)) → IsTrue (list_all (event_fits P) (live (drop n es)))
+pub fits_drop : (P : Program) (n : ℕ) (es : List Entry) → IsTrue (list_all (event_fits P) (live es)) → IsTrue (list_all (event_fits P) (live (drop n es)))
 fits_drop P zero es h = h
 fits_drop P (suc n) [] h = h
 fits_drop P (suc n) (e ∷ es) h = fits_drop P n es (fits_cons (event_fits P) (live_event e) (live es) h).1

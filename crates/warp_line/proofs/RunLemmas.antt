@@ -1,25 +1,27 @@
 -- A front of a run, and how it grows by the entries of one tag.
 use Rattle.std.proofs.Common.{◌≡◌, inl, inr, ◌≤◌, length, List, ◌++◌, ◌∷◌, [], map, ap, sym, subst, ◌∙◌, refl, rules, arith, IsTrue, Bool, true, false, not, ◌||◌, Option, Some, filter}
 use Rattle.std.specs.List.{list_all}
+use Rattle.std.proofs.lemmas.Bool.{cases_Bool}
 use Rattle.std.proofs.lemmas.Bool.Decides.{nat_tests}
 use Rattle.std.proofs.lemmas.List.Elements.{filter-append}
 use Rattle.warp_tag.specs.Moment.{Moment, is_before, is_same}
 use Rattle.warp_tag.specs.Table.{Event}
-use Rattle.warp_step.specs.Rules.{Rules}
+use Rattle.warp_tag.proofs.Tags.{same_is}
+use Rattle.warp_step.specs.Program.{Program}
 use Rattle.warp_step.specs.Snapshot.{Snapshot}
 use Rattle.warp_step.specs.Step.{Step}
 use Rattle.warp_step.specs.Run.{Row, RunFrom, IsNext, waits, is_after, given_of, given_at, state_at_end}
 use Rattle.warp_step.proofs.TraceLemmas.{one_next, one_row}
-use Rattle.warp_step.proofs.TraceExists.{split, same_is, after_trans, stands, NoneLeft, next_quiet}
+use Rattle.warp_step.proofs.TraceExists.{after_trans, stands, NoneLeft, next_quiet}
 
 -- these rows begin the run from a last tag and a state, and lead to another
-abbrev pub RunsTo : Rules → List Event → Option Moment → Snapshot → List Row → Option Moment → Snapshot → Type 0
+abbrev pub RunsTo : Program → List Event → Option Moment → Snapshot → List Row → Option Moment → Snapshot → Type 0
 RunsTo P E last s [] last' s' = (last ≡ last') × (s ≡ s')
 RunsTo P E last s (row ∷ rows) last' s' =
     IsNext E last s row.tag × Step P s row.tag (given_at row.tag E) row.state row.outputs × RunsTo P E (Some row.tag) row.state rows last' s'
 
 -- one more row
-pub runs_more : (P : Rules) (E : List Event) (last last' : Option Moment) (s s' : Snapshot) (rows : List Row) (row : Row) → RunsTo P E last s rows last' s' → IsNext E last' s' row.tag
+pub runs_more : (P : Program) (E : List Event) (last last' : Option Moment) (s s' : Snapshot) (rows : List Row) (row : Row) → RunsTo P E last s rows last' s' → IsNext E last' s' row.tag
     → Step P s' row.tag (given_at row.tag E) row.state row.outputs → RunsTo P E last s (rows ++ row ∷ []) (Some row.tag) row.state
 runs_more P E last last' s s' [] row h next step = (
   subst (λ (l : Option Moment). IsNext E l s row.tag) (sym h.0) (subst (λ (x : Snapshot). IsNext E last' x row.tag) (sym h.1) next),
@@ -29,12 +31,12 @@ runs_more P E last last' s s' [] row h next step = (
 runs_more P E last last' s s' (r ∷ rows) row h next step = (h.0, h.1, runs_more P E (Some r.tag) last' r.state s' rows row h.2 next step)
 
 -- they are the whole run where nothing waits after them
-pub runs_whole : (P : Rules) (E : List Event) (last last' : Option Moment) (s s' : Snapshot) (rows : List Row) → RunsTo P E last s rows last' s' → ((t : Moment) → waits E last' s' t ≡ false) → RunFrom P E last s rows
+pub runs_whole : (P : Program) (E : List Event) (last last' : Option Moment) (s s' : Snapshot) (rows : List Row) → RunsTo P E last s rows last' s' → ((t : Moment) → waits E last' s' t ≡ false) → RunFrom P E last s rows
 runs_whole P E last last' s s' [] h end = λ t. ap (λ (l : Option Moment). waits E l s t) h.0 ∙ ap (λ (x : Snapshot). waits E last' x t) h.1 ∙ end t
 runs_whole P E last last' s s' (r ∷ rows) h end = (h.0, h.1, runs_whole P E (Some r.tag) last' r.state s' rows h.2 end)
 
 -- they are no more than the run has
-pub runs_front : (P : Rules) (E : List Event) (last last' : Option Moment) (s s' : Snapshot) (rows trace : List Row) → RunsTo P E last s rows last' s' → RunFrom P E last s trace → length rows ≤ length trace
+pub runs_front : (P : Program) (E : List Event) (last last' : Option Moment) (s s' : Snapshot) (rows trace : List Row) → RunsTo P E last s rows last' s' → RunFrom P E last s trace → length rows ≤ length trace
 runs_front P E last last' s s' [] trace h run = omega arith
 runs_front P E last last' s s' (r ∷ rows) [] h run = let never : false ≡ true = sym (run r.tag) ∙ h.0.waiting in cc
 runs_front P E last last' s s' (r ∷ rows) (q ∷ trace) h run =
@@ -44,7 +46,7 @@ runs_front P E last last' s s' (r ∷ rows) (q ∷ trace) h run =
     omega arith
 
 -- the state after them
-pub runs_state : (P : Rules) (E : List Event) (last last' : Option Moment) (s s' : Snapshot) (rows : List Row) → RunsTo P E last s rows last' s' → state_at_end s rows ≡ s'
+pub runs_state : (P : Program) (E : List Event) (last last' : Option Moment) (s s' : Snapshot) (rows : List Row) → RunsTo P E last s rows last' s' → state_at_end s rows ≡ s'
 runs_state P E last last' s s' [] h = h.1
 runs_state P E last last' s s' (r ∷ rows) h = runs_state P E (Some r.tag) last' r.state s' rows h.2
 
@@ -66,14 +68,14 @@ past_stands last u (e ∷ es) h a =
     let old : is_after last e.tag ≡ false = grind (arith, nat_tests) in
     let rest : IsTrue (past last es) = grind (arith, nat_tests) in
     let more : stands u es ≡ false = past_stands last u es rest a in
-    elim (split (is_same u e.tag)) [
+    elim (cases_Bool (is_same u e.tag)) [
       | inl same ↦ let one : true ≡ false = sym a ∙ ap (is_after last) (same_is u e.tag same) ∙ old in cc
       | inr other ↦ grind (arith, nat_tests)
     ]
 
 at_stands : (t u : Moment) (G : List Event) → IsTrue (all_at t G) → stands u G ≡ true → is_before u t ≡ false
 at_stands t u [] h s = let never : false ≡ true = s in cc
-at_stands t u (e ∷ es) h s = elim (split (is_same u e.tag)) [
+at_stands t u (e ∷ es) h s = elim (cases_Bool (is_same u e.tag)) [
   | inl same ↦ grind (arith, nat_tests)
   | inr other ↦
       let rest : IsTrue (all_at t es) = grind (arith, nat_tests) in
@@ -83,7 +85,7 @@ at_stands t u (e ∷ es) h s = elim (split (is_same u e.tag)) [
 
 behind_stands : (t u : Moment) (B : List Event) → IsTrue (behind t B) → stands u B ≡ true → is_before u t ≡ false
 behind_stands t u [] h s = let never : false ≡ true = s in cc
-behind_stands t u (e ∷ es) h s = elim (split (is_same u e.tag)) [
+behind_stands t u (e ∷ es) h s = elim (cases_Bool (is_same u e.tag)) [
   | inl same ↦ grind (arith, nat_tests)
   | inr other ↦
       let rest : IsTrue (behind t es) = grind (arith, nat_tests) in
@@ -101,7 +103,7 @@ pub next_at : (last : Option Moment) (t : Moment) (s : Snapshot) (A : List Event
 next_at last t s A e G B a g b after quiet = next_quiet (A ++ ((e ∷ G) ++ B)) last s t quiet (record {
   after = after;
   stood = (let x = stands-append t A ((e ∷ G) ++ B) in let y = stands-append t (e ∷ G) B in grind (arith, nat_tests));
-  least = λ u is st. elim (split (stands u (e ∷ G))) [
+  least = λ u is st. elim (cases_Bool (stands u (e ∷ G))) [
     | inl here ↦ at_stands t u (e ∷ G) g here
     | inr gone ↦
         let x = stands-append u A ((e ∷ G) ++ B) in
@@ -152,7 +154,7 @@ past_more last t (e ∷ es) h a =
     let old : is_after last e.tag ≡ false = grind (arith, nat_tests) in
     let rest : IsTrue (past last es) = grind (arith, nat_tests) in
     let more : IsTrue (past (Some t) es) = past_more last t es rest a in
-    elim (split (is_before t e.tag)) [
+    elim (cases_Bool (is_before t e.tag)) [
       | inl later ↦ let one : true ≡ false = sym (after_trans last t e.tag a later) ∙ old in cc
       | inr earlier ↦ grind (arith, nat_tests)
     ]

@@ -1,4 +1,3 @@
 pub mod Timeline
-pub mod Replay
 pub mod Plain
-pub mod PlainFront
+pub mod inner

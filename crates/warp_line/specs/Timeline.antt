@@ -1,31 +1,25 @@
 -- What a timeline stands for, and what its calls do to that.
-use Rattle.std.specs.Prelude.{◌≡◌, ℕ, ◌+◌, ◌<◌, ◌≤◌, List, ◌++◌, length, count_by, map, slice_index, if◌then◌else◌}
+use Rattle.std.specs.Prelude.{◌≡◌, ℕ, ◌+◌, ◌≤◌, List, length, count_by, if◌then◌else◌}
+use Rattle.warp_tag.specs.Lists.{StartsWith}
 use Rattle.warp_tag.specs.Moment.{Moment, is_before}
 use Rattle.warp_tag.specs.Table.{live}
 use Rattle.warp_tag.specs.declared.entry.Entry.{Entry}
-use Rattle.warp_step.specs.Rules.{Rules}
+use Rattle.warp_step.specs.Program.{Program}
 use Rattle.warp_step.specs.Run.{Row, Run}
 
 -- a program, a table of names, and the rows of the run over its live events that are done: a front of the trace
 pub record Standing : Type 0 where
-  pub rules : Rules
+  pub program : Program
   pub table : List Entry
   pub done : List Row
 
 -- all rows of the run are done
 abbrev pub IsDone : Standing → Type 0
-IsDone m = Run m.rules (live m.table) m.done
+IsDone m = Run m.program (live m.table) m.done
 
 -- the done rows begin the run
 abbrev pub IsFront : Standing → Type 0
-IsFront m = (trace : List Row) → Run m.rules (live m.table) trace → (rest : List Row) × (trace ≡ m.done ++ rest)
-
--- an event that the program takes: its origin is declared, its tag not past the stop, and its input is the origin's
-pub record IsEventOf (P : Rules) (origin : ℕ) (tag : Moment) (input : ℕ) : Type 0 where
-  pub origin_declared : origin < P.origins
-  pub not_past_stop : tag.time ≤ P.stop
-  pub input_there : input < length P.inputs
-  pub input_own : slice_index (map (λ i. i.origin) P.inputs) input ≡ origin
+IsFront m = (trace : List Row) → Run m.program (live m.table) trace → StartsWith trace m.done
 
 -- how many rows stand before a tag
 abbrev pub rows_before : Moment → List Row → ℕ
@@ -38,7 +32,7 @@ lesser t u = if is_before u t then u else t
 -- What a change at a tag leaves done: if all rows before u were done but for at most so many, so are then all rows
 -- before the lesser of u and that tag; and where the live events stay, what was done stays done.
 pub record KeepsDone (slack : ℕ) (tag : Moment) (old new : Standing) : Type 0 where
-  pub front : (before after : List Row) → Run old.rules (live old.table) before → Run new.rules (live new.table) after →
+  pub front : (before after : List Row) → Run old.program (live old.table) before → Run new.program (live new.table) after →
       (u : Moment) → rows_before u before ≤ length old.done + slack → rows_before (lesser tag u) after ≤ length new.done + slack
   pub unchanged : live new.table ≡ live old.table → length old.done ≤ length new.done
 
@@ -53,4 +47,4 @@ NowStands stands_for slack tag value old table =
 pub record Settles {T : Type 0} (stands_for : T → Standing → Type 0) (value : T) (old : Standing) (ticks : ℕ) (done : List Row) : Type 0 where
   pub stands : stands_for value (record old { done = done })
   pub kept : length old.done ≤ length done
-  pub bound : (trace : List Row) → Run old.rules (live old.table) trace → ticks + length old.done ≤ length trace
+  pub bound : (trace : List Row) → Run old.program (live old.table) trace → ticks + length old.done ≤ length trace

@@ -1,3 +1,4 @@
+//! The slow twin: a sorted table, and a run from the start after each change.
 use crate::replay::replay;
 use crate::table::note_event;
 use crate::timeline::Timeline;
@@ -15,6 +16,7 @@ pub struct Plain {
 }
 
 impl Timeline for Plain {
+    ghost use Rattle.warp_tag.specs.Limits.{most_names};
     ghost use Rattle.warp_line.specs.Plain.{StandsFor, HasRoom};
 
     ghost stands_for = { StandsFor };
@@ -23,11 +25,17 @@ impl Timeline for Plain {
 
     ghost settled = { λ p. p.settled };
 
-    ghost SLACK = { 4000000000 };
+    ghost SLACK = { most_names };
 
-    ghost use Rattle.warp_line.specs.PlainFront.{plain_front};
+    ghost use Rattle.std.proofs.Common.{inl, inr};
+    ghost use Rattle.std.proofs.lemmas.Bool.{cases_Bool, MatchBool-at_true, MatchBool-at_false};
+    ghost use Rattle.warp_tag.specs.Table.{live};
+    ghost use Rattle.warp_step.proofs.TraceLemmas.{whole_front, none_front};
 
-    ghost done_is_front = { plain_front };
+    ghost done_is_front = { λ p m h trace run. elim (cases_Bool p.settled) [
+      | inl s ↦ whole_front m.program (live m.table) m.done trace (MatchBool-at_true _ _ s h.rows).done run
+      | inr s ↦ none_front m.done trace (MatchBool-at_false _ _ s h.rows)
+    ] };
 
     /// No table has more names, and in this version no run has more rows than its table has names.
     const SLACK: u64 = 4_000_000_000;

@@ -5,19 +5,12 @@ ghost use Rattle.warp_tag.specs.Moment.{is_same};
 ghost use Rattle.warp_tag.specs.Table.{IsTable, live};
 ghost use Rattle.warp_step.specs.Snapshot.{Snapshot, IsStateOf, start_state};
 ghost use Rattle.warp_step.specs.Run.{Row, Run, given_of, state_at_end, outputs_of};
-ghost use Rattle.warp_step.specs.Program.{rules_of};
-ghost use Rattle.warp_line.specs.Replay.{event_fits, head_tag, HasOtherHead, GoesOn, Passes};
+ghost use Rattle.warp_step.specs.Events.{event_fits};
+ghost use Rattle.warp_line.specs.inner.Replay.{head_tag, HasOtherHead, GoesOn, Passes};
 
 use std::alloc::Global;
 use warp_step::{Given, Meter, Out, Program, Scratch, State, step};
 use warp_tag::{Entry, OutOfMemory, Tag};
-
-/// Whether the entry has this tag.
-fn has_tag(entry: &Entry, tag: Tag) -> bool
-    ensures { result ≡ is_same tag entry.now.tag }
-{
-    tag.time() == entry.tag.time() && tag.micro() == entry.tag.micro()
-}
 
 /// Adds what a live entry gives.
 fn add_given(entry: &Entry, given: &mut Vec<Given>) -> Result<(), OutOfMemory>
@@ -40,7 +33,7 @@ fn gather(rest: &[Entry], tag: Tag, given: &mut Vec<Given>) -> Result<usize, Out
 {
     given.clear();
     for (count, entry) in rest.iter().enumerate() {
-        if !has_tag(entry, tag) {
+        if !tag.is_same(entry.tag) {
             return Ok(count);
         }
         add_given(entry, given)?;
@@ -61,14 +54,14 @@ fn advance<M: Meter>(
 ) -> Result<usize, OutOfMemory>
     requires some { 0 < length rest.now }
     requires table { IsTable rest.now }
-    requires events { IsTrue (list_all (event_fits (rules_of program.now)) (live rest.now)) }
-    requires state { IsStateOf (rules_of program.now) state.old }
+    requires events { IsTrue (list_all (event_fits program.now) (live rest.now)) }
+    requires state { IsStateOf program.now state.old }
     requires quiet { state.old.pending ≡ [] }
-    requires scratch { scratch.old ≡ (rules_of program.now).ports }
+    requires scratch { scratch.old ≡ program.now.ports }
     ensures passes { IfOk result (Passes rest.now) }
-    ensures goes { IfOk result (λ n. GoesOn (rules_of program.now) (head_tag rest.now) (map given_of (live (take n rest.now)))
+    ensures goes { IfOk result (λ n. GoesOn program.now (head_tag rest.now) (map given_of (live (take n rest.now)))
         state.old state.new outputs.old.items outputs.new.items (M.ticks meter.old) (M.ticks meter.new)) }
-    ensures state { IsStateOf (rules_of program.now) state.new }
+    ensures state { IsStateOf program.now state.new }
     ensures quiet { state.new.pending ≡ [] }
     ensures scratch { scratch.new ≡ scratch.old }
     ensures err { OnErr result (M.ticks meter.new ≡ M.ticks meter.old) }
@@ -98,10 +91,10 @@ pub(crate) fn replay<M: Meter>(
     meter: &mut M,
 ) -> Result<(State, Vec<Out>), OutOfMemory>
     requires table { IsTable entries.now }
-    requires events { IsTrue (list_all (event_fits (rules_of program.now)) (live entries.now)) }
-    ensures ok { IfOk result (λ r. (done : List Row) × Run (rules_of program.now) (live entries.now) done
-        × (r.0 ≡ state_at_end (start_state (rules_of program.now)) done) × (r.1.items ≡ outputs_of done)) }
-    ensures bound { (trace : List Row) → Run (rules_of program.now) (live entries.now) trace → M.ticks meter.new ≤ M.ticks meter.old + length trace }
+    requires events { IsTrue (list_all (event_fits program.now) (live entries.now)) }
+    ensures ok { IfOk result (λ r. (done : List Row) × Run program.now (live entries.now) done
+        × (r.0 ≡ state_at_end (start_state program.now) done) × (r.1.items ≡ outputs_of done)) }
+    ensures bound { (trace : List Row) → Run program.now (live entries.now) trace → M.ticks meter.new ≤ M.ticks meter.old + length trace }
     ensures ticked { M.ticks meter.old ≤ M.ticks meter.new }
 {
     let mut state = State::start(alloc, program)?;

@@ -1,27 +1,9 @@
+//! A sorted table of names in a `Vec`.
 ghost use Rattle.std.specs.Prelude.{◌≡◌, ◌+◌, ◌<◌, ◌≤◌, Bool, false, IsTrue, ℕ, length, vec_len, vec_capacity};
 ghost use Rattle.std.specs.List.{list_all, prefix_len};
-ghost use Rattle.warp_tag.specs.Table.{IsTable, Event, name_before, has_name, fresh, changed, with_event, live_event, live};
+ghost use Rattle.warp_tag.specs.Table.{IsTable, Event, name_before, fresh, changed, with_event, live};
 
 use warp_tag::{Entry, Tag};
-
-/// Whether the entry's name comes before the name of this origin and tag.
-fn is_ahead(entry: &Entry, origin: u32, tag: Tag) -> bool
-    ensures { result ≡ name_before entry.now.origin entry.now.tag (fresh origin tag) }
-{
-    if entry.tag.time() == tag.time() {
-        entry.tag.micro() < tag.micro()
-            || (entry.tag.micro() == tag.micro() && entry.origin < origin)
-    } else {
-        entry.tag.time() < tag.time()
-    }
-}
-
-/// Whether the entry is of the name of this origin and tag.
-fn is_named(entry: &Entry, origin: u32, tag: Tag) -> bool
-    ensures { result ≡ has_name origin tag entry.now }
-{
-    entry.tag.time() == tag.time() && entry.tag.micro() == tag.micro() && entry.origin == origin
-}
 
 /// How many entries of a table are ahead of the name, sought from the tail, where a record in tag order lands.
 fn place(entries: &[Entry], origin: u32, tag: Tag) -> usize
@@ -30,26 +12,10 @@ fn place(entries: &[Entry], origin: u32, tag: Tag) -> usize
     ensures within { result ≤ length entries.now }
 {
     let mut at = entries.len();
-    while at > 0 && !is_ahead(&entries[at - 1], origin, tag) {
+    while at > 0 && !entries[at - 1].comes_before(origin, tag) {
         at -= 1;
     }
     at
-}
-
-/// Notes an event of the entry's name; answers whether the live event changed.
-fn add_event(entry: &mut Entry, input: u32, value: i64) -> bool
-    ensures entry { entry.new ≡ with_event input value entry.old }
-    ensures same { result ≡ false → live_event entry.new ≡ live_event entry.old }
-    ensures changes { IsTrue result → live_event entry.new ≡ live_event entry.old → ⊥ }
-{
-    let counts = match entry.event {
-        Some((of, known)) => of < input || (of == input && known < value),
-        None => true,
-    };
-    if counts {
-        entry.event = Some((input, value));
-    }
-    counts && !entry.withdrawn
 }
 
 /// Notes an event in a sorted table, for which there is room; answers whether the live events changed.
@@ -74,18 +40,14 @@ pub(crate) fn note_event(
         IsTrue (list_all p (live entries.new.items)) }
 {
     let at = place(entries, origin, tag);
-    if at < entries.len() && is_named(&entries[at], origin, tag) {
+    if at < entries.len() && entries[at].is_of(origin, tag) {
         let entry = &mut entries[at];
-        add_event(entry, input, value)
+        entry.note_event(input, value)
     } else {
-        let entry = Entry {
-            origin,
-            tag,
-            event: Some((input, value)),
-            withdrawn: false,
-        };
+        let mut entry = Entry::fresh(origin, tag);
+        let changes = entry.note_event(input, value);
         let _ = entries.insert(at, entry);
-        true
+        changes
     }
 }
 

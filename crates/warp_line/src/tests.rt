@@ -1,61 +1,43 @@
 //! What no clause says: that the calls succeed, and the values of the program `twice`, through the bound.
-ghost use Rattle.std.specs.Prelude.{◌≡◌, ℕ, ◌<◌, IsTrue, List, OnOk, length};
+ghost use Rattle.std.specs.Prelude.{◌≡◌, ◌<◌, IsTrue, List, OnOk, length};
 ghost use Rattle.warp_tag.specs.Table.{changed, with_event};
-ghost use Rattle.warp_step.specs.Program.{rules_of};
 ghost use Rattle.warp_step.specs.Run.{Row};
-ghost use Rattle.warp_line.specs.Timeline.{Standing, IsEventOf};
+ghost use Rattle.warp_step.specs.Events.{IsEventOf};
+ghost use Rattle.warp_step.specs.Counter.{IsUnused};
+ghost use Rattle.warp_line.specs.Timeline.{Standing};
 
 use crate::{Plain, Timeline};
 use std::alloc::Global;
-use std::marker::{Brand, Model};
+use std::marker::Brand;
 use std::process::Abort;
-use std::sync::ledger::{Blank, Book, Ledger, Share};
+use std::sync::ledger::{Blank, Ledger};
 use std::test::Fail;
-use warp_step::{Meter, Out, Program};
+use warp_step::{Counter, Meter, Out, Program};
 use warp_tag::Tag;
 
 /// A meter whose count can be read.
 #[derive(Drop)]
-struct Counter<L: Ledger> {
+struct Tally<L: Ledger> {
     count: u64,
-    book: Book<L>,
-    share: Share<L>,
+    ticks: Counter<L>,
 }
 
-impl<L: Ledger> Model for Counter<L> {
-    ghost use Rattle.std.specs.Prelude.{ℕ, ◌<◌};
-
-    ghost Value = { ℕ };
-
-    ghost view = { λ c. c.book.total };
-
-    ghost invariant = { λ c. 0 < c.share.parts };
-}
-
-impl<L: Ledger> Counter<L> {
-    fn new(blank: Blank) -> Counter<L>
-        requires name { blank.name ≡ L.name }
-        requires parts { blank.parts ≡ L.parts }
-        requires some { 0 < blank.parts }
+impl<L: Ledger> Tally<L> {
+    fn new(blank: Blank) -> Tally<L>
+        requires { IsUnused blank L.name L.parts }
     {
-        let (book, share) = blank.open::<L>();
-        Counter {
+        Tally {
             count: 0,
-            book,
-            share,
+            ticks: Counter::new(blank),
         }
     }
-
-    fn count(&self) -> u64 {
-        self.count
-    }
 }
 
-impl<L: Ledger> Meter for Counter<L> {
-    ghost ticks = { λ c. c };
+impl<L: Ledger> Meter for Tally<L> {
+    ghost ticks = { λ t. t.ticks };
 
     fn tick(&mut self) {
-        self.book.add(&mut self.share, 1);
+        self.ticks.grow();
         self.count = self.count.wrapping_add(1);
     }
 }
@@ -79,8 +61,9 @@ struct Seen {
 
 /// Whether the program takes such an event.
 fn is_taken(program: &Program, origin: u32, tag: Tag, input: u32) -> bool
-    ensures { IsTrue result → IsEventOf (rules_of program.now) origin tag input }
+    ensures { IsTrue result → IsEventOf program.now origin tag input }
 {
+    program.valid();
     let inputs = program.inputs();
     let number = input as usize;
     if program.origins() <= origin || program.stop() < tag.time() || inputs.len() <= number {
@@ -99,8 +82,8 @@ fn take<T: Timeline, M: Meter, R: Abort>(
     event: Event,
     meter: &mut M,
 ) -> Result<i64, Fail>
-    requires { (m : Standing) × T.stands_for timeline.old m × (m.rules ≡ rules_of program.now) × (length m.table < 1000) }
-    ensures stands { OnOk result ((m : Standing) → T.stands_for timeline.old m → m.rules ≡ rules_of program.now →
+    requires { (m : Standing) × T.stands_for timeline.old m × (m.program ≡ program.now) × (length m.table < 1000) }
+    ensures stands { OnOk result ((m : Standing) → T.stands_for timeline.old m → m.program ≡ program.now →
         (done : List Row) × T.stands_for timeline.new (record m { table = changed (with_event event.input event.value) event.origin tag m.table; done = done })) }
     ensures settled { OnOk result (IsTrue (T.settled timeline.new)) }
 {
@@ -122,16 +105,14 @@ fn run<T: Timeline + Drop, L: Ledger, R: Abort>(
     first: Event,
     second: Event,
 ) -> Result<Seen, Fail>
-    requires name { blank.name ≡ L.name }
-    requires parts { blank.parts ≡ L.parts }
-    requires some { 0 < blank.parts }
+    requires { IsUnused blank L.name L.parts }
 {
     let program = Program::twice(alloc)?;
-    let mut counter = Counter::<L>::new(blank);
+    let mut tally = Tally::<L>::new(blank);
     let mut timeline = T::start(alloc, &program)?;
     let tag = Tag::new(first.time, 0).expect(rt, "a tag");
-    let total = take(rt, alloc, &program, &mut timeline, tag, first, &mut counter)?;
-    let ticks = counter.count();
+    let total = take(rt, alloc, &program, &mut timeline, tag, first, &mut tally)?;
+    let ticks = tally.count;
     let next_tag = Tag::new(second.time, 0).expect(rt, "a tag");
     let next_total = take(
         rt,
@@ -140,11 +121,11 @@ fn run<T: Timeline + Drop, L: Ledger, R: Abort>(
         &mut timeline,
         next_tag,
         second,
-        &mut counter,
+        &mut tally,
     )?;
-    let next_ticks = counter.count();
-    timeline.settle(alloc, &program, &mut counter)?;
-    assert_eq!(rt; counter.count(), next_ticks, "settled anew");
+    let next_ticks = tally.count;
+    timeline.settle(alloc, &program, &mut tally)?;
+    assert_eq!(rt; tally.count, next_ticks, "settled anew");
     let outputs = timeline.outputs().to_vec(alloc)?;
     Ok(Seen {
         totals: (total, next_total),

@@ -1,3 +1,4 @@
+//! The contract of timelines, which the layers above use.
 use std::alloc::Global;
 use warp_step::{Meter, Out, Program, State};
 use warp_tag::{OutOfMemory, Tag};
@@ -7,12 +8,13 @@ use warp_tag::{OutOfMemory, Tag};
 /// A value stands for a program, a table of names (with payload and withdrawn mark) and so many rows of the
 /// run as are done (`Standing`): that is a relation, since a value need not keep what it stands for.
 pub trait Timeline: Sized {
-    ghost use Rattle.std.specs.Prelude.{◌≡◌, ◌<◌, ◌≤◌, ◌+◌, ◌-◌, ℕ, ℤ, Bool, IsTrue, List, [], length, IfOk, OnOk, IsOk};
+    ghost use Rattle.std.specs.Prelude.{◌≡◌, ◌<◌, ◌≤◌, ◌+◌, ◌-◌, ℕ, ℤ, Bool, false, IsTrue, List, [], length, IfOk, OnOk, OnErr, IsOk};
+    ghost use Rattle.warp_tag.specs.Limits.{most_names};
     ghost use Rattle.warp_tag.specs.Table.{changed, with_event, live};
-    ghost use Rattle.warp_step.specs.Program.{rules_of};
     ghost use Rattle.warp_step.specs.Run.{Row, state_at_end, outputs_of};
     ghost use Rattle.warp_step.specs.Snapshot.{start_state};
-    ghost use Rattle.warp_line.specs.Timeline.{Standing, IsDone, IsEventOf, IsFront, NowStands, Settles};
+    ghost use Rattle.warp_step.specs.Events.{IsEventOf};
+    ghost use Rattle.warp_line.specs.Timeline.{Standing, IsDone, IsFront, NowStands, Settles};
 
     /// Whether a value stands for this program, table and done rows.
     ghost stands_for: { Self → Standing → Type 0 };
@@ -30,23 +32,26 @@ pub trait Timeline: Sized {
 
     /// A run of this program over no names, of which nothing is done.
     fn start(alloc: Global, program: &Program) -> Result<Self, OutOfMemory>
-        ensures { IfOk result (λ t. stands_for t (record { rules = rules_of program.now; table = []; done = [] })) };
+        ensures { IfOk result (λ t. stands_for t (record { program = program.now; table = []; done = [] })) };
 
-    /// Makes room for one name more than the fewer than 4,000,000,000 that are there. An `Err` changes nothing.
+    /// Makes room for one name more than the fewer than 4,000,000,000 that are there. An `Err` changes nothing, and
+    /// keeps the room that was there.
     fn prepare(&mut self, alloc: Global) -> Result<(), OutOfMemory>
-        requires { (m : Standing) × stands_for self.old m × (length m.table < 4000000000) }
+        requires { (m : Standing) × stands_for self.old m × (length m.table < most_names) }
         ensures stands { (m : Standing) → stands_for self.old m → stands_for self.new m }
         ensures settled { settled self.new ≡ settled self.old }
+        ensures kept { is_prepared self.old → is_prepared self.new }
         ensures prepared { OnOk result (is_prepared self.new) };
 
     /// Takes an event: of several payloads of one name the greatest counts. It takes no memory.
     fn put(&mut self, origin: u32, tag: Tag, input: u32, value: i64)
         requires prepared { is_prepared self.old }
-        requires event { (m : Standing) × stands_for self.old m × IsEventOf m.rules origin tag input }
-        ensures { (m : Standing) → stands_for self.old m → IsEventOf m.rules origin tag input →
+        requires event { (m : Standing) × stands_for self.old m × IsEventOf m.program origin tag input }
+        ensures { (m : Standing) → stands_for self.old m → IsEventOf m.program origin tag input →
             NowStands stands_for SLACK tag self.new m (changed (with_event input value) origin tag m.table) };
 
-    /// Executes what is not done. At an `Err` it stands done through some tag, whole, and may be settled later.
+    /// Executes what is not done. At an `Err` it stands done through some tag, whole, says that it is not settled, and
+    /// may be settled later.
     /// Of a settled value it changes nothing, ticks nothing, and cannot fail.
     fn settle<M: Meter>(
         &mut self,
@@ -54,11 +59,12 @@ pub trait Timeline: Sized {
         program: &Program,
         meter: &mut M,
     ) -> Result<(), OutOfMemory>
-        requires { (m : Standing) × stands_for self.old m × (m.rules ≡ rules_of program.now) }
-        ensures stands { (m : Standing) → stands_for self.old m → m.rules ≡ rules_of program.now →
+        requires { (m : Standing) × stands_for self.old m × (m.program ≡ program.now) }
+        ensures stands { (m : Standing) → stands_for self.old m → m.program ≡ program.now →
             (done : List Row) × Settles stands_for self.new m (M.ticks meter.new - M.ticks meter.old) done × OnOk result (IsDone (record m { done = done })) }
         ensures ticked { M.ticks meter.old ≤ M.ticks meter.new }
         ensures settled { OnOk result (IsTrue (settled self.new)) }
+        ensures unsettled { OnErr result (settled self.new ≡ false) }
         ensures idle { IsTrue (settled self.old) → IsOk result × (self.new ≡ self.old) × (M.ticks meter.new ≡ M.ticks meter.old) };
 
     /// Whether all rows are done.
@@ -69,7 +75,7 @@ pub trait Timeline: Sized {
     /// The state after the last row: the start state if there is none.
     fn state(&self) -> &State
         requires { IsTrue (settled self.now) }
-        ensures { (m : Standing) → stands_for self.now m → IsDone m × (result.now ≡ state_at_end (start_state m.rules) m.done) };
+        ensures { (m : Standing) → stands_for self.now m → IsDone m × (result.now ≡ state_at_end (start_state m.program) m.done) };
 
     /// The outputs of all rows, in order.
     fn outputs(&self) -> &[Out]

@@ -1,5 +1,5 @@
 //! Reading of words that are numbers. Each number has one spelling: no leading zero, no `+`, no `-0`.
-ghost use Rattle.std.specs.Prelude.{◌≡◌, ℕ, ℤ, ◌+◌, ◌*◌, ◌<◌, ◌≤◌, ◌^◌, List, ◌∷◌, ◌++◌, IfSome, IfNone, SomeIff, FitsSigned, decimal};
+ghost use Rattle.std.specs.Prelude.{◌≡◌, ℕ, ℤ, ◌+◌, ◌*◌, ◌<◌, ◌≤◌, ◌^◌, List, ◌∷◌, ◌++◌, IfSome, IfNone, SomeIff, IsTrue, ◌↔◌, length, slice_index, FitsSigned, decimal};
 ghost use Rattle.std.specs.Char.{digit_value};
 ghost use Rattle.std.specs.Fmt.{signed_decimal};
 ghost use Rattle.std.specs.Int.{w64};
@@ -27,6 +27,13 @@ fn digits(word: &[u8]) -> Option<u64>
     Some(number)
 }
 
+/// Whether the word has a zero in front of another byte.
+fn is_padded(word: &[u8]) -> bool
+    ensures { IsTrue result ↔ ((1 < length word.now) × (slice_index word.now 0 ≡ 48)) }
+{
+    word.len() > 1 && word[0] == b'0'
+}
+
 /// The number up to `max` that the word spells.
 pub fn read_number(word: &[u8], max: u64) -> Option<u64>
     ensures found { IfSome result (λ number. (number ≤ max) × (word.now ≡ decimal number)) }
@@ -35,7 +42,7 @@ pub fn read_number(word: &[u8], max: u64) -> Option<u64>
     if word.is_empty() {
         return None;
     }
-    if word[0] == b'0' && word.len() > 1 {
+    if is_padded(word) {
         return None;
     }
     let number = digits(word)?;

@@ -1,12 +1,13 @@
 -- Exactly one trace fits a program and its events.
-use Rattle.std.proofs.Common.{◌≡◌, true, false, List, [], ◌∷◌, ap, sym, ◌∙◌, refl, subst, rules, Option, Some}
+use Rattle.std.proofs.Common.{◌≡◌, true, false, List, [], ◌∷◌, ap, sym, ◌∙◌, refl, subst, rules, ◌++◌, Option, Some, None}
+use Rattle.warp_tag.specs.Lists.{StartsWith}
 use Rattle.warp_tag.specs.Moment.{Moment}
 use Rattle.warp_tag.specs.Table.{Event}
 use Rattle.warp_tag.proofs.Tags.{same_moment}
 use Rattle.warp_step.specs.Program.{Program}
-use Rattle.warp_step.specs.Snapshot.{Snapshot}
+use Rattle.warp_step.specs.Snapshot.{Snapshot, start_state}
 use Rattle.warp_step.specs.Step.{Step, state_after, outputs_after}
-use Rattle.warp_step.specs.Run.{Row, RunFrom, IsNext, given_at}
+use Rattle.warp_step.specs.Run.{Row, Run, RunFrom, IsNext, given_at}
 
 -- one tag is the next
 pub one_next : (E : List Event) (last : Option Moment) (s : Snapshot) (t u : Moment) → IsNext E last s t → IsNext E last s u → t ≡ u
@@ -33,3 +34,14 @@ one_rest P E last s (r ∷ a) (q ∷ b) h k =
     let rest : RunFrom P E (Some r.tag) r.state b = subst (λ (x : Row). RunFrom P E (Some x.tag) x.state b) (sym same) k.2 in
     let rows : a ≡ b = one_rest P E (Some r.tag) r.state a b h.2 rest in
     ap (λ (x : Row). x ∷ a) same ∙ ap (λ (xs : List Row). q ∷ xs) rows
+
+-- a run begins with each run of the same program and events
+pub whole_front : (P : Program) (E : List Event) (done trace : List Row) → Run P E done → Run P E trace → StartsWith trace done
+whole_front P E done trace h run =
+    let same : trace ≡ done = one_rest P E None (start_state P) trace done run h in
+    let none : done ≡ done ++ [] = search rules in
+    ([], same ∙ none)
+
+-- and with no rows
+pub none_front : (done trace : List Row) → done ≡ [] → StartsWith trace done
+none_front done trace none = (trace, ap (λ (xs : List Row). xs ++ trace) (sym none))

@@ -93,7 +93,7 @@ abbrev pub KeepsNames : (Entry → Entry) → Type 0
 KeepsNames f = (e : Entry) → ((f e).origin ≡ e.origin) × ((f e).tag ≡ e.tag)
 
 -- what comes after an entry comes after what is before that
-above_trans : (o : ℕ) (t : Moment) (e : Entry) (es : List Entry) → name_before o t e ≡ true → Above e.origin e.tag es → Above o t es
+pub above_trans : (o : ℕ) (t : Moment) (e : Entry) (es : List Entry) → name_before o t e ≡ true → Above e.origin e.tag es → Above o t es
 above_trans o t e [] h all = tt
 above_trans o t e (x ∷ es) h all = (name_before_trans o t e x h all.0, above_trans o t e es h all.1)
 

@@ -1,12 +1,11 @@
 -- the live entries of the first tag may be stepped with
 use Rattle.std.proofs.Common.{rules, ◌<◌, ◌∙◌, length, take}
-use Rattle.warp_step.specs.Program.{rules_of}
 use Rattle.warp_line.proofs.ReplayLemmas.{can_step, table_take, fits_take}
 use Rattle.warp_line.proofs.replay.advance.Goals as goal
 
 pub step-requires-clause-can : goal.step-requires-clause-can
 step-requires-clause-can g c =
-    let P = rules_of c.args.program.now in
+    let P = c.args.program.now in
     let n = c.in_ok-count.count in
     let rest = c.args.rest.now in
     let some : 0 < length c.deref.result.now = search rules in

@@ -2,18 +2,17 @@
 use Rattle.std.proofs.Common.{rules, arith, ◌≡◌, ◌∙◌, ◌+◌, ◌≤◌, List, [], length, drop, ap, sym, subst, IsTrue}
 use Rattle.warp_tag.specs.Table.{live, IsTable}
 use Rattle.warp_tag.specs.declared.entry.Entry.{Entry}
-use Rattle.warp_step.specs.Program.{rules_of}
 use Rattle.warp_step.specs.Snapshot.{Snapshot, start_state}
 use Rattle.warp_step.specs.declared.out.Out.{Out}
 use Rattle.std.specs.List.{list_all}
-use Rattle.warp_line.specs.Replay.{event_fits}
+use Rattle.warp_step.specs.Events.{event_fits}
 use Rattle.warp_line.proofs.ReplayLemmas.{table_drop, fits_drop}
 use Rattle.warp_line.proofs.ProgressLemmas.{Progress, progress_start, progress_bound, progress_end, progress_on, none_there}
 use Rattle.warp_line.proofs.replay.replay.Goals as goal
 
 pub rows-init : goal.rows-init
 rows-init g c =
-    let P = rules_of c.args.program.now in
+    let P = c.args.program.now in
     let started : c.in_ok-state.state ≡ start_state P = c.in_ok-state.ensures in
     let empty : c.new-outputs.result.items ≡ [] = c.new-outputs.ensures.items in
     let table = c.args.entries.now in
@@ -30,13 +29,13 @@ rows-init g c =
 pub returns-in_err-count-clause-bound : goal.returns-in_err-count-clause-bound
 returns-in_err-count-clause-bound g c = λ trace run.
     let bound : g.M.Meter.ticks c.rows.meter ≤ g.M.Meter.ticks c.args.meter.now + length trace =
-    progress_bound (rules_of c.args.program.now) c.args.entries.now c.rows.rest.now c.rows.state c.rows.outputs.items _ _ c.rows.invariant.progress trace run in
+    progress_bound c.args.program.now c.args.entries.now c.rows.rest.now c.rows.state c.rows.outputs.items _ _ c.rows.invariant.progress trace run in
     let same : g.M.Meter.ticks c.advance.new.meter ≡ g.M.Meter.ticks c.rows.meter = search rules in
     omega arith
 
 pub rows-preserved : goal.rows-preserved
 rows-preserved g c =
-    let P = rules_of c.args.program.now in
+    let P = c.args.program.now in
     let n = c.in_ok-count.count in
     let rest = c.rows.rest.now in
     let back : c.skip-rest.result.now ≡ drop n rest = c.skip-rest.ensures in
@@ -52,7 +51,7 @@ rows-preserved g c =
 
 pub returns-clause-ok : goal.returns-clause-ok
 returns-clause-ok g c =
-    let P = rules_of c.args.program.now in
+    let P = c.args.program.now in
     let none : length c.rows.rest.now ≡ 0 = search rules in
     let empty : c.rows.rest.now ≡ [] = none_there c.rows.rest.now none in
     progress_end P c.args.entries.now c.rows.state c.rows.outputs.items (g.M.Meter.ticks c.args.meter.now) (g.M.Meter.ticks c.rows.meter)
@@ -60,4 +59,4 @@ returns-clause-ok g c =
 
 pub returns-clause-bound : goal.returns-clause-bound
 returns-clause-bound g c = λ trace run.
-    progress_bound (rules_of c.args.program.now) c.args.entries.now c.rows.rest.now c.rows.state c.rows.outputs.items _ _ c.rows.invariant.progress trace run
+    progress_bound c.args.program.now c.args.entries.now c.rows.rest.now c.rows.state c.rows.outputs.items _ _ c.rows.invariant.progress trace run

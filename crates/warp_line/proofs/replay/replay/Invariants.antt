@@ -2,19 +2,18 @@
 use Rattle.std.proofs.Common.{◌≡◌, length, IsTrue}
 use Rattle.std.specs.List.{list_all}
 use Rattle.warp_tag.specs.Table.{IsTable, live}
-use Rattle.warp_step.specs.Program.{rules_of}
 use Rattle.warp_step.specs.Snapshot.{IsStateOf}
-use Rattle.warp_line.specs.Replay.{event_fits}
+use Rattle.warp_step.specs.Events.{event_fits}
 use Rattle.warp_line.proofs.ProgressLemmas.{Progress}
 use Rattle.warp_line.proofs.replay.replay.Given as goal
 
 abbrev pub invariant-rows : goal.invariant-rows
 invariant-rows g l = record {
-  progress : Progress (rules_of l.program) l.entries l.rest l.state l.outputs.items (g.M.Meter.ticks l.fn.meter) (g.M.Meter.ticks l.meter);
+  progress : Progress l.program l.entries l.rest l.state l.outputs.items (g.M.Meter.ticks l.fn.meter) (g.M.Meter.ticks l.meter);
   table : IsTable l.rest;
-  events : IsTrue (list_all (event_fits (rules_of l.program)) (live l.rest));
-  state : IsStateOf (rules_of l.program) l.state;
-  scratch : l.scratch ≡ (rules_of l.program).ports;
+  events : IsTrue (list_all (event_fits l.program) (live l.rest));
+  state : IsStateOf l.program l.state;
+  scratch : l.scratch ≡ l.program.ports;
 }
 
 abbrev pub decreases-rows : goal.decreases-rows

@@ -1,6 +1,6 @@
 use Rattle.std.proofs.Common.{◌≤◌, length}
 use Rattle.std.specs.List.{prefix_len}
-use Rattle.warp_line.proofs.TableLemmas.{ahead}
+use Rattle.warp_tag.proofs.Names.{ahead}
 use Rattle.warp_line.proofs.table.place.Given as goal
 
 -- what was passed stands behind the front

@@ -1,16 +1,17 @@
-use Rattle.std.proofs.Common.{◌≡◌, ◌<◌, length, get_or, arith}
+use Rattle.std.proofs.Common.{◌≡◌, ◌<◌, ◌∙◌, sym, inl, inr, true, false, length, get_or, arith}
+use Rattle.std.proofs.lemmas.Bool.{cases_lt}
 use Rattle.warp_record.proofs.Numerals.{no_text, value_of_text, text_not_empty, text_no_leading_zero, text_of_digits, empty_length, some_length}
 use Rattle.warp_record.proofs.number.read_number.Goals as goal
-use Rattle.warp_record.proofs.number.read_number.Goals.{else-word-eq48-via-then-word-eq48+else-word-gt1, else-word-eq48-via-else-word-eq48}
 
 pub returns-then-is_empty-clause-none : goal.returns-then-is_empty-clause-none
 returns-then-is_empty-clause-none c = λ n le is.
     let some = text_not_empty c.args.word.now n (omega (arith, c.ranges.max)) is in
     omega (arith, some, empty_length (length c.args.word.now) c.if-is_empty.ensures)
 
-pub returns-then-word-gt1-clause-none : goal.returns-then-word-gt1-clause-none
-returns-then-word-gt1-clause-none c = λ n le is.
-    text_no_leading_zero c.args.word.now n (omega (arith, c.ranges.max)) is c.if-word-eq48.true c.if-word-gt1.true
+pub returns-then-is_padded-clause-none : goal.returns-then-is_padded-clause-none
+returns-then-is_padded-clause-none c = λ n le is.
+    let padded = c.is_padded.ensures.0 c.if-is_padded.true in
+    text_no_leading_zero c.args.word.now n (omega (arith, c.ranges.max)) is padded.1 padded.0
 
 pub returns-in_err-number-clause-none : goal.returns-in_err-number-clause-none
 returns-in_err-number-clause-none c =
@@ -21,9 +22,10 @@ pub returns-then-number-max-clause-found : goal.returns-then-number-max-clause-f
 returns-then-number-max-clause-found c =
     let value = c.in_ok-number.ensures in
     let some : 0 < length c.args.word.now = some_length (length c.args.word.now) c.if-is_empty.ensures in
-    let one : get_or c.args.word.now 0 0 ≡ 48 → length c.args.word.now ≡ 1 = λ first. elim c.else-word-eq48.branch [
-      | else-word-eq48-via-then-word-eq48+else-word-gt1 w ↦ omega (arith, some, w.if-word-gt1.false)
-      | else-word-eq48-via-else-word-eq48 w ↦ absurd (w.if-word-eq48.false first)
+    let one : get_or c.args.word.now 0 0 ≡ 48 → length c.args.word.now ≡ 1 = λ first.
+    elim (cases_lt 1 (length c.args.word.now)) [
+      | inl more ↦ let padded = c.is_padded.ensures.1 (more, first) in (let no : true ≡ false = sym padded ∙ c.if-is_padded.false in cc)
+      | inr few ↦ omega (arith, some, few)
     ] in
     let text = text_of_digits c.args.word.now value.0.0 some one value.0.1 in
     (c.if-number-max.true, rw value.1 text)

@@ -1,4 +1,5 @@
 use Rattle.std.proofs.Common.{IsTrue, IsSomeAnd, ◌≡◌, ℕ, ◌<◌, arith, sym, ap, ◌∙◌, subst, length, true, false, cond, Some, None}
+use Rattle.std.specs.Vec.{vec_capacity}
 use Rattle.warp_tag.specs.Moment.{Moment, is_before}
 use Rattle.warp_tag.specs.declared.entry.Entry.{Entry}
 use Rattle.warp_arena.specs.declared.arena.Arena.TheInside.{Inside}
@@ -20,7 +21,7 @@ returns-then-origin-len-clause-handle c =
     ∙ none_declared c.self.inside c.self.invariant c.args.origin c.args.tag (omega (arith, c.self.inside.origin_ends.ok.0)))
 
 -- the walk's split of the origin's nodes
-split_of : (a : Inside) (v : Contents) (o : ℕ) (g : Moment) (at : ℕ) → contents_of (threads a) a.used ≡ v → Splits (λ e. is_before g e.tag) (places_of o v.places) at → SplitAt (λ e. is_before g e.tag) (threads a).entry (owned a o) at
+split_of : (a : Inside) (v : Contents) (o : ℕ) (g : Moment) (at : ℕ) → contents_of (threads a) a.used (vec_capacity a.nodes) ≡ v → Splits (λ e. is_before g e.tag) (places_of o v.places) at → SplitAt (λ e. is_before g e.tag) (threads a).entry (owned a o) at
 split_of a v o g at is s =
     split_at (λ (e : Entry). is_before g e.tag) (threads a).entry (owned a o) at
     (subst (λ ps. Splits (λ e. is_before g e.tag) ps at) (places_of-members (threads a).entry o (used a))
@@ -67,6 +68,6 @@ pub returns-then-is_of-clause-named : goal.returns-then-is_of-clause-named
 returns-then-is_of-clause-named c =
     let o = c.args.origin in
     let g = c.args.tag in
-    let order = subst IsOrdered c.self.view_is (ordered c.self.inside c.self.invariant) in
+    let order = subst IsOrdered c.self.view_is (ordered c.self.inside c.self.invariant (vec_capacity c.self.inside.nodes)) in
     let r = entry_of-node_of o g c.args.self.now.places order.handles c.new.result (returns-then-is_of-clause-handle c) in
     subst (λ x. IsSomeAnd x (λ e. IsTrue (has_name o g e))) (sym r.1) r.2

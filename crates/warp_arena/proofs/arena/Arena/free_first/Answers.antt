@@ -1,5 +1,6 @@
 use Rattle.std.proofs.Common.{◌≡◌, ℕ, ◌<◌, ◌+◌, ◌-◌, arith, sym, ap, ◌∙◌, subst, length, List, get_or, set, drop}
 use Rattle.std.proofs.lemmas.List.{with_items_is}
+use Rattle.std.specs.Vec.{vec_capacity}
 use Rattle.warp_arena.specs.declared.node.Links.{Links}
 use Rattle.warp_arena.specs.declared.node.Node.{Node}
 use Rattle.warp_arena.specs.Places.{Contents}
@@ -96,6 +97,6 @@ returns c =
     let change = subst (λ ns. Unthreaded ns c.unthread_node.new.nodes a.ends c.unthread_node.new.ends c.index-2.result.now c.unthread_node.new.own_ends a.ends.next a.free)
     c.deref_mut.ensures.value c.unthread_node.ensures in
     let items = with_items_is a.nodes c.unthread_node.new.nodes (omega (arith, change.len, a.nodes.ok.0)) in
-    ap (λ ns. contents_of (threads_of ns (set a.origin_ends.items o c.unthread_node.new.own_ends) c.unthread_node.new.ends a.ends.next) (a.used - 1)) items
+    ap (λ ns. contents_of (threads_of ns (set a.origin_ends.items o c.unthread_node.new.own_ends) c.unthread_node.new.ends a.ends.next) (a.used - 1) (vec_capacity a.nodes)) items
     ∙ contents_removed a l c.unthread_node.new.nodes c.index-2.result.now c.unthread_node.new.ends c.unthread_node.new.own_ends o is_own own change
-    ∙ ap (λ v. let w : Contents = record { origins = v.origins; places = drop 1 v.places; free = v.free + 1 } in w) c.self.view_is
+    ∙ ap (λ v. let w : Contents = record { origins = v.origins; places = drop 1 v.places; free = v.free + 1; room = v.room } in w) c.self.view_is

@@ -1,5 +1,6 @@
 use Rattle.std.proofs.Common.{◌≡◌, ◌≢◌, ℕ, ◌<◌, ◌+◌, ◌-◌, arith, sym, ap, ◌∙◌, subst, None, length, List, get_or, set}
 use Rattle.std.proofs.lemmas.List.{with_items_is}
+use Rattle.std.specs.Vec.{vec_capacity}
 use Rattle.warp_tag.specs.Moment.{Moment, is_before}
 use Rattle.warp_tag.specs.Table.{name_before, fresh}
 use Rattle.warp_tag.specs.declared.entry.Entry.{Entry}
@@ -21,7 +22,7 @@ record Before (a : Inside) (o : ℕ) (g : Moment) (b c : ℕ) : Type 0 where
   is_ready : Ready a o g b c
   can_thread : Threadable (length a.nodes.items) (next_in a.ends (by_tag a.nodes.items)) (next_in (get_or a.origin_ends.items o no_links) (of_origin a.nodes.items)) b c a.free
 
-before_insert : (a : Inside) (v : Contents) (o : ℕ) (g : Moment) (b c : ℕ) → contents_of (threads a) a.used ≡ v → IsWhole (threads a) a.used → o < v.origins → 0 < v.free → node_of o g v.places ≡ None → Splits (name_before o g) v.places b → Splits (λ e. is_before g e.tag) (places_of o v.places) c → Before a o g b c
+before_insert : (a : Inside) (v : Contents) (o : ℕ) (g : Moment) (b c : ℕ) → contents_of (threads a) a.used (vec_capacity a.nodes) ≡ v → IsWhole (threads a) a.used → o < v.origins → 0 < v.free → node_of o g v.places ≡ None → Splits (name_before o g) v.places b → Splits (λ e. is_before g e.tag) (places_of o v.places) c → Before a o g b c
 before_insert a v o g b c is w declared room absent s r =
     let h : o < length a.origin_ends.items = omega (arith, ap (λ u. u.origins) is) in
     let q = ready a w o g b c
@@ -140,11 +141,11 @@ returns-clause-places c =
     c.last_through-before.result c.last_of_origin_through-own_before.result a.free e) c.fresh-entry.ensures threaded in
     let items = with_items_is a.nodes c.thread_node.new.nodes (omega (arith, change.len, a.nodes.ok.0)) in
     let v = c.args.self.now in
-    ap (λ ns. contents_of (threads_of ns (set a.origin_ends.items c.args.origin c.thread_node.new.own_ends) c.thread_node.new.ends c.index.result.now.by_tag.next) (a.used + 1)) items
+    ap (λ ns. contents_of (threads_of ns (set a.origin_ends.items c.args.origin c.thread_node.new.own_ends) c.thread_node.new.ends c.index.result.now.by_tag.next) (a.used + 1) (vec_capacity a.nodes)) items
     ∙ contents_inserted a c.args.origin c.args.tag c.last_through-before.result c.last_of_origin_through-own_before.result b.is_ready b.declared
     c.thread_node.new.nodes c.index-2.result.now c.thread_node.new.ends c.thread_node.new.own_ends c.index.result.now.by_tag.next own free change
-    ∙ ap (λ u. let w : Contents = record { origins = u.origins; places = with_place (record { node = a.free; entry = fresh c.args.origin c.args.tag }) u.places; free = u.free - 1 } in w) c.self.view_is
-    ∙ ap (λ n. let w : Contents = record { origins = v.origins; places = with_place (record { node = n; entry = fresh c.args.origin c.args.tag }) v.places; free = v.free - 1 } in w) (sym c.new.ensures)
+    ∙ ap (λ u. let w : Contents = record { origins = u.origins; places = with_place (record { node = a.free; entry = fresh c.args.origin c.args.tag }) u.places; free = u.free - 1; room = u.room } in w) c.self.view_is
+    ∙ ap (λ n. let w : Contents = record { origins = v.origins; places = with_place (record { node = n; entry = fresh c.args.origin c.args.tag }) v.places; free = v.free - 1; room = v.room } in w) (sym c.new.ensures)
 
 pub returns-clause-new_handle : goal.returns-clause-new_handle
 returns-clause-new_handle c =

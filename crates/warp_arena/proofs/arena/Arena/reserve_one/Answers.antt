@@ -1,14 +1,27 @@
-use Rattle.std.proofs.Common.{◌≡◌, ◌<◌, arith, sym, ap, ◌∙◌, subst, length, max, [], ◌∷◌, ◌++◌}
+use Rattle.std.proofs.Common.{◌≡◌, ◌<◌, ◌-◌, ℕ, arith, refl, sym, ap, ◌∙◌, subst, length, ◌++◌, ◌∷◌, []}
+use Rattle.std.specs.Vec.{vec_capacity}
+use Rattle.std.proofs.lemmas.Bool.{false≢true}
 use Rattle.warp_tag.specs.Limits.{most_names}
-use Rattle.warp_arena.specs.Places.{Contents}
-use Rattle.warp_arena.specs.Shape.{IsWhole, threads_of, contents_of}
+use Rattle.warp_arena.specs.Places.{Contents, with_free, room_after}
+use Rattle.warp_arena.specs.Shape.{IsWhole, threads_of, contents_of, no_node}
 use Rattle.warp_arena.proofs.Removed.{length-places}
 use Rattle.warp_arena.proofs.Growing.{none_free, whole_grown, contents_grown}
 use Rattle.warp_arena.proofs.arena.Arena.reserve_one.Goals as goal
 
-pub returns-in_err-push-clause-spare : goal.returns-in_err-push-clause-spare
-returns-in_err-push-clause-spare c = λ h.
+-- where no node is free, one is made
+made : (v : Contents) → v.free ≡ 0 → with_free v ≡ record v { free = 1; room = room_after (length v.places) v.room }
+made v e = rw e refl
+
+pub returns-in_err-add_node-clause-spare : goal.returns-in_err-add_node-clause-spare
+returns-in_err-add_node-clause-spare c = λ h.
     absurd (omega (arith, h, ap (λ v. v.free) c.self.view_is, none_free c.self.inside c.self.invariant c.if-self.true))
+
+pub returns-in_err-add_node-clause-room : goal.returns-in_err-add_node-clause-room
+returns-in_err-add_node-clause-room c = λ h.
+    let a = c.self.inside in
+    let v = c.self.view_is in
+    absurd (false≢true (c.in_err-add_node.ensures.spare
+    (omega (arith, h, ap (λ u. u.room) v, none_free a c.self.invariant c.if-self.true, length-places a, ap (λ u. length u.places) v))))
 
 pub invariant_of-self-then-self : goal.invariant_of-self-then-self
 invariant_of-self-then-self c =
@@ -16,17 +29,24 @@ invariant_of-self-then-self c =
     let full = none_free a c.self.invariant c.if-self.true in
     let room : length a.nodes.items < most_names = omega (arith, full, length-places a, ap (λ v. length v.places) c.self.view_is, c.requires) in
     let index : c.len-index.result ≡ length a.nodes.items = omega (arith, c.len-index.ensures, a.nodes.ok.0) in
-    subst (λ ns. IsWhole (threads_of ns a.origin_ends.items a.ends c.len-index.result) a.used) (sym c.in_ok-push.ensures.items)
-    (subst (λ i. IsWhole (threads_of (a.nodes.items ++ c.unused.result ∷ []) a.origin_ends.items a.ends i) a.used) (sym index)
-    (whole_grown a c.self.invariant full room c.unused.result c.unused.ensures))
+    subst (λ ns. IsWhole (threads_of ns a.origin_ends.items a.ends c.len-index.result) a.used) (sym c.in_ok-add_node.ensures.ok)
+    (subst (λ i. IsWhole (threads_of (a.nodes.items ++ no_node ∷ []) a.origin_ends.items a.ends i) a.used) (sym index)
+    (whole_grown a c.self.invariant full room))
 
-pub returns-in_ok-push-clause-ok : goal.returns-in_ok-push-clause-ok
-returns-in_ok-push-clause-ok c =
+pub returns-in_ok-add_node-clause-ok : goal.returns-in_ok-add_node-clause-ok
+returns-in_ok-add_node-clause-ok c =
     let a = c.self.inside in
+    let v = c.args.self.now in
     let full = none_free a c.self.invariant c.if-self.true in
     let room : length a.nodes.items < most_names = omega (arith, full, length-places a, ap (λ v. length v.places) c.self.view_is, c.requires) in
     let index : c.len-index.result ≡ length a.nodes.items = omega (arith, c.len-index.ensures, a.nodes.ok.0) in
-    ap (λ ns. contents_of (threads_of ns a.origin_ends.items a.ends c.len-index.result) a.used) c.in_ok-push.ensures.items
-    ∙ ap (λ i. contents_of (threads_of (a.nodes.items ++ c.unused.result ∷ []) a.origin_ends.items a.ends i) a.used) index
-    ∙ contents_grown a c.self.invariant full room c.unused.result c.unused.ensures
-    ∙ ap (λ v. let w : Contents = record { origins = v.origins; places = v.places; free = max 1 v.free } in w) c.self.view_is
+    let places : length a.nodes.items ≡ length v.places = sym full ∙ sym (length-places a) ∙ ap (λ u. length u.places) c.self.view_is in
+    let none : v.free ≡ 0 = omega (arith, full, ap (λ u. u.free) c.self.view_is) in
+    let grown : vec_capacity c.add_node.new.nodes ≡ room_after (length v.places) v.room =
+    c.in_ok-add_node.ensures.room ∙ ap (λ n. room_after n (vec_capacity a.nodes)) places ∙ ap (λ u. room_after (length v.places) u.room) c.self.view_is in
+    ap (λ ns. contents_of (threads_of ns a.origin_ends.items a.ends c.len-index.result) a.used (vec_capacity c.add_node.new.nodes)) c.in_ok-add_node.ensures.ok
+    ∙ ap (λ i. contents_of (threads_of (a.nodes.items ++ no_node ∷ []) a.origin_ends.items a.ends i) a.used (vec_capacity c.add_node.new.nodes)) index
+    ∙ contents_grown a c.self.invariant full room (vec_capacity c.add_node.new.nodes)
+    ∙ ap (λ u. let w : Contents = record { origins = u.origins; places = u.places; free = 1; room = vec_capacity c.add_node.new.nodes } in w) c.self.view_is
+    ∙ ap (λ r. let w : Contents = record { origins = v.origins; places = v.places; free = 1; room = r } in w) grown
+    ∙ sym (made v none)

@@ -1,4 +1,5 @@
 use Rattle.std.proofs.Common.{◌≡◌, arith, refl, sym, ap, ◌∙◌, subst, IsSome, get_or, set}
+use Rattle.std.specs.Vec.{vec_capacity}
 use Rattle.warp_tag.specs.Table.{with_withdrawal}
 use Rattle.warp_tag.specs.declared.entry.Entry.{Entry}
 use Rattle.warp_arena.specs.Places.{Contents, entry_of, with_change}
@@ -31,10 +32,10 @@ returns-clause-places c =
     let h = subst (λ v. IsSome (entry_of c.args.node v.places)) (sym c.self.view_is) c.requires in
     let m = c.index_mut.result.now in
     let read = node_read a.nodes.items c.args.node m (used_found_below a c.self.invariant c.args.node h) (subst (λ i. m ≡ get_or a.nodes.items i m) c.index.ensures c.index_mut.ensures.value) in
-    ap (λ (e : Entry). contents_of (threads_of (set a.nodes.items c.index.result (record { entry = e; by_tag = m.by_tag; of_origin = m.of_origin })) a.origin_ends.items a.ends a.free) a.used) c.withdraw.ensures.entry
-    ∙ ap (λ i. contents_of (threads_of (set a.nodes.items i (record { entry = with_withdrawal m.entry; by_tag = m.by_tag; of_origin = m.of_origin })) a.origin_ends.items a.ends a.free) a.used) c.index.ensures
+    ap (λ (e : Entry). contents_of (threads_of (set a.nodes.items c.index.result (record { entry = e; by_tag = m.by_tag; of_origin = m.of_origin })) a.origin_ends.items a.ends a.free) a.used (vec_capacity a.nodes)) c.withdraw.ensures.entry
+    ∙ ap (λ i. contents_of (threads_of (set a.nodes.items i (record { entry = with_withdrawal m.entry; by_tag = m.by_tag; of_origin = m.of_origin })) a.origin_ends.items a.ends a.free) a.used (vec_capacity a.nodes)) c.index.ensures
     ∙ contents_changed a c.self.invariant c.args.node h m read with_withdrawal (λ _. refl) (λ _. refl)
-    ∙ ap (λ v. let w : Contents = record { origins = v.origins; places = with_change with_withdrawal c.args.node v.places; free = v.free } in w) c.self.view_is
+    ∙ ap (λ v. let w : Contents = record { origins = v.origins; places = with_change with_withdrawal c.args.node v.places; free = v.free; room = v.room } in w) c.self.view_is
 
 pub returns-clause-entry : goal.returns-clause-entry
 returns-clause-entry c =

@@ -1,9 +1,9 @@
 use Rattle.std.proofs.Common.{◌++◌, ◌∷◌, [], length, Contains, ap, sym, subst, ◌∙◌, length-append, if◌then◌else◌, arith}
-use Rattle.warpd.proofs.LogLemmas.{not_listed}
-use Rattle.warpd.proofs.log.Log.add.Goals as goal
+use Rattle.warp_table.proofs.Places.{not_listed}
+use Rattle.warp_table.proofs.table.Table.add.Goals as goal
 
-pub returns-clause-log : goal.returns-clause-log
-returns-clause-log c =
+pub returns-clause-records : goal.returns-clause-records
+returns-clause-records c =
     let keys = c.self.inside.records.keys in
     let lacks = subst (λ l. Contains l c.args.record.now → ⊥) (sym c.self.view_is) c.requires.new in
     let missing = not_listed keys c.args.record.now lacks in
@@ -12,4 +12,4 @@ returns-clause-log c =
 
 pub returns-clause-place : goal.returns-clause-place
 returns-clause-place c =
-    omega (arith, c.len.ensures.len, ap length (returns-clause-log c), length-append c.args.self.now (c.args.record.now ∷ []))
+    omega (arith, c.len.ensures.len, ap length (returns-clause-records c), length-append c.args.self.now (c.args.record.now ∷ []))

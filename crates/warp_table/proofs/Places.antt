@@ -1,13 +1,13 @@
--- Lemmas on logs.
+-- Lemmas on the places of records.
 use Rattle.std.proofs.Common.{◌≡◌, ℕ, ◌+◌, ◌-◌, Bool, true, false, List, get_or, slice_get, Contains, Some, position, refl, sym, ap, ◌∙◌, rules, arith}
 use Rattle.std.specs.List.{list_any}
 use Rattle.std.specs.Cmp.Rules.{comparing}
 use Rattle.std.proofs.lemmas.List.Quantifiers.{position-Some}
 use Rattle.std.proofs.lemmas.Option.{slice_get-get_or}
 use Rattle.indexmap.proofs.CallerLemmas.{Contains-list_any}
-use Rattle.warpd.specs.Gives.{IsAt}
-use Rattle.warpd.specs.declared.line.Record.{Record}
-use Rattle.warpd.specs.contracts.line.RecordPartialEq.TheImpl.{eq-value}
+use Rattle.warp_table.specs.Log.{IsAt}
+use Rattle.warp_record.specs.declared.line.Record.{Record}
+use Rattle.warp_record.specs.contracts.line.RecordPartialEq.TheImpl.{eq-value}
 
 -- records that `==` finds equal are one record
 pub same_record : (a b : Record) → (eq-value).it a b ≡ true → a ≡ b

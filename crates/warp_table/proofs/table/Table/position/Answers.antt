@@ -1,7 +1,7 @@
 use Rattle.std.proofs.Common.{◌+◌, subst, sym, arith}
-use Rattle.warpd.proofs.LogLemmas.{found_at}
-use Rattle.warpd.specs.Gives.{IsAt}
-use Rattle.warpd.proofs.log.Log.position.Goals as goal
+use Rattle.warp_table.proofs.Places.{found_at}
+use Rattle.warp_table.specs.Log.{IsAt}
+use Rattle.warp_table.proofs.table.Table.position.Goals as goal
 
 pub returns-clause-found : goal.returns-clause-found
 returns-clause-found c =
