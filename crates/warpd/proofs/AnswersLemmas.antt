@@ -1,10 +1,7 @@
--- Lemmas on the table of a log, and on the variables of a run.
+-- Lemmas on the variables of a run.
 use Rattle.std.proofs.Common.{◌≡◌, ℕ, ℤ, ◌+◌, ◌≤◌, Bool, true, false, List, [], ◌∷◌, ◌++◌, length, slice_get, fold, Option, Some, None, if◌then◌else◌, refl, sym, ap, subst, ◌∙◌, ◌<◌, arith}
 use Rattle.std.proofs.lemmas.List.{length-set}
-use Rattle.std.proofs.lemmas.List.Sums.{fold-append}
 use Rattle.warp_tag.specs.Moment.{Moment}
-use Rattle.warp_tag.specs.Table.{changed, with_event, name_before, has_name, fresh}
-use Rattle.warp_tag.specs.declared.entry.Entry.{Entry}
 use Rattle.warp_body.specs.Effect.{Statement, SetVariable, PutOutput, Effect, effect_of, effect_of_one}
 use Rattle.warp_body.specs.Term.{value_of}
 use Rattle.warp_step.specs.declared.out.Given.{Given}
@@ -13,34 +10,8 @@ use Rattle.warp_step.specs.Snapshot.{Snapshot, start_state}
 use Rattle.warp_step.specs.Step.{is_triggered, react, after_reactions, reacted, arrived, nothing_present}
 use Rattle.warp_step.specs.Run.{Row, Run, RunFrom, state_at_end, given_at}
 use Rattle.warp_tag.specs.Table.{Event, live}
-use Rattle.warpd.specs.declared.line.Record.{Record}
-use Rattle.warpd.specs.declared.line.Record.TheVariants as entry
-use Rattle.warpd.specs.Gives.{with_record, table_of}
-
--- one more record changes its one name
-pub table_more : (log : List Record) (said : Record) → table_of (log ++ said ∷ []) ≡ with_record (table_of log) said
-table_more log said = fold-append with_record [] log (said ∷ [])
-
--- a change adds at most one name
-length-changed : (change : Entry → Entry) (origin : ℕ) (tag : Moment) (es : List Entry) → length (changed change origin tag es) ≤ length es + 1
-length-changed change origin tag [] = omega arith
-length-changed change origin tag (e ∷ es) = by (name_before origin tag e) (has_name origin tag e) (length-changed change origin tag es)
-  where
-    by : (before same : Bool) → length (changed change origin tag es) ≤ length es + 1 → length (if before then change (fresh origin tag) ∷ e ∷ es else (if same then change e ∷ es else e ∷ changed change origin tag es)) ≤ length (e ∷ es) + 1
-    by true same rest = omega arith
-    by false true rest = omega arith
-    by false false rest = omega arith
-
-length-with_record : (table : List Entry) (said : Record) → length (with_record table said) ≤ length table + 1
-length-with_record table (entry.Event origin tag input value) = length-changed (with_event input value) origin tag table
-
-length-table_from : (table : List Entry) (log : List Record) → length (fold with_record table log) ≤ length table + length log
-length-table_from table [] = omega arith
-length-table_from table (said ∷ log) = omega (arith, length-table_from (with_record table said) log, length-with_record table said)
-
--- a log names no more than it has records
-pub length-table_of : (log : List Record) → length (table_of log) ≤ length log
-length-table_of log = omega (arith, length-table_from [] log)
+use Rattle.warp_record.specs.declared.line.Record.{Record}
+use Rattle.warp_table.specs.Names.{table_of}
 
 effect_vars : (ss : List Statement) (now : Effect) → length (effect_of ss now).vars ≡ length now.vars
 effect_vars [] now = refl

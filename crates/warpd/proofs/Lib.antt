@@ -1,4 +1,3 @@
-pub mod LogLemmas
 pub mod AnswersLemmas
 pub mod LineCuts
 pub mod Numerals

@@ -1,7 +1,9 @@
 -- What a line gives on a log of records.
 use Rattle.std.specs.Prelude.{◌≡◌, ℕ, ◌+◌, ◌-◌, ◌<◌, ◌≤◌, ◌==◌, nat_lt, nat_le, List, [], ◌∷◌, ◌++◌, length, map, fold, Contains, slice_get, slice_index, Option, Some, None, if◌then◌else◌}
-use Rattle.warp_tag.specs.Table.{changed, with_event, live}
-use Rattle.warp_tag.specs.declared.entry.Entry.{Entry}
+use Rattle.warp_tag.specs.Table.{live}
+use Rattle.warp_table.specs.Names.{table_of}
+use Rattle.warp_table.specs.Check.{refusal_of}
+use Rattle.warp_table.specs.Log.{IsAt}
 use Rattle.warp_step.specs.Rules.{Rules}
 use Rattle.warp_step.specs.Snapshot.{start_state}
 use Rattle.warp_step.specs.Run.{Row, Run, state_at_end}
@@ -15,30 +17,6 @@ use Rattle.warpd.specs.declared.reply.Refusal.{Refusal}
 use Rattle.warpd.specs.declared.reply.Refusal.TheVariants.{NoOrigin, PastStop, NoInput, NotYours, NoVar, LogFull, NoMemory}
 use Rattle.warpd.specs.declared.reply.Reply.{Reply}
 use Rattle.warpd.specs.declared.reply.Reply.TheVariants as reply
-
--- the table of names after one more record
-abbrev pub with_record : List Entry → Record → List Entry
-with_record table (Event origin tag input value) = changed (with_event input value) origin tag table
-
--- the names of a log: what its records say of each, one after another
-abbrev pub table_of : List Record → List Entry
-table_of log = fold with_record [] log
-
--- the first of the reasons why a program takes no such record, if there is one: no such origin, past its stop,
--- no such input, an input of another origin
-abbrev pub refusal_of : Rules → Record → Option Refusal
-refusal_of P (Event origin tag input value) =
-    if nat_le P.origins origin
-    then Some NoOrigin
-    else (if nat_lt P.stop tag.time
-    then Some PastStop
-    else (if nat_le (length P.inputs) input
-    then Some NoInput
-    else (if slice_index (map (λ i. i.origin) P.inputs) input == origin then None else Some NotYours)))
-
--- the record stands at this place of the log, counted from 1
-abbrev pub IsAt : List Record → ℕ → Record → Type 0
-IsAt log place entry = (1 ≤ place) × (slice_get log (place - 1) ≡ Some entry)
 
 -- why a record that the log lacks may not come into it: there are 100,000, or no memory was to be had for one more
 abbrev pub LacksRoom : List Record → Refusal → Type 0

@@ -52,33 +52,6 @@ impl<L: Ledger> Meter for Idle<L> {
     }
 }
 
-/// Why the program takes no such record, if there is a reason.
-fn refusal(program: &Program, record: &Record) -> Option<Refusal>
-    ensures { result ≡ refusal_of (rules_of program.now) «record».now }
-{
-    let Record::Event {
-        origin,
-        tag,
-        input,
-        ..
-    } = *record;
-    if program.origins() <= origin {
-        return Some(Refusal::NoOrigin);
-    }
-    if program.stop() < tag.time() {
-        return Some(Refusal::PastStop);
-    }
-    let inputs = program.inputs();
-    if inputs.len() <= input as usize {
-        return Some(Refusal::NoInput);
-    }
-    if inputs[input as usize].origin == origin {
-        None
-    } else {
-        Some(Refusal::NotYours)
-    }
-}
-
 /// Puts a record that the program has no reason against into a run that has room for it.
 fn enter<T: Timeline>(timeline: &mut T, record: &Record)
     requires prepared { T.is_prepared timeline.old }

@@ -4,7 +4,6 @@
 mod feed;
 mod line;
 mod local;
-mod log;
 #[cfg(test)]
 mod memory;
 mod number;
