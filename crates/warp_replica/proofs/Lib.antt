@@ -1,2 +1,3 @@
 pub mod Standings
 pub mod Variables
+pub mod Replies

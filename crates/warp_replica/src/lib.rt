@@ -1,15 +1,20 @@
 //! A replica: a program, the records that it took, and the run over them.
 //!
 //! `Replica` takes records, settles its timeline and answers queries; contracts see its program, the list of its
-//! records and the timeline. `Local` is a replica without peers as a desk, which answers lines.
+//! records and the timeline. `Local` is a replica without peers as a desk, which answers lines. What a query gives
+//! follows from the set of the records (`same_answers`).
 #![tactic(auto)]
 
 mod idle;
+mod law;
 mod local;
 mod replica;
+#[cfg(test)]
+mod tests;
 mod took;
 
 pub use idle::Idle;
+pub use law::{one_answer, same_answers};
 pub use local::Local;
 pub use replica::Replica;
 pub use took::Took;
