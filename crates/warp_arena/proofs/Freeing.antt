@@ -5,7 +5,7 @@ use Rattle.std.proofs.lemmas.List.{length-append, drop_at, map-append}
 use Rattle.warp_tag.specs.Moment.{Moment, is_before}
 use Rattle.warp_tag.specs.Table.{IsTable}
 use Rattle.warp_tag.specs.declared.entry.Entry.{Entry}
-use Rattle.warp_tag.proofs.Lists.{All-weaker, All-append, filter-here, filter-past, some_not_none}
+use Rattle.warp_tag.proofs.Lists.{All-weaker, All-append, filter-here, filter-past, some_not_none, same_some}
 use Rattle.warp_tag.proofs.Names.{before_tag}
 use Rattle.warp_arena.specs.Places.{Place, Contents, entries_of, entry_of, first_node, places_past, places_through}
 use Rattle.warp_arena.proofs.Tables.{Precedes, All-unmap}
@@ -20,14 +20,11 @@ pub record Freed (tag : Moment) (start now' : Contents) : Type 0 where
   pub through : AllByRecursion (λ p. is_before tag p.entry.tag ≡ false) front
   pub others : now' ≡ record start { places = now'.places; free = start.free + length front }
 
-some_same : {X : Type 0} (x y : X) → Some x ≡ Some y → x ≡ y
-some_same x y e = cc
-
 -- the first place, by its handle
 first_place : (ps : List Place) (i : ℕ) (d : Entry) → Some i ≡ first_node ps → entry_of i ps ≡ Some d → (p : Place) × (qs : List Place) × (ps ≡ p ∷ qs) × (p.entry ≡ d)
 first_place [] i d first entry = absurd (some_not_none i first)
 first_place (p ∷ qs) i d first entry =
-    (p, qs, refl, some_same p.entry d (sym (entry_of-here p qs i (sym (some_same i p.node first))) ∙ entry))
+    (p, qs, refl, same_some p.entry d (sym (entry_of-here p qs i (sym (same_some i p.node first))) ∙ entry))
 
 -- one more is freed
 pub Freed-more : (tag : Moment) (start now' : Contents) → Freed tag start now' → (d : Entry) (i : ℕ) → Some i ≡ first_node now'.places → entry_of i now'.places ≡ Some d → is_before tag d.tag ≡ false → (next : Contents) → next ≡ record now' { places = drop 1 now'.places; free = now'.free + 1 } → Freed tag start next
@@ -75,7 +72,7 @@ all_later : (tag : Moment) (ps : List Place) → IsTable (entries_of ps) → (i 
 all_later tag [] t i d first entry h = tt
 all_later tag (p ∷ ps) t i d first entry h =
     let here : is_before tag p.entry.tag ≡ true =
-    ap (λ x. is_before tag x.tag) (some_same p.entry d (sym (entry_of-here p ps i (sym (some_same i p.node first))) ∙ entry)) ∙ h in (
+    ap (λ x. is_before tag x.tag) (same_some p.entry d (sym (entry_of-here p ps i (sym (same_some i p.node first))) ∙ entry)) ∙ h in (
       here,
       All-weaker (λ q. Precedes p.entry q.entry) (λ q. is_before tag q.entry.tag ≡ true) (λ q k. before_tag tag p.entry q.entry here k) ps
           (All-unmap (λ x. Precedes p.entry x) (λ (q : Place). q.entry) ps t.0),

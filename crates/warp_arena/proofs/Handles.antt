@@ -3,15 +3,12 @@ use Rattle.std.proofs.Common.{◌≡◌, ◌≢◌, ℕ, Bool, true, false, cond
 use Rattle.std.specs.List.{AllByRecursion, IsDistinct}
 use Rattle.std.specs.Option.{option_map, is_some}
 use Rattle.std.proofs.lemmas.Bool.{cases_eq, cases_Bool, eq-eqb, ne_eqb, false≢true}
-use Rattle.warp_tag.specs.Moment.{Moment}
+use Rattle.warp_tag.specs.Moment.{Moment, is_before}
 use Rattle.warp_tag.specs.Table.{name_before, has_name}
 use Rattle.warp_tag.specs.declared.entry.Entry.{Entry}
-use Rattle.warp_tag.proofs.Lists.{filter-here, filter-past, some_not_none}
+use Rattle.warp_tag.proofs.Lists.{filter-here, filter-past, some_not_none, same_some}
 use Rattle.warp_arena.specs.Places.{Place, entry_of, node_of, first_node, last_node, places_after, places_before, with_place, with_change}
-use Rattle.warp_arena.proofs.Reading.{entry_of-here, entry_of-other}
-
-same_some : {X : Type 0} (x y : X) → Some x ≡ Some y → x ≡ y
-same_some x y e = cc
+use Rattle.warp_arena.proofs.Reading.{entry_of-here, entry_of-other, some_more}
 
 -- ---- a place comes in
 
@@ -80,59 +77,6 @@ entry_of-with_change_same change n (q ∷ qs) =
           ∙ entry_of-other q rest n apart ∙ entry_of-with_change_same change n qs ∙ sym (ap (option_map change) (entry_of-other q qs n apart))
     ]
 
--- ---- a part of the places
-
-some_more : (q : Place) (qs : List Place) (m : ℕ) → IsSome (entry_of m qs) → IsSome (entry_of m (q ∷ qs))
-some_more q qs m h =
-    elim (cases_eq q.node m) [
-      | inl same ↦ ap is_some (entry_of-here q qs m same)
-      | inr other ↦ ap is_some (entry_of-other q qs m other) ∙ h
-    ]
-
-pub some_first : (ps : List Place) (m : ℕ) → Some m ≡ first_node ps → IsSome (entry_of m ps)
-some_first [] m e = absurd (some_not_none m e)
-some_first (p ∷ ps) m e = ap is_some (entry_of-here p ps m (same_some p.node m (sym e)))
-
-pub some_last : (ps : List Place) (m : ℕ) → Some m ≡ last_node ps → IsSome (entry_of m ps)
-some_last [] m e = absurd (some_not_none m e)
-some_last (p ∷ []) m e = ap is_some (entry_of-here p [] m (same_some p.node m (sym e)))
-some_last (p ∷ q ∷ ps) m e = some_more p (q ∷ ps) m (some_last (q ∷ ps) m e)
-
-pub some_after : (n : ℕ) (ps : List Place) (m : ℕ) → IsSome (entry_of m (places_after n ps)) → IsSome (entry_of m ps)
-some_after n [] m h = h
-some_after n (p ∷ ps) m h =
-    elim (cases_Bool (eqb p.node n)) [
-      | inl so ↦ some_more p ps m (subst (λ b. IsSome (entry_of m (cond b ps (places_after n ps)))) so h)
-      | inr not_so ↦ some_more p ps m (some_after n ps m (subst (λ b. IsSome (entry_of m (cond b ps (places_after n ps)))) not_so h))
-    ]
-
-pub some_before : (n : ℕ) (ps : List Place) (m : ℕ) → IsSome (entry_of m (places_before n ps)) → IsSome (entry_of m ps)
-some_before n [] m h = h
-some_before n (p ∷ ps) m h =
-    elim (cases_Bool (eqb p.node n)) [
-      | inl so ↦ absurd (false≢true (subst (λ b. IsSome (entry_of m (cond b [] (p ∷ places_before n ps)))) so h))
-      | inr not_so ↦
-          let k : IsSome (entry_of m (p ∷ places_before n ps)) = subst (λ b. IsSome (entry_of m (cond b [] (p ∷ places_before n ps)))) not_so h in
-          elim (cases_eq p.node m) [
-            | inl same ↦ ap is_some (entry_of-here p ps m same)
-            | inr other ↦ some_more p ps m (some_before n ps m (sym (ap is_some (entry_of-other p (places_before n ps) m other)) ∙ k))
-          ]
-    ]
-
-pub some_filter : (q : Place → Bool) (ps : List Place) (m : ℕ) → IsSome (entry_of m (filter q ps)) → IsSome (entry_of m ps)
-some_filter q [] m h = h
-some_filter q (p ∷ ps) m h =
-    elim (cases_Bool (q p)) [
-      | inl so ↦
-          elim (cases_eq p.node m) [
-            | inl same ↦ ap is_some (entry_of-here p ps m same)
-            | inr other ↦
-                some_more p ps m (some_filter q ps m
-                (sym (ap is_some (entry_of-other p (filter q ps) m other)) ∙ subst (λ xs. IsSome (entry_of m xs)) (filter-here q p ps so) h))
-          ]
-      | inr not_so ↦ some_more p ps m (some_filter q ps m (subst (λ xs. IsSome (entry_of m xs)) (filter-past q p ps not_so) h))
-    ]
-
 -- ---- handles that are apart
 
 all_named : (P : ℕ → Type 0) (ps : List Place) (m : ℕ) → AllByRecursion P (map (λ (p : Place). p.node) ps) → IsSome (entry_of m ps) → P m
@@ -171,7 +115,13 @@ entry_of-node_of o g (p ∷ ps) d m e =
           (r.0, entry_of-other p ps m apart ∙ r.1, r.2)
     ]
 
--- a fact of the value, if there is one
-pub if_some : {X : Type 0} (o : Option X) (P : X → Type 0) → ((x : X) → Some x ≡ o → P x) → IfSome o P
-if_some None P h = tt
-if_some (Some x) P h = h x refl
+-- a handle behind a front that went, whose entry the front does not have
+pub entry_of-later : (tag : Moment) (front back : List Place) → AllByRecursion (λ p. is_before tag p.entry.tag ≡ false) front → (m : ℕ) (e : Entry) → entry_of m (front ++ back) ≡ Some e → is_before tag e.tag ≡ true → entry_of m back ≡ Some e
+entry_of-later tag [] back through m e h later = h
+entry_of-later tag (p ∷ front) back through m e h later =
+    elim (cases_eq p.node m) [
+      | inl same ↦
+          let is : p.entry ≡ e = same_some p.entry e (sym (entry_of-here p (front ++ back) m same) ∙ h) in
+          absurd (false≢true (sym through.0 ∙ ap (λ (d : Entry). is_before tag d.tag) is ∙ later))
+      | inr other ↦ entry_of-later tag front back through.1 m e (sym (entry_of-other p (front ++ back) m other) ∙ h) later
+    ]

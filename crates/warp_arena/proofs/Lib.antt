@@ -14,3 +14,4 @@ pub mod Freeing
 pub mod Growing
 pub mod Finding
 pub mod Handles
+pub mod ByName

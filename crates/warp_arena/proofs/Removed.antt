@@ -9,7 +9,7 @@ use Rattle.warp_arena.specs.declared.arena.Arena.TheInside.{Inside}
 use Rattle.warp_arena.specs.declared.node.Links.{Links}
 use Rattle.warp_arena.specs.declared.node.Node.{Node}
 use Rattle.warp_arena.specs.declared.node.TheConstants.{NO_NODE}
-use Rattle.warp_arena.specs.Changes.{Unthreaded, IsPlace}
+use Rattle.warp_arena.specs.Changes.{Unthreaded, IsPlace, CanUnthread}
 use Rattle.warp_arena.specs.Places.{Place, Contents}
 use Rattle.warp_arena.specs.Shape.{IsArena, IsWhole, threads_of, contents_of, used_of, unused_of, entry_at, place_at, members, no_links, next_in, prev_in, walk, IsChain, free_ends}
 use Rattle.warp_arena.proofs.Rings.{first_holds, IsChain-split, length-walk}
@@ -55,10 +55,8 @@ leaving_of a v is w h = leaving a w (omega (arith, length-places a, ap (λ u. le
 
 -- what taking the node out asks for
 pub record Unthreadable (size origins : ℕ) (next own_next : ℕ → ℕ) (o x : ℕ) : Type 0 where
-  pub at : x < size
-  pub node : x ≢ NO_NODE
-  pub after : IsPlace size (next x)
-  pub own_after : IsPlace size (own_next x)
+  pub tags : CanUnthread size next x
+  pub owns : CanUnthread size own_next x
   pub declared : o < origins
 
 after_first : (size : ℕ) (next prev : ℕ → ℕ) (x : ℕ) (rest : List ℕ) → IsChain next prev NO_NODE (x ∷ rest) NO_NODE → AllByRecursion (λ i. i < size) rest → IsPlace size (next x)
@@ -75,13 +73,20 @@ unthreadable a l =
     let below = all_used_below t (x ∷ l.rest) l.fs l.shape in
     let own_chain = subst (λ is. IsChain (next_in (t.own_ends o) t.own_links) (prev_in (t.own_ends o) t.own_links) NO_NODE is NO_NODE)
     (members_here t.entry o x l.rest refl) (l.shape.own o l.shape.declared.0) in
+    let node = (none_used t (x ∷ l.rest) l.fs l.shape).0 in
     record {
-      at = below.0;
-      node = (none_used t (x ∷ l.rest) l.fs l.shape).0;
-      after = after_first t.size (next_in t.ends t.links) (prev_in t.ends t.links) x l.rest l.shape.spelled below.1;
-      own_after =
-          after_first t.size (next_in (t.own_ends o) t.own_links) (prev_in (t.own_ends o) t.own_links) x (members t.entry o l.rest) own_chain
-          (All-filter (λ i. i < t.size) (λ i. eqb (t.entry i).origin o) l.rest below.1);
+      tags = record {
+        at_in = below.0;
+        at_node = node;
+        after_in = after_first t.size (next_in t.ends t.links) (prev_in t.ends t.links) x l.rest l.shape.spelled below.1;
+      };
+      owns = record {
+        at_in = below.0;
+        at_node = node;
+        after_in =
+            after_first t.size (next_in (t.own_ends o) t.own_links) (prev_in (t.own_ends o) t.own_links) x (members t.entry o l.rest) own_chain
+            (All-filter (λ i. i < t.size) (λ i. eqb (t.entry i).origin o) l.rest below.1);
+      };
       declared = l.shape.declared.0;
     }
 

@@ -14,7 +14,7 @@ use Rattle.warp_arena.specs.declared.arena.Arena.TheInside.{Inside}
 use Rattle.warp_arena.specs.declared.node.TheConstants.{NO_NODE}
 use Rattle.warp_arena.specs.Places.{Place, places_of, node_of, entries_of, IsOrdered}
 use Rattle.warp_arena.specs.Shape.{Threads, IsArena, IsWhole, Splits, contents_of, used_of, unused_of, members, place_at, IsChain, last_or, first_or, next_in, prev_in, free_ends, walk, no_links}
-use Rattle.warp_arena.specs.Changes.{IsPlace}
+use Rattle.warp_arena.specs.Changes.{IsPlace, CanThread}
 use Rattle.warp_arena.proofs.Rings.{IsOff, IsApart, first_holds, last_holds, IsChain-split, walk_path, length-walk, IsPath-chain, count_of-here}
 use Rattle.warp_arena.proofs.Tables.{All-map, All-unmap, nodes_of-places, places_of-members}
 use Rattle.warp_arena.proofs.Shapes.{unused_below, used_apart, none_unused, unused_off, all_used_below, members-append}
@@ -149,58 +149,47 @@ ready a w o g before own_before room s r absent =
 
 -- what threading the node asks for
 pub record Threadable (size : ℕ) (next own_next : ℕ → ℕ) (b c x : ℕ) : Type 0 where
-  pub before : IsPlace size b
-  pub after : IsPlace size (next b)
-  pub own_before : IsPlace size c
-  pub own_after : IsPlace size (own_next c)
-  pub at : x < size
-  pub node : x ≢ NO_NODE
-  pub not_before : b ≢ x
-  pub not_after : next b ≢ x
-  pub not_own_before : c ≢ x
-  pub not_own_after : own_next c ≢ x
+  pub tags : CanThread size next b x
+  pub owns : CanThread size own_next c x
 
 -- a place at the split of a list that the links spell
-at_split : (size : ℕ) (next prev : ℕ → ℕ) (xs ys : List ℕ) (x before : ℕ) → IsChain next prev NO_NODE (xs ++ ys) NO_NODE → AllByRecursion (λ i. i < size) (xs ++ ys) → IsOff x (xs ++ ys) → NO_NODE ≢ x → before ≡ last_or NO_NODE xs → IsPlace size before × IsPlace size (next before) × (before ≢ x) × (next before ≢ x)
-at_split size next prev xs ys x before chain below off none e =
+at_split : (size : ℕ) (next prev : ℕ → ℕ) (xs ys : List ℕ) (x before : ℕ) → IsChain next prev NO_NODE (xs ++ ys) NO_NODE → AllByRecursion (λ i. i < size) (xs ++ ys) → IsOff x (xs ++ ys) → x < size → x ≢ NO_NODE → before ≡ last_or NO_NODE xs → CanThread size next before x
+at_split size next prev xs ys x before chain below off at_in node e =
     let after : next before ≡ first_or ys NO_NODE = ap next e ∙ (IsChain-split next prev NO_NODE xs ys NO_NODE chain).0 in
     let is_place : (i : ℕ) → i < size → IsPlace size i = λ i h _. h in
-    let end_place : IsPlace size NO_NODE = λ n. absurd (n refl) in (
-      subst (IsPlace size) (sym e)
-          (last_holds (IsPlace size) NO_NODE xs end_place (All-weaker (λ i. i < size) (IsPlace size) is_place xs (All-left (λ i. i < size) xs ys below))),
-      subst (IsPlace size) (sym after)
-          (first_holds (IsPlace size) ys NO_NODE (All-weaker (λ i. i < size) (IsPlace size) is_place ys (All-right (λ i. i < size) xs ys below)) end_place),
-      subst (λ k. k ≢ x) (sym e) (last_holds (λ k. k ≢ x) NO_NODE xs none (All-left (λ i. i ≢ x) xs ys off)),
-      subst (λ k. k ≢ x) (sym after) (first_holds (λ k. k ≢ x) ys NO_NODE (All-right (λ i. i ≢ x) xs ys off) none),
-    )
+    let end_place : IsPlace size NO_NODE = λ n. absurd (n refl) in
+    let none : NO_NODE ≢ x = λ h. node (sym h) in
+    record {
+      before_in =
+          subst (IsPlace size) (sym e)
+          (last_holds (IsPlace size) NO_NODE xs end_place (All-weaker (λ i. i < size) (IsPlace size) is_place xs (All-left (λ i. i < size) xs ys below)));
+      after_in =
+          subst (IsPlace size) (sym after)
+          (first_holds (IsPlace size) ys NO_NODE (All-weaker (λ i. i < size) (IsPlace size) is_place ys (All-right (λ i. i < size) xs ys below)) end_place);
+      at_in = at_in;
+      at_node = node;
+      not_before = subst (λ k. k ≢ x) (sym e) (last_holds (λ k. k ≢ x) NO_NODE xs none (All-left (λ i. i ≢ x) xs ys off));
+      not_after = subst (λ k. k ≢ x) (sym after) (first_holds (λ k. k ≢ x) ys NO_NODE (All-right (λ i. i ≢ x) xs ys off) none);
+    }
 
 pub threadable : (a : Inside) (o : ℕ) (g : Moment) (before own_before : ℕ) → Ready a o g before own_before → o < length a.origin_ends.items → Threadable (length a.nodes.items) (next_in a.ends (threads a).links) (next_in (get_or a.origin_ends.items o no_links) (threads a).own_links) before own_before a.free
 threadable a o g before own_before r h =
     let t = threads a in
     let x : ℕ = a.free in
     let off : IsOff x (r.xs ++ r.ys) = unused_off t (r.xs ++ r.ys) (x ∷ r.fs) r.shape x (omega (arith, count_of-here x r.fs)) in
-    let not_none : x ≢ NO_NODE = (none_unused t (r.xs ++ r.ys) (x ∷ r.fs) r.shape).0 in
-    let none : NO_NODE ≢ x = (λ e. not_none (sym e)) in
+    let node : x ≢ NO_NODE = (none_unused t (r.xs ++ r.ys) (x ∷ r.fs) r.shape).0 in
+    let at_in : x < t.size = unused_below t (r.xs ++ r.ys) (x ∷ r.fs) r.shape x (omega (arith, count_of-here x r.fs)) in
     let below = all_used_below t (r.xs ++ r.ys) (x ∷ r.fs) r.shape in
-    let p = at_split t.size (next_in t.ends t.links) (prev_in t.ends t.links) r.xs r.ys x before r.shape.spelled below off none r.before_is in
     let own_parts = members-append t.entry o r.xs r.ys in
     let test : ℕ → Bool = λ i. eqb (t.entry i).origin o in
-    let q = at_split t.size (next_in (t.own_ends o) t.own_links) (prev_in (t.own_ends o) t.own_links) (members t.entry o r.xs) (members t.entry o r.ys) x own_before
-    (subst (λ is. IsChain (next_in (t.own_ends o) t.own_links) (prev_in (t.own_ends o) t.own_links) NO_NODE is NO_NODE) own_parts (r.shape.own o h))
-    (subst (AllByRecursion (λ i. i < t.size)) own_parts (All-filter (λ i. i < t.size) test (r.xs ++ r.ys) below))
-    (subst (IsOff x) own_parts (All-filter (λ i. i ≢ x) test (r.xs ++ r.ys) off))
-    none r.own_before_is in
     record {
-      before = p.0;
-      after = p.1;
-      own_before = q.0;
-      own_after = q.1;
-      at = unused_below t (r.xs ++ r.ys) (x ∷ r.fs) r.shape x (omega (arith, count_of-here x r.fs));
-      node = not_none;
-      not_before = p.2;
-      not_after = p.3;
-      not_own_before = q.2;
-      not_own_after = q.3;
+      tags = at_split t.size (next_in t.ends t.links) (prev_in t.ends t.links) r.xs r.ys x before r.shape.spelled below off at_in node r.before_is;
+      owns =
+          at_split t.size (next_in (t.own_ends o) t.own_links) (prev_in (t.own_ends o) t.own_links) (members t.entry o r.xs) (members t.entry o r.ys) x own_before
+          (subst (λ is. IsChain (next_in (t.own_ends o) t.own_links) (prev_in (t.own_ends o) t.own_links) NO_NODE is NO_NODE) own_parts (r.shape.own o h))
+          (subst (AllByRecursion (λ i. i < t.size)) own_parts (All-filter (λ i. i < t.size) test (r.xs ++ r.ys) below))
+          (subst (IsOff x) own_parts (All-filter (λ i. i ≢ x) test (r.xs ++ r.ys) off))
+          at_in node r.own_before_is;
     }
 
 -- ---- what contracts see is in order

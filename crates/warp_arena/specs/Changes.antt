@@ -10,6 +10,21 @@ use Rattle.warp_arena.specs.Shape.{entry_at, by_tag, of_origin, next_in, prev_in
 abbrev pub IsPlace : ℕ → ℕ → Type 0
 IsPlace size i = i ≢ NO_NODE → i < size
 
+-- a node can come into a list behind a place: that and the place after it are places, and it is neither
+pub record CanThread (size : ℕ) (next : ℕ → ℕ) (before at : ℕ) : Type 0 where
+  pub before_in : IsPlace size before
+  pub after_in : IsPlace size (next before)
+  pub at_in : at < size
+  pub at_node : at ≢ NO_NODE
+  pub not_before : before ≢ at
+  pub not_after : next before ≢ at
+
+-- the first node of a list can go from it
+pub record CanUnthread (size : ℕ) (next : ℕ → ℕ) (at : ℕ) : Type 0 where
+  pub at_in : at < size
+  pub at_node : at ≢ NO_NODE
+  pub after_in : IsPlace size (next at)
+
 -- the new links lead on from this place to that one, and are the old ones elsewhere
 pub record SetsNext (ends ends' : Links) (links links' : ℕ → Links) (at to : ℕ) : Type 0 where
   pub here : next_in ends' links' at ≡ to

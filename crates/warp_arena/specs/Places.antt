@@ -1,5 +1,5 @@
 -- What an arena holds, as contracts see it: the entries in order, each with the handle that names it.
-use Rattle.std.specs.Prelude.{ℕ, ◌+◌, ◌<◌, max, length, nat_eq, unwrap_or, ◌==◌, not, Option, Some, None, List, [], ◌∷◌, if◌then◌else◌, find, filter, map}
+use Rattle.std.specs.Prelude.{◌≡◌, ℕ, ◌+◌, ◌<◌, max, length, nat_eq, unwrap_or, ◌==◌, not, Option, Some, None, List, [], ◌∷◌, if◌then◌else◌, find, filter, map, drop, IsSome, IfSome}
 use Rattle.std.specs.Option.{option_map}
 use Rattle.std.specs.List.{AllByRecursion, IsDistinct}
 use Rattle.warp_tag.specs.Moment.{Moment, is_before}
@@ -51,15 +51,30 @@ last_node [] = None
 last_node (p ∷ []) = Some p.node
 last_node (p ∷ q ∷ ps) = last_node (q ∷ ps)
 
+-- the places from the handle's on
+abbrev pub places_from : ℕ → List Place → List Place
+places_from node [] = []
+places_from node (p ∷ ps) = if p.node == node then p ∷ ps else places_from node ps
+
 -- the places after the handle's
 abbrev pub places_after : ℕ → List Place → List Place
-places_after node [] = []
-places_after node (p ∷ ps) = if p.node == node then ps else places_after node ps
+places_after node places = drop 1 (places_from node places)
 
 -- the places before the handle's
 abbrev pub places_before : ℕ → List Place → List Place
 places_before node [] = []
 places_before node (p ∷ ps) = if p.node == node then [] else p ∷ places_before node ps
+
+-- the places from where a walk stands: from its handle's on, or none where it is behind the last
+abbrev pub left_at : Option ℕ → List Place → List Place
+left_at None places = []
+left_at (Some node) places = places_from node places
+
+-- a walk along the places stands where this rest is left: at the first of it, or behind the last place
+pub record Reaches (places rest : List Place) (at : Option ℕ) : Type 0 where
+  pub handle : at ≡ first_node rest
+  pub used : IfSome at (λ node. IsSome (entry_of node places))
+  pub left : left_at at places ≡ rest
 
 -- the places of one origin
 abbrev pub places_of : ℕ → List Place → List Place

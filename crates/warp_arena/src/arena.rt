@@ -33,12 +33,13 @@ impl Model for Arena {
 }
 
 impl Arena {
-    ghost use Rattle.std.specs.Prelude.{◌≡◌, ◌≢◌, ℕ, ◌↔◌, ◌<◌, ◌≤◌, ◌+◌, ◌-◌, [], ◌∷◌, IsTrue, IsOk, IsSome, IfSome, IsSomeAnd, IfOk, OnOk, OnErr, None, Some, length, map, drop, ◌==◌, filter};
+    ghost use Rattle.std.specs.Prelude.{◌≡◌, ◌≢◌, ℕ, true, ◌↔◌, ◌<◌, ◌≤◌, ◌+◌, ◌-◌, [], ◌∷◌, IsTrue, IsOk, IsSome, MatchOption, IfSome, IsSomeAnd, IfOk, OnOk, OnErr, None, Some, length, map, drop, ◌==◌, filter};
     ghost use Rattle.std.specs.Option.{option_map};
     ghost use Rattle.warp_tag.specs.Limits.{most_names};
     ghost use Rattle.warp_tag.specs.Moment.{is_before};
     ghost use Rattle.warp_tag.specs.Table.{name_before, has_name, fresh, with_event, with_withdrawal};
-    ghost use Rattle.warp_arena.specs.Places.{places_of, node_of, entry_of, first_node, last_node, places_after, places_before, with_place, with_change, with_free, places_past, places_through, IsOrdered, origin_of};
+    ghost use Rattle.warp_tag.specs.declared.entry.Entry.{Entry};
+    ghost use Rattle.warp_arena.specs.Places.{places_of, node_of, entry_of, first_node, last_node, Reaches, places_from, places_after, places_before, with_place, with_change, with_free, places_past, places_through, IsOrdered, origin_of};
     ghost use Rattle.warp_arena.specs.Shape.{Splits};
 
     /// An arena without entries, for origins below this number. The only error is want of memory.
@@ -153,15 +154,16 @@ impl Arena {
     /// The entry that the handle names.
     pub fn entry(&self, node: NodeId) -> Entry
         requires { IsSome (entry_of node self.now.places) }
-        ensures { entry_of node self.now.places ≡ Some result }
+        ensures entry { entry_of node self.now.places ≡ Some result }
+        ensures head { places_from node self.now.places
+            ≡ record { node = node; entry = result } ∷ places_after node self.now.places }
     {
         self.nodes[node.index() as usize].entry
     }
 
     /// The handle of the first entry, or none where there is no entry.
     pub fn first(&self) -> Option<NodeId>
-        ensures handle { result ≡ first_node self.now.places }
-        ensures used { IfSome result (λ at. IsSome (entry_of at self.now.places)) }
+        ensures { Reaches self.now.places self.now.places result }
     {
         handle(self.ends.next)
     }
@@ -169,8 +171,7 @@ impl Arena {
     /// The handle of the entry after the handle's, or none at the last one.
     pub fn next(&self, node: NodeId) -> Option<NodeId>
         requires { IsSome (entry_of node self.now.places) }
-        ensures handle { result ≡ first_node (places_after node self.now.places) }
-        ensures used { IfSome result (λ at. IsSome (entry_of at self.now.places)) }
+        ensures { Reaches self.now.places (places_after node self.now.places) result }
     {
         handle(self.nodes[node.index() as usize].by_tag.next)
     }
@@ -180,6 +181,9 @@ impl Arena {
         requires { IsSome (entry_of node self.now.places) }
         ensures handle { result ≡ last_node (places_before node self.now.places) }
         ensures used { IfSome result (λ at. IsSome (entry_of at self.now.places)) }
+        ensures left { MatchOption result
+            (places_from node self.now.places ≡ self.now.places)
+            (λ at. places_after at self.now.places ≡ places_from node self.now.places) }
     {
         handle(self.nodes[node.index() as usize].by_tag.prev)
     }
@@ -195,10 +199,17 @@ impl Arena {
 
     /// How many entries the arena holds.
     pub fn len(&self) -> usize
-        ensures length { result ≡ length self.now.places }
-        ensures ordered { IsOrdered self.now }
+        ensures { result ≡ length self.now.places }
     {
         self.used
+    }
+
+    /// What is known of any arena: its entries are in order of tag, then of origin, each name once, and each has a
+    /// handle of its own.
+    pub fn ordered(&self)
+        ensures { IsOrdered self.now }
+    {
+        let _ = &self.used;
     }
 
     /// Whether the arena holds no entry.
@@ -226,7 +237,10 @@ impl Arena {
         ensures front { self.new.places ≡ drop result self.old.places }
         ensures handles { (node : ℕ) → IsSome (entry_of node self.new.places)
             → entry_of node self.new.places ≡ entry_of node self.old.places }
+        ensures later { (node : ℕ) (e : Entry) → entry_of node self.old.places ≡ Some e
+            → is_before tag e.tag ≡ true → entry_of node self.new.places ≡ Some e }
     {
+        self.ordered();
         let before = self.len();
         while let Some(first) = self.first() {
             if tag.is_before(self.entry(first).tag) {

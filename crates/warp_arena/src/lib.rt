@@ -6,6 +6,7 @@
 #![tactic(auto)]
 
 mod arena;
+pub mod law;
 mod links;
 mod node;
 #[cfg(test)]

@@ -1,9 +1,9 @@
 //! The links of an arena's nodes: how a node comes into its two lists and goes from them.
-ghost use Rattle.std.specs.Prelude.{◌≡◌, ◌≢◌, ℕ, ◌<◌, [], ◌∷◌, ◌++◌, length, None, Some, if◌then◌else◌, ◌==◌, is_ok, IsOk, OnOk, OnErr};
+ghost use Rattle.std.specs.Prelude.{◌≡◌, ℕ, ◌<◌, [], ◌∷◌, ◌++◌, length, None, Some, if◌then◌else◌, ◌==◌, is_ok, IsOk, OnOk, OnErr};
 ghost use Rattle.std.specs.Vec.{vec_capacity};
 ghost use Rattle.warp_arena.specs.Places.{room_after};
 ghost use Rattle.warp_arena.specs.Shape.{by_tag, of_origin, next_in, prev_in, no_node};
-ghost use Rattle.warp_arena.specs.Changes.{IsPlace, SetsNext, SetsPrev, KeepsButTags, KeepsButOwn, Inserts, Skips, Threaded, Unthreaded};
+ghost use Rattle.warp_arena.specs.Changes.{IsPlace, CanThread, CanUnthread, SetsNext, SetsPrev, KeepsButTags, KeepsButOwn, Inserts, Skips, Threaded, Unthreaded};
 
 use crate::node::{Links, NO_NODE, Node, NodeId};
 use warp_tag::{Entry, OutOfMemory};
@@ -114,12 +114,7 @@ pub(crate) fn next_of_origin(nodes: &[Node], ends: &Links, at: u32) -> u32
 
 /// Puts the node into the tag list, after this place.
 pub(crate) fn thread_by_tag(nodes: &mut [Node], ends: &mut Links, before: u32, at: u32)
-    requires before { IsPlace (length nodes.old) before }
-    requires after { IsPlace (length nodes.old) (next_in ends.old (by_tag nodes.old) before) }
-    requires at { at < length nodes.old }
-    requires node { at ≢ NO_NODE }
-    requires not_before { before ≢ at }
-    requires not_after { next_in ends.old (by_tag nodes.old) before ≢ at }
+    requires { CanThread (length nodes.old) (next_in ends.old (by_tag nodes.old)) before at }
     ensures keeps { KeepsButTags nodes.old nodes.new }
     ensures inserts { Inserts (next_in ends.old (by_tag nodes.old)) (prev_in ends.old (by_tag nodes.old))
         (next_in ends.new (by_tag nodes.new)) (prev_in ends.new (by_tag nodes.new))
@@ -136,12 +131,7 @@ pub(crate) fn thread_by_tag(nodes: &mut [Node], ends: &mut Links, before: u32, a
 
 /// Puts the node into its origin's list, after this place.
 pub(crate) fn thread_of_origin(nodes: &mut [Node], ends: &mut Links, before: u32, at: u32)
-    requires before { IsPlace (length nodes.old) before }
-    requires after { IsPlace (length nodes.old) (next_in ends.old (of_origin nodes.old) before) }
-    requires at { at < length nodes.old }
-    requires node { at ≢ NO_NODE }
-    requires not_before { before ≢ at }
-    requires not_after { next_in ends.old (of_origin nodes.old) before ≢ at }
+    requires { CanThread (length nodes.old) (next_in ends.old (of_origin nodes.old)) before at }
     ensures keeps { KeepsButOwn nodes.old nodes.new }
     ensures inserts { Inserts (next_in ends.old (of_origin nodes.old)) (prev_in ends.old (of_origin nodes.old))
         (next_in ends.new (of_origin nodes.new)) (prev_in ends.new (of_origin nodes.new))
@@ -166,16 +156,8 @@ pub(crate) fn thread_node(
     at: u32,
     entry: Entry,
 )
-    requires before { IsPlace (length nodes.old) before }
-    requires after { IsPlace (length nodes.old) (next_in ends.old (by_tag nodes.old) before) }
-    requires own_before { IsPlace (length nodes.old) own_before }
-    requires own_after { IsPlace (length nodes.old) (next_in own_ends.old (of_origin nodes.old) own_before) }
-    requires at { at < length nodes.old }
-    requires node { at ≢ NO_NODE }
-    requires not_before { before ≢ at }
-    requires not_after { next_in ends.old (by_tag nodes.old) before ≢ at }
-    requires not_own_before { own_before ≢ at }
-    requires not_own_after { next_in own_ends.old (of_origin nodes.old) own_before ≢ at }
+    requires tags { CanThread (length nodes.old) (next_in ends.old (by_tag nodes.old)) before at }
+    requires owns { CanThread (length nodes.old) (next_in own_ends.old (of_origin nodes.old)) own_before at }
     ensures { Threaded nodes.old nodes.new ends.old ends.new own_ends.old own_ends.new before own_before at entry }
 {
     thread_by_tag(nodes, ends, before, at);
@@ -185,9 +167,7 @@ pub(crate) fn thread_node(
 
 /// Takes the first node of the tag list out of it.
 pub(crate) fn unthread_by_tag(nodes: &mut [Node], ends: &mut Links, at: u32)
-    requires at { at < length nodes.old }
-    requires node { at ≢ NO_NODE }
-    requires after { IsPlace (length nodes.old) (next_in ends.old (by_tag nodes.old) at) }
+    requires { CanUnthread (length nodes.old) (next_in ends.old (by_tag nodes.old)) at }
     ensures keeps { KeepsButTags nodes.old nodes.new }
     ensures skips { Skips (next_in ends.old (by_tag nodes.old)) (prev_in ends.old (by_tag nodes.old))
         (next_in ends.new (by_tag nodes.new)) (prev_in ends.new (by_tag nodes.new)) NO_NODE at }
@@ -199,9 +179,7 @@ pub(crate) fn unthread_by_tag(nodes: &mut [Node], ends: &mut Links, at: u32)
 
 /// Takes the first node of an origin's list out of it.
 pub(crate) fn unthread_of_origin(nodes: &mut [Node], ends: &mut Links, at: u32)
-    requires at { at < length nodes.old }
-    requires node { at ≢ NO_NODE }
-    requires after { IsPlace (length nodes.old) (next_in ends.old (of_origin nodes.old) at) }
+    requires { CanUnthread (length nodes.old) (next_in ends.old (of_origin nodes.old)) at }
     ensures keeps { KeepsButOwn nodes.old nodes.new }
     ensures skips { Skips (next_in ends.old (of_origin nodes.old)) (prev_in ends.old (of_origin nodes.old))
         (next_in ends.new (of_origin nodes.new)) (prev_in ends.new (of_origin nodes.new)) NO_NODE at }
@@ -220,10 +198,8 @@ pub(crate) fn unthread_node(
     at: u32,
     free: u32,
 )
-    requires at { at < length nodes.old }
-    requires node { at ≢ NO_NODE }
-    requires after { IsPlace (length nodes.old) (next_in ends.old (by_tag nodes.old) at) }
-    requires own_after { IsPlace (length nodes.old) (next_in own_ends.old (of_origin nodes.old) at) }
+    requires tags { CanUnthread (length nodes.old) (next_in ends.old (by_tag nodes.old)) at }
+    requires owns { CanUnthread (length nodes.old) (next_in own_ends.old (of_origin nodes.old)) at }
     ensures { Unthreaded nodes.old nodes.new ends.old ends.new own_ends.old own_ends.new at free }
 {
     unthread_by_tag(nodes, ends, at);

@@ -50,14 +50,16 @@ read-spelled (Sum a b) rest stack = read-spelled a (spelled b ((3, (0, pos 0)) �
 read-spelled (Difference a b) rest stack = read-spelled a (spelled b ((4, (0, pos 0)) ∷ rest)) stack ∙ read-spelled b ((4, (0, pos 0)) ∷ rest) (a ∷ stack)
 read-spelled (Product a b) rest stack = read-spelled a (spelled b ((5, (0, pos 0)) ∷ rest)) stack ∙ read-spelled b ((5, (0, pos 0)) ∷ rest) (a ∷ stack)
 
+-- an expression is stored as its nodes
 abbrev pub term_code : Coded Term
 term_code = code_by (List Mark) (coded_list (coded× coded_ℕ (coded× coded_ℕ coded_ℤ))) (λ t. spelled t []) (λ ms. newest (read ms [])) (λ t. ap newest (read-spelled t [] []))
 
--- a statement is stored as its kind, the place, and the expression
+-- a statement's kind, its place, and its expression
 abbrev to_parts : Statement → ℕ × (ℕ × Term)
 to_parts (SetVariable k e) = (0, (k, e))
 to_parts (PutOutput port e) = (1, (port, e))
 
+-- and back
 abbrev from_parts : ℕ × (ℕ × Term) → Statement
 from_parts p = if p.0 == 0 then SetVariable p.1.0 p.1.1 else PutOutput p.1.0 p.1.1
 
@@ -65,5 +67,6 @@ pub from_parts-to_parts : (s : Statement) → from_parts (to_parts s) ≡ s
 from_parts-to_parts (SetVariable k e) = refl
 from_parts-to_parts (PutOutput port e) = refl
 
+-- a statement is stored as these
 abbrev pub statement_code : Coded Statement
 statement_code = code_by (ℕ × (ℕ × Term)) (coded× coded_ℕ (coded× coded_ℕ term_code)) to_parts from_parts from_parts-to_parts

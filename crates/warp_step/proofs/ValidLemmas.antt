@@ -1,7 +1,9 @@
 -- What a valid program's numbers are good for.
-use Rattle.std.proofs.Common.{◌≡◌, ℕ, zero, suc, ◌<◌, ◌≤◌, Bool, List, [], ◌∷◌, length, get_or, nat_lt, arith, IsTrue}
+use Rattle.std.proofs.Common.{◌≡◌, inl, inr, ℕ, ◌<◌, ◌≤◌, Bool, false, List, length, get_or, nat_lt, arith, IsTrue}
 use Rattle.std.specs.List.{list_all}
+use Rattle.std.proofs.lemmas.Bool.{cases_Bool}
 use Rattle.std.proofs.lemmas.Bool.Decides.{nat_tests}
+use Rattle.std.proofs.lemmas.List.Folds.{list_all_at}
 use Rattle.warp_tag.specs.Limits.{longest_stop, last_microstep, most_ports, most_outputs}
 use Rattle.warp_step.specs.Program.{Program}
 use Rattle.warp_step.specs.Valid.{is_valid, rule_fits, input_fits}
@@ -9,12 +11,10 @@ use Rattle.warp_step.specs.declared.reaction.ProgramInput.{ProgramInput}
 
 -- what a test of all elements says of the one at an index
 pub list_all_get : {X : Type 0} (p : X → Bool) (xs : List X) (i : ℕ) (d : X) → IsTrue (list_all p xs) → i < length xs → IsTrue (p (get_or xs i d))
-list_all_get p [] i d h lt = absurd (omega arith)
-list_all_get p (x ∷ xs) zero d h lt = grind (arith, nat_tests)
-list_all_get p (x ∷ xs) (suc i) d h lt =
-    let rest : IsTrue (list_all p xs) = grind (arith, nat_tests) in
-    let less : i < length xs = omega arith in
-    list_all_get p xs i d rest less
+list_all_get p xs i d h lt = elim (cases_Bool (p (get_or xs i d))) [
+  | inl passes ↦ passes
+  | inr fails ↦ let none : list_all p xs ≡ false = list_all_at p xs i d lt fails in cc
+]
 
 -- the parts of a valid program
 pub record Parts (P : Program) : Type 0 where

@@ -24,6 +24,7 @@ owns_input P origin input = slice_index (map (λ i. i.origin) P.inputs) input ==
 abbrev pub takes : Program → ℕ → Moment → ℕ → Bool
 takes P origin tag input = is_declared P origin && is_in_time P tag && has_input P input && owns_input P origin input
 
+-- the same, as a fact
 abbrev pub IsEventOf : Program → ℕ → Moment → ℕ → Type 0
 IsEventOf P origin tag input = IsTrue (takes P origin tag input)
 

@@ -1,2 +1,4 @@
 pub mod Places
 pub mod Told
+pub mod Sizes
+pub mod Allowed

@@ -6,6 +6,8 @@
 
 mod law;
 mod table;
+#[cfg(test)]
+mod tests;
 
 pub use law::{is_table, known_by_set, one_table, told_once};
 pub use table::{MAX_RECORDS, Table};

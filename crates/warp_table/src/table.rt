@@ -1,11 +1,13 @@
 //! The records that were taken, in order.
-ghost use Rattle.std.specs.Prelude.{◌≡◌, ◌↔◌, ◌+◌, ◌<◌, ◌≤◌, [], ◌∷◌, ◌++◌, length, Contains, IsTrue, IfSome, IfNone, IfOk, OnOk, OnErr};
+ghost use Rattle.std.specs.Prelude.{◌≡◌, ◌↔◌, ◌+◌, ◌<◌, ◌≤◌, [], ◌∷◌, ◌++◌, None, Some, length, Contains, IsTrue, IfSome, IfNone, IfOk, OnOk, OnErr, MatchResult};
 ghost use Rattle.warp_tag.specs.Limits.{most_records};
+ghost use Rattle.warp_table.specs.Check.{refusal_of};
 
 use indexmap::IndexSet;
 use std::alloc::Global;
 use std::marker::Model;
-use warp_record::Record;
+use warp_record::{Record, Refusal};
+use warp_step::Program;
 use warp_tag::OutOfMemory;
 
 /// The most records that a table holds.
@@ -30,7 +32,38 @@ impl Model for Table {
 }
 
 impl Table {
-    ghost use Rattle.warp_table.specs.Log.{IsAt};
+    ghost use Rattle.warp_table.specs.Log.{EachOnce, IsAt};
+
+    /// Whether the program takes such a record, and else the first reason why not: no such origin, past its stop, no
+    /// such input, an input of another origin.
+    #[tactic(auto, using(crate::proofs::Allowed::in_time))]
+    pub fn check(program: &Program, record: &Record) -> Result<(), Refusal>
+        ensures { MatchResult result (λ _. refusal_of program.now «record».now ≡ None) (λ k. refusal_of program.now «record».now ≡ Some k) }
+    {
+        // Each program is valid, and so no tag is past the last microstep of its times.
+        program.valid();
+        let Record::Event {
+            origin,
+            tag,
+            input,
+            ..
+        } = *record;
+        if program.origins() <= origin {
+            return Err(Refusal::NoOrigin);
+        }
+        if program.stop() < tag.time() {
+            return Err(Refusal::PastStop);
+        }
+        let inputs = program.inputs();
+        if inputs.len() <= input as usize {
+            return Err(Refusal::NoInput);
+        }
+        if inputs[input as usize].origin == origin {
+            Ok(())
+        } else {
+            Err(Refusal::NotYours)
+        }
+    }
 
     /// A table of no records, which grows in `alloc`.
     pub fn new(alloc: Global) -> Table
@@ -45,13 +78,15 @@ impl Table {
     pub fn len(&self) -> u32
         ensures value { result ≡ length self.now }
         ensures bound { result ≤ most_records }
+        ensures once { EachOnce self.now }
     {
         self.records.len() as u32
     }
 
     /// Whether it takes no further record, which is at `MAX_RECORDS` of them.
     pub fn is_full(&self) -> bool
-        ensures { IsTrue result ↔ (length self.now ≡ most_records) }
+        ensures full { IsTrue result ↔ (length self.now ≡ most_records) }
+        ensures bound { length self.now ≤ most_records }
     {
         self.len() == MAX_RECORDS
     }

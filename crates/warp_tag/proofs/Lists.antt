@@ -75,3 +75,6 @@ find_none q (x ∷ xs) e =
       | inl so ↦ absurd (some_not_none x (sym (ap (λ b. cond b (Some x) (find q xs)) so) ∙ e))
       | inr not_so ↦ (not_so, find_none q xs (sym (ap (λ b. cond b (Some x) (find q xs)) not_so) ∙ e))
     ]
+
+pub same_some : {X : Type 0} (x y : X) → Some x ≡ Some y → x ≡ y
+same_some x y e = cc

@@ -1,5 +1,5 @@
 -- A table of names: where a name has its place, and what a change of what is known of one name does.
-use Rattle.std.proofs.Common.{◌≡◌, inl, inr, ℕ, zero, suc, ◌<◌, ◌≤◌, Bool, true, false, List, [], ◌∷◌, get_or, length, set, ap, sym, ◌∙◌, refl, subst, arith, Option, Some, None}
+use Rattle.std.proofs.Common.{◌≡◌, inl, inr, ℕ, zero, suc, ◌+◌, ◌<◌, ◌≤◌, Bool, true, false, List, [], ◌∷◌, get_or, length, set, ap, sym, ◌∙◌, refl, subst, arith, Option, Some, None}
 use Rattle.std.specs.Prelude.{if◌then◌else◌, ℤ}
 use Rattle.std.specs.List.{cons_option, list_all, prefix_len, insert}
 use Rattle.std.proofs.lemmas.Bool.{cases_Bool}
@@ -87,6 +87,17 @@ changed_new f o t (e ∷ es) (suc n) p k =
     let q = front_ahead o t e es n p in
     let rest = changed_new f o t es n q.1 (λ d h. k d (omega arith)) in
     (changed_ahead f o t e es q.0 ∙ ap (λ xs. e ∷ xs) rest.0, before_change_ahead o t e es q.0 ∙ rest.1)
+
+-- a change adds at most one name
+pub length-changed : (f : Entry → Entry) (o : ℕ) (t : Moment) (es : List Entry) → length (changed f o t es) ≤ length es + 1
+length-changed f o t [] = omega arith
+length-changed f o t (e ∷ es) = elim (cases_Bool (name_before o t e)) [
+  | inl b ↦ rw b (omega arith)
+  | inr b ↦ elim (cases_Bool (has_name o t e)) [
+    | inl n ↦ rw (b, n) (omega arith)
+    | inr n ↦ (let rest : length (changed f o t es) ≤ length es + 1 = length-changed f o t es in rw (b, n) (omega arith))
+  ]
+]
 
 -- a change that keeps names
 abbrev pub KeepsNames : (Entry → Entry) → Type 0

@@ -186,7 +186,6 @@ accepted i p text e = go (accepts i p text) e
     go true e = refl
     go false e = cc
 
-
 is_given_by : (a : Rule) (o : Option Row) → IsRowOf a o → (a.required ≡ true → option_map_or (λ (r : Row). explicit_source r.source) o false ≡ true) → IsGiven a o
 is_given_by a None fits wanted = record { there = λ e. wanted e; passes = λ text e. cc; reads = λ text e. cc }
 is_given_by a (Some r) fits wanted = go r.values fits.0 fits.1.0

@@ -9,11 +9,15 @@ use Rattle.warpd.specs.declared.words.Job.TheVariants.{Run}
 abbrev pub run_command : App
 run_command = with_rule (new_app (codes "run")) (record (new_rule (codes "PROGRAM")) { required = true })
 
--- `warpd` with a subcommand, which has to be there; with no word it answers with help
+-- `warpd` wants a subcommand, answers with help where no word comes, and has a version
+abbrev pub top_command : App
+top_command = on_top
+    (λ s. record s { has_version = true; arg_required_else_help = true; subcommand_required = true })
+    (new_app (codes "warpd"))
+
+-- `warpd` with its subcommands
 abbrev pub warpd_command : App
-warpd_command = with_subcommand
-    (on_top (λ s. record s { arg_required_else_help = true; subcommand_required = true }) (new_app (codes "warpd")))
-    run_command.top
+warpd_command = with_subcommand top_command run_command.top
 
 -- of a subcommand with what was found for it, the word in the place of PROGRAM
 abbrev pub program_value : Option (Text × List Row) → Option Text

@@ -1,9 +1,9 @@
 //! The words of the command line.
 ghost use Rattle.std.specs.Prelude.{◌≡◌, [], IfErr, IfOk, Some, map, option_map};
 ghost use Rattle.std.specs.Prelude.{false};
-ghost use Rattle.clap.specs.Words.{app_of, fault_of, HasKind, subcommand_of, subcommand_rows_of};
+ghost use Rattle.clap.specs.Words.{app_of, fault_of, first_of, found_of, HasKind, rows_of, subcommand_of, subcommand_rows_of};
 ghost use Rattle.clap.specs.declared.builder.command.Command.TheViews.{out-Command as fields_of};
-ghost use Rattle.warpd.specs.Words.{program_in, program_of, program_value, run_command, warpd_command};
+ghost use Rattle.warpd.specs.Words.{program_in, program_of, program_value, run_command, top_command, warpd_command};
 
 use clap::{Arg, ArgMatches, Command, Error};
 use std::alloc::{AllocError, Global};
@@ -18,6 +18,8 @@ pub enum Job<'a> {
     },
 }
 
+const VERSION: &str = "0.1.0";
+
 const ABOUT: &str = "Runs a deterministic reactor program over events that may come late";
 
 const LONG_ABOUT: &str = "\
@@ -26,7 +28,7 @@ answer is that of the program run over all of them in the order of their tags.";
 
 const STATUSES: &str = "\
 Exit status:
-  0  done, or help was asked for
+  0  done, or help or the version was asked for
   2  the words were not understood
   4  there is no such program, or a standard stream failed
   5  memory ran out";
@@ -37,17 +39,28 @@ const RUN_LONG_ABOUT: &str = "\
 Reads lines on standard input up to its end, and answers each of them with one line on
 standard output, in order.
 
-  event ORIGIN TIME MICROSTEP INPUT VALUE   hands in an event: taken N, or known N
+  event ORIGIN TIME MICROSTEP INPUT VALUE   hands in an event: taken P, or known P
   var INDEX                                 asks for a variable: var N VALUE
 
-N counts the events taken by then; of an event it is its place among them. A line that is
-not understood or not allowed is answered by refused K, and changes nothing.
+P is the event's place in the log, from 1, and N the length of the log. A line that is not
+understood or not allowed is answered by refused K, and changes nothing.
 
 The program builtin:twice stops at time 100. Its variable 0 begins at 0. An event of
 origin 0 for input 0 doubles it and adds the value; an event of origin 1 for input 1 takes
 the value from it.";
 
-const RUN_EXAMPLE: &str = "\
+const RUN_NOTES: &str = "\
+Why a line is refused:
+  1  it is no line of these forms, or ends before its line feed
+  2  the program has no such origin
+  3  the tag is past the program's stop
+  4  the program has no such input
+  5  the input belongs to another origin
+  6  the program has no such variable
+  7  the log is full
+  8  there is no memory for it
+  9  it is longer than 128 bytes
+
 Example:
   printf 'event 0 5 0 0 3\\nvar 0\\n' | warpd run builtin:twice";
 
@@ -56,7 +69,7 @@ const PROGRAM: &str = "PROGRAM";
 const PROGRAM_HELP: &str = "The program to run; this version has builtin:twice";
 
 /// Reads the words of the command line, of which the first is the program's own name.
-/// An error is a mistake in the words, a request for help, or want of memory; its text is for the user.
+/// An error is a mistake in the words, a request for help or the version, or want of memory; its text is for the user.
 pub fn words<'a>(alloc: Global, line: &'a [&'a str]) -> Result<Job<'a>, Error>
     ensures ok { IfOk result (λ job. (fault_of warpd_command (map (λ word. word.now) line.entry.now) ≡ [])
         × (program_in (map (λ word. word.now) line.entry.now) ≡ Some (program_of job))) }
@@ -83,9 +96,16 @@ fn program<'a>(matches: &ArgMatches<'a>) -> Option<&'a str>
     ensures { option_map (λ word. word.now) result ≡ program_value (subcommand_rows_of matches.now) }
 {
     match matches.subcommand() {
-        Some((_, run)) => run.get_str(PROGRAM),
+        Some((_, run)) => text(run, PROGRAM),
         None => None,
     }
+}
+
+/// The first text of the argument with this id.
+fn text<'a>(found: &ArgMatches<'a>, id: &str) -> Option<&'a str>
+    ensures { option_map (λ word. word.now) result ≡ first_of id.now (rows_of (found_of found.now)) }
+{
+    found.get_str(id)
 }
 
 /// The command line of `warpd`.
@@ -93,13 +113,20 @@ fn command<'a>(alloc: Global) -> Result<Command<'a>, AllocError>
     ensures { IfOk result (λ c. app_of c ≡ warpd_command) }
 {
     let run = run(alloc)?;
+    top(alloc).subcommand(run)
+}
+
+/// `warpd` without its subcommands.
+fn top<'a>(alloc: Global) -> Command<'a>
+    ensures { app_of result ≡ top_command }
+{
     Command::new(alloc, "warpd")
+        .version(VERSION)
         .about(ABOUT)
         .long_about(LONG_ABOUT)
         .after_long_help(STATUSES)
         .arg_required_else_help(true)
         .subcommand_required(true)
-        .subcommand(run)
 }
 
 /// The subcommand `run`.
@@ -111,7 +138,7 @@ fn run<'a>(alloc: Global) -> Result<Command<'a>, AllocError>
     Command::new(alloc, "run")
         .about(RUN_ABOUT)
         .long_about(RUN_LONG_ABOUT)
-        .after_long_help(RUN_EXAMPLE)
+        .after_long_help(RUN_NOTES)
         .arg(program)
 }
 
@@ -140,10 +167,16 @@ mod tests {
     }
 
     #[test]
-    fn refuses_other_words_and_shows_help(rt: HostRuntime) -> Result<(), Fail> {
+    fn refuses_other_words_and_shows_help_and_version(rt: HostRuntime) -> Result<(), Fail> {
         let rows = [
             (["warpd", "--help"].as_slice(), ErrorKind::DisplayHelp, 0),
             (["warpd", "-h"].as_slice(), ErrorKind::DisplayHelp, 0),
+            (
+                ["warpd", "--version"].as_slice(),
+                ErrorKind::DisplayVersion,
+                0,
+            ),
+            (["warpd", "-V"].as_slice(), ErrorKind::DisplayVersion, 0),
             (
                 ["warpd", "help", "run"].as_slice(),
                 ErrorKind::DisplayHelp,
@@ -184,6 +217,11 @@ mod tests {
                 ErrorKind::UnknownArgument,
                 2,
             ),
+            (
+                ["warpd", "run", "--version"].as_slice(),
+                ErrorKind::UnknownArgument,
+                2,
+            ),
         ];
         for (line, kind, code) in rows {
             match words(rt.alloc(), line) {
@@ -209,6 +247,11 @@ mod tests {
                 "Usage: warpd run <PROGRAM>",
             ),
             (["warpd", "run", "--help"].as_slice(), "builtin:twice"),
+            (["warpd", "run", "--help"].as_slice(), "taken P, or known P"),
+            (
+                ["warpd", "run", "--help"].as_slice(),
+                "5  the input belongs to another origin",
+            ),
             (["warpd", "run"].as_slice(), "<PROGRAM>"),
             (
                 ["warpd", "walk"].as_slice(),
@@ -222,6 +265,18 @@ mod tests {
                     let text = format!(in rt.alloc(); "{error}")?;
                     assert!(rt; text.contains(wanted), "{text}");
                 }
+            }
+        }
+        Ok(())
+    }
+
+    #[test]
+    fn version_is_one_line(rt: HostRuntime) -> Result<(), Fail> {
+        match words(rt.alloc(), ["warpd", "--version"].as_slice()) {
+            Ok(job) => panic!(rt; "{job:?}"),
+            Err(error) => {
+                let text = format!(in rt.alloc(); "{error}")?;
+                assert_eq!(rt; text.as_str(), "warpd 0.1.0\n");
             }
         }
         Ok(())

@@ -4,7 +4,7 @@ use Rattle.std.specs.Vec.{vec_capacity}
 use Rattle.warp_arena.specs.declared.node.Links.{Links}
 use Rattle.warp_arena.specs.declared.node.Node.{Node}
 use Rattle.warp_arena.specs.Places.{Contents}
-use Rattle.warp_arena.specs.Changes.{Unthreaded, IsPlace}
+use Rattle.warp_arena.specs.Changes.{Unthreaded, CanUnthread}
 use Rattle.warp_arena.specs.Shape.{IsWhole, threads_of, contents_of, next_in, by_tag, of_origin, no_links, entry_at}
 use Rattle.warp_arena.proofs.Walks.{node_read, ends_read}
 use Rattle.warp_arena.proofs.Removed.{leaving_of, unthreadable, whole_removed, contents_removed}
@@ -15,57 +15,41 @@ index-requires c =
     let a = c.self.inside in
     let l = leaving_of a c.args.self.now c.self.view_is c.self.invariant c.requires in
     let u = unthreadable a l in
-    omega (arith, a.nodes.ok.0, u.at)
+    omega (arith, a.nodes.ok.0, u.tags.at_in)
 
 pub index-requires-2 : goal.index-requires-2
 index-requires-2 c =
     let a = c.self.inside in
     let l = leaving_of a c.args.self.now c.self.view_is c.self.invariant c.requires in
     let u = unthreadable a l in
-    let read = node_read a.nodes.items a.ends.next c.index.result.now u.at c.index.ensures in
+    let read = node_read a.nodes.items a.ends.next c.index.result.now u.tags.at_in c.index.ensures in
     omega (arith, a.origin_ends.ok.0, u.declared, ap (λ n. n.entry.origin) read)
 
-pub unthread_node-requires-clause-at : goal.unthread_node-requires-clause-at
-unthread_node-requires-clause-at c =
+pub unthread_node-requires-clause-tags : goal.unthread_node-requires-clause-tags
+unthread_node-requires-clause-tags c =
     let a = c.self.inside in
-    let l = leaving_of a c.args.self.now c.self.view_is c.self.invariant c.requires in
-    let u = unthreadable a l in
-    subst (λ (ns : List Node). a.ends.next < length ns) (sym c.deref_mut.ensures.value) u.at
+    let u = unthreadable a (leaving_of a c.args.self.now c.self.view_is c.self.invariant c.requires) in
+    subst (λ (ns : List Node). CanUnthread (length ns) (next_in a.ends (by_tag ns)) a.ends.next) (sym c.deref_mut.ensures.value) u.tags
 
-pub unthread_node-requires-clause-node : goal.unthread_node-requires-clause-node
-unthread_node-requires-clause-node c =
+pub unthread_node-requires-clause-owns : goal.unthread_node-requires-clause-owns
+unthread_node-requires-clause-owns c =
     let a = c.self.inside in
-    let l = leaving_of a c.args.self.now c.self.view_is c.self.invariant c.requires in
-    let u = unthreadable a l in
-    u.node
-
-pub unthread_node-requires-clause-after : goal.unthread_node-requires-clause-after
-unthread_node-requires-clause-after c =
-    let a = c.self.inside in
-    let l = leaving_of a c.args.self.now c.self.view_is c.self.invariant c.requires in
-    let u = unthreadable a l in
-    subst (λ (ns : List Node). IsPlace (length ns) (next_in a.ends (by_tag ns) a.ends.next)) (sym c.deref_mut.ensures.value) u.after
-
-pub unthread_node-requires-clause-own_after : goal.unthread_node-requires-clause-own_after
-unthread_node-requires-clause-own_after c =
-    let a = c.self.inside in
-    let l = leaving_of a c.args.self.now c.self.view_is c.self.invariant c.requires in
-    let u = unthreadable a l in
-    let read = node_read a.nodes.items a.ends.next c.index.result.now u.at c.index.ensures in
+    let u = unthreadable a (leaving_of a c.args.self.now c.self.view_is c.self.invariant c.requires) in
+    let read = node_read a.nodes.items a.ends.next c.index.result.now u.tags.at_in c.index.ensures in
     let o : ℕ = c.index.result.now.entry.origin in
     let is_own : (entry_at a.nodes.items a.ends.next).origin ≡ o = ap (λ n. n.entry.origin) (sym read) in
     let declared : o < length a.origin_ends.items = subst (λ k. k < length a.origin_ends.items) is_own u.declared in
     let own : c.index-2.result.now ≡ get_or a.origin_ends.items o no_links = ends_read a.origin_ends.items o c.index-2.result.now declared c.index-2.ensures in
-    subst (λ (ns : List Node). IsPlace (length ns) (next_in c.index-2.result.now (of_origin ns) a.ends.next)) (sym c.deref_mut.ensures.value)
-    (subst (λ (k : Links). IsPlace (length a.nodes.items) (next_in k (of_origin a.nodes.items) a.ends.next)) (sym own)
-    (subst (λ k. IsPlace (length a.nodes.items) (next_in (get_or a.origin_ends.items k no_links) (of_origin a.nodes.items) a.ends.next)) is_own u.own_after))
+    let C = λ (ns : List Node) (l : Links). CanUnthread (length ns) (next_in l (of_origin ns)) a.ends.next in
+    subst (λ ns. C ns c.index-2.result.now) (sym c.deref_mut.ensures.value) (subst (λ l. C a.nodes.items l) (sym own)
+    (subst (λ k. C a.nodes.items (get_or a.origin_ends.items k no_links)) is_own u.owns))
 
 pub index_mut-requires : goal.index_mut-requires
 index_mut-requires c =
     let a = c.self.inside in
     let l = leaving_of a c.args.self.now c.self.view_is c.self.invariant c.requires in
     let u = unthreadable a l in
-    let read = node_read a.nodes.items a.ends.next c.index.result.now u.at c.index.ensures in
+    let read = node_read a.nodes.items a.ends.next c.index.result.now u.tags.at_in c.index.ensures in
     omega (arith, a.origin_ends.ok.0, u.declared, ap (λ n. n.entry.origin) read)
 
 pub invariant_of-self : goal.invariant_of-self
@@ -73,7 +57,7 @@ invariant_of-self c =
     let a = c.self.inside in
     let l = leaving_of a c.args.self.now c.self.view_is c.self.invariant c.requires in
     let u = unthreadable a l in
-    let read = node_read a.nodes.items a.ends.next c.index.result.now u.at c.index.ensures in
+    let read = node_read a.nodes.items a.ends.next c.index.result.now u.tags.at_in c.index.ensures in
     let o : ℕ = c.index.result.now.entry.origin in
     let is_own : (entry_at a.nodes.items a.ends.next).origin ≡ o = ap (λ n. n.entry.origin) (sym read) in
     let declared : o < length a.origin_ends.items = subst (λ k. k < length a.origin_ends.items) is_own u.declared in
@@ -89,7 +73,7 @@ returns c =
     let a = c.self.inside in
     let l = leaving_of a c.args.self.now c.self.view_is c.self.invariant c.requires in
     let u = unthreadable a l in
-    let read = node_read a.nodes.items a.ends.next c.index.result.now u.at c.index.ensures in
+    let read = node_read a.nodes.items a.ends.next c.index.result.now u.tags.at_in c.index.ensures in
     let o : ℕ = c.index.result.now.entry.origin in
     let is_own : (entry_at a.nodes.items a.ends.next).origin ≡ o = ap (λ n. n.entry.origin) (sym read) in
     let declared : o < length a.origin_ends.items = subst (λ k. k < length a.origin_ends.items) is_own u.declared in

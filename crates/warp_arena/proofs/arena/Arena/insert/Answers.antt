@@ -8,7 +8,7 @@ use Rattle.warp_arena.specs.declared.arena.Arena.TheInside.{Inside}
 use Rattle.warp_arena.specs.declared.node.Links.{Links}
 use Rattle.warp_arena.specs.declared.node.Node.{Node}
 use Rattle.warp_arena.specs.Places.{Place, Contents, places_of, node_of, entry_of, with_place}
-use Rattle.warp_arena.specs.Changes.{Threaded, IsPlace}
+use Rattle.warp_arena.specs.Changes.{Threaded, CanThread}
 use Rattle.warp_arena.specs.Shape.{Splits, IsWhole, threads_of, contents_of, next_in, by_tag, of_origin, no_links}
 use Rattle.warp_arena.proofs.Walks.{threads, node_read, ends_read}
 use Rattle.warp_arena.proofs.Wholes.{Ready, Threadable, ready, threadable}
@@ -36,81 +36,23 @@ pub index-requires : goal.index-requires
 index-requires c =
     let b = before_insert c.self.inside c.args.self.now c.args.origin c.args.tag c.last_through-before.result c.last_of_origin_through-own_before.result
     c.self.view_is c.self.invariant c.requires.origin c.requires.reserved c.requires.absent c.last_through-before.ensures c.last_of_origin_through-own_before.ensures in
-    omega (arith, c.self.inside.nodes.ok.0, b.can_thread.at)
+    omega (arith, c.self.inside.nodes.ok.0, b.can_thread.tags.at_in)
 
-pub thread_node-requires-clause-before : goal.thread_node-requires-clause-before
-thread_node-requires-clause-before c =
-    let b = before_insert c.self.inside c.args.self.now c.args.origin c.args.tag c.last_through-before.result c.last_of_origin_through-own_before.result
+pub thread_node-requires-clause-tags : goal.thread_node-requires-clause-tags
+thread_node-requires-clause-tags c =
+    let a = c.self.inside in
+    let b = before_insert a c.args.self.now c.args.origin c.args.tag c.last_through-before.result c.last_of_origin_through-own_before.result
     c.self.view_is c.self.invariant c.requires.origin c.requires.reserved c.requires.absent c.last_through-before.ensures c.last_of_origin_through-own_before.ensures in
-    let P = λ (ns : List Node) (l : Links). IsPlace (length ns) c.last_through-before.result in
-    let own : c.index-2.result.now ≡ get_or c.self.inside.origin_ends.items c.args.origin no_links = ends_read c.self.inside.origin_ends.items c.args.origin c.index-2.result.now b.declared c.index-2.ensures in
-    subst (λ ns. P ns c.index-2.result.now) (sym c.deref_mut.ensures.value) (subst (λ l. P c.self.inside.nodes.items l) (sym own) b.can_thread.before)
+    subst (λ (ns : List Node). CanThread (length ns) (next_in a.ends (by_tag ns)) c.last_through-before.result a.free) (sym c.deref_mut.ensures.value) b.can_thread.tags
 
-pub thread_node-requires-clause-after : goal.thread_node-requires-clause-after
-thread_node-requires-clause-after c =
-    let b = before_insert c.self.inside c.args.self.now c.args.origin c.args.tag c.last_through-before.result c.last_of_origin_through-own_before.result
+pub thread_node-requires-clause-owns : goal.thread_node-requires-clause-owns
+thread_node-requires-clause-owns c =
+    let a = c.self.inside in
+    let b = before_insert a c.args.self.now c.args.origin c.args.tag c.last_through-before.result c.last_of_origin_through-own_before.result
     c.self.view_is c.self.invariant c.requires.origin c.requires.reserved c.requires.absent c.last_through-before.ensures c.last_of_origin_through-own_before.ensures in
-    let P = λ (ns : List Node) (l : Links). IsPlace (length ns) (next_in c.self.inside.ends (by_tag ns) c.last_through-before.result) in
-    let own : c.index-2.result.now ≡ get_or c.self.inside.origin_ends.items c.args.origin no_links = ends_read c.self.inside.origin_ends.items c.args.origin c.index-2.result.now b.declared c.index-2.ensures in
-    subst (λ ns. P ns c.index-2.result.now) (sym c.deref_mut.ensures.value) (subst (λ l. P c.self.inside.nodes.items l) (sym own) b.can_thread.after)
-
-pub thread_node-requires-clause-own_before : goal.thread_node-requires-clause-own_before
-thread_node-requires-clause-own_before c =
-    let b = before_insert c.self.inside c.args.self.now c.args.origin c.args.tag c.last_through-before.result c.last_of_origin_through-own_before.result
-    c.self.view_is c.self.invariant c.requires.origin c.requires.reserved c.requires.absent c.last_through-before.ensures c.last_of_origin_through-own_before.ensures in
-    let P = λ (ns : List Node) (l : Links). IsPlace (length ns) c.last_of_origin_through-own_before.result in
-    let own : c.index-2.result.now ≡ get_or c.self.inside.origin_ends.items c.args.origin no_links = ends_read c.self.inside.origin_ends.items c.args.origin c.index-2.result.now b.declared c.index-2.ensures in
-    subst (λ ns. P ns c.index-2.result.now) (sym c.deref_mut.ensures.value) (subst (λ l. P c.self.inside.nodes.items l) (sym own) b.can_thread.own_before)
-
-pub thread_node-requires-clause-own_after : goal.thread_node-requires-clause-own_after
-thread_node-requires-clause-own_after c =
-    let b = before_insert c.self.inside c.args.self.now c.args.origin c.args.tag c.last_through-before.result c.last_of_origin_through-own_before.result
-    c.self.view_is c.self.invariant c.requires.origin c.requires.reserved c.requires.absent c.last_through-before.ensures c.last_of_origin_through-own_before.ensures in
-    let P = λ (ns : List Node) (l : Links). IsPlace (length ns) (next_in l (of_origin ns) c.last_of_origin_through-own_before.result) in
-    let own : c.index-2.result.now ≡ get_or c.self.inside.origin_ends.items c.args.origin no_links = ends_read c.self.inside.origin_ends.items c.args.origin c.index-2.result.now b.declared c.index-2.ensures in
-    subst (λ ns. P ns c.index-2.result.now) (sym c.deref_mut.ensures.value) (subst (λ l. P c.self.inside.nodes.items l) (sym own) b.can_thread.own_after)
-
-pub thread_node-requires-clause-at : goal.thread_node-requires-clause-at
-thread_node-requires-clause-at c =
-    let b = before_insert c.self.inside c.args.self.now c.args.origin c.args.tag c.last_through-before.result c.last_of_origin_through-own_before.result
-    c.self.view_is c.self.invariant c.requires.origin c.requires.reserved c.requires.absent c.last_through-before.ensures c.last_of_origin_through-own_before.ensures in
-    let P = λ (ns : List Node) (l : Links). c.self.inside.free < length ns in
-    let own : c.index-2.result.now ≡ get_or c.self.inside.origin_ends.items c.args.origin no_links = ends_read c.self.inside.origin_ends.items c.args.origin c.index-2.result.now b.declared c.index-2.ensures in
-    subst (λ ns. P ns c.index-2.result.now) (sym c.deref_mut.ensures.value) (subst (λ l. P c.self.inside.nodes.items l) (sym own) b.can_thread.at)
-
-pub thread_node-requires-clause-node : goal.thread_node-requires-clause-node
-thread_node-requires-clause-node c =
-    let b = before_insert c.self.inside c.args.self.now c.args.origin c.args.tag c.last_through-before.result c.last_of_origin_through-own_before.result
-    c.self.view_is c.self.invariant c.requires.origin c.requires.reserved c.requires.absent c.last_through-before.ensures c.last_of_origin_through-own_before.ensures in
-    b.can_thread.node
-
-pub thread_node-requires-clause-not_before : goal.thread_node-requires-clause-not_before
-thread_node-requires-clause-not_before c =
-    let b = before_insert c.self.inside c.args.self.now c.args.origin c.args.tag c.last_through-before.result c.last_of_origin_through-own_before.result
-    c.self.view_is c.self.invariant c.requires.origin c.requires.reserved c.requires.absent c.last_through-before.ensures c.last_of_origin_through-own_before.ensures in
-    b.can_thread.not_before
-
-pub thread_node-requires-clause-not_after : goal.thread_node-requires-clause-not_after
-thread_node-requires-clause-not_after c =
-    let b = before_insert c.self.inside c.args.self.now c.args.origin c.args.tag c.last_through-before.result c.last_of_origin_through-own_before.result
-    c.self.view_is c.self.invariant c.requires.origin c.requires.reserved c.requires.absent c.last_through-before.ensures c.last_of_origin_through-own_before.ensures in
-    let P = λ (ns : List Node) (l : Links). next_in c.self.inside.ends (by_tag ns) c.last_through-before.result ≢ c.self.inside.free in
-    let own : c.index-2.result.now ≡ get_or c.self.inside.origin_ends.items c.args.origin no_links = ends_read c.self.inside.origin_ends.items c.args.origin c.index-2.result.now b.declared c.index-2.ensures in
-    subst (λ ns. P ns c.index-2.result.now) (sym c.deref_mut.ensures.value) (subst (λ l. P c.self.inside.nodes.items l) (sym own) b.can_thread.not_after)
-
-pub thread_node-requires-clause-not_own_before : goal.thread_node-requires-clause-not_own_before
-thread_node-requires-clause-not_own_before c =
-    let b = before_insert c.self.inside c.args.self.now c.args.origin c.args.tag c.last_through-before.result c.last_of_origin_through-own_before.result
-    c.self.view_is c.self.invariant c.requires.origin c.requires.reserved c.requires.absent c.last_through-before.ensures c.last_of_origin_through-own_before.ensures in
-    b.can_thread.not_own_before
-
-pub thread_node-requires-clause-not_own_after : goal.thread_node-requires-clause-not_own_after
-thread_node-requires-clause-not_own_after c =
-    let b = before_insert c.self.inside c.args.self.now c.args.origin c.args.tag c.last_through-before.result c.last_of_origin_through-own_before.result
-    c.self.view_is c.self.invariant c.requires.origin c.requires.reserved c.requires.absent c.last_through-before.ensures c.last_of_origin_through-own_before.ensures in
-    let P = λ (ns : List Node) (l : Links). next_in l (of_origin ns) c.last_of_origin_through-own_before.result ≢ c.self.inside.free in
-    let own : c.index-2.result.now ≡ get_or c.self.inside.origin_ends.items c.args.origin no_links = ends_read c.self.inside.origin_ends.items c.args.origin c.index-2.result.now b.declared c.index-2.ensures in
-    subst (λ ns. P ns c.index-2.result.now) (sym c.deref_mut.ensures.value) (subst (λ l. P c.self.inside.nodes.items l) (sym own) b.can_thread.not_own_after)
+    let C = λ (ns : List Node) (l : Links). CanThread (length ns) (next_in l (of_origin ns)) c.last_of_origin_through-own_before.result a.free in
+    let own : c.index-2.result.now ≡ get_or a.origin_ends.items c.args.origin no_links = ends_read a.origin_ends.items c.args.origin c.index-2.result.now b.declared c.index-2.ensures in
+    subst (λ ns. C ns c.index-2.result.now) (sym c.deref_mut.ensures.value) (subst (λ l. C a.nodes.items l) (sym own) b.can_thread.owns)
 
 pub invariant_of-self : goal.invariant_of-self
 invariant_of-self c =
@@ -118,7 +60,7 @@ invariant_of-self c =
     let b = before_insert c.self.inside c.args.self.now c.args.origin c.args.tag c.last_through-before.result c.last_of_origin_through-own_before.result
     c.self.view_is c.self.invariant c.requires.origin c.requires.reserved c.requires.absent c.last_through-before.ensures c.last_of_origin_through-own_before.ensures in
     let own = ends_read a.origin_ends.items c.args.origin c.index-2.result.now b.declared c.index-2.ensures in
-    let free = ap (λ n. n.by_tag.next) (node_read a.nodes.items a.free c.index.result.now b.can_thread.at c.index.ensures) in
+    let free = ap (λ n. n.by_tag.next) (node_read a.nodes.items a.free c.index.result.now b.can_thread.tags.at_in c.index.ensures) in
     let threaded = subst (λ (ns : List Node). Threaded ns c.thread_node.new.nodes a.ends c.thread_node.new.ends c.index-2.result.now c.thread_node.new.own_ends
     c.last_through-before.result c.last_of_origin_through-own_before.result a.free c.fresh-entry.result) c.deref_mut.ensures.value c.thread_node.ensures in
     let change = subst (λ (e : Entry). Threaded a.nodes.items c.thread_node.new.nodes a.ends c.thread_node.new.ends c.index-2.result.now c.thread_node.new.own_ends
@@ -134,7 +76,7 @@ returns-clause-places c =
     let b = before_insert c.self.inside c.args.self.now c.args.origin c.args.tag c.last_through-before.result c.last_of_origin_through-own_before.result
     c.self.view_is c.self.invariant c.requires.origin c.requires.reserved c.requires.absent c.last_through-before.ensures c.last_of_origin_through-own_before.ensures in
     let own = ends_read a.origin_ends.items c.args.origin c.index-2.result.now b.declared c.index-2.ensures in
-    let free = ap (λ n. n.by_tag.next) (node_read a.nodes.items a.free c.index.result.now b.can_thread.at c.index.ensures) in
+    let free = ap (λ n. n.by_tag.next) (node_read a.nodes.items a.free c.index.result.now b.can_thread.tags.at_in c.index.ensures) in
     let threaded = subst (λ (ns : List Node). Threaded ns c.thread_node.new.nodes a.ends c.thread_node.new.ends c.index-2.result.now c.thread_node.new.own_ends
     c.last_through-before.result c.last_of_origin_through-own_before.result a.free c.fresh-entry.result) c.deref_mut.ensures.value c.thread_node.ensures in
     let change = subst (λ (e : Entry). Threaded a.nodes.items c.thread_node.new.nodes a.ends c.thread_node.new.ends c.index-2.result.now c.thread_node.new.own_ends

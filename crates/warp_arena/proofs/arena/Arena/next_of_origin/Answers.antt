@@ -1,8 +1,8 @@
-use Rattle.std.proofs.Common.{ℕ, eqb, ◌≡◌, arith, sym, ap, ◌∙◌, subst, IsSome, get_or}
-use Rattle.warp_arena.specs.Places.{entry_of, first_node, places_after, places_of, origin_of}
+use Rattle.std.proofs.Common.{◌≡◌, ℕ, arith, sym, ap, ◌∙◌, subst, IsSome, IfSome, Some, None, cond, eqb, get_or}
+use Rattle.warp_arena.specs.Places.{entry_of, first_node, origin_of, places_after, places_of}
+use Rattle.warp_arena.specs.declared.node.TheConstants.{NO_NODE}
 use Rattle.warp_arena.proofs.Walks.{node_read}
 use Rattle.warp_arena.proofs.Reading.{used_found_below, next_of_origin_found}
-use Rattle.warp_arena.proofs.Handles.{if_some, some_first, some_after, some_filter}
 use Rattle.warp_arena.proofs.arena.Arena.next_of_origin.Goals as goal
 
 pub index-requires-2 : goal.index-requires-2
@@ -16,11 +16,14 @@ returns-clause-handle c =
     let a = c.self.inside in
     let h = subst (λ v. IsSome (entry_of c.args.node v.places)) (sym c.self.view_is) c.requires in
     let read = node_read a.nodes.items c.args.node c.index-2.result.now (used_found_below a c.self.invariant c.args.node h) (subst (λ i. c.index-2.result.now ≡ get_or a.nodes.items i c.index-2.result.now) c.index.ensures c.index-2.ensures) in
-    c.handle.ensures
-    ∙ next_of_origin_found a c.self.invariant c.args.node h c.index-2.result.now.of_origin.next (ap (λ n. n.of_origin.next) read)
-    ∙ ap (λ v. first_node (places_of (origin_of c.args.node v.places) (places_after c.args.node v.places))) c.self.view_is
+    let r = next_of_origin_found a c.self.invariant c.args.node h c.index-2.result.now.of_origin.next (ap (λ n. n.of_origin.next) read) in
+    c.handle.ensures ∙ r.handle ∙ ap (λ v. first_node (places_of (origin_of c.args.node v.places) (places_after c.args.node v.places))) c.self.view_is
 
 pub returns-clause-used : goal.returns-clause-used
 returns-clause-used c =
-    let ps = c.args.self.now.places in
-    if_some c.handle.result (λ at. IsSome (entry_of at ps)) (λ m e. let o : ℕ = origin_of c.args.node ps in some_after c.args.node ps m (some_filter (λ p. eqb p.entry.origin o) (places_after c.args.node ps) m (some_first (places_of o (places_after c.args.node ps)) m (e ∙ returns-clause-handle c))))
+    let a = c.self.inside in
+    let h = subst (λ v. IsSome (entry_of c.args.node v.places)) (sym c.self.view_is) c.requires in
+    let read = node_read a.nodes.items c.args.node c.index-2.result.now (used_found_below a c.self.invariant c.args.node h) (subst (λ i. c.index-2.result.now ≡ get_or a.nodes.items i c.index-2.result.now) c.index.ensures c.index-2.ensures) in
+    let r = next_of_origin_found a c.self.invariant c.args.node h c.index-2.result.now.of_origin.next (ap (λ n. n.of_origin.next) read) in
+    subst (λ x. IfSome x (λ at. IsSome (entry_of at c.args.self.now.places))) (sym c.handle.ensures)
+    (subst (λ v. IfSome (cond (eqb c.index-2.result.now.of_origin.next NO_NODE) None (Some c.index-2.result.now.of_origin.next)) (λ at. IsSome (entry_of at v.places))) c.self.view_is r.used)

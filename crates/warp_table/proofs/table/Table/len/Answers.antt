@@ -1,0 +1,7 @@
+use Rattle.std.proofs.Common.{subst}
+use Rattle.warp_table.specs.Log.{EachOnce}
+use Rattle.warp_table.proofs.Places.{each_once}
+use Rattle.warp_table.proofs.table.Table.len.Goals as goal
+
+pub returns-clause-once : goal.returns-clause-once
+returns-clause-once c = subst EachOnce c.self.view_is (each_once c.self.inside.records.keys c.len.ensures.unique)
