@@ -1,9 +1,5 @@
-pub mod GivenArguments
-pub mod FaultlessWalks
-pub mod LogLemmas
-pub mod AnswersLemmas
-pub mod LineCuts
-pub mod Numerals
-pub mod Spellings
-pub mod SpacedWords
+pub mod Fronts
 pub mod TurnsLemmas
+pub mod LocalSessions
+pub mod FaultlessWalks
+pub mod GivenArguments

@@ -1,138 +1,40 @@
--- Lemmas on what a session has done with the bytes so far.
-use Rattle.std.proofs.Common.{not, ◌≡◌, ℕ, ◌+◌, ◌-◌, ◌<◌, ◌≤◌, List, [], ◌∷◌, ◌++◌, length, take, drop, length-drop, length-append, length-take-le, get_or, Option, Some, None, false, min, IfSome, refl, sym, ap, subst, ◌∙◌, append_assoc, append-nil, arith}
+-- Lemmas on how far a session has come.
+use Rattle.std.proofs.Common.{◌≡◌, ℕ, ◌+◌, ◌-◌, ◌<◌, ◌≤◌, List, [], ◌∷◌, ◌++◌, length, take, drop, length-drop, length-append, length-take-le, get_or, Option, Some, None, false, true≢false, not, min, IsSome, IfSome, IfNone, OnSome, ◌↔◌, refl, sym, ap, subst, ◌∙◌, append_assoc, append-nil, arith}
 use Rattle.std.specs.List.{flat_map, before_first}
-use Rattle.std.specs.Option.{option_to_list}
+use Rattle.std.specs.Option.{option_map, option_to_list}
 use Rattle.std.specs.Io.KnownBytes.{Appends, Consumes, IsAtEnd}
 use Rattle.std.proofs.KnownBytes.{Appends-nil, Appends-trans, Consumes-trans}
 use Rattle.std.proofs.lemmas.List.{take_more, take_all}
-use Rattle.std.proofs.Math.Seq.{take-add}
 use Rattle.std.proofs.lemmas.List.Concat.{flat_map-append}
 use Rattle.std.proofs.lemmas.List.Elements.{All-nil, All-append}
 use Rattle.std.proofs.lemmas.List.Sums.{passes_at_first, prefix_len-le-length}
 use Rattle.std.proofs.lemmas.Bool.{eqb-true}
-use Rattle.warp_step.specs.Rules.{Rules}
-use Rattle.warpd.specs.declared.line.Record.{Record}
-use Rattle.warpd.specs.declared.reply.Reply.{Reply}
-use Rattle.warpd.specs.Lines.{Piece, is_end, IsOneLine, ended, unended, lines_of, first_end, kept_of, piece_of}
-use Rattle.warpd.specs.declared.feed.Fed.{Fed}
-use Rattle.warpd.specs.Session.{GivesPiece, GivesAll, GivesText, Transcribes, reply_line}
-use Rattle.warpd.specs.Turns.{SessionState, Cuts, Sends, Takes, Ends}
-use Rattle.warpd.proofs.LineCuts.{lines_of-ended, lines_of-unended, one_line_before, one_line_more}
+use Rattle.warp_record.specs.declared.line.Line.{Line}
+use Rattle.warp_record.specs.declared.reply.Reply.{Reply}
+use Rattle.warp_record.specs.declared.feed.Fed.{Fed}
+use Rattle.warp_record.specs.Lines.{Piece, is_end, IsOneLine, ended, unended, lines_of, first_end, kept_of, piece_of}
+use Rattle.warp_record.proofs.LineCuts.{lines_of-ended, lines_of-unended, one_line_before, one_line_more}
+use Rattle.warpd.proofs.Fronts.{more_of_rest}
+use Rattle.warpd.specs.Session.{GivesPiece, GivesAll, GivesText, Transcribes, TranscribesLines, AreWholeLines, reply_line}
+use Rattle.warpd.specs.inner.Turns.{At, Answers, Taken, Takes, Ends, nothing, pieces_fed}
 
-GivesAll-append : (P : Rules) (log mid log' : List Record) (ps qs : List Piece) (rs ss : List Reply)
-    → GivesAll P log ps rs mid → GivesAll P mid qs ss log' → GivesAll P log (ps ++ qs) (rs ++ ss) log'
-GivesAll-append P log mid log' [] qs [] ss first second = subst (λ (l : List Record). GivesAll P l qs ss log') first second
-GivesAll-append P log mid log' [] qs (r ∷ rs) ss first second = absurd first
-GivesAll-append P log mid log' (p ∷ ps) qs [] ss first second = absurd first
-GivesAll-append P log mid log' (p ∷ ps) qs (r ∷ rs) ss first second =
-    (first.0, first.1, GivesAll-append P first.0 mid log' ps qs rs ss first.2 second)
+-- ---- whole lines
 
--- lines that were answered, and then more of them
-pub GivesText-append : (P : Rules) (log mid log' : List Record) (ps qs : List Piece) (text more : List ℕ)
-    → GivesText P log ps text mid → GivesText P mid qs more log' → GivesText P log (ps ++ qs) (text ++ more) log'
-GivesText-append P log mid log' ps qs text more first second = (
-  first.0 ++ second.0,
-  GivesAll-append P log mid log' ps qs first.0 second.0 first.1 second.1,
-  ap (λ (t : List ℕ). t ++ more) first.2 ∙ ap (λ (t : List ℕ). flat_map reply_line first.0 ++ t) second.2
-      ∙ sym (flat_map-append reply_line first.0 second.0),
-)
+-- a line with its line feed
+AreWholeLines-line : (line : List ℕ) → IsOneLine line → AreWholeLines (line ++ 10 ∷ [])
+AreWholeLines-line line one more =
+    ap lines_of (append_assoc line (10 ∷ []) more)
+    ∙ lines_of-ended line more one
+    ∙ ap (λ (l : List Piece). l ++ lines_of more) (sym (lines_of-ended line [] one))
 
-Cuts-append : (line bytes more : List ℕ) (ps qs : List Piece) (mid rest : List ℕ)
-    → Cuts line bytes ps mid → Cuts mid more qs rest → Cuts line (bytes ++ more) (ps ++ qs) rest
-Cuts-append line bytes more ps qs mid rest first second = record {
-  one_line = second.one_line;
-  lines = λ after.
-      ap (λ (l : List ℕ). lines_of (line ++ l)) (append_assoc bytes more after)
-      ∙ first.lines (more ++ after)
-      ∙ ap (λ (l : List Piece). ps ++ l) (second.lines after)
-      ∙ sym (append_assoc ps qs (lines_of (rest ++ after)));
-}
-
--- text that went out or is gathered, and then more of it
-pub Sends-append : (a b c : Option (List ℕ)) (g h i t u : List ℕ) → Sends a b g h t → Sends b c h i u → Sends a c g i (t ++ u)
-Sends-append a b c g h i t u first second = (
-  first.0 ++ second.0,
-  Appends-trans a b c first.0 second.0 first.1 second.1,
-  append_assoc first.0 second.0 i
-      ∙ ap (λ (l : List ℕ). first.0 ++ l) second.2
-      ∙ sym (append_assoc first.0 h u)
-      ∙ ap (λ (l : List ℕ). l ++ u) first.2
-      ∙ append_assoc g t u,
-)
-
--- all of it went out
-pub Sends-flushed : (a b c : Option (List ℕ)) (g h t : List ℕ) → Sends a b g h t → Appends b c h → Appends a c (g ++ t)
-Sends-flushed a b c g h t first out = subst (Appends a c) first.2 (Appends-trans a b c first.0 h first.1 out)
-
--- and nothing is gathered any more
-pub Sends-empty : (a b c : Option (List ℕ)) (g h t : List ℕ) → Sends a b g h t → Appends b c h → Sends a c g [] t
-Sends-empty a b c g h t first out = (g ++ t, Sends-flushed a b c g h t first out, append-nil (g ++ t))
-
--- nothing was done yet
-pub Takes-nil : (P : Rules) (at : SessionState) → Takes P at at []
-Takes-nil P at line one kept = (
-  [],
-  line,
-  [],
-  record {
-    cuts = record { one_line = one; lines = λ more. refl };
-    kept = kept;
-    answers = ([], refl, refl);
-    sends = ([], Appends-nil at.written, sym (append-nil at.gathered));
-  },
-)
-
--- bytes that were taken, and then more of them
-pub Takes-append : (P : Rules) (old mid new : SessionState) (bytes more : List ℕ) → Takes P old mid bytes → Takes P mid new more → Takes P old new (bytes ++ more)
-Takes-append P old mid new bytes more first second line one kept =
-    let f = first line one kept in
-    let s = second f.1 f.3.cuts.one_line f.3.kept in (
-      f.0 ++ s.0,
-      s.1,
-      f.2 ++ s.2,
-      record {
-        cuts = Cuts-append line bytes more f.0 s.0 f.1 s.1 f.3.cuts s.3.cuts;
-        kept = s.3.kept;
-        answers = GivesText-append P old.log mid.log new.log f.0 s.0 f.2 s.2 f.3.answers s.3.answers;
-        sends = Sends-append old.written mid.written new.written old.gathered mid.gathered new.gathered f.2 s.2 f.3.sends s.3.sends;
-      },
-    )
-
--- what was gathered went out
-pub Takes-flushed : (P : Rules) (old : SessionState) (log : List Record) (kept : Option (List ℕ)) (written written2 : Option (List ℕ)) (gathered bytes : List ℕ)
-    → Takes P old (record { log = log; kept = kept; written = written; gathered = gathered }) bytes → Appends written written2 gathered
-    → Takes P old (record { log = log; kept = kept; written = written2; gathered = [] }) bytes
-Takes-flushed P old log kept written written2 gathered bytes takes out line one is =
-    let t = takes line one is in (
-      t.0,
-      t.1,
-      t.2,
-      record {
-        cuts = t.3.cuts;
-        kept = t.3.kept;
-        answers = t.3.answers;
-        sends = Sends-empty old.written written written2 old.gathered gathered t.2 t.3.sends out;
-      },
-    )
-
--- bytes without a line feed go on with the line
-pub Takes-rest : (P : Rules) (at : SessionState) (kept : Option (List ℕ)) (piece : List ℕ) → first_end piece ≡ length piece
-    → ((line : List ℕ) → at.kept ≡ kept_of line → kept ≡ kept_of (line ++ piece))
-    → Takes P at (record at { kept = kept }) piece
-Takes-rest P at kept piece none keeps line one is = (
-  [],
-  line ++ piece,
-  [],
-  record {
-    cuts = record {
-      one_line = one_line_more line piece one none;
-      lines = λ more. ap lines_of (sym (append_assoc line piece more));
-    };
-    kept = keeps line is;
-    answers = ([], refl, refl);
-    sends = ([], Appends-nil at.written, sym (append-nil at.gathered));
-  },
-)
+-- whole lines, and more of them
+AreWholeLines-append : (a b : List ℕ) → AreWholeLines a → AreWholeLines b → AreWholeLines (a ++ b)
+AreWholeLines-append a b first second more =
+    ap lines_of (append_assoc a b more)
+    ∙ first (b ++ more)
+    ∙ ap (λ (l : List Piece). lines_of a ++ l) (second more)
+    ∙ sym (append_assoc (lines_of a) (lines_of b) (lines_of more))
+    ∙ ap (λ (l : List Piece). l ++ lines_of more) (sym (first b))
 
 -- the bytes up to and with the first line feed
 up_to_end : (piece : List ℕ) → first_end piece < length piece → take (first_end piece + 1) piece ≡ before_first is_end piece ++ 10 ∷ []
@@ -140,150 +42,242 @@ up_to_end piece some =
     let is_lf : get_or piece (first_end piece) 0 ≡ 10 = eqb-true (get_or piece (first_end piece) 0) 10 (passes_at_first is_end piece 0 some) in
     take_more piece (first_end piece) 0 some ∙ ap (λ (byte : ℕ). before_first is_end piece ++ byte ∷ []) is_lf
 
--- a line feed ends the unfinished line, which is answered
-pub Takes-line : (P : Rules) (old new : SessionState) (piece : List ℕ) (given : Piece) (said : Reply) → first_end piece < length piece
-    → ((line : List ℕ) → old.kept ≡ kept_of line → given ≡ ended (line ++ before_first is_end piece))
-    → new.kept ≡ kept_of []
-    → GivesPiece P old.log given said new.log
-    → Sends old.written new.written old.gathered new.gathered (reply_line said)
-    → Takes P old new (take (first_end piece + 1) piece)
-Takes-line P old new piece given said some is_line fresh gives sends line one is =
-    let before : List ℕ = before_first is_end piece in
-    let front : IsOneLine (line ++ before) = All-append (λ (byte : ℕ). is_end byte ≡ false) line before one (one_line_before piece) in (
-      given ∷ [],
-      [],
-      reply_line said,
+-- a session is over any desk
+module _ {S : Type 0} (gives : S → Line → Reply → S → Type 0) where
+  -- ---- answers
+
+  GivesAll-append : (s mid s' : S) (ps qs : List Piece) (rs ss : List Reply)
+      → GivesAll gives s ps rs mid → GivesAll gives mid qs ss s' → GivesAll gives s (ps ++ qs) (rs ++ ss) s'
+  GivesAll-append s mid s' [] qs [] ss first second = subst (λ (t : S). GivesAll gives t qs ss s') first second
+  GivesAll-append s mid s' [] qs (r ∷ rs) ss first second = absurd first
+  GivesAll-append s mid s' (p ∷ ps) qs [] ss first second = absurd first
+  GivesAll-append s mid s' (p ∷ ps) qs (r ∷ rs) ss first second =
+      (first.0, first.1, GivesAll-append first.0 mid s' ps qs rs ss first.2 second)
+
+  GivesText-append : (s mid s' : S) (ps qs : List Piece) (text more : List ℕ)
+      → GivesText gives s ps text mid → GivesText gives mid qs more s' → GivesText gives s (ps ++ qs) (text ++ more) s'
+  GivesText-append s mid s' ps qs text more first second = (
+    first.0 ++ second.0,
+    GivesAll-append s mid s' ps qs first.0 second.0 first.1 second.1,
+    ap (λ (t : List ℕ). t ++ more) first.2 ∙ ap (λ (t : List ℕ). flat_map reply_line first.0 ++ t) second.2
+        ∙ sym (flat_map-append reply_line first.0 second.0),
+  )
+
+  -- pieces that were answered, and then more of them
+  Answers-append : (ps qs : List Piece) (a b c : At S) → Answers gives ps a b → Answers gives qs b c → Answers gives (ps ++ qs) a c
+  Answers-append ps qs a b c first second = record {
+    text = first.text ++ second.text;
+    sent = first.sent ++ second.sent;
+    given = GivesText-append a.state b.state c.state ps qs first.text second.text first.given second.given;
+    out = Appends-trans a.written b.written c.written first.sent second.sent first.out second.out;
+    rest = append_assoc first.sent second.sent c.held.gathered
+        ∙ ap (λ (l : List ℕ). first.sent ++ l) second.rest
+        ∙ sym (append_assoc first.sent b.held.gathered second.text)
+        ∙ ap (λ (l : List ℕ). l ++ second.text) first.rest
+        ∙ append_assoc a.held.gathered first.text second.text;
+  }
+
+  -- where a session is before the answers does not depend on what the feed kept
+  Answers-from : (ps : List Piece) (a b : At S) (kept : Option (List ℕ))
+      → Answers gives ps (record a { held = record { kept = kept; gathered = a.held.gathered } }) b → Answers gives ps a b
+  Answers-from ps a b kept was = record { text = was.text; sent = was.sent; given = was.given; out = was.out; rest = was.rest }
+
+  -- the reply to a piece came behind what was gathered, of which a front had gone out
+  pub Answers-reply : (piece : Piece) (said : Reply) (a b : At S) (sent mid : List ℕ) → GivesPiece gives a.state piece said b.state
+      → Appends a.written b.written sent → sent ++ mid ≡ a.held.gathered → b.held.gathered ≡ mid ++ reply_line said
+      → Answers gives (piece ∷ []) a b
+  Answers-reply piece said a b sent mid gives out before behind = record {
+    text = reply_line said;
+    sent = sent;
+    given = (said ∷ [], (b.state, gives, refl), sym (append-nil (reply_line said)));
+    out = out;
+    rest = ap (λ (l : List ℕ). sent ++ l) behind ∙ sym (append_assoc sent mid (reply_line said)) ∙ ap (λ (l : List ℕ). l ++ reply_line said) before;
+  }
+
+  -- all that was gathered went out
+  Answers-flushed : (ps : List Piece) (a b c : At S) → Answers gives ps a b → c.state ≡ b.state → c.held.gathered ≡ []
+      → Appends b.written c.written b.held.gathered → Answers gives ps a c
+  Answers-flushed ps a b c was same empty out = record {
+    text = was.text;
+    sent = was.sent ++ b.held.gathered;
+    given = subst (GivesText gives a.state ps was.text) (sym same) was.given;
+    out = Appends-trans a.written b.written c.written was.sent b.held.gathered was.out out;
+    rest = ap (λ (l : List ℕ). (was.sent ++ b.held.gathered) ++ l) empty ∙ append-nil (was.sent ++ b.held.gathered) ∙ was.rest;
+  }
+
+  -- where nothing was gathered before and after, the replies' text went out
+  Answers-out : (ps : List Piece) (a b : At S) → a.held.gathered ≡ [] → b.held.gathered ≡ [] → Answers gives ps a b
+      → (text : List ℕ) × GivesText gives a.state ps text b.state × Appends a.written b.written text
+  Answers-out ps a b none empty was = (
+    was.text,
+    was.given,
+    subst (Appends a.written b.written)
+        (sym (append-nil was.sent) ∙ ap (λ (l : List ℕ). was.sent ++ l) (sym empty) ∙ was.rest ∙ ap (λ (l : List ℕ). l ++ was.text) none)
+        was.out,
+  )
+
+  -- no piece was answered
+  pub Answers-nil : (a : At S) → Answers gives [] a a
+  Answers-nil a = record {
+    text = [];
+    sent = [];
+    given = ([], refl, refl);
+    out = Appends-nil a.written;
+    rest = sym (append-nil a.held.gathered);
+  }
+
+  -- ---- bytes that were taken
+
+  -- nothing was taken yet
+  pub Taken-nothing : (a : At S) → a.held.kept ≡ kept_of [] → Taken gives [] a a
+  Taken-nothing a none = record {
+    lines = [];
+    line = [];
+    cut = refl;
+    whole = λ more. refl;
+    one_line = All-nil (λ (byte : ℕ). is_end byte ≡ false);
+    kept = none;
+    answers = Answers-nil a;
+  }
+
+  -- no more bytes
+  pub Takes-nil : (a : At S) → Takes gives [] a a
+  Takes-nil a start seen was = subst (λ (l : List ℕ). Taken gives l start a) (sym (append-nil seen)) was
+
+  -- bytes, and then more of them
+  Takes-append : (xs ys : List ℕ) (a b c : At S) → Takes gives xs a b → Takes gives ys b c → Takes gives (xs ++ ys) a c
+  Takes-append xs ys a b c first second start seen was =
+      subst (λ (l : List ℕ). Taken gives l start c) (append_assoc seen xs ys) (second start (seen ++ xs) (first start seen was))
+
+  -- a front of the bytes, and then some of the rest
+  pub Takes-more : (bytes : List ℕ) (front n : ℕ) (a b c : At S) → Takes gives (take front bytes) a b
+      → Takes gives (take n (take (length bytes - front) (drop front bytes))) b c → Takes gives (take (front + n) bytes) a c
+  Takes-more bytes front n a b c first second =
+      subst (λ (l : List ℕ). Takes gives l a c) (more_of_rest bytes front n)
+      (Takes-append (take front bytes) (take n (take (length bytes - front) (drop front bytes))) a b c first second)
+
+  -- a line feed ended the unfinished line, which was answered
+  Takes-line : (a b : At S) (piece : List ℕ) (given : Piece) → first_end piece < length piece
+      → ((line : List ℕ) → a.held.kept ≡ kept_of line → given ≡ ended (line ++ before_first is_end piece))
+      → b.held.kept ≡ kept_of [] → Answers gives (given ∷ []) a b → Takes gives (take (first_end piece + 1) piece) a b
+  Takes-line a b piece given some is_line fresh answers start seen was =
+      let before : List ℕ = before_first is_end piece in
+      let line : List ℕ = was.line ++ before in
+      let one : IsOneLine line = All-append (λ (byte : ℕ). is_end byte ≡ false) was.line before was.one_line (one_line_before piece) in
+      let last : lines_of (was.lines ++ (line ++ 10 ∷ [])) ≡ lines_of was.lines ++ given ∷ [] =
+      was.whole (line ++ 10 ∷ []) ∙ ap (λ (l : List Piece). lines_of was.lines ++ l) (lines_of-ended line [] one)
+      ∙ ap (λ (p : Piece). lines_of was.lines ++ p ∷ []) (sym (is_line was.line was.kept)) in
       record {
-        cuts = record {
-          one_line = All-nil (λ (byte : ℕ). is_end byte ≡ false);
-          lines = λ more.
-              ap (λ (bytes : List ℕ). lines_of (line ++ (bytes ++ more))) (up_to_end piece some)
-              ∙ ap (λ (bytes : List ℕ). lines_of (line ++ bytes)) (append_assoc before (10 ∷ []) more)
-              ∙ ap lines_of (sym (append_assoc line before (10 ∷ more)))
-              ∙ lines_of-ended (line ++ before) more front
-              ∙ ap (λ (p : Piece). p ∷ lines_of more) (sym (is_line line is));
-        };
+        lines = was.lines ++ (line ++ 10 ∷ []);
+        line = [];
+        cut = ap (λ (l : List ℕ). seen ++ l) (up_to_end piece some) ∙ ap (λ (l : List ℕ). l ++ (before ++ 10 ∷ [])) was.cut
+            ∙ simp (append_assoc, append-nil);
+        whole = AreWholeLines-append was.lines (line ++ 10 ∷ []) was.whole (AreWholeLines-line line one);
+        one_line = All-nil (λ (byte : ℕ). is_end byte ≡ false);
         kept = fresh;
-        answers = (said ∷ [], (new.log, gives, refl), sym (append-nil (reply_line said)));
-        sends = sends;
-      },
-    )
+        answers = subst (λ (l : List Piece). Answers gives l start b) (sym last)
+            (Answers-append (lines_of was.lines) (given ∷ []) start a b was.answers answers);
+      }
 
--- the unfinished line was answered at the end
-pub Ends-line : (P : Rules) (old : SessionState) (log : List Record) (written written2 : Option (List ℕ)) (gathered : List ℕ) (given : Piece) (said : Reply)
-    → ((line : List ℕ) → old.kept ≡ kept_of line → Some given ≡ unended line)
-    → GivesPiece P old.log given said log
-    → Sends old.written written old.gathered gathered (reply_line said) → Appends written written2 gathered
-    → Ends P old log written2
-Ends-line P old log written written2 gathered given said is_line gives sends out line is = (
-  reply_line said,
-  subst (λ (o : Option Piece). GivesText P old.log (option_to_list o) (reply_line said) log) (is_line line is)
-      (said ∷ [], (log, gives, refl), sym (append-nil (reply_line said))),
-  Sends-flushed old.written written written2 old.gathered gathered (reply_line said) sends out,
-)
+  -- bytes without a line feed went on with the line
+  Takes-rest : (a b : At S) (piece : List ℕ) → first_end piece ≡ length piece
+      → ((line : List ℕ) → a.held.kept ≡ kept_of line → b.held.kept ≡ kept_of (line ++ piece))
+      → Answers gives [] a b → Takes gives piece a b
+  Takes-rest a b piece none keeps answers start seen was = record {
+    lines = was.lines;
+    line = was.line ++ piece;
+    cut = ap (λ (l : List ℕ). l ++ piece) was.cut ∙ append_assoc was.lines was.line piece;
+    whole = was.whole;
+    one_line = one_line_more was.line piece was.one_line none;
+    kept = keeps was.line was.kept;
+    answers = subst (λ (l : List Piece). Answers gives l start b) (append-nil (lines_of was.lines))
+        (Answers-append (lines_of was.lines) [] start a b was.answers answers);
+  }
 
--- there was none
-pub Ends-nothing : (P : Rules) (old : SessionState) (written : Option (List ℕ))
-    → ((line : List ℕ) → old.kept ≡ kept_of line → None ≡ unended line) → Appends old.written written old.gathered
-    → Ends P old old.log written
-Ends-nothing P old written is_none out line is = (
-  [],
-  subst (λ (o : Option Piece). GivesText P old.log (option_to_list o) [] old.log) (is_none line is) ([], refl, refl),
-  subst (Appends old.written written) (sym (append-nil old.gathered)) out,
-)
+  -- a push into the feed, and the answer to the line that it gave, if it gave one
+  pub Takes-pushed : (a b : At S) (kept : Option (List ℕ)) (piece : List ℕ) (n : ℕ) (fed : Option Fed) → n ≡ min (first_end piece + 1) (length piece)
+      → IsSome fed ↔ (first_end piece < length piece)
+      → IfSome fed (λ given. (line : List ℕ) → a.held.kept ≡ kept_of line → piece_of given ≡ ended (line ++ before_first is_end piece))
+      → OnSome fed (kept ≡ kept_of [])
+      → IfNone fed ((line : List ℕ) → a.held.kept ≡ kept_of line → kept ≡ kept_of (line ++ piece))
+      → b.held.kept ≡ kept → Answers gives (pieces_fed fed) (record a { held = record { kept = kept; gathered = a.held.gathered } }) b
+      → Takes gives (take n piece) a b
+  Takes-pushed a b kept piece n (Some given) count some is_line fresh keeps same answers =
+      let here : first_end piece < length piece = some.0 refl in
+      let all : n ≡ first_end piece + 1 = omega arith in
+      subst (λ (m : ℕ). Takes gives (take m piece) a b) (sym all)
+      (Takes-line a b piece (piece_of given) here is_line (same ∙ fresh) (Answers-from (piece_of given ∷ []) a b kept answers))
+  Takes-pushed a b kept piece n None count some is_line fresh keeps same answers =
+      let within : first_end piece ≤ length piece = prefix_len-le-length (λ (byte : ℕ). not (is_end byte)) piece in
+      let past : first_end piece < length piece → ⊥ = λ here. true≢false (sym (some.1 here)) in
+      let all : first_end piece ≡ length piece = omega arith in
+      let whole : take n piece ≡ piece = take_all n piece (omega arith) in
+      subst (λ (l : List ℕ). Takes gives l a b) (sym whole)
+      (Takes-rest a b piece all (λ line is. same ∙ keeps line is) (Answers-from [] a b kept answers))
 
--- a session that took all bytes and then answered the last line wrote their transcript
-pub transcribed : (P : Rules) (log log2 log' : List Record) (kept : Option (List ℕ)) (written written2 written' : Option (List ℕ)) (left left2 : Option (List ℕ)) (seen : List ℕ)
-    → Takes P (record { log = log; kept = kept_of []; written = written; gathered = [] }) (record { log = log2; kept = kept; written = written2; gathered = [] }) seen
-    → Ends P (record { log = log2; kept = kept; written = written2; gathered = [] }) log' written'
-    → Consumes left left2 seen → IsAtEnd left2
-    → Transcribes P log left written written' log'
-transcribed P log log2 log' kept written written2 written' None left2 seen takes ends reads over = tt
-transcribed P log log2 log' kept written written2 written' (Some input) None seen takes ends reads over = absurd reads
-transcribed P log log2 log' kept written written2 written' (Some input) (Some rest) seen takes ends reads over =
-    let t = takes [] (All-nil (λ (byte : ℕ). is_end byte ≡ false)) refl in
-    let e = ends t.1 t.3.kept in
-    let all : input ≡ seen ++ [] = reads ∙ ap (λ (l : List ℕ). seen ++ l) over in
-    let lines : lines_of input ≡ t.0 ++ option_to_list (unended t.1) =
-    ap lines_of all ∙ t.3.cuts.lines []
-    ∙ ap (λ (l : List ℕ). t.0 ++ lines_of l) (append-nil t.1)
-    ∙ ap (λ (l : List Piece). t.0 ++ l) (lines_of-unended t.1 t.3.cuts.one_line) in
-    let out : Appends written written2 t.2 = subst (Appends written written2) (sym (append-nil t.3.sends.0) ∙ t.3.sends.2) t.3.sends.1 in (
-      t.2 ++ e.0,
-      subst (λ (l : List Piece). GivesText P log l (t.2 ++ e.0) log') (sym lines)
-          (GivesText-append P log log2 log' t.0 (option_to_list (unended t.1)) t.2 e.0 t.3.answers e.1),
-      Appends-trans written written2 written' t.2 e.0 out e.2,
-    )
+  -- all bytes, and then all that was gathered went out
+  pub Takes-flushed : (bytes : List ℕ) (front : ℕ) (a b c : At S) → length bytes ≤ front → Takes gives (take front bytes) a b
+      → c.state ≡ b.state → c.held.gathered ≡ [] → c.held.kept ≡ b.held.kept → Appends b.written c.written b.held.gathered → Takes gives bytes a c
+  Takes-flushed bytes front a b c over takes same empty kept out start seen was =
+      let t : Taken gives (seen ++ bytes) start b = subst (λ (l : List ℕ). Taken gives (seen ++ l) start b) (take_all front bytes over) (takes start seen was) in
+      record {
+        lines = t.lines;
+        line = t.line;
+        cut = t.cut;
+        whole = t.whole;
+        one_line = t.one_line;
+        kept = kept ∙ t.kept;
+        answers = Answers-flushed (lines_of t.lines) start b c t.answers same empty out;
+      }
 
--- a front was sent, and then some of the rest
-pub sent_more : (a b c : Option (List ℕ)) (items part : List ℕ) (sent n : ℕ) → part ≡ items → Appends a b (take sent items)
-    → Appends b c (take n (take (length part - sent) (drop sent part))) → Appends a c (take (sent + n) items)
-sent_more a b c items part sent n same first second =
-    let rest : take (length part - sent) (drop sent part) ≡ drop sent items =
-    ap (λ (l : List ℕ). take (length l - sent) (drop sent l)) same ∙ take_all (length items - sent) (drop sent items) (omega (arith, length-drop sent items)) in
-    subst (Appends a c) (ap (λ (l : List ℕ). take sent items ++ take n l) rest ∙ sym (take-add sent n items))
-    (Appends-trans a b c (take sent items) (take n (take (length part - sent) (drop sent part))) first second)
+  -- the last line was answered, if there was one, and all that was gathered went out
+  pub Ends-last : (a b c : At S) (kept : Option (List ℕ)) (fed : Option Fed)
+      → ((line : List ℕ) → a.held.kept ≡ kept_of line → option_map piece_of fed ≡ unended line)
+      → Answers gives (pieces_fed fed) (record a { held = record { kept = kept; gathered = a.held.gathered } }) b
+      → c.state ≡ b.state → c.held.gathered ≡ [] → Appends b.written c.written b.held.gathered → Ends gives a c
+  Ends-last a b c kept fed is_line answers same empty out start seen was =
+      let is : lines_of seen ≡ lines_of was.lines ++ pieces_fed fed =
+      ap lines_of was.cut ∙ was.whole was.line
+      ∙ ap (λ (l : List Piece). lines_of was.lines ++ l) (lines_of-unended was.line was.one_line)
+      ∙ ap (λ (o : Option Piece). lines_of was.lines ++ option_to_list o) (sym (is_line was.line was.kept)) in
+      let all : Answers gives (lines_of seen) start b =
+      subst (λ (l : List Piece). Answers gives l start b) (sym is)
+      (Answers-append (lines_of was.lines) (pieces_fed fed) start a b was.answers (Answers-from (pieces_fed fed) a b kept answers)) in
+      (Answers-flushed (lines_of seen) start b c all same empty out, empty)
 
--- a push that gave a line, which was answered
-pub Takes-given : (P : Rules) (old new : SessionState) (piece : List ℕ) (n : ℕ) (fed : Fed) (said : Reply) → n ≡ min (first_end piece + 1) (length piece)
-    → first_end piece < length piece
-    → ((line : List ℕ) → old.kept ≡ kept_of line → piece_of fed ≡ ended (line ++ before_first is_end piece))
-    → new.kept ≡ kept_of []
-    → GivesPiece P old.log (piece_of fed) said new.log
-    → Sends old.written new.written old.gathered new.gathered (reply_line said)
-    → Takes P old new (take n piece)
-Takes-given P old new piece n fed said taken some is_line fresh gives sends =
-    let all : n ≡ first_end piece + 1 = omega arith in
-    subst (λ (m : ℕ). Takes P old new (take m piece)) (sym all) (Takes-line P old new piece (piece_of fed) said some is_line fresh gives sends)
+  -- ---- whole sessions
 
--- a push that gave none
-pub Takes-kept : (P : Rules) (at : SessionState) (kept : Option (List ℕ)) (piece : List ℕ) (n : ℕ) → n ≡ min (first_end piece + 1) (length piece)
-    → (first_end piece < length piece → ⊥)
-    → ((line : List ℕ) → at.kept ≡ kept_of line → kept ≡ kept_of (line ++ piece))
-    → Takes P at (record at { kept = kept }) (take n piece)
-Takes-kept P at kept piece n taken none keeps =
-    let within : first_end piece ≤ length piece = prefix_len-le-length (λ (byte : ℕ). not (is_end byte)) piece in
-    let all : first_end piece ≡ length piece = omega (arith, none) in
-    let whole : take n piece ≡ piece = take_all n piece (omega arith) in
-    subst (Takes P at (record at { kept = kept })) (sym whole) (Takes-rest P at kept piece all keeps)
+  transcribed_whole : (left left-after : Option (List ℕ)) (seen : List ℕ) (a b c : At S) → a.held.gathered ≡ [] → Taken gives seen a b → Ends gives b c
+      → Consumes left left-after seen → IsAtEnd left-after → Transcribes gives a.state left a.written c.written c.state
+  transcribed_whole None left-after seen a b c none taken ends reads over = tt
+  transcribed_whole (Some input) None seen a b c none taken ends reads over = absurd reads
+  transcribed_whole (Some input) (Some rest) seen a b c none taken ends reads over =
+      let all : input ≡ seen = reads ∙ ap (λ (l : List ℕ). seen ++ l) over ∙ append-nil seen in
+      let done = ends a seen taken in
+      Answers-out (lines_of input) a c none done.1 (subst (λ (l : List ℕ). Answers gives (lines_of l) a c) (sym all) done.0)
 
--- a front was taken, and then some of the rest
-pub Takes-more : (P P2 : Rules) (old mid new : SessionState) (bytes : List ℕ) (at n : ℕ) → P2 ≡ P → Takes P old mid (take at bytes)
-    → Takes P2 mid new (take n (take (length bytes - at) (drop at bytes))) → Takes P old new (take (at + n) bytes)
-Takes-more P P2 old mid new bytes at n same first second =
-    let rest : take (length bytes - at) (drop at bytes) ≡ drop at bytes = take_all (length bytes - at) (drop at bytes) (omega (arith, length-drop at bytes)) in
-    let next : Takes P mid new (take n (drop at bytes)) =
-    subst (λ (p : Rules). Takes p mid new (take n (drop at bytes))) same (subst (λ (l : List ℕ). Takes P2 mid new (take n l)) rest second) in
-    subst (Takes P old new) (sym (take-add at n bytes)) (Takes-append P old mid new (take at bytes) (take n (drop at bytes)) first next)
+  -- all that a source gave was taken, and then it gave nothing: the transcript is out
+  pub transcribed : (left mid left-after : Option (List ℕ)) (seen buffer : List ℕ) (count : ℕ) (a b c : At S) → a.held.gathered ≡ [] → Taken gives seen a b
+      → Ends gives b c → Consumes left mid seen → Consumes mid left-after (take count buffer) × (count ≡ 0 → 0 < length buffer → IsAtEnd left-after)
+      → count ≡ 0 → 0 < length buffer → Transcribes gives a.state left a.written c.written c.state
+  transcribed left mid left-after seen buffer count a b c none taken ends before last over some =
+      let reads = Consumes-trans left mid left-after seen (take count buffer) before last.0 in
+      let is : seen ++ take count buffer ≡ seen = ap (λ (n : ℕ). seen ++ take n buffer) over ∙ append-nil seen in
+      transcribed_whole left left-after seen a b c none taken ends (subst (Consumes left left-after) is reads) (last.1 over some)
 
--- all was taken
-pub Takes-all : (P : Rules) (old new : SessionState) (bytes : List ℕ) (at : ℕ) → length bytes ≤ at → Takes P old new (take at bytes) → Takes P old new bytes
-Takes-all P old new bytes at over takes = subst (Takes P old new) (take_all at bytes over) takes
+  -- what a source gave was taken, and nothing waits to be written: the transcript of the whole lines is out
+  pub transcribed_lines : (left left-after : Option (List ℕ)) (seen : List ℕ) (a b : At S) → a.held.gathered ≡ [] → b.held.gathered ≡ []
+      → Taken gives seen a b → Consumes left left-after seen → TranscribesLines gives a.state left left-after a.written b.written b.state
+  transcribed_lines left left-after seen a b none empty taken reads = (
+    taken.lines,
+    taken.line,
+    subst (Consumes left left-after) taken.cut reads,
+    taken.whole,
+    taken.one_line,
+    Answers-out (lines_of taken.lines) a b none empty taken.answers,
+  )
 
--- one more read was taken
-pub Takes-read : (P P2 : Rules) (old : SessionState) (log : List Record) (kept written : Option (List ℕ)) (gathered : List ℕ) (new : SessionState) (seen bytes : List ℕ)
-    → P2 ≡ P → gathered ≡ [] → Takes P old (record { log = log; kept = kept; written = written; gathered = [] }) seen
-    → Takes P2 (record { log = log; kept = kept; written = written; gathered = gathered }) new bytes → Takes P old new (seen ++ bytes)
-Takes-read P P2 old log kept written gathered new seen bytes same empty first second =
-    let next = subst (λ (h : List ℕ). Takes P (record { log = log; kept = kept; written = written; gathered = h }) new bytes) empty
-    (subst (λ (p : Rules). Takes p (record { log = log; kept = kept; written = written; gathered = gathered }) new bytes) same second) in
-    Takes-append P old (record { log = log; kept = kept; written = written; gathered = [] }) new seen bytes first next
-
--- a session that took all that it read, and at the end of the source answered the last line, wrote the transcript
-pub transcribed_at_end : (P P2 : Rules) (log log2 log' : List Record) (kept written written2 written' : Option (List ℕ)) (gathered : List ℕ)
-    (left left2 left3 : Option (List ℕ)) (seen buffer : List ℕ) (count : ℕ)
-    → P2 ≡ P → gathered ≡ [] → count ≡ 0 → 0 < length buffer
-    → Takes P (record { log = log; kept = kept_of []; written = written; gathered = [] }) (record { log = log2; kept = kept; written = written2; gathered = [] }) seen
-    → Ends P2 (record { log = log2; kept = kept; written = written2; gathered = gathered }) log' written'
-    → Consumes left left2 seen
-    → Consumes left2 left3 (take count buffer) × (count ≡ 0 → 0 < length buffer → IsAtEnd left3)
-    → Transcribes P log left written written' log'
-transcribed_at_end P P2 log log2 log' kept written written2 written' gathered left left2 left3 seen buffer count same empty over some takes ends before last =
-    let none : seen ++ take count buffer ≡ seen = ap (λ (n : ℕ). seen ++ take n buffer) over ∙ append-nil seen in
-    let reads : Consumes left left3 seen = subst (Consumes left left3) none (Consumes-trans left left2 left3 seen (take count buffer) before last.0) in
-    let ended_now = subst (λ (h : List ℕ). Ends P (record { log = log2; kept = kept; written = written2; gathered = h }) log' written') empty
-    (subst (λ (p : Rules). Ends p (record { log = log2; kept = kept; written = written2; gathered = gathered }) log' written') same ends) in
-    transcribed P log log2 log' kept written written2 written' left left3 seen takes ended_now reads (last.1 over some)
+-- ---- counts
 
 -- each read that went on took a byte
 pub read_more : (seen buffer : List ℕ) (count reads : ℕ) → reads ≤ length seen → count ≤ length buffer → (count ≡ 0 → ⊥) → reads + 1 ≤ length (seen ++ take count buffer)

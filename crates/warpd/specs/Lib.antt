@@ -1,12 +1,6 @@
-pub mod Line
-pub mod Lines
-pub mod Number
-pub mod Reply
 pub mod Stream
-pub mod Gives
 pub mod Session
-pub mod Standing
-pub mod Local
-pub mod Turns
+pub mod LocalSession
 pub mod Outcome
 pub mod Words
+pub mod inner

@@ -1,7 +1,13 @@
 -- How a run of the program ends.
-use Rattle.std.specs.Prelude.{◌≡◌, ◌⊎◌, ℕ, List, [], ◌++◌, codes, decimal}
+use Rattle.std.specs.Prelude.{◌≡◌, ◌≢◌, ◌⊎◌, ◌<◌, ◌≤◌, ℕ, List, [], ◌++◌, Option, Some, Result, IfSome, MatchResult, codes, decimal, length}
+use Rattle.clap.specs.Words.{IsAmong, Text, fault_of}
 use Rattle.clap.specs.declared.error.kind.ErrorKind.{ErrorKind}
 use Rattle.clap.specs.declared.error.kind.ErrorKind.TheVariants as kind
+use Rattle.warp_tag.specs.Limits.{most_reads}
+use Rattle.warp_step.specs.Program.{Program as ReactorProgram}
+use Rattle.warp_step.specs.Twice.{twice}
+use Rattle.warpd.specs.LocalSession.{TranscribesAll}
+use Rattle.warpd.specs.Words.{program_in, warpd_command}
 use Rattle.warpd.specs.declared.session.SessionEnd.{SessionEnd}
 use Rattle.warpd.specs.declared.session.SessionEnd.TheVariants.{End, ReadFault, WriteFault, TooManyReads, NoMemory}
 use Rattle.warpd.specs.declared.outcome.Outcome.{Outcome}
@@ -52,3 +58,32 @@ IsShown kind.OutOfMemory outcome = outcome ≡ Memory
 IsShown kind.DisplayHelp outcome = (outcome ≡ Done) ⊎ (outcome ≡ Output)
 IsShown kind.DisplayVersion outcome = (outcome ≡ Done) ⊎ (outcome ≡ Output)
 IsShown _ outcome = outcome ≡ Words
+
+-- what is known of standard input and output: the bytes left to read, those written, how many reads and writes failed
+pub record Seen : Type 0 where
+  pub left : Option (List ℕ)
+  pub written : Option (List ℕ)
+  pub failed_reads : ℕ
+  pub failed_writes : ℕ
+
+-- what a session of this program did by the time that it ended so
+abbrev pub EndsSo : ReactorProgram → Seen → Seen → SessionEnd → Type 0
+EndsSo P before after End = TranscribesAll P before.left before.written after.written
+EndsSo P before after ReadFault = before.failed_reads < after.failed_reads
+EndsSo P before after WriteFault = before.failed_writes < after.failed_writes
+EndsSo P before after TooManyReads = IfSome before.left (λ input. most_reads ≤ length input)
+EndsSo P before after NoMemory = after ≡ before
+
+-- the run of the program of this name ends so: `builtin:twice` as its session does, and of another name nothing is done
+abbrev pub Runs : List ℕ → Seen → Seen → Outcome → Type 0
+Runs name before after outcome =
+    (name ≡ codes "builtin:twice" → (end : SessionEnd) × (outcome ≡ end_outcome end) × EndsSo twice before after end)
+    × (name ≢ codes "builtin:twice" → (outcome ≡ NoProgram) × (after ≡ before))
+
+-- the run whose words are these ends so: words with no fault run the program that they name, and of others the
+-- parser's text is shown; for want of memory nothing is done
+abbrev pub Obeys : List Text → Seen → Seen → Outcome → Type 0
+Obeys words before after outcome =
+    ((fault_of warpd_command words ≡ []) × ((name : Text) × (program_in words ≡ Some name) × Runs name before after outcome))
+    ⊎ (((fault : ErrorKind) × IsAmong fault (fault_of warpd_command words) × IsShown fault outcome) × (after ≡ before))
+    ⊎ ((outcome ≡ Memory) × (after ≡ before))

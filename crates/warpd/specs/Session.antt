@@ -1,57 +1,63 @@
--- The transcript of a session: what its bytes give, line by line.
+-- The transcript of a session over any desk: what its bytes give, line by line. A desk is in a state of `S`, and
+-- `gives s line reply s'` says that in the state s a line may get this reply and leave the state s'.
 use Rattle.std.specs.Prelude.{◌≡◌, ◌⊎◌, ℕ, List, [], ◌∷◌, ◌++◌, Option, IfSome}
-use Rattle.std.specs.Io.KnownBytes.{Appends}
+use Rattle.std.specs.Io.KnownBytes.{Appends, Consumes}
 use Rattle.std.specs.List.{flat_map}
-use Rattle.warp_step.specs.Rules.{Rules}
-use Rattle.warpd.specs.declared.line.Record.{Record}
-use Rattle.warpd.specs.declared.line.Line.{Line}
-use Rattle.warpd.specs.declared.reply.Reply.{Reply}
-use Rattle.warpd.specs.declared.reply.Reply.TheVariants.{Refused}
-use Rattle.warpd.specs.declared.reply.Refusal.TheVariants.{Syntax, TooLong}
-use Rattle.warpd.specs.Line.{IsLine, spelling}
-use Rattle.warpd.specs.Lines.{Piece, Whole, Long, Torn, lines_of}
-use Rattle.warpd.specs.Reply.{reply_spelling}
-use Rattle.warpd.specs.Gives.{Gives}
+use Rattle.warp_record.specs.declared.line.Line.{Line}
+use Rattle.warp_record.specs.declared.reply.Reply.{Reply}
+use Rattle.warp_record.specs.declared.reply.Reply.TheVariants.{Refused}
+use Rattle.warp_record.specs.declared.reply.Refusal.TheVariants.{Syntax, TooLong}
+use Rattle.warp_record.specs.Line.{IsLine, spelling}
+use Rattle.warp_record.specs.Lines.{Piece, Whole, Long, Torn, IsOneLine, lines_of}
+use Rattle.warp_record.specs.Reply.{reply_spelling}
 
 -- the bytes spell this line
 abbrev pub Spells : List ℕ → Line → Type 0
 Spells bytes line = IsLine line × (bytes ≡ spelling line)
 
--- What a line of the bytes gives: a whole one what the line that it spells gives, or refusal 1 where it spells none;
--- a torn one refusal 1, a long one refusal 9. A refusal leaves the log as it was.
-abbrev pub GivesPiece : Rules → List Record → Piece → Reply → List Record → Type 0
-GivesPiece P log (Whole bytes) reply log' =
-    ((line : Line) × Spells bytes line × Gives P log line reply log')
-    ⊎ (((line : Line) → ¬ Spells bytes line) × (reply ≡ Refused Syntax) × (log' ≡ log))
-GivesPiece P log Torn reply log' = (reply ≡ Refused Syntax) × (log' ≡ log)
-GivesPiece P log Long reply log' = (reply ≡ Refused TooLong) × (log' ≡ log)
+-- What a piece of the bytes gives: a whole line what the line that it spells gives, or refusal 1 where it spells none;
+-- a torn one refusal 1, a long one refusal 9. A refusal leaves the state as it was.
+abbrev pub GivesPiece : {S : Type 0} → (S → Line → Reply → S → Type 0) → S → Piece → Reply → S → Type 0
+GivesPiece {S} gives s (Whole bytes) reply s' =
+    ((line : Line) × Spells bytes line × gives s line reply s')
+    ⊎ (((line : Line) → ¬ Spells bytes line) × (reply ≡ Refused Syntax) × (s' ≡ s))
+GivesPiece gives s Torn reply s' = (reply ≡ Refused Syntax) × (s' ≡ s)
+GivesPiece gives s Long reply s' = (reply ≡ Refused TooLong) × (s' ≡ s)
 
--- the lines of the bytes may give these replies, one after another, each on the log that the one before left
-abbrev pub GivesAll : Rules → List Record → List Piece → List Reply → List Record → Type 0
-GivesAll P log [] [] log' = log' ≡ log
-GivesAll P log (piece ∷ pieces) (reply ∷ replies) log' =
-    (mid : List Record) × GivesPiece P log piece reply mid × GivesAll P mid pieces replies log'
-GivesAll P log [] (reply ∷ replies) log' = ⊥
-GivesAll P log (piece ∷ pieces) [] log' = ⊥
+-- the pieces may give these replies, one after another, each in the state that the one before left
+abbrev pub GivesAll : {S : Type 0} → (S → Line → Reply → S → Type 0) → S → List Piece → List Reply → S → Type 0
+GivesAll gives s [] [] s' = s' ≡ s
+GivesAll {S} gives s (piece ∷ pieces) (reply ∷ replies) s' =
+    (mid : S) × GivesPiece gives s piece reply mid × GivesAll gives mid pieces replies s'
+GivesAll gives s [] (reply ∷ replies) s' = ⊥
+GivesAll gives s (piece ∷ pieces) [] s' = ⊥
 
 -- a reply as it is written, with its line feed
 abbrev pub reply_line : Reply → List ℕ
 reply_line reply = reply_spelling reply ++ 10 ∷ []
 
--- these lines may give this text, and leave this log
-abbrev pub GivesText : Rules → List Record → List Piece → List ℕ → List Record → Type 0
-GivesText P log pieces text log' = (replies : List Reply) × GivesAll P log pieces replies log' × (text ≡ flat_map reply_line replies)
+-- the pieces may give this text, and leave this state
+abbrev pub GivesText : {S : Type 0} → (S → Line → Reply → S → Type 0) → S → List Piece → List ℕ → S → Type 0
+GivesText gives s pieces text s' =
+    (replies : List Reply) × GivesAll gives s pieces replies s' × (text ≡ flat_map reply_line replies)
 
--- from this log of this program a session over these bytes may write this text, and leave this log
-abbrev pub Session : Rules → List Record → List ℕ → List ℕ → List Record → Type 0
-Session P log bytes text log' = GivesText P log (lines_of bytes) text log'
+-- from this state a session over these bytes may write this text, and leave this state
+abbrev pub Session : {S : Type 0} → (S → Line → Reply → S → Type 0) → S → List ℕ → List ℕ → S → Type 0
+Session gives s bytes text s' = GivesText gives s (lines_of bytes) text s'
 
 -- of a source that tells its bytes, the transcript of all of them was written behind what the sink tells
-abbrev pub Transcribes : Rules → List Record → Option (List ℕ) → Option (List ℕ) → Option (List ℕ) → List Record → Type 0
-Transcribes P log left written written-after log' =
-    IfSome left (λ input. (text : List ℕ) × Session P log input text log' × Appends written written-after text)
+abbrev pub Transcribes : {S : Type 0} → (S → Line → Reply → S → Type 0) → S → Option (List ℕ) → Option (List ℕ) → Option (List ℕ) → S → Type 0
+Transcribes gives s left written written-after s' =
+    IfSome left (λ input. (text : List ℕ) × Session gives s input text s' × Appends written written-after text)
 
--- the same from the empty log, whatever log it leaves
-abbrev pub TranscribesAll : Rules → Option (List ℕ) → Option (List ℕ) → Option (List ℕ) → Type 0
-TranscribesAll P left written written-after = IfSome left (λ input.
-    (text : List ℕ) × (log : List Record) × Session P [] input text log × Appends written written-after text)
+-- the bytes end with the last line in them, or there are none: whatever follows is cut into lines by itself
+abbrev pub AreWholeLines : List ℕ → Type 0
+AreWholeLines bytes = (more : List ℕ) → lines_of (bytes ++ more) ≡ lines_of bytes ++ lines_of more
+
+-- Of the bytes that the source lost, the transcript of the whole lines was written behind what the sink tells; of the
+-- line behind them, which has no line feed yet, nothing.
+abbrev pub TranscribesLines : {S : Type 0} → (S → Line → Reply → S → Type 0)
+    → S → Option (List ℕ) → Option (List ℕ) → Option (List ℕ) → Option (List ℕ) → S → Type 0
+TranscribesLines gives s left left-after written written-after s' =
+    (lines : List ℕ) × (line : List ℕ) × Consumes left left-after (lines ++ line) × AreWholeLines lines × IsOneLine line
+    × ((text : List ℕ) × Session gives s lines text s' × Appends written written-after text)

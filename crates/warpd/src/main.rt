@@ -1,75 +1,159 @@
 //! The program `warpd`: it reads the words, runs the job, and tells how that ended.
 #![tactic(auto)]
 
-mod feed;
-mod line;
-mod local;
-mod log;
+mod local_session;
 #[cfg(test)]
 mod memory;
-mod number;
 mod outcome;
-mod reply;
 mod session;
 mod stream;
 mod words;
 
-ghost use Rattle.std.specs.Prelude.{◌≡◌, ◌≢◌, ◌<◌, codes};
+ghost use Rattle.std.specs.Prelude.{◌≡◌, ◌≢◌, ◌<◌, ◌⊎◌, IfErr, IfOk, MatchResult, OnOk, codes, map, string_bytes};
+ghost use Rattle.std.specs.Io.KnownBytes.{Appends};
+ghost use Rattle.std.specs.IoError.{error_kind};
+ghost use Rattle.std.specs.Process.{exit_status};
+ghost use Rattle.std.specs.declared.io.ErrorKind.TheVariants.{OutOfMemory};
 ghost use Rattle.clap.specs.Words.{kind_of};
-ghost use Rattle.warpd.specs.Outcome.{IsShown, end_outcome};
+ghost use Rattle.warp_step.specs.Counter.{IsUnused};
+ghost use Rattle.warp_step.specs.Twice.{twice};
+ghost use Rattle.warpd.specs.Outcome.{EndsSo, IsShown, Obeys, Runs, Seen, line_of, status_of};
+ghost use Rattle.warpd.specs.Words.{program_of};
 
 use clap::error::ErrorKind;
-use outcome::{LONGEST_LINE, Outcome, outcome_of, say, status};
-use session::{SessionEnd, run_session};
+use outcome::{Outcome, outcome_of, say, status};
+use local_session::run_session;
+use session::SessionEnd;
 use std::alloc::{AllocError, Global};
-use std::io::Write;
-use std::marker::Brand;
+use std::io::{Eprint, Print, Write};
+use std::marker::{Brand, Model};
 use std::process::ExitCode;
 use std::sync::ledger::{Blank, Ledger};
 use std::{env, io};
-use stream::Stream;
+use stream::{Sink, Source, Stream};
 use warp_step::Program;
 use words::{Job, words};
 
 fn main(rt: HostRuntime) -> ExitCode {
-    let Ok(mut line) = Vec::with_capacity(rt.alloc(), LONGEST_LINE) else {
-        let _ = rt.stderr().write_all(b"no memory\n");
-        return ExitCode::from(status(Outcome::Memory));
-    };
-    let outcome = match arguments(&rt) {
-        Ok(arguments) => obey(&rt, arguments.as_slice()),
-        Err(outcome) => outcome,
-    };
-    say(outcome, &mut line);
-    let _ = rt.stderr().write_all(line.as_slice());
-    ExitCode::from(status(outcome))
+    start::<Brand, Brand>(&rt, Blank::new(1), Blank::new(1))
 }
 
-/// The words of the command line.
-fn arguments(rt: &HostRuntime) -> Result<Vec<String>, Outcome> {
+/// The run over the words of the command line and the standard streams. The failures of standard input and output
+/// are counted in these ledgers.
+fn start<L: Ledger, M: Ledger>(rt: &HostRuntime, reads: Blank, writes: Blank) -> ExitCode
+    requires reads { IsUnused reads L.name L.parts }
+    requires writes { IsUnused writes M.name M.parts }
+{
+    let mut streams = Streams {
+        source: Stream::<_, L>::new(rt.stdin(), reads),
+        sink: Stream::<_, M>::new(rt.stdout(), writes),
+    };
+    perform(rt, rt.alloc(), arguments(rt), &mut streams, &mut rt.stderr()).0
+}
+
+/// Standard input and output, or what stands for them.
+#[derive(Drop)]
+struct Streams<R: Source, W: Sink> {
+    source: R,
+    sink: W,
+}
+
+impl<R: Source, W: Sink> Model for Streams<R, W> {
+    ghost Value = { Seen };
+
+    ghost view = { λ s. record {
+        left = R.left s.source;
+        written = W.written s.sink;
+        failed_reads = R.failures s.source;
+        failed_writes = W.failures s.sink;
+    } };
+}
+
+/// The words of the command line, or how the run ends without them.
+fn arguments(rt: &HostRuntime) -> Result<Vec<String>, Outcome>
+    ensures { IfErr result (λ outcome. (outcome ≡ Outcome.Words) ⊎ (outcome ≡ Outcome.Memory)) }
+{
     match env::args(rt) {
         Ok(arguments) => arguments.collect(rt.alloc()).map_err(|_| Outcome::Memory),
-        Err(error) if error.kind() == io::ErrorKind::OutOfMemory => Err(Outcome::Memory),
-        Err(_) => {
-            let _ = eprintln!(rt; "error: a word of the command line is not UTF-8 text");
-            Err(Outcome::Words)
-        }
+        Err(error) => Err(no_text(rt, &error)),
     }
 }
 
+/// How the run ends whose words couldn't be had for this error. One that is no text is told on standard error.
+fn no_text<P: Eprint>(rt: &P, error: &io::Error) -> Outcome
+    ensures memory { error_kind error.now ≡ OutOfMemory → result ≡ Outcome.Memory }
+    ensures text { error_kind error.now ≢ OutOfMemory → result ≡ Outcome.Words }
+{
+    if error.kind() == io::ErrorKind::OutOfMemory {
+        return Outcome::Memory;
+    }
+    let _ = rt.eprintln("error: a word of the command line is not UTF-8 text");
+    Outcome::Words
+}
+
+/// Does what the words ask for, or ends for the reason that there are none; tells the outcome on `errors`, and gives
+/// its exit status. The second part says whether the outcome could be told.
+fn perform<P: Print + Eprint, R: Source, W: Sink, E: Write>(
+    rt: &P,
+    alloc: Global,
+    arguments: Result<Vec<String>, Outcome>,
+    streams: &mut Streams<R, W>,
+    errors: &mut E,
+) -> (ExitCode, io::Result<()>)
+    ensures { (outcome : Outcome)
+        × MatchResult arguments
+            (λ words. Obeys (map (λ word. string_bytes word) words.items) streams.old streams.new outcome)
+            (λ reason. (outcome ≡ reason) × (streams.new ≡ streams.old))
+        × (exit_status result.0 ≡ status_of outcome)
+        × OnOk result.1 (Appends (E.contents errors.old) (E.contents errors.new) (line_of outcome)) }
+{
+    match arguments {
+        Ok(arguments) => end(obey(rt, alloc, arguments.as_slice(), streams), errors),
+        Err(outcome) => end(outcome, errors),
+    }
+}
+
+/// Tells how the run ended on `errors`, and gives its exit status. The second part says whether it could be told.
+fn end<E: Write>(outcome: Outcome, errors: &mut E) -> (ExitCode, io::Result<()>)
+    ensures status { exit_status result.0 ≡ status_of outcome }
+    ensures told { OnOk result.1 (Appends (E.contents errors.old) (E.contents errors.new) (line_of outcome)) }
+{
+    let line = say(outcome);
+    let told = errors.write_all(line.as_str().as_bytes());
+    (ExitCode::from(status(outcome)), told)
+}
+
 /// Does what the words ask for.
-fn obey(rt: &HostRuntime, arguments: &[String]) -> Outcome {
-    let alloc = rt.alloc();
+fn obey<P: Print + Eprint, R: Source, W: Sink>(
+    rt: &P,
+    alloc: Global,
+    arguments: &[String],
+    streams: &mut Streams<R, W>,
+) -> Outcome
+    ensures { Obeys (map (λ word. string_bytes word) arguments.now) streams.old streams.new result }
+{
     let Ok(line) = texts(alloc, arguments) else {
         return Outcome::Memory;
     };
     match words(alloc, line.as_slice()) {
-        Ok(Job::Run { program }) => run(rt, program),
+        Ok(job) => carry_out(alloc, job, streams),
         Err(error) => show(rt, &error),
     }
 }
 
-fn texts(alloc: Global, arguments: &[String]) -> Result<Vec<&str>, AllocError> {
+/// Does the job.
+fn carry_out<R: Source, W: Sink>(alloc: Global, job: Job<'_>, streams: &mut Streams<R, W>) -> Outcome
+    ensures { Runs (program_of job.entry) streams.old streams.new result }
+{
+    match job {
+        Job::Run { program } => run(alloc, program, streams),
+    }
+}
+
+/// The words as text.
+fn texts(alloc: Global, arguments: &[String]) -> Result<Vec<&str>, AllocError>
+    ensures { IfOk result (λ line. map (λ word. word.now) line.items ≡ map (λ word. string_bytes word) arguments.now) }
+{
     let mut line = Vec::new(alloc);
     for argument in arguments {
         line.push(argument.as_str())?;
@@ -78,7 +162,7 @@ fn texts(alloc: Global, arguments: &[String]) -> Result<Vec<&str>, AllocError> {
 }
 
 /// Prints the parser's text: help that was asked for on standard output, a mistake on standard error.
-fn show(rt: &HostRuntime, error: &clap::Error) -> Outcome
+fn show<P: Print + Eprint>(rt: &P, error: &clap::Error) -> Outcome
     ensures { IsShown (kind_of error.now) result }
 {
     if error.kind() == ErrorKind::OutOfMemory {
@@ -94,33 +178,25 @@ fn show(rt: &HostRuntime, error: &clap::Error) -> Outcome
     }
 }
 
-/// Runs the program of this name over standard input and standard output.
-fn run(rt: &HostRuntime, program: &str) -> Outcome
-    ensures unknown { program.now ≢ codes "builtin:twice" → result ≡ Outcome.NoProgram }
-    ensures known { program.now ≡ codes "builtin:twice" → (end : SessionEnd) × (result ≡ end_outcome end) }
+/// Runs the program of this name over the streams.
+fn run<R: Source, W: Sink>(alloc: Global, program: &str, streams: &mut Streams<R, W>) -> Outcome
+    ensures { Runs program.now streams.old streams.new result }
 {
     if program == "builtin:twice" {
-        outcome_of(answer::<Brand, Brand>(rt, Blank::new(1), Blank::new(1)))
+        outcome_of(answer(alloc, streams))
     } else {
         Outcome::NoProgram
     }
 }
 
-/// The session over standard input and standard output, whose failures are counted in these ledgers.
-fn answer<L: Ledger, M: Ledger>(rt: &HostRuntime, reads: Blank, writes: Blank) -> SessionEnd
-    requires reads_name { reads.name ≡ L.name }
-    requires reads_parts { reads.parts ≡ L.parts }
-    requires reads_some { 0 < reads.parts }
-    requires writes_name { writes.name ≡ M.name }
-    requires writes_parts { writes.parts ≡ M.parts }
-    requires writes_some { 0 < writes.parts }
+/// A session of `builtin:twice` over the streams.
+fn answer<R: Source, W: Sink>(alloc: Global, streams: &mut Streams<R, W>) -> SessionEnd
+    ensures { EndsSo twice streams.old streams.new result }
 {
-    let Ok(program) = Program::twice(rt.alloc()) else {
-        return SessionEnd::NoMemory;
-    };
-    let mut source = Stream::<_, L>::new(rt.stdin(), reads);
-    let mut sink = Stream::<_, M>::new(rt.stdout(), writes);
-    run_session(rt.alloc(), program, &mut source, &mut sink)
+    match Program::twice(alloc) {
+        Ok(program) => run_session(alloc, program, &mut streams.source, &mut streams.sink),
+        Err(_) => SessionEnd::NoMemory,
+    }
 }
 
 #[cfg(test)]

@@ -1,11 +1,12 @@
 //! How a run of the program ends: its exit status, and the line that it says on standard error.
-ghost use Rattle.std.specs.Prelude.{◌≡◌, ◌+◌, ◌++◌, ◌≤◌, [], ◌∷◌, decimal, length, vec_capacity, vec_len};
+ghost use Rattle.std.specs.Prelude.{◌≡◌, ◌+◌, ◌++◌, ◌≤◌, [], ◌∷◌, decimal, length};
 ghost use Rattle.warpd.specs.Outcome.{end_outcome, line_of, status_of};
 
 use crate::session::SessionEnd;
+use arrayvec::ArrayString;
 use itoa::Buffer;
 
-/// The room that `say` asks for, in bytes: no line is longer.
+/// The room for a line, in bytes: none is longer.
 pub const LONGEST_LINE: usize = 64;
 
 /// How a run of `warpd` ended.
@@ -51,46 +52,45 @@ pub fn status(outcome: Outcome) -> u8
     }
 }
 
-/// Appends the line of standard error, with its line feed; nothing for `Done` and `Words`.
-/// It needs room for `LONGEST_LINE` bytes, and takes no memory.
-pub fn say(outcome: Outcome, text: &mut Vec<u8>)
-    requires { vec_len text.old + LONGEST_LINE ≤ vec_capacity text.old }
-    ensures { text.new.items ≡ text.old.items ++ line_of outcome }
+/// The line of standard error with its line feed; nothing for `Done` and `Words`. It takes no memory.
+pub fn say(outcome: Outcome) -> ArrayString<LONGEST_LINE>
+    ensures { result.bytes ≡ line_of outcome }
 {
     match outcome {
-        Outcome::Done | Outcome::Words => {}
-        Outcome::TooManyLanes => append(text, b"too many lanes\n"),
-        Outcome::Program(refusal) => numbered(text, b"program refused ", refusal as u64),
-        Outcome::Schedule(line) => numbered(text, b"schedule refused at line ", line),
-        Outcome::NoProgram => append(text, b"cannot read the program\n"),
-        Outcome::NoSchedule => append(text, b"cannot read the schedule\n"),
-        Outcome::Input => append(text, b"input failed\n"),
-        Outcome::Output => append(text, b"output failed\n"),
-        Outcome::Memory => append(text, b"no memory\n"),
-        Outcome::Listen => append(text, b"cannot listen\n"),
-        Outcome::Accept => append(text, b"cannot accept\n"),
+        Outcome::Done | Outcome::Words => ArrayString::new(),
+        Outcome::TooManyLanes => plain("too many lanes\n"),
+        Outcome::Program(refusal) => numbered("program refused ", refusal as u64),
+        Outcome::Schedule(line) => numbered("schedule refused at line ", line),
+        Outcome::NoProgram => plain("cannot read the program\n"),
+        Outcome::NoSchedule => plain("cannot read the schedule\n"),
+        Outcome::Input => plain("input failed\n"),
+        Outcome::Output => plain("output failed\n"),
+        Outcome::Memory => plain("no memory\n"),
+        Outcome::Listen => plain("cannot listen\n"),
+        Outcome::Accept => plain("cannot accept\n"),
     }
 }
 
-/// Appends the words, the number in decimal and a line feed.
-fn numbered(text: &mut Vec<u8>, words: &[u8], number: u64)
-    requires { vec_len text.old + (length words.now + 21) ≤ vec_capacity text.old }
-    ensures { text.new.items ≡ text.old.items ++ (words.now ++ decimal number ++ 10 ∷ []) }
+/// This text.
+fn plain(words: &str) -> ArrayString<LONGEST_LINE>
+    requires { length words.now ≤ LONGEST_LINE }
+    ensures { result.bytes ≡ words.now }
 {
-    let mut digits = Buffer::new();
-    append(text, words);
-    append(text, digits.format(number).as_bytes());
-    append(text, b"\n");
+    let mut line = ArrayString::new();
+    line.push_str(words);
+    line
 }
 
-/// Appends bytes for which there is room.
-fn append(text: &mut Vec<u8>, bytes: &[u8])
-    requires { vec_len text.old + length bytes.now ≤ vec_capacity text.old }
-    ensures items { text.new.items ≡ text.old.items ++ bytes.now }
-    ensures len { vec_len text.new ≡ vec_len text.old + length bytes.now }
-    ensures capacity { vec_capacity text.old ≤ vec_capacity text.new }
+/// The words, the number in decimal and a line feed.
+fn numbered(words: &str, number: u64) -> ArrayString<LONGEST_LINE>
+    requires { length words.now + 21 ≤ LONGEST_LINE }
+    ensures { result.bytes ≡ words.now ++ decimal number ++ 10 ∷ [] }
 {
-    let _ = text.extend_from_slice(bytes);
+    let mut digits = Buffer::new();
+    let mut line = plain(words);
+    line.push_str(digits.format(number));
+    line.push('\n');
+    line
 }
 
 /// What the end of a session makes of the run.
@@ -108,10 +108,9 @@ pub fn outcome_of(end: SessionEnd) -> Outcome
 #[cfg(test)]
 mod tests {
     use super::*;
-    use std::test::Fail;
 
     #[test]
-    fn each_outcome_has_its_status_and_line(rt: HostRuntime) -> Result<(), Fail> {
+    fn each_outcome_has_its_status_and_line(rt: HostRuntime) {
         let rows = [
             (Outcome::Done, 0, ""),
             (Outcome::Words, 2, ""),
@@ -133,12 +132,9 @@ mod tests {
             (Outcome::Accept, 6, "cannot accept\n"),
         ];
         for (outcome, code, line) in rows {
-            let mut text = Vec::with_capacity(rt.alloc(), LONGEST_LINE)?;
-            say(outcome, &mut text);
             assert_eq!(rt; status(outcome), code, "{outcome:?}");
-            assert_eq!(rt; text.as_slice(), line.as_bytes(), "{outcome:?}");
+            assert_eq!(rt; say(outcome).as_str(), line, "{outcome:?}");
         }
-        Ok(())
     }
 
     #[test]

@@ -1,7 +1,8 @@
 //! Where a session's bytes come from and go to.
 //!
 //! `Source` and `Sink` are all that a session knows of the world. `Stream` is both over std's `Read` and `Write`.
-ghost use Rattle.std.specs.Prelude.{◌≡◌, ℕ, ◌+◌, ◌<◌, ◌≤◌, IfOk, List, Option, length};
+ghost use Rattle.std.specs.Prelude.{◌≡◌, ℕ, ◌+◌, ◌<◌, ◌≤◌, IfOk, OnOk, List, Option, length};
+ghost use Rattle.std.specs.Io.KnownBytes.{Appends};
 ghost use Rattle.warpd.specs.Stream.{Counts, Reads, Writes};
 
 use std::io::{Read, Write};
@@ -43,6 +44,18 @@ pub trait Sink {
         ensures some { IfOk result (λ n. 0 < length piece.now → 0 < n) }
         ensures bytes { Writes (written self.old) (written self.new) result piece.now }
         ensures failures { Counts (failures self.old) (failures self.new) result };
+}
+
+/// Writes all of the bytes, in as many writes as it takes.
+pub fn write_all<W: Sink>(sink: &mut W, bytes: &[u8]) -> Result<(), Failed>
+    ensures bytes { OnOk result (Appends (W.written sink.old) (W.written sink.new) bytes.now) }
+    ensures failures { Counts (W.failures sink.old) (W.failures sink.new) result }
+{
+    let mut sent = 0;
+    while sent < bytes.len() {
+        sent += sink.write(&bytes[sent..])?;
+    }
+    Ok(())
 }
 
 /// A count without an upper end, for contracts alone: it takes no bytes.

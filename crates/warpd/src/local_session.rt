@@ -1,0 +1,33 @@
+//! A session of one replica without peers.
+ghost use Rattle.std.specs.Prelude.{◌≡◌, ◌<◌, ◌≤◌, IfSome, length};
+ghost use Rattle.warp_tag.specs.Limits.{most_reads};
+ghost use Rattle.warpd.specs.LocalSession.{TranscribesAll};
+
+use crate::session::{SessionEnd, session};
+use crate::stream::{Sink, Source};
+use std::alloc::Global;
+use warp_line::Plain;
+use warp_replica::{Local, Replica};
+use warp_step::Program;
+
+/// A session of a replica of this program that has taken no record yet.
+pub fn run_session<R: Source, W: Sink>(
+    alloc: Global,
+    program: Program,
+    source: &mut R,
+    sink: &mut W,
+) -> SessionEnd
+    // At the end all bytes were read, and their transcript from the empty log was written.
+    ensures bytes { result ≡ SessionEnd.End →
+        TranscribesAll program (R.left source.old) (W.written sink.old) (W.written sink.new) }
+    ensures read_fault { result ≡ SessionEnd.ReadFault → R.failures source.old < R.failures source.new }
+    ensures write_fault { result ≡ SessionEnd.WriteFault → W.failures sink.old < W.failures sink.new }
+    ensures many { result ≡ SessionEnd.TooManyReads → IfSome (R.left source.old) (λ input. most_reads ≤ length input) }
+    // Without memory nothing was read or written.
+    ensures memory { result ≡ SessionEnd.NoMemory → (source.new ≡ source.old) × (sink.new ≡ sink.old) }
+{
+    match Replica::<Plain>::new(alloc, program) {
+        Ok(replica) => session(alloc, source, sink, &mut Local::new(alloc, replica)),
+        Err(_) => SessionEnd::NoMemory,
+    }
+}
