@@ -1,0 +1,35 @@
+use Rattle.std.proofs.Common.{◌≡◌, List, None, refl, sym, ap, subst, length, arith}
+use Rattle.warp_step.specs.Run.{Row}
+use Rattle.warp_line.specs.Timeline.{KeepsDone}
+use Rattle.warp_table.specs.Names.{table_of}
+use Rattle.warp_table.specs.Check.{refusal_of}
+use Rattle.warp_table.proofs.Sizes.{length-table_of}
+use Rattle.warp_replica.specs.Replica.{ReplicaState, standing_of, Stands}
+use Rattle.warp_replica.specs.Gives.{tag_of}
+use Rattle.warp_replica.proofs.Standings.{with_more}
+use Rattle.warp_replica.proofs.replica.Replica.add.Goals as goal
+
+pub prepare-requires : goal.prepare-requires
+prepare-requires g c =
+    let few = length-table_of c.self.inside.table in
+    (_, c.self.invariant.1, omega (arith, few, ap (λ r. length r.records) c.self.view_is, c.requires.room))
+
+pub returns-clause-done : goal.returns-clause-done
+returns-clause-done g c done stood =
+    let stands = g.T.Timeline.stands_for in
+    let slack = g.T.Timeline.SLACK in
+    let said = c.args.record.now in
+    let old : ReplicaState _ = record { program = c.self.inside.program; records = c.self.inside.table; timeline = c.self.inside.timeline } in
+    let new : ReplicaState _ = record { program = c.self.inside.program; records = c.add.new.self; timeline = c.enter.new.timeline } in
+    let is : old ≡ c.args.self.now = c.self.view_is in
+    let allowed = subst (λ r. refusal_of r.program said ≡ None) (sym is) c.requires.allowed in
+    let before = subst (λ r. Stands stands r done) (sym is) stood in
+    let entered = c.enter.ensures _ (c.prepare.ensures.stands _ before) allowed in
+    let more = with_more stands slack said old new done refl c.in_ok-place.ensures.records entered in
+    subst (λ r. (after : List Row) × Stands stands new after × KeepsDone slack (tag_of said) (standing_of r done) (standing_of new after)) is more
+
+pub invariant_of-self-2 : goal.invariant_of-self-2
+invariant_of-self-2 g c =
+    let is = c.self.view_is in
+    let more = returns-clause-done g c c.self.invariant.0 (subst (λ r. Stands g.T.Timeline.stands_for r c.self.invariant.0) is c.self.invariant.1) in
+    (more.0, more.1)

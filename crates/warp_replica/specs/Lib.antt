@@ -1,0 +1,4 @@
+pub mod Codes
+pub mod Replica
+pub mod Gives
+pub mod Desk

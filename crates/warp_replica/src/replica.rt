@@ -1,0 +1,197 @@
+//! A replica: a program, the table of the records that it took, and the timeline that runs them.
+ghost use Rattle.std.specs.Prelude.{◌≡◌, ℕ, ◌+◌, ◌-◌, ◌<◌, ◌≤◌, [], ◌∷◌, ◌++◌, Bool, false, Option, Some, None, length, List, slice_get, Contains, IsTrue, IsOk, IfOk, OnOk, OnErr, IfErr};
+ghost use Rattle.warp_tag.specs.Limits.{most_records};
+ghost use Rattle.warp_record.specs.declared.line.Query.{Query};
+ghost use Rattle.warp_record.specs.Reply.{IsReply};
+ghost use Rattle.warp_step.specs.Run.{Row};
+ghost use Rattle.warp_line.specs.Timeline.{Standing, IsDone, KeepsDone, NowStands, Settles};
+ghost use Rattle.warp_table.specs.Names.{table_of, with_record};
+ghost use Rattle.warp_table.specs.Check.{refusal_of};
+ghost use Rattle.warp_replica.specs.Replica.{standing_of, Stands};
+ghost use Rattle.warp_replica.specs.Gives.{GivesQuery, Takes, came_in, tag_of, told};
+
+use crate::took::Took;
+use std::alloc::Global;
+use std::marker::Model;
+use warp_line::Timeline;
+use warp_record::{Query, Record, Refusal, Reply};
+use warp_step::{Meter, Program};
+use warp_table::Table;
+use warp_tag::OutOfMemory;
+
+/// A program, the records that were taken, and the run over them. Contracts see the program, the list of the records
+/// in the order of taking, and the timeline, which stands for both with some rows done.
+#[derive(Drop)]
+pub struct Replica<T: Timeline> {
+    program: Program,
+    table: Table,
+    timeline: T,
+}
+
+impl<T: Timeline> Model for Replica<T> {
+    ghost use Rattle.std.specs.Prelude.{List};
+    ghost use Rattle.warp_step.specs.Run.{Row};
+    ghost use Rattle.warp_replica.specs.Replica.{ReplicaState, replica_code, Stands};
+
+    ghost Value = { ReplicaState T };
+
+    ghost coded = { replica_code T.code };
+
+    ghost view = { λ r. record { program = r.program; records = r.table; timeline = r.timeline } };
+
+    ghost invariant = { λ r. (done : List Row) × Stands T.stands_for (record { program = r.program; records = r.table; timeline = r.timeline }) done };
+}
+
+impl<T: Timeline> Replica<T> {
+    /// A replica of this program that has taken no record, and of which nothing is done.
+    pub fn new(alloc: Global, program: Program) -> Result<Replica<T>, OutOfMemory>
+    where
+        T: Drop,
+        ensures program { IfOk result (λ r. r.program ≡ program) }
+        ensures records { IfOk result (λ r. r.records ≡ []) }
+        ensures stands { IfOk result (λ r. Stands T.stands_for r []) }
+    {
+        let timeline = T::start(alloc, &program)?;
+        Ok(Replica {
+            program,
+            table: Table::new(alloc),
+            timeline,
+        })
+    }
+
+    /// Its program.
+    pub fn program(&self) -> &Program
+        ensures { result.now ≡ self.now.program }
+    {
+        &self.program
+    }
+
+    /// How many records it took, 0 to 100,000.
+    pub fn len(&self) -> u32
+        ensures value { result ≡ length self.now.records }
+        ensures bound { result ≤ most_records }
+    {
+        self.table.len()
+    }
+
+    /// Its timeline.
+    pub fn timeline(&self) -> &T
+        ensures { result.now ≡ self.now.timeline }
+    {
+        &self.timeline
+    }
+
+    /// Takes a record. `Err` says the first reason against it: one of the program's, a full log, or no memory; it
+    /// changes neither the records nor what is done, nor does a record that was there before.
+    pub fn take(&mut self, alloc: Global, record: &Record) -> Result<Took, Refusal>
+        ensures takes { Takes self.old.program self.old.records «record».now result self.new.records }
+        ensures program { self.new.program ≡ self.old.program }
+        ensures new { IsTrue (came_in result) → (done : List Row) → Stands T.stands_for self.old done →
+            (after : List Row) × Stands T.stands_for self.new after
+            × KeepsDone T.SLACK (tag_of «record».now) (standing_of self.old done) (standing_of self.new after) }
+        ensures kept { came_in result ≡ false → (done : List Row) → Stands T.stands_for self.old done → Stands T.stands_for self.new done }
+        ensures settled { came_in result ≡ false → T.settled self.new.timeline ≡ T.settled self.old.timeline }
+        ensures reply { IsReply (told result) }
+    {
+        Table::check(&self.program, record)?;
+        if let Some(place) = self.table.position(record) {
+            return Ok(Took::Known(place));
+        }
+        if self.table.is_full() {
+            return Err(Refusal::LogFull);
+        }
+        match self.add(alloc, record) {
+            Ok(place) => Ok(Took::New(place)),
+            Err(_) => Err(Refusal::NoMemory),
+        }
+    }
+
+    /// Takes a new record that the program has no reason against, and gives its place.
+    fn add(&mut self, alloc: Global, record: &Record) -> Result<u32, OutOfMemory>
+        requires allowed { refusal_of self.old.program «record».now ≡ None }
+        requires new { ¬ Contains self.old.records «record».now }
+        requires room { length self.old.records < most_records }
+        ensures records { OnOk result (self.new.records ≡ self.old.records ++ «record».now ∷ []) }
+        ensures place { IfOk result (λ place. place ≡ length self.old.records + 1) }
+        ensures err { OnErr result (self.new.records ≡ self.old.records) }
+        ensures program { self.new.program ≡ self.old.program }
+        ensures done { OnOk result ((done : List Row) → Stands T.stands_for self.old done →
+            (after : List Row) × Stands T.stands_for self.new after
+            × KeepsDone T.SLACK (tag_of «record».now) (standing_of self.old done) (standing_of self.new after)) }
+        ensures kept { OnErr result ((done : List Row) → Stands T.stands_for self.old done → Stands T.stands_for self.new done) }
+        ensures settled { OnErr result (T.settled self.new.timeline ≡ T.settled self.old.timeline) }
+    {
+        self.timeline.prepare(alloc)?;
+        let place = self.table.add(record)?;
+        enter(&mut self.timeline, record);
+        Ok(place)
+    }
+
+    /// Executes what is not done. An `Err` leaves it done through some tag, whole, and it may be settled later; of a
+    /// settled replica it changes nothing, ticks nothing, and cannot fail.
+    pub fn settle<M: Meter>(&mut self, alloc: Global, meter: &mut M) -> Result<(), OutOfMemory>
+        ensures stands { (done : List Row) → Stands T.stands_for self.old done →
+            (after : List Row) × Settles T.stands_for self.new.timeline (standing_of self.old done) (M.ticks meter.new - M.ticks meter.old) after
+            × OnOk result (IsDone (standing_of self.new after)) }
+        ensures program { self.new.program ≡ self.old.program }
+        ensures records { self.new.records ≡ self.old.records }
+        ensures ticked { M.ticks meter.old ≤ M.ticks meter.new }
+        ensures settled { OnOk result (IsTrue (T.settled self.new.timeline)) }
+        ensures unsettled { OnErr result (T.settled self.new.timeline ≡ false) }
+        ensures idle { IsTrue (T.settled self.old.timeline) → IsOk result × (self.new ≡ self.old) × (M.ticks meter.new ≡ M.ticks meter.old) }
+    {
+        self.timeline.settle(alloc, &self.program, meter)
+    }
+
+    /// Whether all rows are done, so that queries can be answered.
+    pub fn is_settled(&self) -> bool
+        ensures { result ≡ T.settled self.now.timeline }
+    {
+        self.timeline.is_settled()
+    }
+
+    /// Answers a query from the run over all records, which is done: `Var` with the value, or `refused 6` where the
+    /// program has no such variable.
+    pub fn answer(&self, query: Query) -> Reply
+        requires { IsTrue (T.settled self.now.timeline) }
+        ensures gives { GivesQuery self.now.program self.now.records query result }
+        ensures reply { IsReply result }
+    {
+        match query {
+            Query::Var(number) => self.tell(number),
+        }
+    }
+
+    /// Tells the value of a variable at the end of the run, if there is such a variable.
+    fn tell(&self, number: u32) -> Reply
+        requires { IsTrue (T.settled self.now.timeline) }
+        ensures gives { GivesQuery self.now.program self.now.records (Query.Var number) result }
+        ensures reply { IsReply result }
+    {
+        let vars = self.timeline.state().vars();
+        match vars.get(number as usize) {
+            Some(value) => Reply::Var {
+                log: self.table.len(),
+                value: *value,
+            },
+            None => Reply::Refused(Refusal::NoVar),
+        }
+    }
+}
+
+/// Puts a record that the program has no reason against into a run that has room for it.
+fn enter<T: Timeline>(timeline: &mut T, record: &Record)
+    requires prepared { T.is_prepared timeline.old }
+    requires allowed { (m : Standing) × T.stands_for timeline.old m × (refusal_of m.program «record».now ≡ None) }
+    ensures { (m : Standing) → T.stands_for timeline.old m → refusal_of m.program «record».now ≡ None →
+        NowStands T.stands_for T.SLACK (tag_of «record».now) timeline.new m (with_record m.table «record».now) }
+{
+    match *record {
+        Record::Event {
+            origin,
+            tag,
+            input,
+            value,
+        } => timeline.put(origin, tag, input, value),
+    }
+}
