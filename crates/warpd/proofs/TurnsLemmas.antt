@@ -1,5 +1,5 @@
 -- Lemmas on how far a session has come.
-use Rattle.std.proofs.Common.{◌≡◌, ℕ, ◌+◌, ◌-◌, ◌<◌, ◌≤◌, List, [], ◌∷◌, ◌++◌, length, take, drop, length-drop, length-append, length-take-le, get_or, Option, Some, None, false, true≢false, not, min, IsSome, IfSome, IfNone, OnSome, ◌↔◌, refl, sym, ap, subst, ◌∙◌, append_assoc, append-nil, arith}
+use Rattle.std.proofs.Common.{◌≡◌, ℕ, ◌+◌, ◌-◌, ◌<◌, ◌≤◌, List, [], ◌∷◌, ◌++◌, length, take, drop, length-append, length-take-le, get_or, Option, Some, None, false, true≢false, not, min, IsSome, IfSome, IfNone, OnSome, ◌↔◌, refl, sym, ap, subst, ◌∙◌, append_assoc, append-nil, arith}
 use Rattle.std.specs.List.{flat_map, before_first}
 use Rattle.std.specs.Option.{option_map, option_to_list}
 use Rattle.std.specs.Io.KnownBytes.{Appends, Consumes, IsAtEnd}
@@ -15,8 +15,8 @@ use Rattle.warp_record.specs.declared.feed.Fed.{Fed}
 use Rattle.warp_record.specs.Lines.{Piece, is_end, IsOneLine, ended, unended, lines_of, first_end, kept_of, piece_of}
 use Rattle.warp_record.proofs.LineCuts.{lines_of-ended, lines_of-unended, one_line_before, one_line_more}
 use Rattle.warpd.proofs.Fronts.{more_of_rest}
-use Rattle.warpd.specs.Session.{GivesPiece, GivesAll, GivesText, Transcribes, TranscribesLines, AreWholeLines, reply_line}
-use Rattle.warpd.specs.inner.Turns.{At, Answers, Taken, Takes, Ends, nothing, pieces_fed}
+use Rattle.warpd.specs.Session.{GivesPiece, GivesAll, GivesText, Transcribes, AreWholeLines, reply_line}
+use Rattle.warpd.specs.inner.Turns.{At, Answers, Taken, Takes, Ends, pieces_fed}
 
 -- ---- whole lines
 
@@ -127,22 +127,6 @@ module _ {S : Type 0} (gives : S → Line → Reply → S → Type 0) where
   }
 
   -- ---- bytes that were taken
-
-  -- nothing was taken yet
-  pub Taken-nothing : (a : At S) → a.held.kept ≡ kept_of [] → Taken gives [] a a
-  Taken-nothing a none = record {
-    lines = [];
-    line = [];
-    cut = refl;
-    whole = λ more. refl;
-    one_line = All-nil (λ (byte : ℕ). is_end byte ≡ false);
-    kept = none;
-    answers = Answers-nil a;
-  }
-
-  -- no more bytes
-  pub Takes-nil : (a : At S) → Takes gives [] a a
-  Takes-nil a start seen was = subst (λ (l : List ℕ). Taken gives l start a) (sym (append-nil seen)) was
 
   -- bytes, and then more of them
   Takes-append : (xs ys : List ℕ) (a b c : At S) → Takes gives xs a b → Takes gives ys b c → Takes gives (xs ++ ys) a c
@@ -265,26 +249,8 @@ module _ {S : Type 0} (gives : S → Line → Reply → S → Type 0) where
       let is : seen ++ take count buffer ≡ seen = ap (λ (n : ℕ). seen ++ take n buffer) over ∙ append-nil seen in
       transcribed_whole left left-after seen a b c none taken ends (subst (Consumes left left-after) is reads) (last.1 over some)
 
-  -- what a source gave was taken, and nothing waits to be written: the transcript of the whole lines is out
-  pub transcribed_lines : (left left-after : Option (List ℕ)) (seen : List ℕ) (a b : At S) → a.held.gathered ≡ [] → b.held.gathered ≡ []
-      → Taken gives seen a b → Consumes left left-after seen → TranscribesLines gives a.state left left-after a.written b.written b.state
-  transcribed_lines left left-after seen a b none empty taken reads = (
-    taken.lines,
-    taken.line,
-    subst (Consumes left left-after) taken.cut reads,
-    taken.whole,
-    taken.one_line,
-    Answers-out (lines_of taken.lines) a b none empty taken.answers,
-  )
-
 -- ---- counts
 
 -- each read that went on took a byte
 pub read_more : (seen buffer : List ℕ) (count reads : ℕ) → reads ≤ length seen → count ≤ length buffer → (count ≡ 0 → ⊥) → reads + 1 ≤ length (seen ++ take count buffer)
 read_more seen buffer count reads few within some = omega (arith, length-append seen (take count buffer), length-take-le count buffer within)
-
--- what was read was there
-pub many_bytes : (left left-after : Option (List ℕ)) (seen : List ℕ) {n : ℕ} → Consumes left left-after seen → n ≤ length seen → IfSome left (λ input. n ≤ length input)
-many_bytes None after seen c few = tt
-many_bytes (Some xs) None seen c few = absurd c
-many_bytes (Some xs) (Some ys) seen {n} c few = omega (arith, ap length c, length-append seen ys)
