@@ -13,7 +13,8 @@ use Rattle.warp_arena.specs.Shape.{IsWhole, members, place_at, IsChain, last_or,
 use Rattle.warp_arena.proofs.Rings.{IsOff, IsApart, IsOff-front, IsChain-split, by_last, last_or-push}
 use Rattle.warp_arena.proofs.Tables.{places_of-members}
 use Rattle.warp_arena.proofs.Shapes.{members-append, members_here}
-use Rattle.warp_arena.proofs.Walks.{Listed, threads, used, owned, Listed-tags, Listed-origin, next_in-at, prev_in-at}
+use Rattle.warp_arena.proofs.Listing.{Listed, next_in-at, prev_in-at}
+use Rattle.warp_arena.proofs.Walks.{threads, used, owned, Listed-tags, Listed-origin}
 
 -- the index stands in the list
 pub record Found (i : ℕ) (is : List ℕ) : Type 0 where

@@ -7,18 +7,12 @@ use Rattle.warp_tag.proofs.Lists.{All-right, All-filter}
 use Rattle.warp_arena.specs.declared.arena.Arena.TheInside.{Inside}
 use Rattle.warp_arena.specs.declared.node.Links.{Links}
 use Rattle.warp_arena.specs.declared.node.Node.{Node}
-use Rattle.warp_arena.specs.Shape.{Threads, IsArena, IsWhole, used_of, unused_of, threads_of, members, IsChain, last_or, first_or, next_in, prev_in, node_at, no_node, no_links}
+use Rattle.warp_arena.specs.Shape.{Threads, IsArena, IsWhole, used_of, unused_of, threads_of, members, Spells, IsChain, last_or, first_or, next_in, prev_in, node_at, no_node, no_links}
 use Rattle.warp_arena.specs.declared.node.TheConstants.{NO_NODE}
+use Rattle.warp_arena.proofs.Listing.{Listed, next_in-at, prev_in-at}
 use Rattle.warp_arena.proofs.Rings.{IsOff, IsApart, IsChain-split}
 use Rattle.warp_arena.proofs.Tables.{Stands, StandsAt-from, Stands-start, Stands-back, steps_left, steps_left-back}
 use Rattle.warp_arena.proofs.Shapes.{used_apart, none_used, all_used_below, members_apart, none_member}
-
--- the links spell these indices of nodes, each once
-pub record Listed (size : ℕ) (ends : Links) (links : ℕ → Links) (is : List ℕ) : Type 0 where
-  pub chain : IsChain (next_in ends links) (prev_in ends links) NO_NODE is NO_NODE
-  pub none : IsOff NO_NODE is
-  pub apart : IsApart is
-  pub below : AllByRecursion (λ i. i < size) is
 
 pub Listed-used : (t : Threads) (used unused : List ℕ) → IsArena t used unused → Listed t.size t.ends t.links used
 Listed-used t used unused a =
@@ -38,17 +32,11 @@ Listed-own t used unused a o h =
       below = All-filter (λ i. i < t.size) (λ i. eqb (t.entry i).origin o) used (all_used_below t used unused a);
     }
 
-pub next_in-at : (ends : Links) (links : ℕ → Links) (i : ℕ) → i ≢ NO_NODE → next_in ends links i ≡ (links i).next
-next_in-at ends links i n = ap (λ b. cond b ends.next (links i).next) (ne_eqb i NO_NODE n)
-
-pub prev_in-at : (ends : Links) (links : ℕ → Links) (i : ℕ) → i ≢ NO_NODE → prev_in ends links i ≡ (links i).prev
-prev_in-at ends links i n = ap (λ b. cond b ends.prev (links i).prev) (ne_eqb i NO_NODE n)
-
 module _ (size : ℕ) (ends : Links) (links : ℕ → Links) (is : List ℕ) (l : Listed size ends links is) where
   pub Listed-last : ends.prev ≡ last_or NO_NODE is
   Listed-last =
       (IsChain-split (next_in ends links) (prev_in ends links) NO_NODE is [] NO_NODE
-      (subst (λ js. IsChain (next_in ends links) (prev_in ends links) NO_NODE js NO_NODE) (sym (append-nil is)) l.chain)).1
+      (subst (Spells ends links) (sym (append-nil is)) l.chain)).1
 
   pub Listed-first : ends.next ≡ first_or is NO_NODE
   Listed-first = (IsChain-split (next_in ends links) (prev_in ends links) NO_NODE [] is NO_NODE l.chain).0

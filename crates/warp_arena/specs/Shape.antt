@@ -67,6 +67,10 @@ abbrev pub IsChain : (ℕ → ℕ) → (ℕ → ℕ) → ℕ → List ℕ → �
 IsChain next prev from [] to = (next from ≡ to) × (prev to ≡ from)
 IsChain next prev from (i ∷ is) to = (next from ≡ i) × (prev i ≡ from) × IsChain next prev i is to
 
+-- the links with these ends of a list spell these nodes, forwards and backwards
+abbrev pub Spells : Links → (ℕ → Links) → List ℕ → Type 0
+Spells ends links is = IsChain (next_in ends links) (prev_in ends links) NO_NODE is NO_NODE
+
 -- how often an index stands in a list
 abbrev pub count_of : ℕ → List ℕ → ℕ
 count_of i [] = 0
@@ -100,10 +104,8 @@ pub record IsArena (t : Threads) (used unused : List ℕ) : Type 0 where
   pub small : t.size ≤ most_names
   pub sorted : IsTable (map t.entry used)
   pub declared : AllByRecursion (λ i. (t.entry i).origin < t.origins) used
-  pub spelled : IsChain (next_in t.ends t.links) (prev_in t.ends t.links) NO_NODE used NO_NODE
-  pub own : (o : ℕ) → o < t.origins
-      → IsChain (next_in (t.own_ends o) t.own_links) (prev_in (t.own_ends o) t.own_links) NO_NODE
-      (members t.entry o used) NO_NODE
+  pub spelled : Spells t.ends t.links used
+  pub own : (o : ℕ) → o < t.origins → Spells (t.own_ends o) t.own_links (members t.entry o used)
   pub free : IsPath (next_in (free_ends t.free) t.links) NO_NODE unused NO_NODE
   pub once : (i : ℕ) → count_of i used + count_of i unused ≡ (if nat_lt i t.size then 1 else 0)
 
