@@ -1,8 +1,9 @@
 -- The shape of an arena: how its links spell its lists. No public clause cites this module.
-use Rattle.std.specs.Prelude.{Bool, true, ◌++◌, ◌≡◌, ℕ, zero, suc, ◌+◌, ◌-◌, ◌<◌, ◌≤◌, ◌==◌, nat_lt, List, [], ◌∷◌, if◌then◌else◌, false, map, filter, length, slice_index_or}
+use Rattle.std.specs.Prelude.{not, ◌≡◌, ℕ, zero, suc, ◌+◌, ◌-◌, ◌<◌, ◌≤◌, ◌==◌, nat_lt, List, [], ◌∷◌, if◌then◌else◌, map, filter, length, slice_index_or}
 use Rattle.std.specs.List.{AllByRecursion}
+use Rattle.warp_tag.specs.Moment.{Moment}
 use Rattle.warp_tag.specs.Limits.{most_names}
-use Rattle.warp_tag.specs.Table.{IsTable, fresh}
+use Rattle.warp_tag.specs.Table.{IsTable, fresh, name_before}
 use Rattle.warp_tag.specs.declared.entry.Entry.{Entry}
 use Rattle.warp_arena.specs.declared.node.Links.{Links}
 use Rattle.warp_arena.specs.declared.node.Node.{Node}
@@ -150,12 +151,7 @@ pub record IsWhole (t : Threads) (count : ℕ) : Type 0 where
   pub fits : count ≤ t.size
   pub shape : IsArena t (used_of t count) (unused_of t (t.size - count))
 
--- Where a walk from the end of these places stops, at the last one that is not later, or at NO_NODE where all
--- are: the places up to there are not later, the others are.
-pub record Splits (later : Entry → Bool) (places : List Place) (at : ℕ) : Type 0 where
-  pub front : List Place
-  pub back : List Place
-  pub parts : places ≡ front ++ back
-  pub last : at ≡ last_or NO_NODE (map (λ p. p.node) front)
-  pub through : AllByRecursion (λ p. later p.entry ≡ false) front
-  pub past : AllByRecursion (λ p. later p.entry ≡ true) back
+-- the handle of the last of these places whose name is not after this one, or NO_NODE where all names are
+abbrev pub last_not_after : ℕ → Moment → List Place → ℕ
+last_not_after origin tag places =
+    last_or NO_NODE (map (λ p. p.node) (filter (λ p. not (name_before origin tag p.entry)) places))
