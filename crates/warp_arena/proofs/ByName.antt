@@ -85,9 +85,9 @@ finds_known o g (p ∷ ps) d =
             names = ap (option_and_then (λ n. entry_of n (p ∷ ps))) there ∙ same_behind o g p ps d (node_of o g ps) (λ n e. e) ∙ rest.names ∙ sym es;
           }
     ] where
-  same_behind : (o : ℕ) (g : Moment) (p : Place) (ps : List Place) → AreApart (p ∷ ps) → (found : Option ℕ) → ((n : ℕ) → found ≡ Some n → node_of o g ps ≡ Some n) → option_and_then (λ n. entry_of n (p ∷ ps)) found ≡ option_and_then (λ n. entry_of n ps) found
-  same_behind o g p ps d None f = refl
-  same_behind o g p ps d (Some n) f = entry_of-other p ps n (other_handle o g p ps d n (f n refl))
+      same_behind : (o : ℕ) (g : Moment) (p : Place) (ps : List Place) → AreApart (p ∷ ps) → (found : Option ℕ) → ((n : ℕ) → found ≡ Some n → node_of o g ps ≡ Some n) → option_and_then (λ n. entry_of n (p ∷ ps)) found ≡ option_and_then (λ n. entry_of n ps) found
+      same_behind o g p ps d None f = refl
+      same_behind o g p ps d (Some n) f = entry_of-other p ps n (other_handle o g p ps d n (f n refl))
 
 -- ---- changes
 

@@ -262,9 +262,9 @@ module _ (a : Inside) (w : IsWhole (threads a) a.used) (i : ℕ) (h : IsSome (en
       (back_not_none size ((threads a).own_ends o) (threads a).own_links (owned a o) l i ms ns parts) in
       record {
         handle = first ∙ ap first_node (sym (
-        ap (λ q. places_of q (places_after i (places a))) origin
-        ∙ ap (places_of o) after_found
-        ∙ places_of-members entry o found.back));
+            ap (λ q. places_of q (places_after i (places a))) origin
+            ∙ ap (places_of o) after_found
+            ∙ places_of-members entry o found.back));
         used =
             subst (λ r. IfSome r P) (sym first) (first_holds_of entry P ns (All-filter P (λ j. eqb (entry j).origin o) found.back
             (All-right P found.front (i ∷ found.back) (subst (AllByRecursion P) found.parts (all_named entry (used a)))).1));
