@@ -1,7 +1,8 @@
 -- The arena at its start, and after it grew by one unused node.
 use Rattle.std.proofs.Common.{◌≡◌, ◌≢◌, ℕ, ◌+◌, ◌-◌, ◌<◌, Bool, cond, eqb, ltb, List, [], ◌∷◌, ◌++◌, length, refl, sym, ap, ◌∙◌, subst, inl, inr, arith, map, get_or, replicate, max}
 use Rattle.std.specs.List.{AllByRecursion}
-use Rattle.std.proofs.lemmas.Bool.{cases_lt, cases_order, eq-eqb, ne_eqb, lt-ltb, le-ltb}
+use Rattle.std.proofs.lemmas.Bool.{cases_lt, le-ltb}
+use Rattle.std.proofs.lemmas.Bool.Decides.{nat_tests}
 use Rattle.std.proofs.lemmas.List.{length-append, get_or_append_left, get_or_push, get_or_past, get_or-replicate, length-replicate}
 use Rattle.warp_tag.specs.Limits.{most_names}
 use Rattle.warp_tag.specs.Table.{IsTable}
@@ -66,6 +67,10 @@ none_free a w e =
       | inr above ↦ omega (arith, w.fits)
     ]
 
+-- one more number is below a bound that is one greater
+one_more : (c n m i : ℕ) → c ≡ cond (ltb i n) 1 0 → m ≡ n + 1 → c + count_of i (n ∷ []) ≡ cond (ltb i m) 1 0
+one_more c n m i e f = grind (arith, nat_tests)
+
 count_of_walk : (next : ℕ → ℕ) (i m : ℕ) → m ≡ 0 → count_of i (walk next m NO_NODE) ≡ 0
 count_of_walk next i m e = ap (λ k. count_of i (walk next k NO_NODE)) e
 
@@ -107,37 +112,7 @@ module _ (a : Inside) (w : IsWhole (threads a) a.used) (full : a.used ≡ length
       omega (arith, w.shape.once i, none)
 
   once_pushed : (i : ℕ) → count_of i (used a) + count_of i (length a.nodes.items ∷ []) ≡ cond (ltb i (length new)) 1 0
-  once_pushed i =
-      let K : Bool → ℕ = λ b. cond b 1 0 in
-      elim (cases_order i (length a.nodes.items)) [
-        | inl same ↦
-            omega (
-              arith,
-              old_once i,
-              ap K (le-ltb i (length a.nodes.items) (omega arith)),
-              ap K (lt-ltb i (length new) (omega (arith, new_len))),
-              ap K (eq-eqb (length a.nodes.items) i (sym same)),
-            )
-        | inr other ↦
-            elim other [
-              | inl below ↦
-                  omega (
-                    arith,
-                    old_once i,
-                    ap K (lt-ltb i (length a.nodes.items) below),
-                    ap K (lt-ltb i (length new) (omega (arith, new_len))),
-                    ap K (ne_eqb (length a.nodes.items) i (λ e. omega arith)),
-                  )
-              | inr above ↦
-                  omega (
-                    arith,
-                    old_once i,
-                    ap K (le-ltb i (length a.nodes.items) (omega arith)),
-                    ap K (le-ltb i (length new) (omega (arith, new_len))),
-                    ap K (ne_eqb (length a.nodes.items) i (λ e. omega arith)),
-                  )
-            ]
-      ]
+  once_pushed i = one_more (count_of i (used a)) (length a.nodes.items) (length new) i (old_once i) new_len
 
   shape' : IsArena t' (used a) (length a.nodes.items ∷ [])
   shape' =
