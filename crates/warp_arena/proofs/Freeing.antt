@@ -5,7 +5,7 @@ use Rattle.std.proofs.lemmas.List.{length-append, drop_at, map-append}
 use Rattle.warp_tag.specs.Moment.{Moment, is_before}
 use Rattle.warp_tag.specs.Table.{IsTable}
 use Rattle.warp_tag.specs.declared.entry.Entry.{Entry}
-use Rattle.warp_tag.proofs.Lists.{All-weaker, All-append, filter-here, filter-past, some_not_none, same_some}
+use Rattle.warp_tag.proofs.Lists.{All-weaker, All-append, some_not_none, same_some}
 use Rattle.warp_tag.proofs.Names.{before_tag}
 use Rattle.warp_arena.specs.Places.{Place, Contents, entries_of, entry_of, first_node, places_past, places_through}
 use Rattle.warp_arena.proofs.Tables.{Precedes, All-unmap, filter_front, filter_back}

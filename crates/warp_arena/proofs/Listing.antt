@@ -1,14 +1,13 @@
 -- A list of nodes that links spell, and what is left of it after a change.
-use Rattle.std.proofs.Common.{◌≡◌, ◌≢◌, ℕ, ◌<◌, ◌≤◌, cond, eqb, List, [], ◌∷◌, ◌++◌, length, refl, sym, ap, ◌∙◌, subst, inl, inr, arith, get_or, set}
+use Rattle.std.proofs.Common.{◌≡◌, ◌≢◌, ℕ, ◌<◌, cond, eqb, List, [], ◌∷◌, ◌++◌, length, refl, sym, ap, ◌∙◌, subst, inl, inr, arith, get_or, set}
 use Rattle.std.specs.List.{AllByRecursion}
 use Rattle.std.proofs.lemmas.Bool.{cases_eq, ne_eqb}
-use Rattle.std.proofs.lemmas.List.{length-set, get_or-set_same, get_or-set_other, get_or_read}
-use Rattle.warp_tag.specs.declared.entry.Entry.{Entry}
-use Rattle.warp_tag.proofs.Lists.{All-both, All-weaker, All-left, All-right, All-filter}
+use Rattle.std.proofs.lemmas.List.{length-set, get_or-set_same, get_or-set_other}
+use Rattle.warp_tag.proofs.Lists.{All-weaker, All-left, All-right}
 use Rattle.warp_arena.specs.declared.node.Links.{Links}
 use Rattle.warp_arena.specs.declared.node.TheConstants.{NO_NODE}
 use Rattle.warp_arena.specs.Changes.{Inserts, Skips}
-use Rattle.warp_arena.specs.Shape.{Spells, members, last_or, first_or, next_in, prev_in, no_links}
+use Rattle.warp_arena.specs.Shape.{Spells, last_or, first_or, next_in, prev_in, no_links}
 use Rattle.warp_arena.proofs.Rings.{IsOff, IsApart, IsSame, first_holds, last_holds, IsChain-frame, IsChain-split, IsChain-insert, IsChain-skip}
 
 -- the links spell these indices of nodes, each once

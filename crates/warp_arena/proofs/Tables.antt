@@ -1,5 +1,5 @@
 -- Entries in order, and the entries of one origin among them.
-use Rattle.std.proofs.Common.{◌≡◌, ◌≢◌, ℕ, Bool, true, false, not, cond, eqb, List, [], ◌∷◌, ◌++◌, refl, sym, ap, ◌∙◌, subst, inl, inr, map, filter}
+use Rattle.std.proofs.Common.{◌≡◌, ◌≢◌, ℕ, Bool, true, false, not, eqb, List, [], ◌∷◌, ◌++◌, refl, sym, ap, ◌∙◌, subst, inl, inr, map, filter}
 use Rattle.std.specs.List.{AllByRecursion}
 use Rattle.std.proofs.lemmas.Bool.{cases_Bool, false≢true}
 use Rattle.std.proofs.lemmas.List.{append-nil}
@@ -7,7 +7,7 @@ use Rattle.std.proofs.lemmas.List.Elements.{filter-append}
 use Rattle.warp_tag.specs.Moment.{Moment}
 use Rattle.warp_tag.specs.Table.{name_before, IsTable}
 use Rattle.warp_tag.specs.declared.entry.Entry.{Entry}
-use Rattle.warp_tag.proofs.Lists.{All-weaker, All-append, All-left, All-right, filter-here, filter-past, All-filter, All-kept}
+use Rattle.warp_tag.proofs.Lists.{All-weaker, All-append, All-left, All-right, filter-here, filter-past, All-filter}
 use Rattle.warp_tag.proofs.Names.{name_before_trans}
 use Rattle.warp_arena.specs.Places.{Place, places_of}
 use Rattle.warp_arena.specs.Shape.{members, place_at, last_or, last_not_after}

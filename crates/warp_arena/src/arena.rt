@@ -204,10 +204,11 @@ impl Arena {
         self.used
     }
 
-    /// What is known of any arena: its entries are in order of tag, then of origin, each name once, and each has a
-    /// handle of its own.
+    /// What is known of any arena: its entries are in order of tag, then of origin, each name once, each has a handle of
+    /// its own, and there is room for all nodes.
     pub fn ordered(&self)
-        ensures { IsOrdered self.now }
+        ensures order { IsOrdered self.now }
+        ensures room { length self.now.places + self.now.free ≤ self.now.room }
     {
         let _ = &self.used;
     }

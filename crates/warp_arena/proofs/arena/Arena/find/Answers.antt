@@ -1,7 +1,6 @@
 use Rattle.std.proofs.Common.{IsTrue, IsSomeAnd, ◌≡◌, ℕ, ◌<◌, arith, sym, ap, ◌∙◌, subst, length, true, false, cond, not, filter, Some, None}
 use Rattle.std.specs.Vec.{vec_capacity}
 use Rattle.warp_tag.specs.Moment.{Moment}
-use Rattle.warp_tag.specs.declared.entry.Entry.{Entry}
 use Rattle.warp_arena.specs.declared.arena.Arena.TheInside.{Inside}
 use Rattle.warp_tag.specs.Table.{name_before, has_name}
 use Rattle.warp_arena.specs.declared.node.TheConstants.{NO_NODE}

@@ -1,4 +1,4 @@
-use Rattle.std.proofs.Common.{◌≡◌, ℕ, ◌<◌, ◌+◌, ◌-◌, arith, sym, ap, ◌∙◌, subst, length, List, set, drop}
+use Rattle.std.proofs.Common.{ℕ, ◌+◌, ◌-◌, arith, sym, ap, ◌∙◌, subst, length, List, set, drop}
 use Rattle.std.specs.Vec.{vec_capacity}
 use Rattle.std.proofs.lemmas.List.{with_items_is}
 use Rattle.warp_arena.specs.declared.node.Node.{Node}

@@ -1,9 +1,9 @@
-use Rattle.std.proofs.Common.{◌≡◌, ℕ, ◌<◌, arith, refl, sym, ap, ◌∙◌, length}
+use Rattle.std.proofs.Common.{◌<◌, arith, sym, ap, ◌∙◌, length}
 use Rattle.warp_tag.specs.Table.{name_before}
 use Rattle.warp_arena.specs.Places.{places_of}
 use Rattle.warp_arena.specs.Shape.{last_not_after}
 use Rattle.warp_arena.proofs.Tables.{places_of-members, last_of_places}
-use Rattle.warp_arena.proofs.Walks.{threads, used, owned, Listed-tags, Listed-origin, ends_read, walk_start, walk_below, walk_back, walk_nearer, walk_end, walk_stop}
+use Rattle.warp_arena.proofs.Walks.{threads, used, owned, Listed-origin, ends_read, walk_start, walk_below, walk_back, walk_nearer, walk_end, walk_stop}
 use Rattle.warp_arena.proofs.arena.Arena.last_of_origin_through.Goals as goal
 
 pub loop-at-init : goal.loop-at-init
