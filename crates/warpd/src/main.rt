@@ -21,8 +21,8 @@ ghost use Rattle.warpd.specs.Outcome.{EndsSo, IsShown, Obeys, Runs, Seen, line_o
 ghost use Rattle.warpd.specs.Words.{program_of};
 
 use clap::error::ErrorKind;
-use outcome::{Outcome, outcome_of, say, status};
 use local_session::run_session;
+use outcome::{Outcome, outcome_of, say, status};
 use session::SessionEnd;
 use std::alloc::{AllocError, Global};
 use std::io::{Eprint, Print, Write};
