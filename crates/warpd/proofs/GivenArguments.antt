@@ -8,13 +8,13 @@ use Rattle.std.specs.Str.{bytes_eq}
 use Rattle.std.proofs.lemmas.Slice.Eq.{bytes_eq-Decides}
 use Rattle.clap.specs.Values.{is_request, read_as, refused_kind}
 use Rattle.clap.specs.Facts.{explicit_source, parser_of_value, unwrap_or_range}
-use Rattle.clap.specs.Kinds.{Kinds, check_kinds, or_else, range_kinds, request_kinds, value_kinds, values_kinds}
+use Rattle.clap.specs.Kinds.{Kinds, check_kinds, range_kinds, request_kinds, value_kinds, values_kinds}
 use Rattle.clap.specs.ValueTests.{accepts}
-use Rattle.clap.specs.Walk.{Held, Names, Row, Rule, Text, Waiting, action_of, answers_to, arg_by_id, default_rows, finished, first_of, has_row, is_empty, more_values, most_values, nothing_held, one_of, reading_by, row_text, rows_after, settled, stop_after, subcommand_met, used, used_as, values_or_missing, walk, walk_from, with_default, with_values, without, at_row}
+use Rattle.clap.specs.Walk.{Names, Row, Rule, Text, Waiting, action_of, answers_to, arg_by_id, default_rows, finished, has_row, is_empty, more_values, most_values, nothing_held, reading_by, row_text, rows_after, settled, stop_after, subcommand_met, used_as, values_or_missing, walk, walk_from, with_default, with_values, without, at_row}
 use Rattle.clap.specs.Walk.{idle, option, positional}
 use Rattle.clap.specs.Simple.{App, Shape, entered, names_of}
 use Rattle.clap.specs.Takes.{is_given, value_passes}
-use Rattle.clap.specs.Faults.{action_fault, built_fault, check_fault, default_fault, defaults_fault, entered_fault, given_default_fault, level_fault, repeat_fault, settle_fault, use_fault, values_fault, walk_fault}
+use Rattle.clap.specs.Faults.{action_fault, built_fault, default_fault, defaults_fault, entered_fault, given_default_fault, level_fault, repeat_fault, settle_fault, values_fault, walk_fault}
 use Rattle.clap.specs.declared.builder.action.ArgAction.{ArgAction}
 use Rattle.clap.specs.declared.builder.action.ArgAction.TheVariants.{Set, Append, SetTrue, SetFalse, Count, Help, HelpShort, HelpLong, Version}
 use Rattle.clap.specs.declared.builder.value_parser.Reading.{Reading}

@@ -1,11 +1,10 @@
 -- Where the parser finds no fault, the words have PROGRAM.
 use Rattle.std.proofs.Common.{◌≡◌, ◌∷◌, List, Option, None, Some, true, [], codes, is_some, map, refl, sym, subst}
-use Rattle.std.specs.Prelude.{⊤}
 use Rattle.clap.specs.Walk.{Row, Text}
 use Rattle.clap.specs.Simple.{App, Shape, argument_words, built, help_shape, subcommand_of}
 use Rattle.clap.specs.Faults.{fault_of}
 use Rattle.warpd.specs.Words.{program_value, warpd_command}
-use Rattle.warpd.proofs.GivenArguments.{AllGive, Gives, entered_gives, level_given}
+use Rattle.warpd.proofs.GivenArguments.{Gives, entered_gives, level_given}
 use Rattle.warpd.proofs.words.words.Goals as goal
 
 abbrev whole : App
