@@ -7,6 +7,7 @@ ghost use Rattle.warp_step.specs.Counter.{IsUnused};
 ghost use Rattle.warpd.specs.Stream.{Counts, Reads, Writes};
 
 use std::io::{Read, Write};
+use std::marker::Model;
 use std::sync::ledger::{Blank, Ledger};
 use warp_step::Counter;
 
@@ -66,6 +67,16 @@ pub fn write_all<W: Sink>(sink: &mut W, bytes: &[u8]) -> Result<(), Failed>
 pub struct Stream<T, L: Ledger> {
     inner: T,
     failures: Counter<L>,
+}
+
+impl<T, L: Ledger> Model for Stream<T, L> {
+    ghost use Rattle.warpd.specs.Stream.{StreamState, stream_code};
+
+    ghost Value = { StreamState T };
+
+    ghost coded = { stream_code T.code };
+
+    ghost view = { λ s. record { inner = s.inner; failures = s.failures } };
 }
 
 impl<T, L: Ledger> Stream<T, L> {

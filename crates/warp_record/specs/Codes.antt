@@ -1,13 +1,10 @@
--- Codes of a replica's parts, so that a model's value may have them.
+-- Codes of records, so that a model's value may have them.
 use Rattle.std.specs.Prelude.{◌≡◌, ℕ, ℤ, refl}
 use Rattle.std.specs.Coded.{Coded, code_by, coded×, coded_ℕ, coded_ℤ}
+use Rattle.warp_tag.specs.Codes.{moment_code}
 use Rattle.warp_tag.specs.Moment.{Moment}
 use Rattle.warp_record.specs.declared.line.Record.{Record}
 use Rattle.warp_record.specs.declared.line.Record.TheVariants.{Event}
-
--- a tag is stored as its two numbers
-abbrev pub moment_code : Coded Moment
-moment_code = code_by (ℕ × ℕ) (coded× coded_ℕ coded_ℕ) (λ t. (t.time, t.microstep)) (λ p. record { time = p.0; microstep = p.1 }) (λ _. refl)
 
 -- what an event says: origin, tag, input and value
 abbrev pub EventParts : Type 0
