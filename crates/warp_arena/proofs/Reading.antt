@@ -1,8 +1,9 @@
 -- What the calls that read a node find there.
-use Rattle.std.proofs.Common.{◌≡◌, ◌≢◌, ℕ, ◌<◌, cond, eqb, List, [], ◌∷◌, ◌++◌, length, refl, sym, ap, ◌∙◌, subst, inl, inr, map, append_assoc, drop, Option, Some, None, IsSome, IfSome, MatchOption, find, unwrap_or}
+use Rattle.std.proofs.Common.{◌≡◌, ◌≢◌, ℕ, ◌+◌, ◌<◌, cond, eqb, List, [], ◌∷◌, ◌++◌, length, refl, sym, ap, ◌∙◌, subst, inl, inr, map, append_assoc, drop, Option, Some, None, IsSome, IfSome, MatchOption, find, unwrap_or}
 use Rattle.std.specs.List.{AllByRecursion}
 use Rattle.std.specs.Option.{option_map, is_some}
 use Rattle.std.proofs.lemmas.Bool.{cases_eq, eq-eqb, ne_eqb, false≢true}
+use Rattle.std.proofs.lemmas.List.{drop-drop}
 use Rattle.warp_tag.specs.declared.entry.Entry.{Entry}
 use Rattle.warp_tag.proofs.Lists.{All-weaker, All-left, All-right, All-filter}
 use Rattle.warp_arena.specs.declared.arena.Arena.TheInside.{Inside}
@@ -258,3 +259,8 @@ module _ (a : Inside) (w : IsWhole (threads a) a.used) (i : ℕ) (h : IsSome (en
             subst (λ r. IfSome r P) (sym first) (first_holds_of entry P ns (All-filter P (λ j. eqb (entry j).origin o) found.back
             (All-right P found.front (i ∷ found.back) (subst (AllByRecursion P) found.parts (all_named entry (used a)))).1));
       }
+
+-- one step of a walk along all places
+pub Reaches-next : (ps : List Place) (k node : ℕ) (at r : Option ℕ) → at ≡ Some node → Reaches ps (drop k ps) at → Reaches ps (places_after node ps) r → Reaches ps (drop (k + 1) ps) r
+Reaches-next ps k node at r is here there =
+    subst (λ qs. Reaches ps qs r) (ap (drop 1) (sym (ap (λ x. left_at x ps) is) ∙ here.left) ∙ drop-drop 1 k ps) there
