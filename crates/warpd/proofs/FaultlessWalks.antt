@@ -24,12 +24,12 @@ abbrev pub Keeps : Bool → (List Row → Type 0) → Option Rule → Type 0
 Keeps again P None = ⊤
 Keeps again P (Some a) = (values : List Text) (rows : List Row) → use_fault again a values rows ≡ [] → P rows → P (used a values rows)
 
--- the subcommand has Q where it is entered without a fault
+-- the subcommand has Q where it can be entered: `help` can't
 abbrev pub Enters : Shape → (Text → Type 0) → Option Text → Type 0
 Enters s Q None = ⊤
 Enters s Q (Some name) = other_fault s (Some name) [] nothing_held ≡ [] → Q name
 
-abbrev pub StepHas : (Text → Type 0) → Step → Type 0
+abbrev StepHas : (Text → Type 0) → Step → Type 0
 StepHas Q (subcommand name) = Q name
 StepHas Q _ = ⊤
 
