@@ -2,4 +2,4 @@
 use Rattle.warp_replica.proofs.tests.records.Given as goal
 
 abbrev pub ghosts-total : goal.ghosts-total
-ghosts-total a = record { name = a.blank.name; parts = a.blank.parts }
+ghosts-total g a = record { name = a.blank.name; parts = a.blank.parts }
