@@ -1,5 +1,5 @@
 -- Lemmas on how far a session has come.
-use Rattle.std.proofs.Common.{◌≡◌, ℕ, ◌+◌, ◌-◌, ◌<◌, ◌≤◌, List, [], ◌∷◌, ◌++◌, length, take, drop, length-append, length-take-le, get_or, Option, Some, None, false, true≢false, not, min, IsSome, IfSome, IfNone, OnSome, ◌↔◌, refl, sym, ap, subst, ◌∙◌, append_assoc, append-nil, arith}
+use Rattle.std.proofs.Common.{◌≡◌, ℕ, ◌+◌, ◌-◌, ◌<◌, ◌≤◌, List, [], ◌∷◌, ◌++◌, length, take, drop, length-append, length-take-le, get_or, Option, Some, None, false, true≢false, not, min, IsSome, IfSome, IfNone, OnSome, ◌↔◌, inr, refl, sym, ap, subst, ◌∙◌, append_assoc, append-nil, arith}
 use Rattle.std.specs.List.{flat_map, before_first}
 use Rattle.std.specs.Option.{option_map, option_to_list}
 use Rattle.std.specs.Io.KnownBytes.{Appends, Consumes, IsAtEnd}
@@ -15,21 +15,21 @@ use Rattle.warp_record.specs.declared.feed.Fed.{Fed}
 use Rattle.warp_record.specs.Lines.{Piece, is_end, IsOneLine, ended, unended, lines_of, first_end, kept_of, piece_of}
 use Rattle.warp_record.proofs.LineCuts.{lines_of-ended, lines_of-unended, one_line_before, one_line_more}
 use Rattle.warpd.proofs.Fronts.{more_of_rest}
-use Rattle.warpd.specs.Session.{GivesPiece, GivesAll, GivesText, Transcribes, AreWholeLines, reply_line}
-use Rattle.warpd.specs.inner.Turns.{At, Answers, Taken, Takes, Ends, pieces_fed}
+use Rattle.warpd.specs.Session.{GivesPiece, GivesAll, GivesText, Transcribes, reply_line}
+use Rattle.warpd.specs.inner.Turns.{At, AreCutOff, Answers, Taken, Takes, Ends, pieces_fed}
 
 -- ---- whole lines
 
 -- a line with its line feed
-AreWholeLines-line : (line : List ℕ) → IsOneLine line → AreWholeLines (line ++ 10 ∷ [])
-AreWholeLines-line line one more =
+AreCutOff-line : (line : List ℕ) → IsOneLine line → AreCutOff (line ++ 10 ∷ [])
+AreCutOff-line line one more =
     ap lines_of (append_assoc line (10 ∷ []) more)
     ∙ lines_of-ended line more one
     ∙ ap (λ (l : List Piece). l ++ lines_of more) (sym (lines_of-ended line [] one))
 
--- whole lines, and more of them
-AreWholeLines-append : (a b : List ℕ) → AreWholeLines a → AreWholeLines b → AreWholeLines (a ++ b)
-AreWholeLines-append a b first second more =
+-- bytes that are cut off, and more of them
+AreCutOff-append : (a b : List ℕ) → AreCutOff a → AreCutOff b → AreCutOff (a ++ b)
+AreCutOff-append a b first second more =
     ap lines_of (append_assoc a b more)
     ∙ first (b ++ more)
     ∙ ap (λ (l : List Piece). lines_of a ++ l) (second more)
@@ -149,14 +149,15 @@ module _ {S : Type 0} (gives : S → Line → Reply → S → Type 0) where
       let line : List ℕ = was.line ++ before in
       let one : IsOneLine line = All-append (λ (byte : ℕ). is_end byte ≡ false) was.line before was.one_line (one_line_before piece) in
       let last : lines_of (was.lines ++ (line ++ 10 ∷ [])) ≡ lines_of was.lines ++ given ∷ [] =
-      was.whole (line ++ 10 ∷ []) ∙ ap (λ (l : List Piece). lines_of was.lines ++ l) (lines_of-ended line [] one)
+      was.cut_off (line ++ 10 ∷ []) ∙ ap (λ (l : List Piece). lines_of was.lines ++ l) (lines_of-ended line [] one)
       ∙ ap (λ (p : Piece). lines_of was.lines ++ p ∷ []) (sym (is_line was.line was.kept)) in
       record {
         lines = was.lines ++ (line ++ 10 ∷ []);
         line = [];
         cut = ap (λ (l : List ℕ). seen ++ l) (up_to_end piece some) ∙ ap (λ (l : List ℕ). l ++ (before ++ 10 ∷ [])) was.cut
             ∙ simp (append_assoc, append-nil);
-        whole = AreWholeLines-append was.lines (line ++ 10 ∷ []) was.whole (AreWholeLines-line line one);
+        whole = inr (was.lines ++ line, sym (append_assoc was.lines line (10 ∷ [])));
+        cut_off = AreCutOff-append was.lines (line ++ 10 ∷ []) was.cut_off (AreCutOff-line line one);
         one_line = All-nil (λ (byte : ℕ). is_end byte ≡ false);
         kept = fresh;
         answers = subst (λ (l : List Piece). Answers gives l start b) (sym last)
@@ -172,6 +173,7 @@ module _ {S : Type 0} (gives : S → Line → Reply → S → Type 0) where
     line = was.line ++ piece;
     cut = ap (λ (l : List ℕ). l ++ piece) was.cut ∙ append_assoc was.lines was.line piece;
     whole = was.whole;
+    cut_off = was.cut_off;
     one_line = one_line_more was.line piece was.one_line none;
     kept = keeps was.line was.kept;
     answers = subst (λ (l : List Piece). Answers gives l start b) (append-nil (lines_of was.lines))
@@ -209,6 +211,7 @@ module _ {S : Type 0} (gives : S → Line → Reply → S → Type 0) where
         line = t.line;
         cut = t.cut;
         whole = t.whole;
+        cut_off = t.cut_off;
         one_line = t.one_line;
         kept = kept ∙ t.kept;
         answers = Answers-flushed (lines_of t.lines) start b c t.answers same empty out;
@@ -221,7 +224,7 @@ module _ {S : Type 0} (gives : S → Line → Reply → S → Type 0) where
       → c.state ≡ b.state → c.held.gathered ≡ [] → Appends b.written c.written b.held.gathered → Ends gives a c
   Ends-last a b c kept fed is_line answers same empty out start seen was =
       let is : lines_of seen ≡ lines_of was.lines ++ pieces_fed fed =
-      ap lines_of was.cut ∙ was.whole was.line
+      ap lines_of was.cut ∙ was.cut_off was.line
       ∙ ap (λ (l : List Piece). lines_of was.lines ++ l) (lines_of-unended was.line was.one_line)
       ∙ ap (λ (o : Option Piece). lines_of was.lines ++ option_to_list o) (sym (is_line was.line was.kept)) in
       let all : Answers gives (lines_of seen) start b =
