@@ -15,7 +15,7 @@ use Rattle.warp_arena.specs.Places.{Place, entry_of, with_change}
 use Rattle.warp_arena.specs.Shape.{IsArena, IsWhole, threads_of, contents_of, unused_of, node_at, entry_at, by_tag, of_origin, place_at, members, no_node, no_links, next_in, prev_in, free_ends, IsChain, IsPath}
 use Rattle.warp_arena.proofs.Rings.{length-walk}
 use Rattle.warp_arena.proofs.Tables.{Precedes, All-map, All-unmap}
-use Rattle.warp_arena.proofs.Walks.{threads, used}
+use Rattle.warp_arena.proofs.Walks.{threads, used, node_read}
 use Rattle.warp_arena.proofs.Reading.{places, used_found_below}
 use Rattle.warp_arena.proofs.Wholes.{IsWhole-from, used_is}
 use Rattle.warp_arena.proofs.Inserted.{same_contents}
@@ -152,3 +152,18 @@ module _ (a : Inside) (w : IsWhole (threads a) a.used) (i : ℕ) (found : IsSome
         (λ j n. ap (λ k. k.entry) (node_other a.nodes.items i changed_node j n))
         (used a))
         (omega (arith, length-set a.nodes.items i changed_node)) refl
+
+-- the arena after a call that wrote this entry at the node of a handle
+pub record Changing (a : Inside) (i : ℕ) (change : Entry → Entry) (nodes : List Node) : Type 0 where
+  pub whole : IsWhole (threads_of nodes a.origin_ends.items a.ends a.free) a.used
+  pub contents : contents_of (threads_of nodes a.origin_ends.items a.ends a.free) a.used (vec_capacity a.nodes)
+      ≡ record { origins = length a.origin_ends.items; places = with_change change i (places a); free = length a.nodes.items - a.used; room = vec_capacity a.nodes }
+
+pub changing : (a : Inside) → IsWhole (threads a) a.used → (i j : ℕ) → j ≡ i → IsSome (entry_of i (places a)) → (m : Node) → m ≡ get_or a.nodes.items j m → (change : Entry → Entry) → ((e : Entry) → (change e).origin ≡ e.origin) → ((e : Entry) → (change e).tag ≡ e.tag) → (e : Entry) → e ≡ change m.entry → Changing a i change (set a.nodes.items j (record { entry = e; by_tag = m.by_tag; of_origin = m.of_origin }))
+changing a w i j at found m read change origins moments e made =
+    let is = node_read a.nodes.items i m (used_found_below a w i found) (subst (λ k. m ≡ get_or a.nodes.items k m) at read) in
+    let C = λ (k : ℕ) (x : Entry). Changing a i change (set a.nodes.items k (record { entry = x; by_tag = m.by_tag; of_origin = m.of_origin })) in
+    subst (λ k. C k e) (sym at) (subst (λ x. C i x) (sym made) (record {
+      whole = whole_changed a w i found m is change origins moments;
+      contents = contents_changed a w i found m is change origins moments;
+    }))

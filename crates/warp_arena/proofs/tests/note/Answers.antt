@@ -1,4 +1,4 @@
-use Rattle.std.proofs.Common.{◌≡◌, ℕ, w64, sym, ap, ◌∙◌}
+use Rattle.std.proofs.Common.{ℕ, w64, sym, ap, ◌∙◌}
 use Rattle.std.proofs.lemmas.Int.{to_z-of_z}
 use Rattle.warp_tag.specs.Table.{fresh, with_event}
 use Rattle.warp_tag.specs.declared.entry.Entry.{Entry}
