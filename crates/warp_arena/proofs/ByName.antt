@@ -1,14 +1,14 @@
 -- The laws from an arena's places to the table of its entries.
-use Rattle.std.proofs.Common.{◌≡◌, ◌≢◌, ℕ, Bool, true, false, cond, eqb, List, [], ◌∷◌, refl, sym, ap, ◌∙◌, subst, inl, inr, map, find, nat_eq, Option, Some, None, IsSome}
+use Rattle.std.proofs.Common.{◌≡◌, ◌≢◌, ℕ, true, false, cond, eqb, List, [], ◌∷◌, refl, sym, ap, ◌∙◌, inl, inr, map, find, nat_eq, Option, Some, None}
 use Rattle.std.specs.List.{AllByRecursion, IsDistinct}
 use Rattle.std.specs.Option.{option_map, option_and_then, is_some}
 use Rattle.std.proofs.lemmas.Bool.{cases_Bool, cases_eq, eq-eqb, ne_eqb, false≢true}
 use Rattle.warp_tag.specs.Moment.{Moment}
-use Rattle.warp_tag.specs.Table.{name_before, has_name, fresh, known, changed, IsTable}
+use Rattle.warp_tag.specs.Table.{name_before, has_name, fresh, known, IsTable}
 use Rattle.warp_tag.specs.declared.entry.Entry.{Entry}
-use Rattle.warp_tag.proofs.Lists.{All-both, All-weaker, some_not_none, same_some}
+use Rattle.warp_tag.proofs.Lists.{All-weaker, some_not_none, same_some}
 use Rattle.warp_tag.proofs.Names.{ahead, ahead_not_before, named_not_before, named_is}
-use Rattle.warp_arena.specs.Places.{Place, IsOrdered, Contents, entries_of, entry_of, node_of, with_place, with_change}
+use Rattle.warp_arena.specs.Places.{Place, entries_of, entry_of, node_of, with_place, with_change}
 use Rattle.warp_arena.specs.Laws.{FindsKnown, ChangesFound, ChangesNew}
 use Rattle.warp_arena.proofs.Tables.{Precedes, All-unmap}
 use Rattle.warp_arena.proofs.Reading.{entry_of-here, entry_of-other}
@@ -85,9 +85,9 @@ finds_known o g (p ∷ ps) d =
             names = ap (option_and_then (λ n. entry_of n (p ∷ ps))) there ∙ same_behind o g p ps d (node_of o g ps) (λ n e. e) ∙ rest.names ∙ sym es;
           }
     ] where
-  same_behind : (o : ℕ) (g : Moment) (p : Place) (ps : List Place) → AreApart (p ∷ ps) → (found : Option ℕ) → ((n : ℕ) → found ≡ Some n → node_of o g ps ≡ Some n) → option_and_then (λ n. entry_of n (p ∷ ps)) found ≡ option_and_then (λ n. entry_of n ps) found
-  same_behind o g p ps d None f = refl
-  same_behind o g p ps d (Some n) f = entry_of-other p ps n (other_handle o g p ps d n (f n refl))
+      same_behind : (o : ℕ) (g : Moment) (p : Place) (ps : List Place) → AreApart (p ∷ ps) → (found : Option ℕ) → ((n : ℕ) → found ≡ Some n → node_of o g ps ≡ Some n) → option_and_then (λ n. entry_of n (p ∷ ps)) found ≡ option_and_then (λ n. entry_of n ps) found
+      same_behind o g p ps d None f = refl
+      same_behind o g p ps d (Some n) f = entry_of-other p ps n (other_handle o g p ps d n (f n refl))
 
 -- ---- changes
 

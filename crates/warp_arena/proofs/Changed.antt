@@ -12,7 +12,7 @@ use Rattle.warp_arena.specs.declared.node.Links.{Links}
 use Rattle.warp_arena.specs.declared.node.Node.{Node}
 use Rattle.warp_arena.specs.declared.node.TheConstants.{NO_NODE}
 use Rattle.warp_arena.specs.Places.{Place, entry_of, with_change}
-use Rattle.warp_arena.specs.Shape.{IsArena, IsWhole, threads_of, contents_of, used_of, unused_of, node_at, entry_at, by_tag, of_origin, place_at, members, no_node, no_links, next_in, prev_in, free_ends, IsChain, IsPath}
+use Rattle.warp_arena.specs.Shape.{IsArena, IsWhole, threads_of, contents_of, unused_of, node_at, entry_at, by_tag, of_origin, place_at, members, no_node, no_links, next_in, prev_in, free_ends, IsChain, IsPath}
 use Rattle.warp_arena.proofs.Rings.{length-walk}
 use Rattle.warp_arena.proofs.Tables.{Precedes, All-map, All-unmap}
 use Rattle.warp_arena.proofs.Walks.{threads, used}

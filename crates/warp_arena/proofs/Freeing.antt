@@ -5,12 +5,11 @@ use Rattle.std.proofs.lemmas.List.{length-append, drop_at, map-append}
 use Rattle.warp_tag.specs.Moment.{Moment, is_before}
 use Rattle.warp_tag.specs.Table.{IsTable}
 use Rattle.warp_tag.specs.declared.entry.Entry.{Entry}
-use Rattle.warp_tag.proofs.Lists.{All-weaker, All-append, filter-here, filter-past, some_not_none, same_some}
+use Rattle.warp_tag.proofs.Lists.{All-weaker, All-append, some_not_none, same_some}
 use Rattle.warp_tag.proofs.Names.{before_tag}
 use Rattle.warp_arena.specs.Places.{Place, Contents, entries_of, entry_of, first_node, places_past, places_through}
-use Rattle.warp_arena.proofs.Tables.{Precedes, All-unmap}
+use Rattle.warp_arena.proofs.Tables.{Precedes, All-unmap, filter_front, filter_back}
 use Rattle.warp_arena.proofs.Reading.{entry_of-here}
-use Rattle.warp_arena.proofs.Wholes.{filter_front}
 use Rattle.warp_arena.proofs.Inserted.{same_contents}
 
 -- what was freed so far: a front that is not after the tag
@@ -43,12 +42,6 @@ Freed-more tag start now' f d i first entry h next e =
           (omega (arith, ap (λ v. v.free) e, ap (λ v. v.free) f.others, length-append f.front (p ∷ [])))
           (ap (λ v. v.room) e ∙ ap (λ v. v.room) f.others);
     }
-
--- the elements that pass a test are the back, where those of a front fail it
-filter_back : {X : Type 0} (q : X → Bool) (xs ys : List X) → AllByRecursion (λ x. q x ≡ false) xs → AllByRecursion (λ x. q x ≡ true) ys → filter q (xs ++ ys) ≡ ys
-filter_back q [] [] a b = refl
-filter_back q [] (y ∷ ys) a b = filter-here q y ys b.0 ∙ ap (λ zs. y ∷ zs) (filter_back q [] ys tt b.1)
-filter_back q (x ∷ xs) ys a b = filter-past q x (xs ++ ys) a.0 ∙ filter_back q xs ys a.1 b
 
 -- what is left, where its first place is after the tag or it is empty
 pub record Stops (tag : Moment) (start now' : Contents) (n : ℕ) : Type 0 where

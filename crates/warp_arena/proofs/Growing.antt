@@ -1,7 +1,8 @@
 -- The arena at its start, and after it grew by one unused node.
-use Rattle.std.proofs.Common.{◌≡◌, ◌≢◌, ℕ, ◌+◌, ◌-◌, ◌<◌, Bool, cond, eqb, ltb, List, [], ◌∷◌, ◌++◌, length, refl, sym, ap, ◌∙◌, subst, inl, inr, arith, map, get_or, replicate, max}
+use Rattle.std.proofs.Common.{◌≡◌, ◌≢◌, ℕ, ◌+◌, ◌-◌, ◌<◌, cond, eqb, ltb, List, [], ◌∷◌, ◌++◌, length, refl, sym, ap, ◌∙◌, subst, inl, inr, arith, map, get_or, replicate}
 use Rattle.std.specs.List.{AllByRecursion}
-use Rattle.std.proofs.lemmas.Bool.{cases_lt, cases_order, eq-eqb, ne_eqb, lt-ltb, le-ltb}
+use Rattle.std.proofs.lemmas.Bool.{cases_lt, le-ltb}
+use Rattle.std.proofs.lemmas.Bool.Decides.{nat_tests}
 use Rattle.std.proofs.lemmas.List.{length-append, get_or_append_left, get_or_push, get_or_past, get_or-replicate, length-replicate}
 use Rattle.warp_tag.specs.Limits.{most_names}
 use Rattle.warp_tag.specs.Table.{IsTable}
@@ -12,11 +13,12 @@ use Rattle.warp_arena.specs.declared.node.Links.{Links}
 use Rattle.warp_arena.specs.declared.node.Node.{Node}
 use Rattle.warp_arena.specs.declared.node.TheConstants.{NO_NODE}
 use Rattle.warp_arena.specs.Places.{Place}
-use Rattle.warp_arena.specs.Shape.{Threads, IsArena, IsWhole, threads_of, contents_of, used_of, unused_of, count_of, node_at, entry_at, by_tag, of_origin, place_at, members, no_node, no_links, next_in, prev_in, free_ends, walk, IsChain}
-use Rattle.warp_arena.proofs.Rings.{IsSame, IsChain-frame, length-walk}
+use Rattle.warp_arena.specs.Shape.{Threads, IsArena, IsWhole, threads_of, contents_of, unused_of, count_of, node_at, entry_at, by_tag, of_origin, place_at, members, no_node, no_links, next_in, free_ends, walk, Spells}
+use Rattle.warp_arena.proofs.Rings.{length-walk}
 use Rattle.warp_arena.proofs.Tables.{map_agree}
 use Rattle.warp_arena.proofs.Shapes.{all_used_below, members_agree, none_unused}
-use Rattle.warp_arena.proofs.Walks.{threads, used, next_in-at}
+use Rattle.warp_arena.proofs.Listing.{next_in-at, Keeps, Spells-frame}
+use Rattle.warp_arena.proofs.Walks.{threads, used}
 use Rattle.warp_arena.proofs.Reading.{places}
 use Rattle.warp_arena.proofs.Wholes.{IsWhole-from, used_is, first_unused}
 use Rattle.warp_arena.proofs.Inserted.{same_contents}
@@ -65,6 +67,10 @@ none_free a w e =
       | inr above ↦ omega (arith, w.fits)
     ]
 
+-- one more number is below a bound that is one greater
+one_more : (c n m i : ℕ) → c ≡ cond (ltb i n) 1 0 → m ≡ n + 1 → c + count_of i (n ∷ []) ≡ cond (ltb i m) 1 0
+one_more c n m i e f = grind (arith, nat_tests)
+
 count_of_walk : (next : ℕ → ℕ) (i m : ℕ) → m ≡ 0 → count_of i (walk next m NO_NODE) ≡ 0
 count_of_walk next i m e = ap (λ k. count_of i (walk next k NO_NODE)) e
 
@@ -95,18 +101,9 @@ module _ (a : Inside) (w : IsWhole (threads a) a.used) (full : a.used ≡ length
   same_entries =
       All-weaker (λ i. node_at new i ≡ node_at a.nodes.items i) (λ i. entry_at new i ≡ entry_at a.nodes.items i) (λ i e. ap (λ k. k.entry) e) (used a) same_nodes
 
-  chain_kept : (f : Node → Links) (e : Links) (is : List ℕ) → AllByRecursion (λ i. node_at new i ≡ node_at a.nodes.items i) is
-      → IsChain (next_in e (λ i. f (node_at a.nodes.items i))) (prev_in e (λ i. f (node_at a.nodes.items i))) NO_NODE is NO_NODE
-      → IsChain (next_in e (λ i. f (node_at new i))) (prev_in e (λ i. f (node_at new i))) NO_NODE is NO_NODE
-  chain_kept f e is same chain =
-      let old_links : ℕ → Links = λ i. f (node_at a.nodes.items i) in
-      let new_links : ℕ → Links = λ i. f (node_at new i) in
-      IsChain-frame (next_in e old_links) (prev_in e old_links) (next_in e new_links) (prev_in e new_links) NO_NODE is NO_NODE chain refl
-      (All-weaker (λ i. node_at new i ≡ node_at a.nodes.items i) (IsSame (next_in e old_links) (next_in e new_links))
-      (λ i h. ap (λ m. cond (eqb i NO_NODE) e.next (f m).next) h) is same)
-      (All-weaker (λ i. node_at new i ≡ node_at a.nodes.items i) (IsSame (prev_in e old_links) (prev_in e new_links))
-      (λ i h. ap (λ m. cond (eqb i NO_NODE) e.prev (f m).prev) h) is same)
-      refl
+  kept : (f : Node → Links) (is : List ℕ) → AllByRecursion (λ i. node_at new i ≡ node_at a.nodes.items i) is → AllByRecursion (Keeps (λ i. f (node_at a.nodes.items i)) (λ i. f (node_at new i))) is
+  kept f is same =
+      All-weaker (λ i. node_at new i ≡ node_at a.nodes.items i) (Keeps (λ i. f (node_at a.nodes.items i)) (λ i. f (node_at new i))) (λ i h. ap f h) is same
 
   old_once : (i : ℕ) → count_of i (used a) ≡ cond (ltb i (length a.nodes.items)) 1 0
   old_once i =
@@ -115,37 +112,7 @@ module _ (a : Inside) (w : IsWhole (threads a) a.used) (full : a.used ≡ length
       omega (arith, w.shape.once i, none)
 
   once_pushed : (i : ℕ) → count_of i (used a) + count_of i (length a.nodes.items ∷ []) ≡ cond (ltb i (length new)) 1 0
-  once_pushed i =
-      let K : Bool → ℕ = λ b. cond b 1 0 in
-      elim (cases_order i (length a.nodes.items)) [
-        | inl same ↦
-            omega (
-              arith,
-              old_once i,
-              ap K (le-ltb i (length a.nodes.items) (omega arith)),
-              ap K (lt-ltb i (length new) (omega (arith, new_len))),
-              ap K (eq-eqb (length a.nodes.items) i (sym same)),
-            )
-        | inr other ↦
-            elim other [
-              | inl below ↦
-                  omega (
-                    arith,
-                    old_once i,
-                    ap K (lt-ltb i (length a.nodes.items) below),
-                    ap K (lt-ltb i (length new) (omega (arith, new_len))),
-                    ap K (ne_eqb (length a.nodes.items) i (λ e. omega arith)),
-                  )
-              | inr above ↦
-                  omega (
-                    arith,
-                    old_once i,
-                    ap K (le-ltb i (length a.nodes.items) (omega arith)),
-                    ap K (le-ltb i (length new) (omega (arith, new_len))),
-                    ap K (ne_eqb (length a.nodes.items) i (λ e. omega arith)),
-                  )
-            ]
-      ]
+  once_pushed i = one_more (count_of i (used a)) (length a.nodes.items) (length new) i (old_once i) new_len
 
   shape' : IsArena t' (used a) (length a.nodes.items ∷ [])
   shape' =
@@ -156,13 +123,13 @@ module _ (a : Inside) (w : IsWhole (threads a) a.used) (full : a.used ≡ length
         declared =
             All-both (λ i. entry_at new i ≡ entry_at a.nodes.items i) (λ i. (entry_at a.nodes.items i).origin < length a.origin_ends.items)
             (λ i. (entry_at new i).origin < length a.origin_ends.items) (λ i p q. subst (λ d. d.origin < length a.origin_ends.items) (sym p) q) (used a) same_entries w.shape.declared;
-        spelled = chain_kept (λ (m : Node). m.by_tag) a.ends (used a) same_nodes w.shape.spelled;
+        spelled = Spells-frame a.ends (by_tag a.nodes.items) (by_tag new) (used a) (kept (λ (m : Node). m.by_tag) (used a) same_nodes) w.shape.spelled;
         own = λ o h.
             let ms : List ℕ = members (entry_at a.nodes.items) o (used a) in
-            subst (λ is. IsChain (next_in (get_or a.origin_ends.items o no_links) (of_origin new)) (prev_in (get_or a.origin_ends.items o no_links) (of_origin new)) NO_NODE is NO_NODE)
-            (sym (members_agree (entry_at a.nodes.items) (entry_at new) o (used a) same_entries))
-            (chain_kept (λ (m : Node). m.of_origin) (get_or a.origin_ends.items o no_links) ms
-            (All-filter (λ i. node_at new i ≡ node_at a.nodes.items i) (λ i. eqb (entry_at a.nodes.items i).origin o) (used a) same_nodes)
+            let e : Links = get_or a.origin_ends.items o no_links in
+            subst (Spells e (of_origin new)) (sym (members_agree (entry_at a.nodes.items) (entry_at new) o (used a) same_entries))
+            (Spells-frame e (of_origin a.nodes.items) (of_origin new) ms
+            (kept (λ (m : Node). m.of_origin) ms (All-filter (λ i. node_at new i ≡ node_at a.nodes.items i) (λ i. eqb (entry_at a.nodes.items i).origin o) (used a) same_nodes))
             (w.shape.own o h));
         free = (
           refl,

@@ -1,13 +1,13 @@
 -- What handles name after a change, and that the handles which calls answer name something.
-use Rattle.std.proofs.Common.{◌≡◌, ◌≢◌, ℕ, Bool, true, false, cond, eqb, List, [], ◌∷◌, ◌++◌, refl, sym, ap, ◌∙◌, subst, inl, inr, map, filter, find, nat_eq, Option, Some, None, IsSome, IfSome}
+use Rattle.std.proofs.Common.{◌≡◌, ◌≢◌, ℕ, true, false, cond, eqb, List, [], ◌∷◌, ◌++◌, refl, sym, ap, ◌∙◌, subst, inl, inr, map, find, nat_eq, Some, None, IsSome}
 use Rattle.std.specs.List.{AllByRecursion, IsDistinct}
 use Rattle.std.specs.Option.{option_map, is_some}
 use Rattle.std.proofs.lemmas.Bool.{cases_eq, cases_Bool, eq-eqb, ne_eqb, false≢true}
 use Rattle.warp_tag.specs.Moment.{Moment, is_before}
 use Rattle.warp_tag.specs.Table.{name_before, has_name}
 use Rattle.warp_tag.specs.declared.entry.Entry.{Entry}
-use Rattle.warp_tag.proofs.Lists.{filter-here, filter-past, some_not_none, same_some}
-use Rattle.warp_arena.specs.Places.{Place, entry_of, node_of, first_node, last_node, places_after, places_before, with_place, with_change}
+use Rattle.warp_tag.proofs.Lists.{some_not_none, same_some}
+use Rattle.warp_arena.specs.Places.{Place, entry_of, node_of, with_place, with_change}
 use Rattle.warp_arena.proofs.Reading.{entry_of-here, entry_of-other, some_more}
 
 -- ---- a place comes in

@@ -1,4 +1,5 @@
 pub mod Rings
+pub mod Listing
 pub mod Tables
 pub mod Shapes
 pub mod Walks

@@ -1,19 +1,21 @@
 -- What the calls that read a node find there.
-use Rattle.std.proofs.Common.{◌≡◌, ◌≢◌, ℕ, ◌<◌, cond, eqb, List, [], ◌∷◌, ◌++◌, length, refl, sym, ap, ◌∙◌, subst, inl, inr, map, append_assoc, drop, Option, Some, None, IsSome, IfSome, MatchOption, find, unwrap_or}
+use Rattle.std.proofs.Common.{◌≡◌, ◌≢◌, ℕ, ◌+◌, ◌<◌, cond, eqb, List, [], ◌∷◌, ◌++◌, length, refl, sym, ap, ◌∙◌, subst, inl, inr, map, append_assoc, drop, Option, Some, None, IsSome, IfSome, MatchOption, find, unwrap_or}
 use Rattle.std.specs.List.{AllByRecursion}
 use Rattle.std.specs.Option.{option_map, is_some}
 use Rattle.std.proofs.lemmas.Bool.{cases_eq, eq-eqb, ne_eqb, false≢true}
+use Rattle.std.proofs.lemmas.List.{drop-drop}
 use Rattle.warp_tag.specs.declared.entry.Entry.{Entry}
 use Rattle.warp_tag.proofs.Lists.{All-weaker, All-left, All-right, All-filter}
 use Rattle.warp_arena.specs.declared.arena.Arena.TheInside.{Inside}
 use Rattle.warp_arena.specs.declared.node.Links.{Links}
 use Rattle.warp_arena.specs.declared.node.TheConstants.{NO_NODE}
 use Rattle.warp_arena.specs.Places.{Place, Reaches, places_of, entry_of, origin_of, first_node, last_node, left_at, places_from, places_after, places_before}
-use Rattle.warp_arena.specs.Shape.{IsWhole, members, place_at, IsChain, last_or, first_or, next_in, prev_in}
+use Rattle.warp_arena.specs.Shape.{IsWhole, members, place_at, Spells, last_or, first_or, next_in, prev_in}
 use Rattle.warp_arena.proofs.Rings.{IsOff, IsApart, IsOff-front, IsChain-split, by_last, last_or-push}
 use Rattle.warp_arena.proofs.Tables.{places_of-members}
 use Rattle.warp_arena.proofs.Shapes.{members-append, members_here}
-use Rattle.warp_arena.proofs.Walks.{Listed, threads, used, owned, Listed-tags, Listed-origin, next_in-at, prev_in-at}
+use Rattle.warp_arena.proofs.Listing.{Listed, next_in-at, prev_in-at}
+use Rattle.warp_arena.proofs.Walks.{threads, used, owned, Listed-tags, Listed-origin}
 
 -- the index stands in the list
 pub record Found (i : ℕ) (is : List ℕ) : Type 0 where
@@ -125,33 +127,32 @@ module _ (entry : ℕ → Entry) where
             ∙ left_first front back (subst IsApart parts apart);
       }
 
--- the links at a node of a list
-module _ (size : ℕ) (ends : Links) (links : ℕ → Links) (is : List ℕ) (l : Listed size ends links is) (i : ℕ) (front back : List ℕ) (parts : is ≡ front ++ i ∷ back) where
-  pub found_below : i < size
-  found_below = (All-right (λ j. j < size) front (i ∷ back) (subst (AllByRecursion (λ j. j < size)) parts l.below)).0
+-- what the links of a node of a list say
+pub record LinksAt (size : ℕ) (links : Links) (i : ℕ) (front back : List ℕ) : Type 0 where
+  pub below : i < size
+  pub before : IsOff NO_NODE front
+  pub behind : IsOff NO_NODE back
+  pub next_is : links.next ≡ first_or back NO_NODE
+  pub prev_is : links.prev ≡ last_or NO_NODE front
 
-  pub found_not_none : i ≢ NO_NODE
-  found_not_none = (All-right (λ j. j ≢ NO_NODE) front (i ∷ back) (subst (IsOff NO_NODE) parts l.none)).0
-
-  pub back_not_none : IsOff NO_NODE back
-  back_not_none = (All-right (λ j. j ≢ NO_NODE) front (i ∷ back) (subst (IsOff NO_NODE) parts l.none)).1
-
-  pub front_not_none : IsOff NO_NODE front
-  front_not_none = All-left (λ j. j ≢ NO_NODE) front (i ∷ back) (subst (IsOff NO_NODE) parts l.none)
-
-  pub found_next : (links i).next ≡ first_or back NO_NODE
-  found_next =
-      let whole : is ≡ (front ++ i ∷ []) ++ back = parts ∙ sym (append_assoc front (i ∷ []) back) in
-      sym (next_in-at ends links i found_not_none)
-      ∙ ap (next_in ends links) (sym (last_or-push NO_NODE front i))
-      ∙ (IsChain-split (next_in ends links) (prev_in ends links) NO_NODE (front ++ i ∷ []) back NO_NODE
-      (subst (λ js. IsChain (next_in ends links) (prev_in ends links) NO_NODE js NO_NODE) whole l.chain)).0
-
-  pub found_prev : (links i).prev ≡ last_or NO_NODE front
-  found_prev =
-      sym (prev_in-at ends links i found_not_none)
-      ∙ (IsChain-split (next_in ends links) (prev_in ends links) NO_NODE front (i ∷ back) NO_NODE
-      (subst (λ js. IsChain (next_in ends links) (prev_in ends links) NO_NODE js NO_NODE) parts l.chain)).1
+links_at : (size : ℕ) (ends : Links) (links : ℕ → Links) (is : List ℕ) → Listed size ends links is → (i : ℕ) (front back : List ℕ) → is ≡ front ++ i ∷ back → LinksAt size (links i) i front back
+links_at size ends links is l i front back parts =
+    let none : IsOff NO_NODE (front ++ i ∷ back) = subst (IsOff NO_NODE) parts l.none in
+    let from : IsOff NO_NODE (i ∷ back) = All-right (λ j. j ≢ NO_NODE) front (i ∷ back) none in
+    let chain : Spells ends links (front ++ i ∷ back) = subst (Spells ends links) parts l.chain in
+    record {
+      below = (All-right (λ j. j < size) front (i ∷ back) (subst (AllByRecursion (λ j. j < size)) parts l.below)).0;
+      before = All-left (λ j. j ≢ NO_NODE) front (i ∷ back) none;
+      behind = from.1;
+      next_is =
+          sym (next_in-at ends links i from.0)
+          ∙ ap (next_in ends links) (sym (last_or-push NO_NODE front i))
+          ∙ (IsChain-split (next_in ends links) (prev_in ends links) NO_NODE (front ++ i ∷ []) back NO_NODE
+          (subst (Spells ends links) (sym (append_assoc front (i ∷ []) back)) chain)).0;
+      prev_is =
+          sym (prev_in-at ends links i from.0)
+          ∙ (IsChain-split (next_in ends links) (prev_in ends links) NO_NODE front (i ∷ back) NO_NODE chain).1;
+    }
 
 -- the places of an arena
 abbrev pub places : Inside → List Place
@@ -161,18 +162,16 @@ module _ (a : Inside) (w : IsWhole (threads a) a.used) (i : ℕ) (h : IsSome (en
   pub found : Found i (used a)
   found = Found-from (threads a).entry i (used a) h
 
+  tag_links : LinksAt (length a.nodes.items) ((threads a).links i) i found.front found.back
+  tag_links = links_at (length a.nodes.items) a.ends (threads a).links (used a) (Listed-tags a w) i found.front found.back found.parts
+
   pub used_found_below : i < length a.nodes.items
-  used_found_below =
-      found_below (length a.nodes.items) a.ends (threads a).links (used a) (Listed-tags a w) i found.front found.back found.parts
+  used_found_below = tag_links.below
 
   pub entry_found : entry_of i (places a) ≡ Some ((threads a).entry i)
   entry_found =
       ap (λ is. entry_of i (map (place_at (threads a).entry) is)) found.parts
       ∙ entry_of-at (threads a).entry i found.front found.back found.off
-
-  -- the list of the tags, at the node
-  abbrev size : ℕ
-  size = length a.nodes.items
 
   whole_is : used a ≡ (found.front ++ i ∷ []) ++ found.back
   whole_is = found.parts ∙ sym (append_assoc found.front (i ∷ []) found.back)
@@ -190,12 +189,9 @@ module _ (a : Inside) (w : IsWhole (threads a) a.used) (i : ℕ) (h : IsSome (en
 
   pub next_found : (k : ℕ) → k ≡ ((threads a).links i).next → Reaches (places a) (places_after i (places a)) (cond (eqb k NO_NODE) None (Some k))
   next_found k e =
-      let l = Listed-tags a w in
       subst (λ ps. Reaches (places a) ps (cond (eqb k NO_NODE) None (Some k))) (sym after_found)
-      (Reaches-back (threads a).entry (used a) (found.front ++ i ∷ []) found.back whole_is l.apart (cond (eqb k NO_NODE) None (Some k))
-      (handle_first (threads a).entry found.back k
-      (e ∙ found_next size a.ends (threads a).links (used a) l i found.front found.back found.parts)
-      (back_not_none size a.ends (threads a).links (used a) l i found.front found.back found.parts)))
+      (Reaches-back (threads a).entry (used a) (found.front ++ i ∷ []) found.back whole_is (Listed-tags a w).apart (cond (eqb k NO_NODE) None (Some k))
+      (handle_first (threads a).entry found.back k (e ∙ tag_links.next_is) tag_links.behind))
 
   -- what the link back says
   pub record PrevFound (r : Option ℕ) : Type 0 where
@@ -221,11 +217,8 @@ module _ (a : Inside) (w : IsWhole (threads a) a.used) (i : ℕ) (h : IsSome (en
 
   pub prev_found : (k : ℕ) → k ≡ ((threads a).links i).prev → PrevFound (cond (eqb k NO_NODE) None (Some k))
   prev_found k e =
-      let l = Listed-tags a w in
       let P : ℕ → Type 0 = λ j. IsSome (entry_of j (places a)) in
-      let last = handle_last (threads a).entry found.front k
-      (e ∙ found_prev size a.ends (threads a).links (used a) l i found.front found.back found.parts)
-      (front_not_none size a.ends (threads a).links (used a) l i found.front found.back found.parts) in
+      let last = handle_last (threads a).entry found.front k (e ∙ tag_links.prev_is) tag_links.before in
       record {
         handle =
             last
@@ -254,17 +247,20 @@ module _ (a : Inside) (w : IsWhole (threads a) a.used) (i : ℕ) (h : IsSome (en
       ap (members entry o) found.parts
       ∙ members-append entry o found.front (i ∷ found.back)
       ∙ ap (λ is. ms ++ is) (members_here entry o i found.back refl) in
-      let l = Listed-origin a w o declared in
+      let links = links_at (length a.nodes.items) ((threads a).own_ends o) (threads a).own_links (owned a o) (Listed-origin a w o declared) i ms ns parts in
       let origin : origin_of i (places a) ≡ o = ap (λ d. unwrap_or (option_map (λ (x : Entry). x.origin) d) 0) entry_found in
-      let first = handle_first entry ns k
-      (e ∙ found_next size ((threads a).own_ends o) (threads a).own_links (owned a o) l i ms ns parts)
-      (back_not_none size ((threads a).own_ends o) (threads a).own_links (owned a o) l i ms ns parts) in
+      let first = handle_first entry ns k (e ∙ links.next_is) links.behind in
       record {
         handle = first ∙ ap first_node (sym (
-        ap (λ q. places_of q (places_after i (places a))) origin
-        ∙ ap (places_of o) after_found
-        ∙ places_of-members entry o found.back));
+            ap (λ q. places_of q (places_after i (places a))) origin
+            ∙ ap (places_of o) after_found
+            ∙ places_of-members entry o found.back));
         used =
             subst (λ r. IfSome r P) (sym first) (first_holds_of entry P ns (All-filter P (λ j. eqb (entry j).origin o) found.back
             (All-right P found.front (i ∷ found.back) (subst (AllByRecursion P) found.parts (all_named entry (used a)))).1));
       }
+
+-- one step of a walk along all places
+pub Reaches-next : (ps : List Place) (k node : ℕ) (at r : Option ℕ) → at ≡ Some node → Reaches ps (drop k ps) at → Reaches ps (places_after node ps) r → Reaches ps (drop (k + 1) ps) r
+Reaches-next ps k node at r is here there =
+    subst (λ qs. Reaches ps qs r) (ap (drop 1) (sym (ap (λ x. left_at x ps) is) ∙ here.left) ∙ drop-drop 1 k ps) there

@@ -1,5 +1,5 @@
 -- The arena after its first node is freed.
-use Rattle.std.proofs.Common.{◌≡◌, ◌≢◌, ℕ, zero, suc, ◌+◌, ◌-◌, ◌<◌, eqb, List, [], ◌∷◌, length, refl, sym, ap, ◌∙◌, subst, arith, map, get_or, set, drop}
+use Rattle.std.proofs.Common.{◌≡◌, ℕ, zero, suc, ◌+◌, ◌-◌, ◌<◌, eqb, List, [], ◌∷◌, length, refl, sym, ap, ◌∙◌, subst, arith, map, get_or, set, drop}
 use Rattle.std.specs.List.{AllByRecursion}
 use Rattle.std.specs.Vec.{vec_capacity}
 use Rattle.std.proofs.lemmas.List.{length-set, length-map}
@@ -11,11 +11,11 @@ use Rattle.warp_arena.specs.declared.node.Node.{Node}
 use Rattle.warp_arena.specs.declared.node.TheConstants.{NO_NODE}
 use Rattle.warp_arena.specs.Changes.{Unthreaded, IsPlace, CanUnthread}
 use Rattle.warp_arena.specs.Places.{Place, Contents}
-use Rattle.warp_arena.specs.Shape.{IsArena, IsWhole, threads_of, contents_of, used_of, unused_of, entry_at, place_at, members, no_links, next_in, prev_in, walk, IsChain, free_ends}
+use Rattle.warp_arena.specs.Shape.{IsArena, IsWhole, threads_of, contents_of, unused_of, entry_at, place_at, members, no_links, next_in, prev_in, walk, IsChain, free_ends}
 use Rattle.warp_arena.proofs.Rings.{first_holds, IsChain-split, length-walk}
 use Rattle.warp_arena.proofs.Tables.{map_agree}
 use Rattle.warp_arena.proofs.Shapes.{all_used_below, none_used, members_here}
-use Rattle.warp_arena.proofs.Walks.{threads, used}
+use Rattle.warp_arena.proofs.Walks.{threads, used, node_read, ends_read}
 use Rattle.warp_arena.proofs.Reading.{places}
 use Rattle.warp_arena.proofs.Removing.{IsArena-remove, All-same}
 use Rattle.warp_arena.proofs.Wholes.{IsWhole-from, used_is}
@@ -88,6 +88,29 @@ unthreadable a l =
             (All-filter (λ i. i < t.size) (λ i. eqb (t.entry i).origin o) l.rest below.1);
       };
       declared = l.shape.declared.0;
+    }
+
+-- what the reads of the first node and of its origin's ends give
+pub record FirstRead (a : Inside) (n : Node) (own : Links) : Type 0 where
+  pub is_own : ((threads a).entry a.ends.next).origin ≡ n.entry.origin
+  pub own_is : own ≡ get_or a.origin_ends.items n.entry.origin no_links
+  pub owns : CanUnthread (length a.nodes.items) (next_in own (threads a).own_links) a.ends.next
+
+pub first_declared : (a : Inside) (l : Leaving a) (n : Node) → n ≡ get_or a.nodes.items a.ends.next n → n.entry.origin < length a.origin_ends.items
+first_declared a l n rn =
+    subst (λ (m : Node). m.entry.origin < length a.origin_ends.items) (sym (node_read a.nodes.items a.ends.next n (unthreadable a l).tags.at_in rn)) l.shape.declared.0
+
+pub first_read : (a : Inside) (l : Leaving a) (n : Node) (own : Links) → n ≡ get_or a.nodes.items a.ends.next n → own ≡ get_or a.origin_ends.items n.entry.origin own → FirstRead a n own
+first_read a l n own rn ro =
+    let u = unthreadable a l in
+    let is_own : ((threads a).entry a.ends.next).origin ≡ n.entry.origin = ap (λ (m : Node). m.entry.origin) (sym (node_read a.nodes.items a.ends.next n u.tags.at_in rn)) in
+    let own_is = ends_read a.origin_ends.items n.entry.origin own (first_declared a l n rn) ro in
+    record {
+      is_own = is_own;
+      own_is = own_is;
+      owns =
+          subst (λ (k : Links). CanUnthread (length a.nodes.items) (next_in k (threads a).own_links) a.ends.next)
+          (ap (λ o. get_or a.origin_ends.items o no_links) is_own ∙ sym own_is) u.owns;
     }
 
 module _ (a : Inside) (l : Leaving a) (new : List Node) (own ends' e' : Links) (o : ℕ)

@@ -131,10 +131,6 @@ IsOff-count x (i ∷ is) e =
       | inr other ↦ (other, IsOff-count x is (sym (count_of-other x i is other) ∙ e))
     ]
 
-pub count-off : (x : ℕ) (is : List ℕ) → IsOff x is → count_of x is ≡ 0
-count-off x [] e = refl
-count-off x (i ∷ is) e = count_of-other x i is e.0 ∙ count-off x is e.1
-
 -- no index stands twice
 pub IsApart-count : (is : List ℕ) → ((x : ℕ) → count_of x is ≤ 1) → IsApart is
 IsApart-count [] h = tt

@@ -3,9 +3,11 @@ use Rattle.std.proofs.Common.{◌≡◌, ◌≢◌, ℕ, ◌+◌, ◌<◌, ◌�
 use Rattle.std.specs.List.{AllByRecursion}
 use Rattle.std.proofs.lemmas.Bool.{cases_Bool, cases_lt, lt-ltb, le-ltb, eq-eqb, ne_eqb, eqb-true}
 use Rattle.warp_tag.specs.declared.entry.Entry.{Entry}
-use Rattle.warp_tag.proofs.Lists.{All-weaker, filter-here, filter-past, All-filter, All-kept}
+use Rattle.warp_tag.proofs.Lists.{All-both, All-weaker, filter-here, filter-past, All-filter, All-kept}
 use Rattle.warp_arena.specs.Shape.{Threads, IsArena, count_of, members}
 use Rattle.warp_arena.specs.declared.node.TheConstants.{NO_NODE}
+use Rattle.warp_arena.specs.declared.node.Links.{Links}
+use Rattle.warp_arena.proofs.Listing.{Keeps}
 use Rattle.warp_arena.proofs.Rings.{IsOff, IsApart, All-from_in, IsApart-count, IsOff-count}
 use Rattle.std.proofs.lemmas.List.Elements.{filter-append}
 
@@ -96,3 +98,11 @@ members_own entry o is =
 pub members_not : (entry : ℕ → Entry) (o i : ℕ) (is : List ℕ) → (entry i).origin ≢ o → IsOff i (members entry o is)
 members_not entry o i is n =
     All-weaker (λ j. (entry j).origin ≡ o) (λ j. j ≢ i) (λ j h e. n (ap (λ k. (entry k).origin) (sym e) ∙ h)) (members entry o is) (members_own entry o is)
+
+-- the nodes of another origin keep their links, where a change concerns one origin's list and one node more
+pub kept_others : (entry : ℕ → Entry) (links links' : ℕ → Links) (o q x : ℕ) (is : List ℕ) → q ≢ o → IsOff NO_NODE is → IsOff x is → ((i : ℕ) → i ≢ NO_NODE → i ≢ x → (entry i).origin ≢ o → Keeps links links' i) → AllByRecursion (Keeps links links') (members entry q is)
+kept_others entry links links' o q x is other none off keep =
+    All-both (λ i. (entry i).origin ≢ o) (λ i. (i ≢ NO_NODE) × (i ≢ x)) (Keeps links links') (λ i a b. keep i b.0 b.1 a) (members entry q is)
+    (All-weaker (λ i. (entry i).origin ≡ q) (λ i. (entry i).origin ≢ o) (λ i a e. other (sym a ∙ e)) (members entry q is) (members_own entry q is))
+    (All-filter (λ i. (i ≢ NO_NODE) × (i ≢ x)) (λ i. eqb (entry i).origin q) is
+    (All-both (λ i. i ≢ NO_NODE) (λ i. i ≢ x) (λ i. (i ≢ NO_NODE) × (i ≢ x)) (λ i a b. (a, b)) is none off))

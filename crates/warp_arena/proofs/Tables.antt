@@ -1,17 +1,18 @@
 -- Entries in order, and the entries of one origin among them.
-use Rattle.std.proofs.Common.{◌≡◌, ◌≢◌, ℕ, suc, ◌<◌, ◌≤◌, Bool, true, false, cond, eqb, List, [], ◌∷◌, ◌++◌, length, refl, sym, ap, ◌∙◌, subst, inl, inr, arith, map, filter, append_assoc}
+use Rattle.std.proofs.Common.{◌≡◌, ◌≢◌, ℕ, Bool, true, false, not, eqb, List, [], ◌∷◌, ◌++◌, refl, sym, ap, ◌∙◌, subst, inl, inr, map, filter}
 use Rattle.std.specs.List.{AllByRecursion}
-use Rattle.std.proofs.lemmas.Bool.{cases_Bool, eq-eqb, ne_eqb, false≢true}
-use Rattle.std.proofs.lemmas.List.{map-append, append-nil, length-append}
-use Rattle.warp_tag.specs.Moment.{Moment, is_before}
+use Rattle.std.proofs.lemmas.Bool.{cases_Bool, false≢true}
+use Rattle.std.proofs.lemmas.List.{append-nil}
+use Rattle.std.proofs.lemmas.List.Elements.{filter-append}
+use Rattle.warp_tag.specs.Moment.{Moment}
 use Rattle.warp_tag.specs.Table.{name_before, IsTable}
 use Rattle.warp_tag.specs.declared.entry.Entry.{Entry}
 use Rattle.warp_tag.proofs.Lists.{All-weaker, All-append, All-left, All-right, filter-here, filter-past, All-filter}
-use Rattle.warp_tag.proofs.Names.{before_tag, name_before_trans}
+use Rattle.warp_tag.proofs.Names.{name_before_trans}
 use Rattle.warp_arena.specs.Places.{Place, places_of}
-use Rattle.warp_arena.specs.Shape.{members, place_at, IsChain, last_or, Splits}
+use Rattle.warp_arena.specs.Shape.{members, place_at, last_or, last_not_after}
 use Rattle.warp_arena.specs.declared.node.TheConstants.{NO_NODE}
-use Rattle.warp_arena.proofs.Rings.{IsOff, IsApart, IsChain-split, by_last, last_or-push, rank, rank_at, IsOff-front}
+use Rattle.warp_arena.proofs.Rings.{IsOff, by_last, last_or-push}
 
 -- the entry comes before the other
 abbrev pub Precedes : Entry → Entry → Type 0
@@ -74,133 +75,88 @@ pub nodes_of-places : (entry : ℕ → Entry) (is : List ℕ) → map (λ (p : P
 nodes_of-places entry [] = refl
 nodes_of-places entry (i ∷ is) = ap (λ js. i ∷ js) (nodes_of-places entry is)
 
--- ---- walking a list from its end
+-- ---- lists that a test parts in two
 
--- a walk that came from the end to this place has left only later entries behind
-pub record Stands (later : ℕ → Bool) (used : List ℕ) (at : ℕ) : Type 0 where
-  pub front : List ℕ
-  pub back : List ℕ
-  pub parts : used ≡ front ++ back
-  pub last : at ≡ last_or NO_NODE front
-  pub past : AllByRecursion (λ i. later i ≡ true) back
+pub not_true : (b : Bool) → not b ≡ true → b ≡ false
+not_true true h = absurd (false≢true h)
+not_true false h = refl
 
--- how many places a walk still has before it
-abbrev pub steps_left : ℕ → List ℕ → ℕ
-steps_left at used = cond (eqb at NO_NODE) 0 (rank at used)
+filter_none : {X : Type 0} (q : X → Bool) (xs : List X) → AllByRecursion (λ x. q x ≡ false) xs → filter q xs ≡ []
+filter_none q [] a = refl
+filter_none q (x ∷ xs) a = filter-past q x xs a.0 ∙ filter_none q xs a.1
 
--- a walk at a node: the node, and what stands before and behind it
-pub record StandsAt (later : ℕ → Bool) (used : List ℕ) (at : ℕ) : Type 0 where
-  pub front : List ℕ
-  pub back : List ℕ
-  pub parts : used ≡ front ++ at ∷ back
-  pub past : AllByRecursion (λ i. later i ≡ true) back
+pub filter_all : {X : Type 0} (q : X → Bool) (xs : List X) → AllByRecursion (λ x. q x ≡ true) xs → filter q xs ≡ xs
+filter_all q [] a = refl
+filter_all q (x ∷ xs) a = filter-here q x xs a.0 ∙ ap (λ ys. x ∷ ys) (filter_all q xs a.1)
 
-pub Stands-start : (later : ℕ → Bool) (used : List ℕ) (at : ℕ) → at ≡ last_or NO_NODE used → Stands later used at
-Stands-start later used at e =
-    record { front = used; back = []; parts = sym (append-nil used); last = e; past = tt }
+All-not : {X : Type 0} (q : X → Bool) (b c : Bool) → not b ≡ c → (xs : List X) → AllByRecursion (λ x. q x ≡ b) xs → AllByRecursion (λ x. not (q x) ≡ c) xs
+All-not q b c e xs a = All-weaker (λ x. q x ≡ b) (λ x. not (q x) ≡ c) (λ x h. ap not h ∙ e) xs a
 
-pub StandsAt-from : (later : ℕ → Bool) (used : List ℕ) (at : ℕ) → Stands later used at → at ≢ NO_NODE → StandsAt later used at
-StandsAt-from later used at s n =
-    elim (by_last s.front) [
-      | inl none ↦ absurd (n (s.last ∙ ap (last_or NO_NODE) none))
-      | inr some ↦
-          let here : at ≡ some.1 = s.last ∙ ap (last_or NO_NODE) some.2 ∙ last_or-push NO_NODE some.0 some.1 in
-          record {
-            front = some.0;
-            back = s.back;
-            parts =
-                s.parts ∙ ap (λ xs. xs ++ s.back) some.2 ∙ append_assoc some.0 (some.1 ∷ []) s.back
-                ∙ ap (λ k. some.0 ++ k ∷ s.back) (sym here);
-            past = s.past;
-          }
+-- where a front fails the test and a back passes it, those that fail are the front, and those that pass the back
+pub filter_front : {X : Type 0} (q : X → Bool) (xs ys : List X) → AllByRecursion (λ x. q x ≡ false) xs → AllByRecursion (λ x. q x ≡ true) ys → filter (λ x. not (q x)) (xs ++ ys) ≡ xs
+filter_front q xs ys a b =
+    filter-append (λ x. not (q x)) xs ys
+    ∙ ap (λ zs. zs ++ filter (λ x. not (q x)) ys) (filter_all (λ x. not (q x)) xs (All-not q false true refl xs a))
+    ∙ ap (λ zs. xs ++ zs) (filter_none (λ x. not (q x)) ys (All-not q true false refl ys b)) ∙ append-nil xs
+
+pub filter_back : {X : Type 0} (q : X → Bool) (xs ys : List X) → AllByRecursion (λ x. q x ≡ false) xs → AllByRecursion (λ x. q x ≡ true) ys → filter q (xs ++ ys) ≡ ys
+filter_back q xs ys a b =
+    filter-append q xs ys ∙ ap (λ zs. zs ++ filter q ys) (filter_none q xs a) ∙ filter_all q ys b
+
+pub filter_comm : {X : Type 0} (p q : X → Bool) (xs : List X) → filter p (filter q xs) ≡ filter q (filter p xs)
+filter_comm p q [] = refl
+filter_comm p q (x ∷ xs) =
+    elim (cases_Bool (p x)) [
+      | inl a ↦
+          elim (cases_Bool (q x)) [
+            | inl b ↦
+                ap (filter p) (filter-here q x xs b) ∙ filter-here p x (filter q xs) a ∙ ap (λ ys. x ∷ ys) (filter_comm p q xs)
+                ∙ sym (ap (filter q) (filter-here p x xs a) ∙ filter-here q x (filter p xs) b)
+            | inr b ↦
+                ap (filter p) (filter-past q x xs b) ∙ filter_comm p q xs ∙ sym (ap (filter q) (filter-here p x xs a) ∙ filter-past q x (filter p xs) b)
+          ]
+      | inr a ↦
+          elim (cases_Bool (q x)) [
+            | inl b ↦
+                ap (filter p) (filter-here q x xs b) ∙ filter-past p x (filter q xs) a ∙ filter_comm p q xs ∙ sym (ap (filter q) (filter-past p x xs a))
+            | inr b ↦ ap (filter p) (filter-past q x xs b) ∙ filter_comm p q xs ∙ sym (ap (filter q) (filter-past p x xs a))
+          ]
     ]
 
-steps_at_most : (at : ℕ) (is : List ℕ) (n : ℕ) → rank at is ≤ n → steps_left at is ≤ n
-steps_at_most at is n h = elim (eqb at NO_NODE) as (λ b. cond b 0 (rank at is) ≤ n) [ true ↦ omega arith | false ↦ h ]
+-- what a walk from the end leaves behind does not count for the last one before it
+pub last_kept : (p : ℕ → Bool) (front back : List ℕ) (at : ℕ) → at ≡ last_or NO_NODE front → AllByRecursion (λ i. p i ≡ false) back → (at ≢ NO_NODE → p at ≡ true) → IsOff NO_NODE front → at ≡ last_or NO_NODE (filter p (front ++ back))
+last_kept p front back at e past here off =
+    let left : filter p (front ++ back) ≡ filter p front =
+    filter-append p front back ∙ ap (λ zs. filter p front ++ zs) (filter_none p back past) ∙ append-nil (filter p front) in
+    elim (by_last front) [
+      | inl none ↦ e ∙ ap (last_or NO_NODE) none ∙ sym (ap (last_or NO_NODE) (left ∙ ap (filter p) none))
+      | inr some ↦
+          let k : ℕ = some.1 in
+          let is : at ≡ k = e ∙ ap (last_or NO_NODE) some.2 ∙ last_or-push NO_NODE some.0 k in
+          let node : k ≢ NO_NODE = (All-right (λ i. i ≢ NO_NODE) some.0 (k ∷ []) (subst (IsOff NO_NODE) some.2 off)).0 in
+          let kept : p k ≡ true = subst (λ j. p j ≡ true) is (here (λ h. node (sym is ∙ h))) in
+          is ∙ sym (ap (last_or NO_NODE) (left ∙ ap (filter p) some.2 ∙ filter-append p some.0 (k ∷ []) ∙ ap (λ zs. filter p some.0 ++ zs) (filter-here p k [] kept))
+          ∙ last_or-push NO_NODE (filter p some.0) k)
+    ]
 
-module _ (next prev : ℕ → ℕ) (later : ℕ → Bool) (used : List ℕ) (chain : IsChain next prev NO_NODE used NO_NODE) where
-  pub prev_of_at : (at : ℕ) (s : StandsAt later used at) → prev at ≡ last_or NO_NODE s.front
-  prev_of_at at s =
-      (IsChain-split next prev NO_NODE s.front (at ∷ s.back) NO_NODE (subst (λ is. IsChain next prev NO_NODE is NO_NODE) s.parts chain)).1
+-- in order, the nodes whose names are not after this one stand before the others
+pub sorted_parts : (o : ℕ) (g : Moment) (entry : ℕ → Entry) (is : List ℕ) → IsTable (map entry is) → is ≡ filter (λ i. not (name_before o g (entry i))) is ++ filter (λ i. name_before o g (entry i)) is
+sorted_parts o g entry [] t = refl
+sorted_parts o g entry (i ∷ is) t =
+    let q : ℕ → Bool = λ j. name_before o g (entry j) in
+    elim (cases_Bool (q i)) [
+      | inl so ↦
+          let all : AllByRecursion (λ j. q j ≡ true) (i ∷ is) =
+          (so, All-weaker (λ j. Precedes (entry i) (entry j)) (λ j. q j ≡ true) (λ j p. name_before_trans o g (entry i) (entry j) so p) is (All-unmap (λ e. Precedes (entry i) e) entry is t.0)) in
+          sym (ap (λ xs. xs ++ filter q (i ∷ is)) (filter_none (λ j. not (q j)) (i ∷ is) (All-not q true false refl (i ∷ is) all)) ∙ filter_all q (i ∷ is) all)
+      | inr not_so ↦
+          ap (λ xs. i ∷ xs) (sorted_parts o g entry is t.1)
+          ∙ sym (ap (λ xs. xs ++ filter q (i ∷ is)) (filter-here (λ j. not (q j)) i is (ap not not_so))
+          ∙ ap (λ xs. (i ∷ filter (λ j. not (q j)) is) ++ xs) (filter-past q i is not_so))
+    ]
 
-  pub Stands-back : (at : ℕ) → Stands later used at → at ≢ NO_NODE → later at ≡ true → Stands later used (prev at)
-  Stands-back at s n h =
-      let w = StandsAt-from later used at s n in
-      record { front = w.front; back = at ∷ w.back; parts = w.parts; last = prev_of_at at w; past = (h, w.past) }
-
-  pub steps_left-back : IsApart used → (at : ℕ) → Stands later used at → at ≢ NO_NODE → steps_left (prev at) used < steps_left at used
-  steps_left-back apart at s n =
-      let w = StandsAt-from later used at s n in
-      let apart' : IsApart (w.front ++ at ∷ w.back) = subst IsApart w.parts apart in
-      let ranks : rank at used ≡ suc (length w.front) = ap (rank at) w.parts ∙ rank_at at w.front w.back (IsOff-front at w.front w.back apart') in
-      let here : steps_left at used ≡ suc (length w.front) = ap (λ b. cond b 0 (rank at used)) (ne_eqb at NO_NODE n) ∙ ranks in
-      let there : steps_left (prev at) used ≤ length w.front =
-      elim (by_last w.front) [
-        | inl none ↦
-            let e : prev at ≡ NO_NODE = prev_of_at at w ∙ ap (last_or NO_NODE) none in
-            omega (arith, ap (λ b. cond b 0 (rank (prev at) used)) (eq-eqb (prev at) NO_NODE e))
-        | inr some ↦
-            let e : prev at ≡ some.1 = prev_of_at at w ∙ ap (last_or NO_NODE) some.2 ∙ last_or-push NO_NODE some.0 some.1 in
-            let parts : used ≡ some.0 ++ some.1 ∷ (at ∷ w.back) =
-            w.parts ∙ ap (λ xs. xs ++ at ∷ w.back) some.2 ∙ append_assoc some.0 (some.1 ∷ []) (at ∷ w.back) in
-            let r : rank some.1 used ≡ suc (length some.0) =
-            ap (rank some.1) parts
-            ∙ rank_at some.1 some.0 (at ∷ w.back) (IsOff-front some.1 some.0 (at ∷ w.back) (subst IsApart parts apart)) in
-            let l : length w.front ≡ suc (length some.0) = ap length some.2 ∙ simp length-append (omega arith) in
-            steps_at_most (prev at) used (length w.front) (omega (arith, ap (λ k. rank k used) e))
-      ] in
-      omega arith
-
--- ---- what a walk found
-
--- a test that stays true from an entry to each later one
-abbrev pub StaysLater : (Entry → Bool) → Type 0
-StaysLater later = (e d : Entry) → later e ≡ true → Precedes e d → later d ≡ true
-
-module _ (later : Entry → Bool) (stays : StaysLater later) (entry : ℕ → Entry) where
-  -- what stands before an entry that is not later is not later
-  through_before : (front back : List ℕ) (k : ℕ) → IsTable (map entry (front ++ k ∷ back)) → later (entry k) ≡ false → AllByRecursion (λ i. later (entry i) ≡ false) front
-  through_before front back k t h =
-      let t' : IsTable (map entry front ++ entry k ∷ map entry back) = subst IsTable (map-append entry front (k ∷ back)) t in
-      All-weaker (λ i. Precedes (entry i) (entry k)) (λ i. later (entry i) ≡ false)
-      (λ i p. elim (cases_Bool (later (entry i))) [
-        | inl so ↦ absurd (false≢true (sym h ∙ stays (entry i) (entry k) so p))
-        | inr not_so ↦ not_so
-      ])
-      front
-      (All-unmap (λ e. Precedes e (entry k)) entry front (IsTable-before (map entry front) (map entry back) (entry k) t'))
-
-  through_front : (front back : List ℕ) (at : ℕ) → IsTable (map entry (front ++ back)) → IsOff NO_NODE (front ++ back) → at ≡ last_or NO_NODE front → (at ≢ NO_NODE → later (entry at) ≡ false) → AllByRecursion (λ i. later (entry i) ≡ false) front
-  through_front front back at t off e h =
-      elim (by_last front) [
-        | inl none ↦ subst (AllByRecursion (λ i. later (entry i) ≡ false)) (sym none) tt
-        | inr some ↦
-            let whole : front ++ back ≡ some.0 ++ some.1 ∷ back =
-            ap (λ xs. xs ++ back) some.2 ∙ append_assoc some.0 (some.1 ∷ []) back in
-            let here : at ≡ some.1 = e ∙ ap (last_or NO_NODE) some.2 ∙ last_or-push NO_NODE some.0 some.1 in
-            let off' : IsOff NO_NODE (some.0 ++ some.1 ∷ back) = subst (IsOff NO_NODE) whole off in
-            let apart : some.1 ≢ NO_NODE = (All-right (λ i. i ≢ NO_NODE) some.0 (some.1 ∷ back) off').0 in
-            let last : later (entry some.1) ≡ false = subst (λ k. later (entry k) ≡ false) here (h (λ n. apart (sym here ∙ n))) in
-            let t' : IsTable (map entry (some.0 ++ some.1 ∷ back)) = subst (λ is. IsTable (map entry is)) whole t in
-            subst (AllByRecursion (λ i. later (entry i) ≡ false)) (sym some.2)
-            (All-append (λ i. later (entry i) ≡ false) some.0 (some.1 ∷ []) (through_before some.0 back some.1 t' last) (last, tt))
-      ]
-
-  pub Splits-from_walk : (used : List ℕ) (at : ℕ) → Stands (λ i. later (entry i)) used at → IsTable (map entry used) → IsOff NO_NODE used → (at ≢ NO_NODE → later (entry at) ≡ false) → Splits later (map (place_at entry) used) at
-  Splits-from_walk used at s t off h =
-      record {
-        front = map (place_at entry) s.front;
-        back = map (place_at entry) s.back;
-        parts = ap (map (place_at entry)) s.parts ∙ map-append (place_at entry) s.front s.back;
-        last = s.last ∙ ap (last_or NO_NODE) (sym (nodes_of-places entry s.front));
-        through =
-            All-map (λ p. later p.entry ≡ false) (place_at entry) s.front
-            (through_front s.front s.back at (subst (λ is. IsTable (map entry is)) s.parts t) (subst (IsOff NO_NODE) s.parts off) s.last h);
-        past = All-map (λ p. later p.entry ≡ true) (place_at entry) s.back s.past;
-      }
-
-pub StaysLater-name : (o : ℕ) (g : Moment) → StaysLater (name_before o g)
-StaysLater-name o g e d h p = name_before_trans o g e d h p
-
-pub StaysLater-tag : (g : Moment) → StaysLater (λ e. is_before g e.tag)
-StaysLater-tag g e d h p = before_tag g e d h p
+-- of the places and of their nodes it is the same one
+pub last_of_places : (o : ℕ) (g : Moment) (entry : ℕ → Entry) (is : List ℕ) → last_or NO_NODE (filter (λ i. not (name_before o g (entry i))) is) ≡ last_not_after o g (map (place_at entry) is)
+last_of_places o g entry is =
+    ap (last_or NO_NODE) (sym (ap (map (λ (p : Place). p.node)) (filter-map_at (λ (p : Place). not (name_before o g p.entry)) (place_at entry) is)
+    ∙ nodes_of-places entry (filter (λ i. not (name_before o g (entry i))) is)))

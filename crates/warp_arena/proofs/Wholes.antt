@@ -1,22 +1,19 @@
 -- From the lists of an arena to its links and back.
-use Rattle.std.proofs.Common.{◌≡◌, ◌≢◌, ℕ, zero, suc, ◌+◌, ◌-◌, ◌<◌, Bool, true, false, cond, eqb, List, [], ◌∷◌, ◌++◌, length, refl, sym, ap, ◌∙◌, subst, inl, inr, arith, map, filter, get_or, Option, Some, None, find, not, nat_eq}
+use Rattle.std.proofs.Common.{◌≡◌, ◌≢◌, ℕ, zero, suc, ◌+◌, ◌-◌, ◌<◌, Bool, true, false, eqb, List, [], ◌∷◌, ◌++◌, length, refl, sym, ap, ◌∙◌, subst, arith, map, filter, get_or, Option, Some, None, find, not, nat_eq}
 use Rattle.std.specs.List.{AllByRecursion, IsDistinct}
 use Rattle.std.specs.Option.{option_map}
-use Rattle.std.proofs.lemmas.Bool.{cases_Bool, ne_eqb, eqb-true}
-use Rattle.std.proofs.lemmas.List.{map-append}
-use Rattle.std.proofs.lemmas.List.Elements.{filter-append}
-use Rattle.warp_tag.specs.Moment.{Moment, is_before}
+use Rattle.std.proofs.lemmas.Bool.{ne_eqb}
+use Rattle.warp_tag.specs.Moment.{Moment}
 use Rattle.warp_tag.specs.Table.{name_before, has_name, IsTable}
 use Rattle.warp_tag.specs.declared.entry.Entry.{Entry}
-use Rattle.warp_tag.proofs.Lists.{All-both, All-weaker, All-left, All-right, filter-here, filter-past, All-filter, All-kept, some_not_none, find_none}
-use Rattle.warp_tag.proofs.Names.{before_own}
+use Rattle.warp_tag.proofs.Lists.{All-weaker, All-left, All-right, All-filter, All-kept, some_not_none, find_none}
 use Rattle.warp_arena.specs.declared.arena.Arena.TheInside.{Inside}
 use Rattle.warp_arena.specs.declared.node.TheConstants.{NO_NODE}
 use Rattle.warp_arena.specs.Places.{Place, places_of, node_of, entries_of, IsOrdered}
-use Rattle.warp_arena.specs.Shape.{Threads, IsArena, IsWhole, Splits, contents_of, used_of, unused_of, members, place_at, IsChain, last_or, first_or, next_in, prev_in, free_ends, walk, no_links}
+use Rattle.warp_arena.specs.Shape.{Threads, IsArena, IsWhole, last_not_after, contents_of, used_of, unused_of, members, place_at, IsChain, last_or, first_or, next_in, prev_in, free_ends, walk, no_links}
 use Rattle.warp_arena.specs.Changes.{IsPlace, CanThread}
 use Rattle.warp_arena.proofs.Rings.{IsOff, IsApart, first_holds, last_holds, IsChain-split, walk_path, length-walk, IsPath-chain, count_of-here}
-use Rattle.warp_arena.proofs.Tables.{All-map, All-unmap, nodes_of-places, places_of-members}
+use Rattle.warp_arena.proofs.Tables.{All-map, All-unmap, nodes_of-places, places_of-members, sorted_parts, last_of_places, filter_comm, not_true}
 use Rattle.warp_arena.proofs.Shapes.{unused_below, used_apart, none_unused, unused_off, all_used_below, members-append}
 use Rattle.warp_arena.proofs.Walks.{threads, used}
 use Rattle.warp_arena.proofs.Reading.{places}
@@ -60,22 +57,6 @@ first_unused t count h =
     let r = step n (omega arith) in
     record { rest = r.0; parts = r.1; len = omega (arith, r.2) }
 
--- ---- parts of a list of places
-
-pub replaced : (entry : ℕ → Entry) (ps : List Place) → AllByRecursion (λ p. place_at entry p.node ≡ p) ps → map (place_at entry) (map (λ (p : Place). p.node) ps) ≡ ps
-replaced entry [] a = refl
-replaced entry (p ∷ ps) a = ap (λ q. q ∷ map (place_at entry) (map (λ (r : Place). r.node) ps)) a.0 ∙ ap (λ qs. p ∷ qs) (replaced entry ps a.1)
-
-pub all_placed : (entry : ℕ → Entry) (is : List ℕ) → AllByRecursion (λ p. place_at entry p.node ≡ p) (map (place_at entry) is)
-all_placed entry [] = tt
-all_placed entry (i ∷ is) = (refl, all_placed entry is)
-
--- the elements that fail a test are the front, where those of a back pass it
-pub filter_front : {X : Type 0} (q : X → Bool) (xs ys : List X) → AllByRecursion (λ x. q x ≡ false) xs → AllByRecursion (λ x. q x ≡ true) ys → filter (λ x. not (q x)) (xs ++ ys) ≡ xs
-filter_front q [] [] a b = refl
-filter_front q [] (y ∷ ys) a b = filter-past (λ x. not (q x)) y ys (ap not b.0) ∙ filter_front q [] ys tt b.1
-filter_front q (x ∷ xs) ys a b = filter-here (λ z. not (q z)) x (xs ++ ys) (ap not a.0) ∙ ap (λ zs. x ∷ zs) (filter_front q xs ys a.1 b)
-
 pub none_of_map : {X Y : Type 0} (f : X → Y) (o : Option X) → option_map f o ≡ None → o ≡ None
 none_of_map f None e = refl
 none_of_map f (Some x) e = absurd (some_not_none (f x) e)
@@ -97,54 +78,33 @@ pub record Ready (a : Inside) (o : ℕ) (g : Moment) (before own_before : ℕ) :
   pub past : AllByRecursion (λ i. name_before o g ((threads a).entry i) ≡ true) ys
   pub absent : AllByRecursion (λ i. has_name o g ((threads a).entry i) ≡ false) xs
 
-pub ready : (a : Inside) → IsWhole (threads a) a.used → (o : ℕ) (g : Moment) (before own_before : ℕ) → 0 < length a.nodes.items - a.used → Splits (name_before o g) (places a) before → Splits (λ e. is_before g e.tag) (places_of o (places a)) own_before → node_of o g (places a) ≡ None → Ready a o g before own_before
+pub ready : (a : Inside) → IsWhole (threads a) a.used → (o : ℕ) (g : Moment) (before own_before : ℕ) → 0 < length a.nodes.items - a.used → before ≡ last_not_after o g (places a) → own_before ≡ last_not_after o g (places_of o (places a)) → node_of o g (places a) ≡ None → Ready a o g before own_before
 ready a w o g before own_before room s r absent =
     let entry : ℕ → Entry = (threads a).entry in
-    let place : ℕ → Place = place_at entry in
-    let node : Place → ℕ = λ p. p.node in
-    let xs : List ℕ = map node s.front in
-    let ys : List ℕ = map node s.back in
-    let placed : AllByRecursion (λ p. place_at entry p.node ≡ p) (s.front ++ s.back) =
-    subst (AllByRecursion (λ p. place_at entry p.node ≡ p)) s.parts (all_placed entry (used a)) in
-    let front_is : map place xs ≡ s.front = replaced entry s.front (All-left (λ p. place_at entry p.node ≡ p) s.front s.back placed) in
-    let back_is : map place ys ≡ s.back = replaced entry s.back (All-right (λ p. place_at entry p.node ≡ p) s.front s.back placed) in
-    let parts : used a ≡ xs ++ ys = sym (nodes_of-places entry (used a)) ∙ ap (map node) s.parts ∙ map-append node s.front s.back in
+    let later : ℕ → Bool = λ i. name_before o g (entry i) in
+    let xs : List ℕ = filter (λ i. not (later i)) (used a) in
+    let parts : used a ≡ xs ++ filter later (used a) = sorted_parts o g entry (used a) w.shape.sorted in
     let u = first_unused (threads a) a.used (omega arith) in
-    let later : Place → Bool = λ p. is_before g p.entry.tag in
-    let own_test : Place → Bool = λ p. eqb p.entry.origin o in
-    let own_through : AllByRecursion (λ p. later p ≡ false) (places_of o s.front) =
-    All-both (λ p. own_test p ≡ true) (λ p. name_before o g p.entry ≡ false) (λ p. later p ≡ false)
-    (λ p h k. sym (before_own o g p.entry (eqb-true p.entry.origin o h)) ∙ k) (places_of o s.front)
-    (All-kept own_test s.front) (All-filter (λ p. name_before o g p.entry ≡ false) own_test s.front s.through) in
-    let own_past : AllByRecursion (λ p. later p ≡ true) (places_of o s.back) =
-    All-both (λ p. own_test p ≡ true) (λ p. name_before o g p.entry ≡ true) (λ p. later p ≡ true)
-    (λ p h k. sym (before_own o g p.entry (eqb-true p.entry.origin o h)) ∙ k) (places_of o s.back)
-    (All-kept own_test s.back) (All-filter (λ p. name_before o g p.entry ≡ true) own_test s.back s.past) in
-    let own_front : r.front ≡ places_of o s.front =
-    sym (filter_front later r.front r.back r.through r.past)
-    ∙ ap (filter (λ p. not (later p))) (sym r.parts ∙ ap (places_of o) s.parts ∙ filter-append own_test s.front s.back)
-    ∙ filter_front later (places_of o s.front) (places_of o s.back) own_through own_past in
-    let own_nodes : map node r.front ≡ members entry o xs =
-    ap (map node) (own_front ∙ ap (places_of o) (sym front_is) ∙ places_of-members entry o xs) ∙ nodes_of-places entry (members entry o xs) in
-    let none : AllByRecursion (λ p. has_name o g p.entry ≡ false) (s.front ++ s.back) =
-    subst (AllByRecursion (λ p. has_name o g p.entry ≡ false)) s.parts
-    (find_none (λ (p : Place). has_name o g p.entry) (places a) (none_of_map node (find (λ (p : Place). has_name o g p.entry) (places a)) absent)) in
+    let test : Place → Bool = λ p. has_name o g p.entry in
+    let none : AllByRecursion (λ i. has_name o g (entry i) ≡ false) (used a) =
+    All-unmap (λ p. test p ≡ false) (place_at entry) (used a)
+    (find_none test (places a) (none_of_map (λ (p : Place). p.node) (find test (places a)) absent)) in
     record {
       xs = xs;
-      ys = ys;
+      ys = filter later (used a);
       fs = u.rest;
       parts = parts;
       shape = subst (λ is. IsArena (threads a) is (a.free ∷ u.rest)) parts (subst (λ fs. IsArena (threads a) (used a) fs) u.parts w.shape);
       len = u.len;
       used_len = ap length (sym parts) ∙ length-walk (next_in a.ends (threads a).links) a.used NO_NODE;
-      before_is = s.last;
-      own_before_is = r.last ∙ ap (last_or NO_NODE) own_nodes;
-      through = All-unmap (λ p. name_before o g p.entry ≡ false) place xs (subst (AllByRecursion (λ p. name_before o g p.entry ≡ false)) (sym front_is) s.through);
-      past = All-unmap (λ p. name_before o g p.entry ≡ true) place ys (subst (AllByRecursion (λ p. name_before o g p.entry ≡ true)) (sym back_is) s.past);
-      absent =
-          All-unmap (λ p. has_name o g p.entry ≡ false) place xs
-          (subst (AllByRecursion (λ p. has_name o g p.entry ≡ false)) (sym front_is)
-          (All-left (λ p. has_name o g p.entry ≡ false) s.front s.back none));
+      before_is = s ∙ sym (last_of_places o g entry (used a));
+      own_before_is =
+          r ∙ ap (λ ps. last_not_after o g ps) (places_of-members entry o (used a)) ∙ sym (last_of_places o g entry (members entry o (used a)))
+          ∙ ap (last_or NO_NODE) (filter_comm (λ i. not (later i)) (λ i. eqb (entry i).origin o) (used a));
+      through =
+          All-weaker (λ i. not (later i) ≡ true) (λ i. later i ≡ false) (λ i h. not_true (later i) h) xs (All-kept (λ i. not (later i)) (used a));
+      past = All-kept later (used a);
+      absent = All-filter (λ i. has_name o g (entry i) ≡ false) (λ i. not (later i)) (used a) none;
     }
 
 -- what threading the node asks for

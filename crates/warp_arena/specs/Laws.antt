@@ -1,5 +1,5 @@
 -- What an arena's places have to do with a table of names: finding, and changes.
-use Rattle.std.specs.Prelude.{◌≡◌, ℕ, Option, Some, None, List}
+use Rattle.std.specs.Prelude.{◌≡◌, ℕ, Some, None, List}
 use Rattle.std.specs.Option.{option_and_then, is_some}
 use Rattle.warp_tag.specs.Moment.{Moment}
 use Rattle.warp_tag.specs.Table.{fresh, known, changed}

@@ -23,10 +23,13 @@ pub record Contents : Type 0 where
 abbrev pub room_after : ℕ → ℕ → ℕ
 room_after nodes room = if nodes == room then room + max 4 room else room
 
--- with a node free: where none was, it is a new one
+-- with a node free: where none was, one more is
 abbrev pub with_free : Contents → Contents
 with_free a =
-    if a.free == 0 then record a { free = 1; room = room_after (length a.places) a.room } else a
+    record a {
+      free = max 1 a.free;
+      room = if a.free == 0 then room_after (length a.places) a.room else a.room;
+    }
 
 -- the entries, in order
 abbrev pub entries_of : List Place → List Entry

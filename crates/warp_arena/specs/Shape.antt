@@ -1,8 +1,9 @@
 -- The shape of an arena: how its links spell its lists. No public clause cites this module.
-use Rattle.std.specs.Prelude.{Bool, true, ◌++◌, ◌≡◌, ℕ, zero, suc, ◌+◌, ◌-◌, ◌<◌, ◌≤◌, ◌==◌, nat_lt, List, [], ◌∷◌, if◌then◌else◌, false, map, filter, length, slice_index_or}
+use Rattle.std.specs.Prelude.{not, ◌≡◌, ℕ, zero, suc, ◌+◌, ◌-◌, ◌<◌, ◌≤◌, ◌==◌, nat_lt, List, [], ◌∷◌, if◌then◌else◌, map, filter, length, slice_index_or}
 use Rattle.std.specs.List.{AllByRecursion}
+use Rattle.warp_tag.specs.Moment.{Moment}
 use Rattle.warp_tag.specs.Limits.{most_names}
-use Rattle.warp_tag.specs.Table.{IsTable, fresh}
+use Rattle.warp_tag.specs.Table.{IsTable, fresh, name_before}
 use Rattle.warp_tag.specs.declared.entry.Entry.{Entry}
 use Rattle.warp_arena.specs.declared.node.Links.{Links}
 use Rattle.warp_arena.specs.declared.node.Node.{Node}
@@ -67,6 +68,10 @@ abbrev pub IsChain : (ℕ → ℕ) → (ℕ → ℕ) → ℕ → List ℕ → �
 IsChain next prev from [] to = (next from ≡ to) × (prev to ≡ from)
 IsChain next prev from (i ∷ is) to = (next from ≡ i) × (prev i ≡ from) × IsChain next prev i is to
 
+-- the links with these ends of a list spell these nodes, forwards and backwards
+abbrev pub Spells : Links → (ℕ → Links) → List ℕ → Type 0
+Spells ends links is = IsChain (next_in ends links) (prev_in ends links) NO_NODE is NO_NODE
+
 -- how often an index stands in a list
 abbrev pub count_of : ℕ → List ℕ → ℕ
 count_of i [] = 0
@@ -100,10 +105,8 @@ pub record IsArena (t : Threads) (used unused : List ℕ) : Type 0 where
   pub small : t.size ≤ most_names
   pub sorted : IsTable (map t.entry used)
   pub declared : AllByRecursion (λ i. (t.entry i).origin < t.origins) used
-  pub spelled : IsChain (next_in t.ends t.links) (prev_in t.ends t.links) NO_NODE used NO_NODE
-  pub own : (o : ℕ) → o < t.origins
-      → IsChain (next_in (t.own_ends o) t.own_links) (prev_in (t.own_ends o) t.own_links) NO_NODE
-      (members t.entry o used) NO_NODE
+  pub spelled : Spells t.ends t.links used
+  pub own : (o : ℕ) → o < t.origins → Spells (t.own_ends o) t.own_links (members t.entry o used)
   pub free : IsPath (next_in (free_ends t.free) t.links) NO_NODE unused NO_NODE
   pub once : (i : ℕ) → count_of i used + count_of i unused ≡ (if nat_lt i t.size then 1 else 0)
 
@@ -148,12 +151,7 @@ pub record IsWhole (t : Threads) (count : ℕ) : Type 0 where
   pub fits : count ≤ t.size
   pub shape : IsArena t (used_of t count) (unused_of t (t.size - count))
 
--- Where a walk from the end of these places stops, at the last one that is not later, or at NO_NODE where all
--- are: the places up to there are not later, the others are.
-pub record Splits (later : Entry → Bool) (places : List Place) (at : ℕ) : Type 0 where
-  pub front : List Place
-  pub back : List Place
-  pub parts : places ≡ front ++ back
-  pub last : at ≡ last_or NO_NODE (map (λ p. p.node) front)
-  pub through : AllByRecursion (λ p. later p.entry ≡ false) front
-  pub past : AllByRecursion (λ p. later p.entry ≡ true) back
+-- the handle of the last of these places whose name is not after this one, or NO_NODE where all names are
+abbrev pub last_not_after : ℕ → Moment → List Place → ℕ
+last_not_after origin tag places =
+    last_or NO_NODE (map (λ p. p.node) (filter (λ p. not (name_before origin tag p.entry)) places))

@@ -40,7 +40,7 @@ impl Arena {
     ghost use Rattle.warp_tag.specs.Table.{name_before, has_name, fresh, with_event, with_withdrawal};
     ghost use Rattle.warp_tag.specs.declared.entry.Entry.{Entry};
     ghost use Rattle.warp_arena.specs.Places.{places_of, node_of, entry_of, first_node, last_node, Reaches, places_from, places_after, places_before, with_place, with_change, with_free, places_past, places_through, IsOrdered, origin_of};
-    ghost use Rattle.warp_arena.specs.Shape.{Splits};
+    ghost use Rattle.warp_arena.specs.Shape.{last_not_after};
 
     /// An arena without entries, for origins below this number. The only error is want of memory.
     pub fn start(alloc: Global, origins: u32) -> Result<Arena, OutOfMemory>
@@ -204,10 +204,11 @@ impl Arena {
         self.used
     }
 
-    /// What is known of any arena: its entries are in order of tag, then of origin, each name once, and each has a
-    /// handle of its own.
+    /// What is known of any arena: its entries are in order of tag, then of origin, each name once, each has a handle of
+    /// its own, and there is room for all nodes.
     pub fn ordered(&self)
-        ensures { IsOrdered self.now }
+        ensures order { IsOrdered self.now }
+        ensures room { length self.now.places + self.now.free ≤ self.now.room }
     {
         let _ = &self.used;
     }
@@ -266,9 +267,9 @@ impl Arena {
         self.used -= 1;
     }
 
-    /// The last node of the tag list whose name is not after this one.
+    /// The last node of the tag list whose name is not after this one, or `NO_NODE`.
     fn last_through(&self, origin: u32, tag: Tag) -> u32
-        ensures { Splits (name_before origin tag) self.now.places result }
+        ensures { result ≡ last_not_after origin tag self.now.places }
     {
         let mut at = self.ends.prev;
         while at != NO_NODE && self.nodes[at as usize].entry.comes_after(origin, tag) {
@@ -277,13 +278,13 @@ impl Arena {
         at
     }
 
-    /// The last node of the origin's list whose tag is not after this one.
+    /// The last node of the origin's list whose name is not after this one, or `NO_NODE`.
     fn last_of_origin_through(&self, origin: u32, tag: Tag) -> u32
         requires { origin < self.now.origins }
-        ensures { Splits (λ e. is_before tag e.tag) (places_of origin self.now.places) result }
+        ensures { result ≡ last_not_after origin tag (places_of origin self.now.places) }
     {
         let mut at = self.origin_ends[origin as usize].prev;
-        while at != NO_NODE && tag.is_before(self.nodes[at as usize].entry.tag) {
+        while at != NO_NODE && self.nodes[at as usize].entry.comes_after(origin, tag) {
             at = self.nodes[at as usize].of_origin.prev;
         }
         at

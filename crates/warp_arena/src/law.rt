@@ -27,5 +27,4 @@ pub fn changes_found(arena: &Arena, origin: u32, tag: Tag)
 /// the table's change of that name.
 pub fn changes_new(arena: &Arena, origin: u32, tag: Tag)
     ensures { (change : Entry → Entry) → ChangesNew change origin tag arena.now.places }
-{
-}
+{}

@@ -1,7 +1,9 @@
 //! The worked rows, and the arena beside a sorted `Vec` over thousands of calls.
 ghost use Rattle.std.specs.Prelude.{◌≡◌, ◌<◌, ◌≤◌, OnOk, IfOk, IsSome, length};
-ghost use Rattle.warp_arena.specs.Places.{entry_of};
+ghost use Rattle.warp_tag.specs.Table.{changed, with_event};
+ghost use Rattle.warp_arena.specs.Places.{entries_of, entry_of};
 
+use crate::law::{changes_found, changes_new};
 use crate::{Arena, Entry, NodeId, OutOfMemory};
 use std::alloc::{AllocError, Global};
 use std::process::Abort;
@@ -27,6 +29,35 @@ fn named(arena: &mut Arena, alloc: Global, origin: u32, tag: Tag) -> Result<Node
     }
     arena.reserve_one(alloc)?;
     Ok(arena.insert(origin, tag))
+}
+
+/// Notes an event of the name, which is taken in if it is new: the change of the table of the entries.
+fn note(
+    arena: &mut Arena,
+    alloc: Global,
+    origin: u32,
+    tag: Tag,
+    input: u32,
+    value: i64,
+) -> Result<(), OutOfMemory>
+    requires { origin < arena.old.origins }
+    ensures origins { arena.new.origins ≡ arena.old.origins }
+    ensures table { OnOk result (entries_of arena.new.places
+        ≡ changed (with_event input value) origin tag (entries_of arena.old.places)) }
+{
+    changes_found(arena, origin, tag);
+    changes_new(arena, origin, tag);
+    if let Some(node) = arena.find(origin, tag) {
+        arena.set_event(node, input, value);
+        return Ok(());
+    }
+    if arena.is_full() {
+        return Err(AllocError);
+    }
+    arena.reserve_one(alloc)?;
+    let node = arena.insert(origin, tag);
+    arena.set_event(node, input, value);
+    Ok(())
 }
 
 /// The entries in order, as `first` and `next` give them; each `prev` leads back.
@@ -156,6 +187,19 @@ fn worked_rows(rt: HostRuntime) -> Result<(), Fail> {
     assert_eq!(rt; arena.next(first), None);
     assert!(rt; !arena.is_full());
     assert_eq!(rt; arena.reserve_one(alloc), Ok(()));
+    Ok(())
+}
+
+#[test]
+fn one_name_noted_twice(rt: HostRuntime) -> Result<(), Fail> {
+    let alloc = rt.alloc();
+    let at = tag(&rt, 3, 1);
+    let mut arena = Arena::start(alloc, 1)?;
+    note(&mut arena, alloc, 0, at, 1, -2)?;
+    note(&mut arena, alloc, 0, at, 0, 7)?;
+    let found = walk(&rt, &arena, alloc)?;
+    assert_eq!(rt; found.len(), 1);
+    assert_eq!(rt; found[0].event, Some((1, -2)));
     Ok(())
 }
 

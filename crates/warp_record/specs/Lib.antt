@@ -2,3 +2,4 @@ pub mod Line
 pub mod Lines
 pub mod Number
 pub mod Reply
+pub mod Codes

@@ -1,4 +1,3 @@
-pub mod Codes
 pub mod Replica
 pub mod Gives
 pub mod Desk

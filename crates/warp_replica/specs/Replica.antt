@@ -6,7 +6,7 @@ use Rattle.warp_step.specs.Run.{Row}
 use Rattle.warp_record.specs.declared.line.Record.{Record}
 use Rattle.warp_table.specs.Names.{table_of}
 use Rattle.warp_line.specs.Timeline.{Standing}
-use Rattle.warp_replica.specs.Codes.{record_code}
+use Rattle.warp_record.specs.Codes.{record_code}
 
 -- the program, the records that it took, in the order of taking, and the timeline that runs them
 pub record ReplicaState (T : Type 0) : Type 0 where

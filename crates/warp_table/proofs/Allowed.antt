@@ -1,5 +1,5 @@
 -- An event against which a program has no reason is one that it takes.
-use Rattle.std.proofs.Common.{◌≡◌, ℕ, ℤ, ◌≤◌, Bool, true, false, ◌&&◌, Option, Some, None, IsTrue, refl, arith}
+use Rattle.std.proofs.Common.{◌≡◌, ℕ, ℤ, ◌≤◌, Bool, true, false, ◌&&◌, Some, None, IsTrue, refl, arith}
 use Rattle.std.specs.Prelude.{if◌then◌else◌}
 use Rattle.std.proofs.lemmas.Bool.Decides.{nat_tests}
 use Rattle.warp_tag.specs.Moment.{Moment, IsInRange}
@@ -8,7 +8,6 @@ use Rattle.warp_step.specs.Valid.{is_valid}
 use Rattle.warp_step.specs.Events.{is_declared, is_in_time, has_input, owns_input, IsEventOf}
 use Rattle.warp_step.proofs.ValidLemmas.{parts}
 use Rattle.warp_record.specs.declared.line.Record.TheVariants.{Event}
-use Rattle.warp_record.specs.declared.reply.Refusal.{Refusal}
 use Rattle.warp_record.specs.declared.reply.Refusal.TheVariants.{NoOrigin, PastStop, NoInput, NotYours}
 use Rattle.warp_table.specs.Check.{refusal_of}
 

@@ -1,5 +1,5 @@
 -- What records tell of a name, and what the table that they make knows of it.
-use Rattle.std.proofs.Common.{◌≡◌, inl, inr, ℕ, ℤ, Bool, true, false, List, [], ◌∷◌, ◌++◌, append_assoc, fold, Option, Some, None, IsTrue, Contains, ap, sym, subst, ◌∙◌, refl, arith, rules}
+use Rattle.std.proofs.Common.{◌≡◌, inl, inr, ℕ, ℤ, Bool, true, false, List, [], ◌∷◌, ◌++◌, append_assoc, fold, Option, Some, None, IsTrue, Contains, ap, sym, subst, ◌∙◌, refl, arith}
 use Rattle.std.specs.Prelude.{◌↔◌}
 use Rattle.std.specs.Option.{unwrap_or}
 use Rattle.std.proofs.lemmas.Bool.{cases_Bool, both_ways, true≢false}
@@ -14,7 +14,7 @@ use Rattle.warp_tag.proofs.Known.{named_self, known_changed, known_elsewhere, sa
 use Rattle.warp_tag.proofs.Payloads.{not_lesser_self, same_payload, greater_still}
 use Rattle.warp_record.specs.declared.line.Record.{Record}
 use Rattle.warp_record.specs.declared.line.Record.TheVariants.{Event}
-use Rattle.warp_table.specs.Names.{with_record, table_of, IsOf, Withdraws, HasEvent, HasWithdrawal, TellsPayload, TellsEntry, Tells}
+use Rattle.warp_table.specs.Names.{with_record, table_of, IsOf, Withdraws, HasEvent, HasWithdrawal, TellsPayload, Tells}
 
 -- a withdrawal of a name is of that name
 withdrawal_of : (o : ℕ) (t : Moment) (r : Record) → Withdraws o t r → IsOf o t r
@@ -26,13 +26,13 @@ module _ (a b : List Record) (o : ℕ) (t : Moment) (same : (r : Record) → IsO
   same_payload_told None h = λ q has. h q ((same (Event o t q.0 q.1) (refl, refl)).1 has)
   same_payload_told (Some p) h = (
     (same (Event o t p.0 p.1) (refl, refl)).0 h.0,
-    λ q has. h.1 q ((same (Event o t q.0 q.1) (refl, refl)).1 has)
+    λ q has. h.1 q ((same (Event o t q.0 q.1) (refl, refl)).1 has),
   )
 
   same_mark : (m : Bool) → IsTrue m ↔ HasWithdrawal a o t → IsTrue m ↔ HasWithdrawal b o t
   same_mark m h = (
     (λ up. let w = h.0 up in (w.0, (same w.0 (withdrawal_of o t w.0 w.2)).0 w.1, w.2)),
-    (λ w. h.1 (w.0, (same w.0 (withdrawal_of o t w.0 w.2)).1 w.1, w.2))
+    (λ w. h.1 (w.0, (same w.0 (withdrawal_of o t w.0 w.2)).1 w.1, w.2)),
   )
 
   pub same_told : (x : Option Entry) → Tells a o t x → Tells b o t x
@@ -71,42 +71,42 @@ module _ (records : List Record) (o : ℕ) (t : Moment) where
 
 -- one more event tells of its name
 module _ (records : List Record) (o : ℕ) (t : Moment) (input : ℕ) (value : ℤ) where
-  more : List Record
+  abbrev more : List Record
   more = records ++ Event o t input value ∷ []
 
   -- an event of the name is one of those before, or has the payload that came
-  has_cases : (P : ℕ × ℤ → Type 0) → ((q : ℕ × ℤ) → HasEvent records o t q → P q) → P (input, value) → (q : ℕ × ℤ) → HasEvent (records ++ Event o t input value ∷ []) o t q → P q
+  has_cases : (P : ℕ × ℤ → Type 0) → ((q : ℕ × ℤ) → HasEvent records o t q → P q) → P (input, value) → (q : ℕ × ℤ) → HasEvent more o t q → P q
   has_cases P before came q has = elim (Contains-push_cases records (Event o t input value) (Event o t q.0 q.1) has) [
     | inl there ↦ before q there
     | inr is ↦ (let inputs : input ≡ q.0 = cc in let values : value ≡ q.1 = cc in subst P (λ i. (inputs i, values i)) came)
   ]
 
-  payload_more : (p : Option (ℕ × ℤ)) → TellsPayload records o t p → TellsPayload (records ++ Event o t input value ∷ []) o t (Some (greater p (input, value)))
+  payload_more : (p : Option (ℕ × ℤ)) → TellsPayload records o t p → TellsPayload more o t (Some (greater p (input, value)))
   payload_more None h = (
     Contains-push records (Event o t input value),
-    has_cases (λ q. is_lesser (input, value) q ≡ false) (λ q has. absurd (h q has)) (not_lesser_self (input, value))
+    has_cases (λ q. is_lesser (input, value) q ≡ false) (λ q has. absurd (h q has)) (not_lesser_self (input, value)),
   )
   payload_more (Some p) h = elim (cases_Bool (is_lesser p (input, value))) [
     | inl l ↦ rw l (
       Contains-push records (Event o t input value),
-      has_cases (λ q. is_lesser (input, value) q ≡ false) (λ q has. greater_still p q (input, value) (h.1 q has) l) (not_lesser_self (input, value))
+      has_cases (λ q. is_lesser (input, value) q ≡ false) (λ q has. greater_still p q (input, value) (h.1 q has) l) (not_lesser_self (input, value)),
     )
     | inr l ↦ rw l (
       Contains-append_left records (Event o t input value ∷ []) (Event o t p.0 p.1) h.0,
-      has_cases (λ q. is_lesser p q ≡ false) h.1 l
+      has_cases (λ q. is_lesser p q ≡ false) h.1 l,
     )
   ]
 
-  mark_more : (m : Bool) → IsTrue m ↔ HasWithdrawal records o t → IsTrue m ↔ HasWithdrawal (records ++ Event o t input value ∷ []) o t
+  mark_more : (m : Bool) → IsTrue m ↔ HasWithdrawal records o t → IsTrue m ↔ HasWithdrawal more o t
   mark_more m h = (
     (λ up. let w = h.0 up in (w.0, Contains-append_left records (Event o t input value ∷ []) w.0 w.1, w.2)),
     (λ w. elim (Contains-push_cases records (Event o t input value) w.0 w.1) [
       | inl there ↦ h.1 (w.0, there, w.2)
       | inr is ↦ absurd (subst (Withdraws o t) (sym is) w.2)
-    ])
+    ]),
   )
 
-  event_told : (x : Option Entry) → Tells records o t x → Tells (records ++ Event o t input value ∷ []) o t (Some (with_event input value (unwrap_or x (fresh o t))))
+  event_told : (x : Option Entry) → Tells records o t x → Tells more o t (Some (with_event input value (unwrap_or x (fresh o t))))
   event_told None h = record {
     some = (Event o t input value, Contains-push records (Event o t input value), (refl, refl));
     origin_is = refl;
@@ -134,7 +134,7 @@ module _ (c : ℕ) (s : Moment) (input : ℕ) (value : ℤ) (o : ℕ) (t : Momen
   other_told records x h =
       same_told records (records ++ Event c s input value ∷ []) o t (λ r of. (
         (λ has. Contains-append_left records (Event c s input value ∷ []) r has),
-        (λ has. elim (Contains-push_cases records (Event c s input value) r has) [ inl there ↦ there | inr is ↦ absurd (not_of r is of) ])
+        (λ has. elim (Contains-push_cases records (Event c s input value) r has) [ inl there ↦ there | inr is ↦ absurd (not_of r is of) ]),
       )) x h
 
 -- one more record keeps the order of names
@@ -155,8 +155,8 @@ told_with records o t table (Event c s input value) h told = elim (cases_Bool (h
     own c s same_origin same_tag told =
         rw (← same_origin, ← same_tag)
         (subst (Tells (records ++ Event o t input value ∷ []) o t)
-          (sym (known_changed (with_event input value) (with_event_names input value) o t table h))
-          (event_told records o t input value (known o t table) told))
+        (sym (known_changed (with_event input value) (with_event_names input value) o t table h))
+        (event_told records o t input value (known o t table) told))
 
 table_from : (table : List Entry) (rest : List Record) → IsTable table → IsTable (fold with_record table rest)
 table_from table [] h = h

@@ -1,7 +1,7 @@
 -- The order of names: by tag, then by origin.
-use Rattle.std.proofs.Common.{◌≡◌, ◌⊎◌, inl, inr, ℕ, Bool, true, false, ◌&&◌, ◌||◌, List, nat_lt, refl, arith, rules, IsTrue}
+use Rattle.std.proofs.Common.{◌≡◌, ◌⊎◌, inl, inr, ℕ, Bool, true, false, ◌&&◌, ◌||◌, List, nat_lt, refl, sym, ap, ◌∙◌, arith, rules, IsTrue}
 use Rattle.std.specs.List.{AllByRecursion}
-use Rattle.std.proofs.lemmas.Bool.{cases_Bool}
+use Rattle.std.proofs.lemmas.Bool.{cases_Bool, false≢true}
 use Rattle.std.proofs.lemmas.Bool.Decides.{nat_tests}
 use Rattle.warp_tag.specs.Moment.{Moment, is_before, is_same}
 use Rattle.warp_tag.specs.declared.entry.Entry.{Entry}
@@ -108,3 +108,12 @@ before_through o t e d h s r k = grind (arith, nat_tests)
 -- a name that comes before an entry's is another
 pub before_not_named : (o : ℕ) (t : Moment) (e : Entry) → name_before o t e ≡ true → has_name o t e ≡ false
 before_not_named o t e h = grind (arith, nat_tests)
+
+-- what comes before a name that is not after this one is not of this name
+pub before_unnamed : (o : ℕ) (t : Moment) (e d : Entry) → name_before e.origin e.tag d ≡ true → name_before o t d ≡ false → has_name o t e ≡ false
+before_unnamed o t e d h k = elim (cases_Bool (has_name o t e)) [
+  | inl named ↦
+      let is = named_is o t e named in
+      absurd (false≢true (sym k ∙ ap (λ n. name_before n t d) is.0 ∙ ap (λ u. name_before e.origin u d) is.1 ∙ h))
+  | inr other ↦ other
+]

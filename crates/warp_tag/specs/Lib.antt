@@ -3,3 +3,4 @@ pub mod Lists
 pub mod Moment
 pub mod Landing
 pub mod Table
+pub mod Codes

@@ -1,5 +1,9 @@
--- What a parse of the crate `clap` gives where it finds no fault: each argument of the subcommand that
--- has to be there is there, and each text passed its argument's parser.
+-- What a parse of the crate `clap` gives where it finds no fault: a subcommand, each of its arguments
+-- that has to be there, and texts that passed the parsers of their arguments.
+--
+-- A caller has one lemma for each subcommand, by `level_given s (refl, refl)` for its shape s, which
+-- gives `.0` of its first argument, `.1.0` of its second and so on (`IsGiven`), and `entered_gives`
+-- puts them together.
 use Rattle.std.proofs.Common.{◌≡◌, ◌∙◌, ◌++◌, ◌&&◌, ◌||◌, ℕ, ap, arith, Bool, true, false, not, cond, List, [], ◌∷◌, Option, None, Some, fold, find, is_some, length, map, ne_eqb, option_map, refl, subst, sym, unwrap_or}
 use Rattle.std.specs.Prelude.{⊤, nat_lt, option_and_then, slice_get}
 use Rattle.std.specs.List.{list_all, list_any}
@@ -8,13 +12,13 @@ use Rattle.std.specs.Str.{bytes_eq}
 use Rattle.std.proofs.lemmas.Slice.Eq.{bytes_eq-Decides}
 use Rattle.clap.specs.Values.{is_request, read_as, refused_kind}
 use Rattle.clap.specs.Facts.{explicit_source, parser_of_value, unwrap_or_range}
-use Rattle.clap.specs.Kinds.{Kinds, check_kinds, or_else, range_kinds, request_kinds, value_kinds, values_kinds}
+use Rattle.clap.specs.Kinds.{Kinds, check_kinds, range_kinds, request_kinds, value_kinds, values_kinds}
 use Rattle.clap.specs.ValueTests.{accepts}
-use Rattle.clap.specs.Walk.{Held, Names, Row, Rule, Text, Waiting, action_of, answers_to, arg_by_id, default_rows, finished, first_of, has_row, is_empty, more_values, most_values, nothing_held, one_of, reading_by, row_text, rows_after, settled, stop_after, subcommand_met, used, used_as, values_or_missing, walk, walk_from, with_default, with_values, without, at_row}
+use Rattle.clap.specs.Walk.{Names, Row, Rule, Text, Waiting, action_of, answers_to, arg_by_id, default_rows, finished, has_row, is_empty, more_values, most_values, nothing_held, reading_by, row_text, rows_after, settled, stop_after, subcommand_met, used_as, values_or_missing, walk, walk_from, with_default, with_values, without, at_row}
 use Rattle.clap.specs.Walk.{idle, option, positional}
 use Rattle.clap.specs.Simple.{App, Shape, entered, names_of}
 use Rattle.clap.specs.Takes.{is_given, value_passes}
-use Rattle.clap.specs.Faults.{action_fault, built_fault, check_fault, default_fault, defaults_fault, entered_fault, given_default_fault, level_fault, repeat_fault, settle_fault, use_fault, values_fault, walk_fault}
+use Rattle.clap.specs.Faults.{action_fault, built_fault, default_fault, defaults_fault, entered_fault, given_default_fault, level_fault, repeat_fault, settle_fault, values_fault, walk_fault}
 use Rattle.clap.specs.declared.builder.action.ArgAction.{ArgAction}
 use Rattle.clap.specs.declared.builder.action.ArgAction.TheVariants.{Set, Append, SetTrue, SetFalse, Count, Help, HelpShort, HelpLong, Version}
 use Rattle.clap.specs.declared.builder.value_parser.Reading.{Reading}
@@ -124,7 +128,7 @@ fed_keeps rules a again fed own values rows e all =
     has [] e r = some (is_request (action_of a)) (nat_lt 0 (least a)) a.missing kind.InvalidValue _ fed e r
     has (v ∷ vs) e r = tt
 
--- of arguments whose uses have values, and whose ids are their own, both hold by `refl`
+-- each use of these arguments has a value, and each id is the argument's own: both hold by `refl`
 abbrev pub AllFed : List Rule → List Rule → Type 0
 AllFed rules xs = (list_all is_fed xs ≡ true) × (map (λ a. arg_by_id rules a.id) xs ≡ map (λ a. Some a) xs)
 
@@ -133,11 +137,12 @@ fed_parts rules a rest fed = let parts = both (is_fed a) _ fed.0 in (parts.0, cc
 
 found_keeps : (rules xs : List Rule) (again : Bool) → AllFed rules xs → (p : Rule → Bool) → Keeps again (AllFit rules) (find p xs)
 found_keeps rules [] again fed p = tt
-found_keeps rules (a ∷ rest) again fed p = let parts = fed_parts rules a rest fed in go (p a) (found_keeps rules rest again parts.2 p)
+found_keeps rules (a ∷ rest) again fed p =
+    let parts = fed_parts rules a rest fed in go (p a) (fed_keeps rules a again parts.0 parts.1) (found_keeps rules rest again parts.2 p)
   where
-    go : (b : Bool) → Keeps again (AllFit rules) (find p rest) → Keeps again (AllFit rules) (cond b (Some a) (find p rest))
-    go true others = let parts = fed_parts rules a rest fed in fed_keeps rules a again parts.0 parts.1
-    go false others = others
+    go : (b : Bool) → Keeps again (AllFit rules) (Some a) → Keeps again (AllFit rules) (find p rest) → Keeps again (AllFit rules) (cond b (Some a) (find p rest))
+    go true own others = own
+    go false own others = others
 
 -- ---- the default values
 
@@ -161,11 +166,15 @@ defaults_fit rules (a ∷ rest) rows fed e all =
 
 -- ---- what is read of an argument
 
--- the argument is there where it has to be, and its text passed its parser and is read as that says
+abbrev first_text : Option Row → Option Text
+first_text = option_and_then (λ r. slice_get r.values 0)
+
+-- what `get_str` finds is there where it has to be, and passed the argument's parser, and `get_one`
+-- reads it as that parser says
 pub record IsGiven (a : Rule) (r : Option Row) : Type 0 where
-  pub there : a.required ≡ true → is_some (option_and_then (λ r. slice_get r.values 0) r) ≡ true
-  pub passes : (text : Text) → option_and_then (λ r. slice_get r.values 0) r ≡ Some text → value_passes a text ≡ true
-  pub reads : (text : Text) → option_and_then (λ r. slice_get r.values 0) r ≡ Some text → option_and_then row_text r ≡ Some (read_as (reading_by a) text)
+  pub there : a.required ≡ true → is_some (first_text r) ≡ true
+  pub passes : (text : Text) → first_text r ≡ Some text → value_passes a text ≡ true
+  pub reads : (text : Text) → first_text r ≡ Some text → option_and_then row_text r ≡ Some (read_as (reading_by a) text)
 
 abbrev IsRowOf : Rule → Option Row → Type 0
 IsRowOf a None = ⊤
@@ -200,7 +209,7 @@ is_given_by a (Some r) fits wanted = go r.values fits.0 fits.1.0
           reads = λ text e. ap (λ (o : Option Text). option_map (read_as r.reading) o) e ∙ ap (λ how. Some (read_as how text)) fits.1.1;
         }
 
--- so is each of these arguments
+-- each of these arguments is given by its row
 abbrev pub AllGiven : List Rule → List Row → Type 0
 AllGiven [] rows = ⊤
 AllGiven (a ∷ rest) rows = IsGiven a (find (λ r. bytes_eq r.id a.id) rows) × AllGiven rest rows
@@ -236,7 +245,7 @@ no_names s Q idle word = tt
 no_names s Q positional word = tt
 no_names s Q (option id) word = tt
 
--- what a subcommand with these arguments gives
+-- the rows that a subcommand gives
 pub level_given : (s : Shape) → AllFed s.rules s.rules → (words : List Text) → level_fault s [] nothing_held words false [] ≡ [] → AllGiven s.rules (rows_after s.rules [] words)
 level_given s fed words e =
     let end = (walk s.rules [] nothing_held words).held in

@@ -32,6 +32,14 @@ pub from_empty : (P : Program) (s s' : LocalState) (left written written' : Opti
     → Transcribes LocalGives s left written written' s' → TranscribesAll P left written written'
 from_empty P s s' None written written' is empty t = t
 from_empty P s s' (Some input) written written' is empty t =
-    let on_log = pieces_on_log s s' (lines_of input) t.1.0 t.1.1 in
-    (t.0, s'.records, (t.1.0, subst (λ (Q : Program). GivesAll (Gives Q) [] (lines_of input) t.1.0 s'.records) is
-        (subst (λ (log : List Record). GivesAll (Gives s.program) log (lines_of input) t.1.0 s'.records) empty on_log), t.1.2), t.2)
+    let on_log = pieces_on_log s s' (lines_of input) t.1.0 t.1.1 in (
+      t.0,
+      s'.records,
+      (
+        t.1.0,
+        subst (λ (Q : Program). GivesAll (Gives Q) [] (lines_of input) t.1.0 s'.records) is
+            (subst (λ (log : List Record). GivesAll (Gives s.program) log (lines_of input) t.1.0 s'.records) empty on_log),
+        t.1.2,
+      ),
+      t.2,
+    )

@@ -1,5 +1,5 @@
 -- Lemmas on how far a session has come.
-use Rattle.std.proofs.Common.{◌≡◌, ℕ, ◌+◌, ◌-◌, ◌<◌, ◌≤◌, List, [], ◌∷◌, ◌++◌, length, take, drop, length-drop, length-append, length-take-le, get_or, Option, Some, None, false, true≢false, not, min, IsSome, IfSome, IfNone, OnSome, ◌↔◌, refl, sym, ap, subst, ◌∙◌, append_assoc, append-nil, arith}
+use Rattle.std.proofs.Common.{◌≡◌, ℕ, ◌+◌, ◌-◌, ◌<◌, ◌≤◌, List, [], ◌∷◌, ◌++◌, length, take, drop, length-append, length-take-le, get_or, Option, Some, None, false, true≢false, not, min, IsSome, IfSome, IfNone, OnSome, ◌↔◌, inr, refl, sym, ap, subst, ◌∙◌, append_assoc, append-nil, arith}
 use Rattle.std.specs.List.{flat_map, before_first}
 use Rattle.std.specs.Option.{option_map, option_to_list}
 use Rattle.std.specs.Io.KnownBytes.{Appends, Consumes, IsAtEnd}
@@ -15,21 +15,21 @@ use Rattle.warp_record.specs.declared.feed.Fed.{Fed}
 use Rattle.warp_record.specs.Lines.{Piece, is_end, IsOneLine, ended, unended, lines_of, first_end, kept_of, piece_of}
 use Rattle.warp_record.proofs.LineCuts.{lines_of-ended, lines_of-unended, one_line_before, one_line_more}
 use Rattle.warpd.proofs.Fronts.{more_of_rest}
-use Rattle.warpd.specs.Session.{GivesPiece, GivesAll, GivesText, Transcribes, TranscribesLines, AreWholeLines, reply_line}
-use Rattle.warpd.specs.inner.Turns.{At, Answers, Taken, Takes, Ends, nothing, pieces_fed}
+use Rattle.warpd.specs.Session.{GivesPiece, GivesAll, GivesText, Transcribes, reply_line}
+use Rattle.warpd.specs.inner.Turns.{At, AreCutOff, Answers, Taken, Takes, Ends, pieces_fed}
 
 -- ---- whole lines
 
 -- a line with its line feed
-AreWholeLines-line : (line : List ℕ) → IsOneLine line → AreWholeLines (line ++ 10 ∷ [])
-AreWholeLines-line line one more =
+AreCutOff-line : (line : List ℕ) → IsOneLine line → AreCutOff (line ++ 10 ∷ [])
+AreCutOff-line line one more =
     ap lines_of (append_assoc line (10 ∷ []) more)
     ∙ lines_of-ended line more one
     ∙ ap (λ (l : List Piece). l ++ lines_of more) (sym (lines_of-ended line [] one))
 
--- whole lines, and more of them
-AreWholeLines-append : (a b : List ℕ) → AreWholeLines a → AreWholeLines b → AreWholeLines (a ++ b)
-AreWholeLines-append a b first second more =
+-- bytes that are cut off, and more of them
+AreCutOff-append : (a b : List ℕ) → AreCutOff a → AreCutOff b → AreCutOff (a ++ b)
+AreCutOff-append a b first second more =
     ap lines_of (append_assoc a b more)
     ∙ first (b ++ more)
     ∙ ap (λ (l : List Piece). lines_of a ++ l) (second more)
@@ -128,22 +128,6 @@ module _ {S : Type 0} (gives : S → Line → Reply → S → Type 0) where
 
   -- ---- bytes that were taken
 
-  -- nothing was taken yet
-  pub Taken-nothing : (a : At S) → a.held.kept ≡ kept_of [] → Taken gives [] a a
-  Taken-nothing a none = record {
-    lines = [];
-    line = [];
-    cut = refl;
-    whole = λ more. refl;
-    one_line = All-nil (λ (byte : ℕ). is_end byte ≡ false);
-    kept = none;
-    answers = Answers-nil a;
-  }
-
-  -- no more bytes
-  pub Takes-nil : (a : At S) → Takes gives [] a a
-  Takes-nil a start seen was = subst (λ (l : List ℕ). Taken gives l start a) (sym (append-nil seen)) was
-
   -- bytes, and then more of them
   Takes-append : (xs ys : List ℕ) (a b c : At S) → Takes gives xs a b → Takes gives ys b c → Takes gives (xs ++ ys) a c
   Takes-append xs ys a b c first second start seen was =
@@ -165,14 +149,15 @@ module _ {S : Type 0} (gives : S → Line → Reply → S → Type 0) where
       let line : List ℕ = was.line ++ before in
       let one : IsOneLine line = All-append (λ (byte : ℕ). is_end byte ≡ false) was.line before was.one_line (one_line_before piece) in
       let last : lines_of (was.lines ++ (line ++ 10 ∷ [])) ≡ lines_of was.lines ++ given ∷ [] =
-      was.whole (line ++ 10 ∷ []) ∙ ap (λ (l : List Piece). lines_of was.lines ++ l) (lines_of-ended line [] one)
+      was.cut_off (line ++ 10 ∷ []) ∙ ap (λ (l : List Piece). lines_of was.lines ++ l) (lines_of-ended line [] one)
       ∙ ap (λ (p : Piece). lines_of was.lines ++ p ∷ []) (sym (is_line was.line was.kept)) in
       record {
         lines = was.lines ++ (line ++ 10 ∷ []);
         line = [];
         cut = ap (λ (l : List ℕ). seen ++ l) (up_to_end piece some) ∙ ap (λ (l : List ℕ). l ++ (before ++ 10 ∷ [])) was.cut
             ∙ simp (append_assoc, append-nil);
-        whole = AreWholeLines-append was.lines (line ++ 10 ∷ []) was.whole (AreWholeLines-line line one);
+        whole = inr (was.lines ++ line, sym (append_assoc was.lines line (10 ∷ [])));
+        cut_off = AreCutOff-append was.lines (line ++ 10 ∷ []) was.cut_off (AreCutOff-line line one);
         one_line = All-nil (λ (byte : ℕ). is_end byte ≡ false);
         kept = fresh;
         answers = subst (λ (l : List Piece). Answers gives l start b) (sym last)
@@ -188,6 +173,7 @@ module _ {S : Type 0} (gives : S → Line → Reply → S → Type 0) where
     line = was.line ++ piece;
     cut = ap (λ (l : List ℕ). l ++ piece) was.cut ∙ append_assoc was.lines was.line piece;
     whole = was.whole;
+    cut_off = was.cut_off;
     one_line = one_line_more was.line piece was.one_line none;
     kept = keeps was.line was.kept;
     answers = subst (λ (l : List Piece). Answers gives l start b) (append-nil (lines_of was.lines))
@@ -225,6 +211,7 @@ module _ {S : Type 0} (gives : S → Line → Reply → S → Type 0) where
         line = t.line;
         cut = t.cut;
         whole = t.whole;
+        cut_off = t.cut_off;
         one_line = t.one_line;
         kept = kept ∙ t.kept;
         answers = Answers-flushed (lines_of t.lines) start b c t.answers same empty out;
@@ -237,7 +224,7 @@ module _ {S : Type 0} (gives : S → Line → Reply → S → Type 0) where
       → c.state ≡ b.state → c.held.gathered ≡ [] → Appends b.written c.written b.held.gathered → Ends gives a c
   Ends-last a b c kept fed is_line answers same empty out start seen was =
       let is : lines_of seen ≡ lines_of was.lines ++ pieces_fed fed =
-      ap lines_of was.cut ∙ was.whole was.line
+      ap lines_of was.cut ∙ was.cut_off was.line
       ∙ ap (λ (l : List Piece). lines_of was.lines ++ l) (lines_of-unended was.line was.one_line)
       ∙ ap (λ (o : Option Piece). lines_of was.lines ++ option_to_list o) (sym (is_line was.line was.kept)) in
       let all : Answers gives (lines_of seen) start b =
@@ -265,26 +252,8 @@ module _ {S : Type 0} (gives : S → Line → Reply → S → Type 0) where
       let is : seen ++ take count buffer ≡ seen = ap (λ (n : ℕ). seen ++ take n buffer) over ∙ append-nil seen in
       transcribed_whole left left-after seen a b c none taken ends (subst (Consumes left left-after) is reads) (last.1 over some)
 
-  -- what a source gave was taken, and nothing waits to be written: the transcript of the whole lines is out
-  pub transcribed_lines : (left left-after : Option (List ℕ)) (seen : List ℕ) (a b : At S) → a.held.gathered ≡ [] → b.held.gathered ≡ []
-      → Taken gives seen a b → Consumes left left-after seen → TranscribesLines gives a.state left left-after a.written b.written b.state
-  transcribed_lines left left-after seen a b none empty taken reads = (
-    taken.lines,
-    taken.line,
-    subst (Consumes left left-after) taken.cut reads,
-    taken.whole,
-    taken.one_line,
-    Answers-out (lines_of taken.lines) a b none empty taken.answers,
-  )
-
 -- ---- counts
 
 -- each read that went on took a byte
 pub read_more : (seen buffer : List ℕ) (count reads : ℕ) → reads ≤ length seen → count ≤ length buffer → (count ≡ 0 → ⊥) → reads + 1 ≤ length (seen ++ take count buffer)
 read_more seen buffer count reads few within some = omega (arith, length-append seen (take count buffer), length-take-le count buffer within)
-
--- what was read was there
-pub many_bytes : (left left-after : Option (List ℕ)) (seen : List ℕ) {n : ℕ} → Consumes left left-after seen → n ≤ length seen → IfSome left (λ input. n ≤ length input)
-many_bytes None after seen c few = tt
-many_bytes (Some xs) None seen c few = absurd c
-many_bytes (Some xs) (Some ys) seen {n} c few = omega (arith, ap length c, length-append seen ys)

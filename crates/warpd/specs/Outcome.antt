@@ -4,7 +4,7 @@ use Rattle.clap.specs.Words.{IsAmong, Text, fault_of}
 use Rattle.clap.specs.declared.error.kind.ErrorKind.{ErrorKind}
 use Rattle.clap.specs.declared.error.kind.ErrorKind.TheVariants as kind
 use Rattle.warp_tag.specs.Limits.{most_reads}
-use Rattle.warp_step.specs.Program.{Program as Definition}
+use Rattle.warp_step.specs.Program.{Program as ReactorProgram}
 use Rattle.warp_step.specs.Twice.{twice}
 use Rattle.warpd.specs.LocalSession.{TranscribesAll}
 use Rattle.warpd.specs.Words.{program_in, warpd_command}
@@ -67,7 +67,7 @@ pub record Seen : Type 0 where
   pub failed_writes : ℕ
 
 -- what a session of this program did by the time that it ended so
-abbrev pub EndsSo : Definition → Seen → Seen → SessionEnd → Type 0
+abbrev pub EndsSo : ReactorProgram → Seen → Seen → SessionEnd → Type 0
 EndsSo P before after End = TranscribesAll P before.left before.written after.written
 EndsSo P before after ReadFault = before.failed_reads < after.failed_reads
 EndsSo P before after WriteFault = before.failed_writes < after.failed_writes

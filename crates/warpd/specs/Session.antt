@@ -50,9 +50,9 @@ abbrev pub Transcribes : {S : Type 0} → (S → Line → Reply → S → Type 0
 Transcribes gives s left written written-after s' =
     IfSome left (λ input. (text : List ℕ) × Session gives s input text s' × Appends written written-after text)
 
--- the bytes end with the last line in them, or there are none: whatever follows is cut into lines by itself
+-- there are no bytes, or the last one is a line feed
 abbrev pub AreWholeLines : List ℕ → Type 0
-AreWholeLines bytes = (more : List ℕ) → lines_of (bytes ++ more) ≡ lines_of bytes ++ lines_of more
+AreWholeLines bytes = (bytes ≡ []) ⊎ ((front : List ℕ) × (bytes ≡ front ++ 10 ∷ []))
 
 -- Of the bytes that the source lost, the transcript of the whole lines was written behind what the sink tells; of the
 -- line behind them, which has no line feed yet, nothing.

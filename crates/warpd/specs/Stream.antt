@@ -1,6 +1,18 @@
--- What one read and one write do: to the bytes left or written, where they are told, and to the count of failures.
-use Rattle.std.specs.Prelude.{◌≡◌, ℕ, ◌+◌, ◌<◌, Option, Result, List, take, length, MatchResult}
+-- What a stream is, and what one read and one write do: to the bytes left or written, where they are told, and to the count
+-- of failures.
+use Rattle.std.specs.Prelude.{◌≡◌, ℕ, ◌+◌, ◌<◌, Option, Result, List, take, length, MatchResult, refl}
+use Rattle.std.specs.Coded.{Coded, code_by, coded×, coded_ℕ}
 use Rattle.std.specs.Io.KnownBytes.{Appends, Consumes, IsAtEnd, Keeps}
+
+-- a stream: the reader or writer below it, and how many of its reads or writes have failed
+pub record StreamState (T : Type 0) : Type 0 where
+  pub inner : T
+  pub failures : ℕ
+
+-- a stream is stored as its two parts
+abbrev pub stream_code : {T : Type 0} → Coded T → Coded (StreamState T)
+stream_code {T} inner =
+    code_by (T × ℕ) (coded× inner coded_ℕ) (λ s. (s.inner, s.failures)) (λ p. record { inner = p.0; failures = p.1 }) (λ _. refl)
 
 -- at Ok n the told bytes begin with the first n of the buffer and lose them, none only at the end or with no
 -- room; at Err they are as before

@@ -31,3 +31,122 @@ pub fn run_session<R: Source, W: Sink>(
         Err(_) => SessionEnd::NoMemory,
     }
 }
+
+#[cfg(test)]
+mod tests {
+    ghost use Rattle.warp_step.specs.Counter.{IsUnused};
+
+    use super::*;
+    use crate::memory::{MemoryReader, MemoryWriter};
+    use crate::stream::Stream;
+    use std::io::Read;
+    use std::marker::Brand;
+    use std::sync::ledger::{Blank, Ledger};
+    use std::test::Fail;
+    use warp_tag::OutOfMemory;
+
+    const FIRST_RUN: &str = "event 0 5 0 0 3\nvar 0\n";
+
+    /// Lines that are refused, of which the last has no line feed.
+    const REFUSED: &str = "event 00 5 0 0 3\nevent 0 5 0 1 3\nevent 2 5 0 0 3\nevent 0 5 0 2 3\n\
+        xxxxxxxxxxxxxxxxxxxxxxxxxxxxxxxxxxxxxxxxxxxxxxxxxxxxxxxxxxxxxxxx\
+        xxxxxxxxxxxxxxxxxxxxxxxxxxxxxxxxxxxxxxxxxxxxxxxxxxxxxxxxxxxxxxxxx\n\
+        xxxxxxxxxxxxxxxxxxxxxxxxxxxxxxxxxxxxxxxxxxxxxxxxxxxxxxxxxxxxxxxx\
+        xxxxxxxxxxxxxxxxxxxxxxxxxxxxxxxxxxxxxxxxxxxxxxxxxxxxxxxxxxxxxxxx\nvar";
+
+    const REFUSALS: &str =
+        "refused 1\nrefused 5\nrefused 2\nrefused 4\nrefused 9\nrefused 1\nrefused 1\n";
+
+    /// How a session over the program `twice` ends, and what it wrote. Its failures are counted in these ledgers.
+    fn run<R: Read + Drop, L: Ledger, M: Ledger>(
+        alloc: Global,
+        reader: R,
+        writer: MemoryWriter,
+        reads: Blank,
+        writes: Blank,
+    ) -> Result<(SessionEnd, Vec<u8>), OutOfMemory>
+        requires reads { IsUnused reads L.name L.parts }
+        requires writes { IsUnused writes M.name M.parts }
+    {
+        let program = Program::twice(alloc)?;
+        let mut source = Stream::<_, L>::new(reader, reads);
+        let mut sink = Stream::<_, M>::new(writer, writes);
+        let end = run_session(alloc, program, &mut source, &mut sink);
+        Ok((end, sink.into_inner().into_written()))
+    }
+
+    #[test]
+    fn lines_and_answers(rt: HostRuntime) -> Result<(), Fail> {
+        let rows = [
+            ("", ""),
+            (FIRST_RUN, "taken 1\nvar 1 3\n"),
+            (
+                "event 0 5 0 0 3\nvar 0\nevent 1 2 0 1 4\nvar 0\nevent 0 5 0 0 3\nvar 0\n",
+                "taken 1\nvar 1 3\ntaken 2\nvar 2 -5\nknown 1\nvar 2 -5\n",
+            ),
+            (
+                "event 0 5 0 0 7\nevent 0 5 0 0 3\nvar 0\n",
+                "taken 1\ntaken 2\nvar 2 7\n",
+            ),
+            (
+                "event 0 5 0 0 3\nevent 0 5 0 0 7\nvar 0\n",
+                "taken 1\ntaken 2\nvar 2 7\n",
+            ),
+            (
+                "event 0 1 0 0 9223372036854775807\nevent 0 2 0 0 1\nvar 0\n",
+                "taken 1\ntaken 2\nvar 2 -1\n",
+            ),
+            (REFUSED, REFUSALS),
+            (
+                "\nevent 0 1 0 0 -0\nevent 0 1 16 0 1\nevent 0 1 0 0 -9223372036854775808\nvar 0\n",
+                "refused 1\nrefused 1\nrefused 1\ntaken 1\nvar 1 -9223372036854775808\n",
+            ),
+            (
+                "event 0 100 0 0 1\nevent 0 101 0 0 1\nvar 1\n",
+                "taken 1\nrefused 3\nrefused 6\n",
+            ),
+        ];
+        let alloc = rt.alloc();
+        for (lines, answers) in rows {
+            for most in [1, 7, 4_096] {
+                let reader = MemoryReader::new(lines.as_bytes(), most, None);
+                let writer = MemoryWriter::new(Vec::new(alloc), most, None);
+                let (end, written) = run::<_, Brand, Brand>(
+                    alloc,
+                    reader,
+                    writer,
+                    Blank::new(1),
+                    Blank::new(1),
+                )?;
+                assert_eq!(rt; end, SessionEnd::End);
+                assert_eq!(rt;
+                    written.as_slice(),
+                    answers.as_bytes(),
+                    "{lines} in pieces of {most}"
+                );
+            }
+        }
+        Ok(())
+    }
+
+    #[test]
+    fn cut_at_every_place(rt: HostRuntime) -> Result<(), Fail> {
+        let alloc = rt.alloc();
+        let bytes = REFUSED.as_bytes();
+        for cut in 0..bytes.len() {
+            let first = MemoryReader::new(&bytes[..cut], 4_096, None);
+            let second = MemoryReader::new(&bytes[cut..], 4_096, None);
+            let writer = MemoryWriter::new(Vec::new(alloc), 4_096, None);
+            let (end, written) = run::<_, Brand, Brand>(
+                alloc,
+                first.chain(second),
+                writer,
+                Blank::new(1),
+                Blank::new(1),
+            )?;
+            assert_eq!(rt; end, SessionEnd::End);
+            assert_eq!(rt; written.as_slice(), REFUSALS.as_bytes(), "cut at {cut}");
+        }
+        Ok(())
+    }
+}

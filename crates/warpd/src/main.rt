@@ -21,8 +21,8 @@ ghost use Rattle.warpd.specs.Outcome.{EndsSo, IsShown, Obeys, Runs, Seen, line_o
 ghost use Rattle.warpd.specs.Words.{program_of};
 
 use clap::error::ErrorKind;
-use outcome::{Outcome, outcome_of, say, status};
 use local_session::run_session;
+use outcome::{Outcome, outcome_of, say, status};
 use session::SessionEnd;
 use std::alloc::{AllocError, Global};
 use std::io::{Eprint, Print, Write};
@@ -48,7 +48,14 @@ fn start<L: Ledger, M: Ledger>(rt: &HostRuntime, reads: Blank, writes: Blank) ->
         source: Stream::<_, L>::new(rt.stdin(), reads),
         sink: Stream::<_, M>::new(rt.stdout(), writes),
     };
-    perform(rt, rt.alloc(), arguments(rt), &mut streams, &mut rt.stderr()).0
+    perform(
+        rt,
+        rt.alloc(),
+        arguments(rt),
+        &mut streams,
+        &mut rt.stderr(),
+    )
+    .0
 }
 
 /// Standard input and output, or what stands for them.
@@ -62,10 +69,10 @@ impl<R: Source, W: Sink> Model for Streams<R, W> {
     ghost Value = { Seen };
 
     ghost view = { λ s. record {
-        left = R.left s.source;
-        written = W.written s.sink;
-        failed_reads = R.failures s.source;
-        failed_writes = W.failures s.sink;
+      left = R.left s.source;
+      written = W.written s.sink;
+      failed_reads = R.failures s.source;
+      failed_writes = W.failures s.sink;
     } };
 }
 
@@ -74,13 +81,20 @@ fn arguments(rt: &HostRuntime) -> Result<Vec<String>, Outcome>
     ensures { IfErr result (λ outcome. (outcome ≡ Outcome.Words) ⊎ (outcome ≡ Outcome.Memory)) }
 {
     match env::args(rt) {
-        Ok(arguments) => arguments.collect(rt.alloc()).map_err(|_| Outcome::Memory),
-        Err(error) => Err(no_text(rt, &error)),
+        Ok(words) => gathered(rt.alloc(), words),
+        Err(error) => Err(without_words(rt, &error)),
     }
 }
 
+/// All the words.
+fn gathered(alloc: Global, words: env::Args) -> Result<Vec<String>, Outcome>
+    ensures { IfErr result (λ outcome. outcome ≡ Outcome.Memory) }
+{
+    words.collect(alloc).map_err(|_| Outcome::Memory)
+}
+
 /// How the run ends whose words couldn't be had for this error. One that is no text is told on standard error.
-fn no_text<P: Eprint>(rt: &P, error: &io::Error) -> Outcome
+fn without_words<P: Eprint>(rt: &P, error: &io::Error) -> Outcome
     ensures memory { error_kind error.now ≡ OutOfMemory → result ≡ Outcome.Memory }
     ensures text { error_kind error.now ≢ OutOfMemory → result ≡ Outcome.Words }
 {
@@ -102,8 +116,8 @@ fn perform<P: Print + Eprint, R: Source, W: Sink, E: Write>(
 ) -> (ExitCode, io::Result<()>)
     ensures { (outcome : Outcome)
         × MatchResult arguments
-            (λ words. Obeys (map (λ word. string_bytes word) words.items) streams.old streams.new outcome)
-            (λ reason. (outcome ≡ reason) × (streams.new ≡ streams.old))
+        (λ words. Obeys (map (λ word. string_bytes word) words.items) streams.old streams.new outcome)
+        (λ reason. (outcome ≡ reason) × (streams.new ≡ streams.old))
         × (exit_status result.0 ≡ status_of outcome)
         × OnOk result.1 (Appends (E.contents errors.old) (E.contents errors.new) (line_of outcome)) }
 {
@@ -142,7 +156,11 @@ fn obey<P: Print + Eprint, R: Source, W: Sink>(
 }
 
 /// Does the job.
-fn carry_out<R: Source, W: Sink>(alloc: Global, job: Job<'_>, streams: &mut Streams<R, W>) -> Outcome
+fn carry_out<R: Source, W: Sink>(
+    alloc: Global,
+    job: Job<'_>,
+    streams: &mut Streams<R, W>,
+) -> Outcome
     ensures { Runs (program_of job.entry) streams.old streams.new result }
 {
     match job {
@@ -202,7 +220,75 @@ fn answer<R: Source, W: Sink>(alloc: Global, streams: &mut Streams<R, W>) -> Ses
 #[cfg(test)]
 mod tests {
     use super::*;
+    use crate::memory::{MemoryReader, MemoryWriter};
+    use std::io::Read;
     use std::test::Fail;
+
+    /// The words, each a text of its own.
+    fn owned(alloc: Global, line: &[&str]) -> Result<Vec<String>, AllocError> {
+        let mut words = Vec::new(alloc);
+        for word in line {
+            words.push(String::from_str(alloc, word)?)?;
+        }
+        Ok(words)
+    }
+
+    /// The exit status of a run over memory with these words, and what it wrote to its output and as its errors.
+    /// Its failures are counted in these ledgers.
+    fn run_over<R: Read + Drop, L: Ledger, M: Ledger>(
+        rt: &HostRuntime,
+        words: Vec<String>,
+        reader: R,
+        writer: MemoryWriter,
+        reads: Blank,
+        writes: Blank,
+    ) -> Result<(ExitCode, Vec<u8>, Vec<u8>), Fail>
+        requires reads { IsUnused reads L.name L.parts }
+        requires writes { IsUnused writes M.name M.parts }
+    {
+        let alloc = rt.alloc();
+        let mut streams = Streams {
+            source: Stream::<_, L>::new(reader, reads),
+            sink: Stream::<_, M>::new(writer, writes),
+        };
+        let mut errors = MemoryWriter::new(Vec::new(alloc), 7, None);
+        let (status, told) = perform(rt, alloc, Ok(words), &mut streams, &mut errors);
+        told?;
+        let Streams { source: _, sink } = streams;
+        let written = sink.into_inner().into_written();
+        Ok((status, written, errors.into_written()))
+    }
+
+    #[test]
+    fn a_run_answers_and_tells_how_it_ended(rt: HostRuntime) -> Result<(), Fail> {
+        let twice = ["warpd", "run", "builtin:twice"].as_slice();
+        let rows = [
+            (twice, None, 0, "taken 1\nvar 1 3\n", ""),
+            (twice, Some(0), 4, "", "output failed\n"),
+            (
+                ["warpd", "run", "builtin:once"].as_slice(),
+                None,
+                4,
+                "",
+                "cannot read the program\n",
+            ),
+            (["warpd", "walk"].as_slice(), None, 2, "", ""),
+        ];
+        let alloc = rt.alloc();
+        for (line, sound, status, output, errors) in rows {
+            let words = owned(alloc, line)?;
+            let reader = MemoryReader::new(b"event 0 5 0 0 3\nvar 0\n", 7, None);
+            let writer = MemoryWriter::new(Vec::new(alloc), 7, sound);
+            let (reads, writes) = (Blank::new(1), Blank::new(1));
+            let (ended, written, told) = run_over::<_, Brand, Brand>(
+                &rt, words, reader, writer, reads, writes,
+            )?;
+            assert_eq!(rt; ended, ExitCode::from(status), "{line:?}");
+            assert_eq!(rt; written.as_slice(), output.as_bytes(), "{line:?}");
+            assert_eq!(rt; told.as_slice(), errors.as_bytes(), "{line:?}");
+        }
+        Ok(())
+    }
 
     #[test]
     fn help_is_done_and_a_wrong_word_is_a_mistake(rt: HostRuntime) -> Result<(), Fail> {

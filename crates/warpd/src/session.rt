@@ -4,6 +4,7 @@
 ghost use Rattle.std.specs.Prelude.{◌≡◌, ℕ, ◌+◌, ◌<◌, ◌≤◌, List, [], ◌∷◌, Option, IfOk, OnOk, IfSome, length, take, vec_len};
 ghost use Rattle.std.specs.Io.KnownBytes.{Appends};
 ghost use Rattle.warp_tag.specs.Limits.{most_reads};
+ghost use Rattle.warp_step.specs.Counter.{IsUnused};
 ghost use Rattle.warp_record.specs.Lines.{piece_of};
 ghost use Rattle.warpd.specs.Session.{GivesPiece, Transcribes, TranscribesLines};
 ghost use Rattle.warpd.specs.Stream.{Counts};
@@ -216,7 +217,8 @@ pub fn session<R: Source, W: Sink, D: Desk>(
         let Ok(count) = source.read(buffer) else {
             return SessionEnd::ReadFault;
         };
-        if count == 0 {
+        let has_ended = count == 0;
+        if has_ended {
             let Ok(()) = transcriber.finish(desk, sink) else {
                 return SessionEnd::WriteFault;
             };
@@ -227,4 +229,149 @@ pub fn session<R: Source, W: Sink, D: Desk>(
         };
     }
     SessionEnd::TooManyReads
+}
+
+#[cfg(test)]
+mod tests {
+    use super::*;
+    use crate::memory::{MemoryReader, MemoryWriter, PacedReader};
+    use crate::stream::Stream;
+    use std::cell::Cell;
+    use std::io::Read;
+    use std::marker::Brand;
+    use std::sync::ledger::{Blank, Ledger};
+    use std::test::Fail;
+    use warp_record::{Line, Query};
+
+    /// A desk that counts the lines that it gets: the first record is `taken 1`, a variable's value its number.
+    #[derive(Drop)]
+    struct Numbers {
+        asked: u32,
+    }
+
+    impl Desk for Numbers {
+        ghost use Rattle.warp_record.specs.Reply.{IsReply};
+
+        ghost State = { Unit {0} };
+
+        ghost state = { λ _. tt };
+
+        ghost gives = { λ _ _ reply _. IsReply reply };
+
+        fn ask(&mut self, line: Line) -> Reply {
+            self.asked = self.asked % 100_000 + 1;
+            match line {
+                Line::Put(_) => Reply::Taken(self.asked),
+                Line::Ask(Query::Var(number)) => Reply::Var {
+                    log: self.asked,
+                    value: i64::from(number),
+                },
+            }
+        }
+    }
+
+    /// How a session ends, and what it wrote. Its failures are counted in these ledgers.
+    fn run_in<R: Read + Drop, L: Ledger, M: Ledger>(
+        alloc: Global,
+        reader: R,
+        writer: MemoryWriter<'_>,
+        reads: Blank,
+        writes: Blank,
+    ) -> (SessionEnd, Vec<u8>)
+        requires reads { IsUnused reads L.name L.parts }
+        requires writes { IsUnused writes M.name M.parts }
+    {
+        let mut source = Stream::<_, L>::new(reader, reads);
+        let mut sink = Stream::<_, M>::new(writer, writes);
+        let mut desk = Numbers { asked: 0 };
+        let end = session(alloc, &mut source, &mut sink, &mut desk);
+        (end, sink.into_inner().into_written())
+    }
+
+    /// How a session ends, and what it wrote.
+    fn run<R: Read + Drop>(
+        alloc: Global,
+        reader: R,
+        writer: MemoryWriter<'_>,
+    ) -> (SessionEnd, Vec<u8>) {
+        run_in::<R, Brand, Brand>(alloc, reader, writer, Blank::new(1), Blank::new(1))
+    }
+
+    #[test]
+    fn lines_and_answers(rt: HostRuntime) -> Result<(), Fail> {
+        let rows = [
+            ("", ""),
+            (
+                "var 7\nevent 0 5 0 0 3\nvar 8\n",
+                "var 1 7\ntaken 2\nvar 3 8\n",
+            ),
+            (
+                "\nvar 07\nvar 7\nvar 8",
+                "refused 1\nrefused 1\nvar 1 7\nrefused 1\n",
+            ),
+        ];
+        let count = Cell::new(0);
+        for (lines, answers) in rows {
+            for most in [1, 7, 4_096] {
+                let reader = MemoryReader::new(lines.as_bytes(), most, None);
+                let writer = MemoryWriter::new(rt.alloc(), &count, most, None);
+                let (end, written) = run(rt.alloc(), reader, writer);
+                assert_eq!(rt; end, SessionEnd::End);
+                assert_eq!(rt; written.as_slice(), answers.as_bytes(), "{lines} by {most}");
+            }
+        }
+        Ok(())
+    }
+
+    #[test]
+    fn more_replies_than_there_is_room(rt: HostRuntime) -> Result<(), Fail> {
+        let lines = Vec::from_elem(rt.alloc(), b'\n', 3_000)?;
+        let mut answers = Vec::new(rt.alloc());
+        for _ in 0..3_000 {
+            answers.extend_from_slice(b"refused 1\n")?;
+        }
+        let count = Cell::new(0);
+        let reader = MemoryReader::new(lines.as_slice(), 4_096, None);
+        let writer = MemoryWriter::new(rt.alloc(), &count, 100_000, None);
+        let (end, written) = run(rt.alloc(), reader, writer);
+        assert_eq!(rt; end, SessionEnd::End);
+        assert_eq!(rt; written.as_slice(), answers.as_slice());
+        Ok(())
+    }
+
+    #[test]
+    fn faults(rt: HostRuntime) -> Result<(), Fail> {
+        // Two lines of six bytes each. The first read may end inside the second, which is then not answered.
+        let lines = b"var 7\nvar 8\n".as_slice();
+        let rows = [
+            (6, Some(0), None, SessionEnd::ReadFault, ""),
+            (6, Some(1), None, SessionEnd::ReadFault, "var 1 7\n"),
+            (9, Some(1), None, SessionEnd::ReadFault, "var 1 7\n"),
+            (6, None, Some(0), SessionEnd::WriteFault, ""),
+            (6, None, Some(1), SessionEnd::WriteFault, "var"),
+        ];
+        let count = Cell::new(0);
+        for (most, sound_reads, sound_writes, wanted, answers) in rows {
+            let reader = MemoryReader::new(lines, most, sound_reads);
+            let writer = MemoryWriter::new(rt.alloc(), &count, 3, sound_writes);
+            let (end, written) = run(rt.alloc(), reader, writer);
+            assert_eq!(rt; end, wanted);
+            assert_eq!(rt; written.as_slice(), answers.as_bytes());
+        }
+        Ok(())
+    }
+
+    #[test]
+    fn replies_are_out_before_the_next_read(rt: HostRuntime) {
+        let rows = [("var 7\n", 0), ("va", 8), ("r 8\nvar 9\nvar", 8), ("", 24)];
+        let count = Cell::new(0);
+        let reader = PacedReader::new(rows.as_slice(), &count);
+        let writer = MemoryWriter::new(rt.alloc(), &count, 100, None);
+        let (end, written) = run(rt.alloc(), reader, writer);
+        assert_eq!(rt; end, SessionEnd::End);
+        assert_eq!(rt;
+            written.as_slice(),
+            b"var 1 7\nvar 2 8\nvar 3 9\nrefused 1\n".as_slice()
+        );
+    }
 }

@@ -3,11 +3,13 @@
 //! `Source` and `Sink` are all that a session knows of the world. `Stream` is both over std's `Read` and `Write`.
 ghost use Rattle.std.specs.Prelude.{◌≡◌, ℕ, ◌+◌, ◌<◌, ◌≤◌, IfOk, OnOk, List, Option, length};
 ghost use Rattle.std.specs.Io.KnownBytes.{Appends};
+ghost use Rattle.warp_step.specs.Counter.{IsUnused};
 ghost use Rattle.warpd.specs.Stream.{Counts, Reads, Writes};
 
 use std::io::{Read, Write};
 use std::marker::Model;
-use std::sync::ledger::{Blank, Book, Ledger, Share};
+use std::sync::ledger::{Blank, Ledger};
+use warp_step::Counter;
 
 /// What a read or a write tells that failed: nothing more.
 #[derive(Clone, Copy, Debug, PartialEq, Eq)]
@@ -53,42 +55,10 @@ pub fn write_all<W: Sink>(sink: &mut W, bytes: &[u8]) -> Result<(), Failed>
 {
     let mut sent = 0;
     while sent < bytes.len() {
-        sent += sink.write(&bytes[sent..])?;
+        let count = sink.write(&bytes[sent..])?;
+        sent += count;
     }
     Ok(())
-}
-
-/// A count without an upper end, for contracts alone: it takes no bytes.
-#[derive(Drop)]
-struct Failures<L: Ledger> {
-    book: Book<L>,
-    share: Share<L>,
-}
-
-impl<L: Ledger> Model for Failures<L> {
-    ghost Value = { ℕ };
-
-    ghost view = { λ f. f.book.total };
-
-    ghost invariant = { λ f. 0 < f.share.parts };
-}
-
-impl<L: Ledger> Failures<L> {
-    fn none(blank: Blank) -> Failures<L>
-        requires name { blank.name ≡ L.name }
-        requires parts { blank.parts ≡ L.parts }
-        requires some { 0 < blank.parts }
-        ensures { result ≡ 0 }
-    {
-        let (book, share) = blank.open::<L>();
-        Failures { book, share }
-    }
-
-    fn grow(&mut self)
-        ensures { self.new ≡ self.old + 1 }
-    {
-        self.book.add(&mut self.share, 1);
-    }
 }
 
 /// A reader of std as a `Source`, a writer of std as a `Sink`. It tells the bytes that `T` tells, and passes each
@@ -96,21 +66,29 @@ impl<L: Ledger> Failures<L> {
 #[derive(Drop)]
 pub struct Stream<T, L: Ledger> {
     inner: T,
-    failures: Failures<L>,
+    failures: Counter<L>,
+}
+
+impl<T, L: Ledger> Model for Stream<T, L> {
+    ghost use Rattle.warpd.specs.Stream.{StreamState, stream_code};
+
+    ghost Value = { StreamState T };
+
+    ghost coded = { stream_code T.code };
+
+    ghost view = { λ s. record { inner = s.inner; failures = s.failures } };
 }
 
 impl<T, L: Ledger> Stream<T, L> {
     /// A stream over `inner` in which nothing failed yet. `blank` is the ledger that its failures are counted in.
     pub fn new(inner: T, blank: Blank) -> Stream<T, L>
-        requires name { blank.name ≡ L.name }
-        requires parts { blank.parts ≡ L.parts }
-        requires some { 0 < blank.parts }
+        requires { IsUnused blank L.name L.parts }
         ensures inner { result.inner ≡ inner }
         ensures failures { result.failures ≡ 0 }
     {
         Stream {
             inner,
-            failures: Failures::none(blank),
+            failures: Counter::new(blank),
         }
     }
 }
@@ -164,6 +142,7 @@ mod tests {
     use super::*;
     use crate::memory::{MemoryReader, MemoryWriter};
     use std::alloc::{AllocError, Global};
+    use std::cell::Cell;
     use std::marker::Brand;
     use std::test::Fail;
 
@@ -176,9 +155,7 @@ mod tests {
         room: usize,
         blank: Blank,
     ) -> Result<(Vec<u8>, Vec<Result<usize, Failed>>), AllocError>
-        requires name { blank.name ≡ L.name }
-        requires parts { blank.parts ≡ L.parts }
-        requires some { 0 < blank.parts }
+        requires { IsUnused blank L.name L.parts }
     {
         let mut source = Stream::<_, L>::new(reader, blank);
         let mut buffer = Vec::from_elem(alloc, 0u8, room)?;
@@ -197,12 +174,10 @@ mod tests {
     /// Six writes of what is left of the text: what was written, and what each answered.
     fn six_writes<L: Ledger>(
         alloc: Global,
-        writer: MemoryWriter,
+        writer: MemoryWriter<'_>,
         blank: Blank,
     ) -> Result<(Vec<u8>, Vec<Result<usize, Failed>>), AllocError>
-        requires name { blank.name ≡ L.name }
-        requires parts { blank.parts ≡ L.parts }
-        requires some { 0 < blank.parts }
+        requires { IsUnused blank L.name L.parts }
     {
         let mut sink = Stream::<_, L>::new(writer, blank);
         let mut rest = TEXT;
@@ -257,8 +232,9 @@ mod tests {
             (0, None, "", [bad, bad, bad, bad, bad, bad]),
         ];
         let alloc = rt.alloc();
+        let count = Cell::new(0);
         for (most, sound, text, wanted) in rows {
-            let writer = MemoryWriter::new(Vec::new(alloc), most, sound);
+            let writer = MemoryWriter::new(alloc, &count, most, sound);
             let (written, answers) = six_writes::<Brand>(alloc, writer, Blank::new(1))?;
             assert_eq!(rt; written.as_slice(), text.as_bytes());
             assert_eq!(rt; answers.as_slice(), wanted.as_slice());

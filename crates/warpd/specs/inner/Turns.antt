@@ -42,12 +42,17 @@ pub record Turn {S T E : Type 0} (Does : T → At S → At S → Type 0) (old ne
   pub does : IfOk result (λ v. Does v old new)
   pub failures : Counts old.failures new.failures result
 
+-- whatever follows these bytes is cut into lines by itself
+abbrev pub AreCutOff : List ℕ → Type 0
+AreCutOff bytes = (more : List ℕ) → lines_of (bytes ++ more) ≡ lines_of bytes ++ lines_of more
+
 -- from `start` on these bytes were taken: their whole lines were answered, and the feed keeps the unfinished one
 pub record Taken {S : Type 0} (gives : S → Line → Reply → S → Type 0) (bytes : List ℕ) (start now : At S) : Type 0 where
   pub lines : List ℕ
   pub line : List ℕ
   pub cut : bytes ≡ lines ++ line
   pub whole : AreWholeLines lines
+  pub cut_off : AreCutOff lines
   pub one_line : IsOneLine line
   pub kept : now.held.kept ≡ kept_of line
   pub answers : Answers gives (lines_of lines) start now

@@ -10,8 +10,8 @@ loop-sent-preserved g c =
     let sent = c.loop-sent.sent in
     let written = g.W.Sink.written in
     record {
-      within = omega (arith, c.in_ok-sent.ensures.bound, length-take (length bytes - sent) (drop sent bytes), length-drop sent bytes);
-      out = subst (Appends (written c.args.sink.now) (written c.write.new.self)) (more_of_rest bytes sent c.in_ok-sent.field-0)
-          (Appends-trans _ _ _ _ _ c.loop-sent.invariant.out c.in_ok-sent.ensures.bytes);
-      sound = c.in_ok-sent.ensures.failures ∙ c.loop-sent.invariant.sound;
+      within = omega (arith, c.in_ok-count.ensures.bound, length-take (length bytes - sent) (drop sent bytes), length-drop sent bytes);
+      out = subst (Appends (written c.args.sink.now) (written c.write.new.self)) (more_of_rest bytes sent c.in_ok-count.count)
+          (Appends-trans _ _ _ _ _ c.loop-sent.invariant.out c.in_ok-count.ensures.bytes);
+      sound = c.in_ok-count.ensures.failures ∙ c.loop-sent.invariant.sound;
     }

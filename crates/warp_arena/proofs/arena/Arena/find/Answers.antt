@@ -1,15 +1,15 @@
-use Rattle.std.proofs.Common.{IsTrue, IsSomeAnd, ◌≡◌, ℕ, ◌<◌, arith, sym, ap, ◌∙◌, subst, length, true, false, cond, Some, None}
+use Rattle.std.proofs.Common.{IsTrue, IsSomeAnd, ◌≡◌, ℕ, ◌<◌, arith, sym, ap, ◌∙◌, subst, length, true, false, cond, not, filter, Some, None}
 use Rattle.std.specs.Vec.{vec_capacity}
-use Rattle.warp_tag.specs.Moment.{Moment, is_before}
-use Rattle.warp_tag.specs.declared.entry.Entry.{Entry}
+use Rattle.warp_tag.specs.Moment.{Moment}
 use Rattle.warp_arena.specs.declared.arena.Arena.TheInside.{Inside}
-use Rattle.warp_tag.specs.Table.{has_name}
+use Rattle.warp_tag.specs.Table.{name_before, has_name}
+use Rattle.warp_arena.specs.declared.node.TheConstants.{NO_NODE}
 use Rattle.warp_arena.specs.Places.{IsOrdered, Contents, node_of, places_of}
-use Rattle.warp_arena.specs.Shape.{Splits, contents_of}
-use Rattle.warp_arena.proofs.Tables.{places_of-members}
+use Rattle.warp_arena.specs.Shape.{contents_of, last_not_after, last_or}
+use Rattle.warp_arena.proofs.Tables.{places_of-members, last_of_places}
 use Rattle.warp_arena.proofs.Walks.{threads, used, owned, node_read}
 use Rattle.warp_arena.proofs.Reading.{places}
-use Rattle.warp_arena.proofs.Finding.{SplitAt, split_at, none_declared, node_of-none, node_of-at}
+use Rattle.warp_arena.proofs.Finding.{none_declared, node_of-none, node_of-at}
 use Rattle.warp_arena.proofs.Wholes.{ordered}
 use Rattle.warp_arena.proofs.Handles.{entry_of-node_of}
 use Rattle.warp_arena.proofs.arena.Arena.find.Goals as goal
@@ -20,19 +20,19 @@ returns-then-origin-len-clause-handle c =
     sym (ap (λ v. node_of c.args.origin c.args.tag v.places) (sym c.self.view_is)
     ∙ none_declared c.self.inside c.self.invariant c.args.origin c.args.tag (omega (arith, c.self.inside.origin_ends.ok.0)))
 
--- the walk's split of the origin's nodes
-split_of : (a : Inside) (v : Contents) (o : ℕ) (g : Moment) (at : ℕ) → contents_of (threads a) a.used (vec_capacity a.nodes) ≡ v → Splits (λ e. is_before g e.tag) (places_of o v.places) at → SplitAt (λ e. is_before g e.tag) (threads a).entry (owned a o) at
-split_of a v o g at is s =
-    split_at (λ (e : Entry). is_before g e.tag) (threads a).entry (owned a o) at
-    (subst (λ ps. Splits (λ e. is_before g e.tag) ps at) (places_of-members (threads a).entry o (used a))
-    (subst (λ u. Splits (λ e. is_before g e.tag) (places_of o u.places) at) (sym is) s))
+-- where the walk stopped, as the last of the origin's nodes up to the name
+last_is : (a : Inside) (v : Contents) (o : ℕ) (g : Moment) (at : ℕ) → contents_of (threads a) a.used (vec_capacity a.nodes) ≡ v → at ≡ last_not_after o g (places_of o v.places) → at ≡ last_or NO_NODE (filter (λ i. not (name_before o g ((threads a).entry i))) (owned a o))
+last_is a v o g at is s =
+    s ∙ sym (last_of_places o g (threads a).entry (owned a o)
+    ∙ ap (λ ps. last_not_after o g ps) (sym (places_of-members (threads a).entry o (used a)))
+    ∙ ap (λ u. last_not_after o g (places_of o u.places)) is)
 
 pub index-requires : goal.index-requires
 index-requires c =
     let a = c.self.inside in
     let declared : c.args.origin < length a.origin_ends.items = omega (arith, a.origin_ends.ok.0) in
     let at : ℕ = c.last_of_origin_through-at.result in
-    let s = split_of a c.args.self.now c.args.origin c.args.tag at c.self.view_is c.last_of_origin_through-at.ensures in
+    let s = last_is a c.args.self.now c.args.origin c.args.tag at c.self.view_is c.last_of_origin_through-at.ensures in
     omega (arith, a.nodes.ok.0, (node_of-at a c.self.invariant c.args.origin c.args.tag declared at s c.if-at.true).0)
 
 pub returns-then-is_of-clause-handle : goal.returns-then-is_of-clause-handle
@@ -40,7 +40,7 @@ returns-then-is_of-clause-handle c =
     let a = c.self.inside in
     let declared : c.args.origin < length a.origin_ends.items = omega (arith, a.origin_ends.ok.0) in
     let at : ℕ = c.last_of_origin_through-at.result in
-    let s = split_of a c.args.self.now c.args.origin c.args.tag at c.self.view_is c.last_of_origin_through-at.ensures in
+    let s = last_is a c.args.self.now c.args.origin c.args.tag at c.self.view_is c.last_of_origin_through-at.ensures in
     let r = node_of-at a c.self.invariant c.args.origin c.args.tag declared at s c.if-at.true in
     let read = node_read a.nodes.items at c.index.result.now r.0 c.index.ensures in
     let same : has_name c.args.origin c.args.tag ((threads a).entry at) ≡ true = ap (λ n. has_name c.args.origin c.args.tag n.entry) (sym read) ∙ sym c.is_of.ensures ∙ c.if-is_of.true in
@@ -52,7 +52,7 @@ returns-else-at-clause-handle c =
     let a = c.self.inside in
     let declared : c.args.origin < length a.origin_ends.items = omega (arith, a.origin_ends.ok.0) in
     let at : ℕ = c.last_of_origin_through-at.result in
-    let s = split_of a c.args.self.now c.args.origin c.args.tag at c.self.view_is c.last_of_origin_through-at.ensures in
+    let s = last_is a c.args.self.now c.args.origin c.args.tag at c.self.view_is c.last_of_origin_through-at.ensures in
     let none : node_of c.args.origin c.args.tag (places a) ≡ None =
     elim c.else-at.branch [
       | else-at-via-then-at+else-is_of w ↦

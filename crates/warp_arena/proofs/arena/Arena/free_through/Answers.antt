@@ -18,7 +18,7 @@ returns-clause-places c =
     let stops : Stops c.args.tag c.args.self.now c.loop-first.self n =
     elim c.match-first.branch [
       | in-Some+then-is_before w ↦
-          stops_at c.args.tag c.args.self.now c.loop-first.self c.loop-first.invariant c.ordered.ensures.table w.in-Some.first w.entry.result
+          stops_at c.args.tag c.args.self.now c.loop-first.self c.loop-first.invariant c.ordered.ensures.order.table w.in-Some.first w.entry.result
           (sym w.in-Some.is ∙ c.first.ensures.handle) w.entry.ensures.entry (sym w.is_before.ensures ∙ w.if-is_before.true) n e
       | in_default w ↦ stops_empty c.args.tag c.args.self.now c.loop-first.self c.loop-first.invariant (sym w.in_default.is ∙ c.first.ensures.handle) n e
     ] in
@@ -31,7 +31,7 @@ returns-clause-count c =
     let stops : Stops c.args.tag c.args.self.now c.loop-first.self n =
     elim c.match-first.branch [
       | in-Some+then-is_before w ↦
-          stops_at c.args.tag c.args.self.now c.loop-first.self c.loop-first.invariant c.ordered.ensures.table w.in-Some.first w.entry.result
+          stops_at c.args.tag c.args.self.now c.loop-first.self c.loop-first.invariant c.ordered.ensures.order.table w.in-Some.first w.entry.result
           (sym w.in-Some.is ∙ c.first.ensures.handle) w.entry.ensures.entry (sym w.is_before.ensures ∙ w.if-is_before.true) n e
       | in_default w ↦ stops_empty c.args.tag c.args.self.now c.loop-first.self c.loop-first.invariant (sym w.in_default.is ∙ c.first.ensures.handle) n e
     ] in
@@ -40,7 +40,7 @@ returns-clause-count c =
 pub returns-clause-handles : goal.returns-clause-handles
 returns-clause-handles c = λ node h.
     let f = c.loop-first.invariant in
-    let d = c.ordered.ensures.handles in
+    let d = c.ordered.ensures.order.handles in
     entry_of-back f.front c.loop-first.self.places (subst (λ ps. IsDistinct nat_eq (map (λ (p : Place). p.node) ps)) f.parts d) node h
     ∙ ap (entry_of node) (sym f.parts)
 

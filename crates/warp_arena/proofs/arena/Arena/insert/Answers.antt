@@ -1,15 +1,15 @@
-use Rattle.std.proofs.Common.{◌≡◌, ◌≢◌, ℕ, ◌<◌, ◌+◌, ◌-◌, arith, sym, ap, ◌∙◌, subst, None, length, List, get_or, set}
+use Rattle.std.proofs.Common.{◌≡◌, ℕ, ◌<◌, ◌+◌, ◌-◌, arith, sym, ap, ◌∙◌, subst, None, length, List, get_or, set}
 use Rattle.std.proofs.lemmas.List.{with_items_is}
 use Rattle.std.specs.Vec.{vec_capacity}
-use Rattle.warp_tag.specs.Moment.{Moment, is_before}
-use Rattle.warp_tag.specs.Table.{name_before, fresh}
+use Rattle.warp_tag.specs.Moment.{Moment}
+use Rattle.warp_tag.specs.Table.{fresh}
 use Rattle.warp_tag.specs.declared.entry.Entry.{Entry}
 use Rattle.warp_arena.specs.declared.arena.Arena.TheInside.{Inside}
 use Rattle.warp_arena.specs.declared.node.Links.{Links}
 use Rattle.warp_arena.specs.declared.node.Node.{Node}
 use Rattle.warp_arena.specs.Places.{Place, Contents, places_of, node_of, entry_of, with_place}
 use Rattle.warp_arena.specs.Changes.{Threaded, CanThread}
-use Rattle.warp_arena.specs.Shape.{Splits, IsWhole, threads_of, contents_of, next_in, by_tag, of_origin, no_links}
+use Rattle.warp_arena.specs.Shape.{last_not_after, IsWhole, threads_of, contents_of, next_in, by_tag, of_origin, no_links}
 use Rattle.warp_arena.proofs.Walks.{threads, node_read, ends_read}
 use Rattle.warp_arena.proofs.Wholes.{Ready, Threadable, ready, threadable}
 use Rattle.warp_arena.proofs.Inserted.{new_handle, whole_inserted, contents_inserted}
@@ -22,13 +22,13 @@ record Before (a : Inside) (o : ℕ) (g : Moment) (b c : ℕ) : Type 0 where
   is_ready : Ready a o g b c
   can_thread : Threadable (length a.nodes.items) (next_in a.ends (by_tag a.nodes.items)) (next_in (get_or a.origin_ends.items o no_links) (of_origin a.nodes.items)) b c a.free
 
-before_insert : (a : Inside) (v : Contents) (o : ℕ) (g : Moment) (b c : ℕ) → contents_of (threads a) a.used (vec_capacity a.nodes) ≡ v → IsWhole (threads a) a.used → o < v.origins → 0 < v.free → node_of o g v.places ≡ None → Splits (name_before o g) v.places b → Splits (λ e. is_before g e.tag) (places_of o v.places) c → Before a o g b c
+before_insert : (a : Inside) (v : Contents) (o : ℕ) (g : Moment) (b c : ℕ) → contents_of (threads a) a.used (vec_capacity a.nodes) ≡ v → IsWhole (threads a) a.used → o < v.origins → 0 < v.free → node_of o g v.places ≡ None → b ≡ last_not_after o g v.places → c ≡ last_not_after o g (places_of o v.places) → Before a o g b c
 before_insert a v o g b c is w declared room absent s r =
     let h : o < length a.origin_ends.items = omega (arith, ap (λ u. u.origins) is) in
     let q = ready a w o g b c
     (omega (arith, ap (λ u. u.free) is))
-    (subst (λ u. Splits (name_before o g) u.places b) (sym is) s)
-    (subst (λ u. Splits (λ e. is_before g e.tag) (places_of o u.places) c) (sym is) r)
+    (s ∙ ap (λ u. last_not_after o g u.places) (sym is))
+    (r ∙ ap (λ u. last_not_after o g (places_of o u.places)) (sym is))
     (ap (λ u. node_of o g u.places) is ∙ absent) in
     record { declared = h; is_ready = q; can_thread = threadable a o g b c q h }
 

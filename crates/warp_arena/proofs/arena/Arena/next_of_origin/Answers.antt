@@ -1,4 +1,4 @@
-use Rattle.std.proofs.Common.{◌≡◌, ℕ, arith, sym, ap, ◌∙◌, subst, IsSome, IfSome, Some, None, cond, eqb, get_or}
+use Rattle.std.proofs.Common.{◌≡◌, arith, sym, ap, ◌∙◌, subst, IsSome, IfSome, Some, None, cond, eqb, get_or}
 use Rattle.warp_arena.specs.Places.{entry_of, first_node, origin_of, places_after, places_of}
 use Rattle.warp_arena.specs.declared.node.TheConstants.{NO_NODE}
 use Rattle.warp_arena.proofs.Walks.{node_read}

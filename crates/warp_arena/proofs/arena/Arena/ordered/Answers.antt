@@ -1,8 +1,24 @@
-use Rattle.std.proofs.Common.{subst}
+use Rattle.std.proofs.Common.{subst, ap, arith, length}
 use Rattle.std.specs.Vec.{vec_capacity}
 use Rattle.warp_arena.specs.Places.{IsOrdered}
+use Rattle.warp_arena.proofs.Removed.{length-places}
 use Rattle.warp_arena.proofs.Wholes.{ordered}
 use Rattle.warp_arena.proofs.arena.Arena.ordered.Goals as goal
 
-pub returns : goal.returns
-returns c = subst IsOrdered c.self.view_is (ordered c.self.inside c.self.invariant (vec_capacity c.self.inside.nodes))
+pub returns-clause-order : goal.returns-clause-order
+returns-clause-order c = subst IsOrdered c.self.view_is (ordered c.self.inside c.self.invariant (vec_capacity c.self.inside.nodes))
+
+pub returns-clause-room : goal.returns-clause-room
+returns-clause-room c =
+    let a = c.self.inside in
+    let v = c.self.view_is in
+    omega (
+      arith,
+      ap (λ u. u.room) v,
+      ap (λ u. u.free) v,
+      ap (λ u. length u.places) v,
+      length-places a,
+      c.self.invariant.fits,
+      a.nodes.ok.0,
+      a.nodes.ok.1,
+    )

@@ -20,15 +20,15 @@ returns-clause-turn g c =
     let mid = c.if-is_full in
     -- what was gathered went out, or nothing did
     let room : (sent : List ℕ) × Appends (written c.args.sink.now) (written mid.sink) sent × (sent ++ mid.self.gathered ≡ old)
-        × (failures mid.sink ≡ failures c.args.sink.now) =
+    × (failures mid.sink ≡ failures c.args.sink.now) =
     elim mid.branch [
-    | then-is_full+in_ok-flush w ↦ (
-      old,
-      rw w.sink-is w.in_ok-flush.ensures.written,
-      ap (λ (h : Held). old ++ h.gathered) w.self-is ∙ ap (λ (l : List ℕ). old ++ l) w.in_ok-flush.ensures.empty ∙ append-nil old,
-      ap failures w.sink-is ∙ w.in_ok-flush.ensures.failures,
-    )
-    | else-is_full w ↦ ([], rw w.sink-is (Appends-nil _), ap (λ (h : Held). h.gathered) w.self-is, ap failures w.sink-is)
+      | then-is_full+in_ok-flush w ↦ (
+        old,
+        rw w.sink-is w.in_ok-flush.ensures.written,
+        ap (λ (h : Held). old ++ h.gathered) w.self-is ∙ ap (λ (l : List ℕ). old ++ l) w.in_ok-flush.ensures.empty ∙ append-nil old,
+        ap failures w.sink-is ∙ w.in_ok-flush.ensures.failures,
+      )
+      | else-is_full w ↦ ([], rw w.sink-is (Appends-nil _), ap (λ (h : Held). h.gathered) w.self-is, ap failures w.sink-is)
     ] in
     let said = c.reply_to-reply.result in
     let behind : c.push_reserved.new.self.items ≡ mid.self.gathered ++ reply_line said =

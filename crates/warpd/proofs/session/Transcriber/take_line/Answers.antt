@@ -1,5 +1,3 @@
-use Rattle.std.proofs.Common.{refl}
-use Rattle.warpd.specs.inner.Turns.{at}
 use Rattle.warpd.proofs.TurnsLemmas.{Takes-pushed}
 use Rattle.warpd.proofs.session.Transcriber.take_line.Goals as goal
 
