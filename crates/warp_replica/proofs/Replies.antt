@@ -1,10 +1,10 @@
 -- What a query gives follows from the set of the records.
-use Rattle.std.proofs.Common.{◌≡◌, ℕ, ℤ, ◌≤◌, ◌↔◌, List, Contains, length, slice_get, Some, None, refl, sym, ap, subst, ◌∙◌, arith}
+use Rattle.std.proofs.Common.{◌≡◌, ℕ, ℤ, ◌≤◌, ◌↔◌, List, Contains, length, slice_get, None, refl, sym, ap, subst, ◌∙◌, arith}
 use Rattle.std.proofs.lemmas.Option.{same_Some}
 use Rattle.warp_tag.specs.Table.{live}
 use Rattle.warp_step.specs.Program.{Program}
 use Rattle.warp_step.specs.Snapshot.{start_state}
-use Rattle.warp_step.specs.Run.{Row, Run, state_at_end}
+use Rattle.warp_step.specs.Run.{Run, state_at_end}
 use Rattle.warp_step.proofs.TraceLemmas.{one_rest}
 use Rattle.warp_record.specs.declared.line.Record.{Record}
 use Rattle.warp_record.specs.declared.line.Query.{Query}

@@ -1,5 +1,5 @@
 //! One replica without peers, as a desk.
-ghost use Rattle.std.specs.Prelude.{◌≡◌, ◌<◌, false, IsTrue, OnOk, OnErr, Result};
+ghost use Rattle.std.specs.Prelude.{◌≡◌, IsTrue, OnOk};
 ghost use Rattle.warp_record.specs.Reply.{IsReply};
 ghost use Rattle.warp_step.specs.Counter.{IsUnused};
 ghost use Rattle.warp_replica.specs.Gives.{told};

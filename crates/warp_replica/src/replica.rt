@@ -1,11 +1,11 @@
 //! A replica: a program, the table of the records that it took, and the timeline that runs them.
-ghost use Rattle.std.specs.Prelude.{◌≡◌, ℕ, ◌+◌, ◌-◌, ◌<◌, ◌≤◌, [], ◌∷◌, ◌++◌, Bool, false, Option, Some, None, length, List, slice_get, Contains, IsTrue, IsOk, IfOk, OnOk, OnErr, IfErr};
+ghost use Rattle.std.specs.Prelude.{◌≡◌, ◌+◌, ◌-◌, ◌<◌, ◌≤◌, [], ◌∷◌, ◌++◌, false, None, length, List, Contains, IsTrue, IsOk, IfOk, OnOk, OnErr};
 ghost use Rattle.warp_tag.specs.Limits.{most_records};
 ghost use Rattle.warp_record.specs.declared.line.Query.{Query};
 ghost use Rattle.warp_record.specs.Reply.{IsReply};
 ghost use Rattle.warp_step.specs.Run.{Row};
 ghost use Rattle.warp_line.specs.Timeline.{Standing, IsDone, KeepsDone, NowStands, Settles};
-ghost use Rattle.warp_table.specs.Names.{table_of, with_record};
+ghost use Rattle.warp_table.specs.Names.{with_record};
 ghost use Rattle.warp_table.specs.Check.{refusal_of};
 ghost use Rattle.warp_replica.specs.Replica.{standing_of, Stands};
 ghost use Rattle.warp_replica.specs.Gives.{GivesQuery, Takes, came_in, tag_of, told};

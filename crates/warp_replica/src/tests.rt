@@ -1,5 +1,4 @@
 //! Each call once with ample memory, over `Plain` and the program `twice`.
-ghost use Rattle.std.specs.Prelude.{◌≡◌, ◌<◌};
 ghost use Rattle.warp_step.specs.Counter.{IsUnused};
 
 use crate::{Idle, Local, Replica, Took};

@@ -1,7 +1,6 @@
 use Rattle.std.proofs.Common.{◌≡◌, List, None, refl, sym, ap, subst, length, arith}
 use Rattle.warp_step.specs.Run.{Row}
 use Rattle.warp_line.specs.Timeline.{KeepsDone}
-use Rattle.warp_table.specs.Names.{table_of}
 use Rattle.warp_table.specs.Check.{refusal_of}
 use Rattle.warp_table.proofs.Sizes.{length-table_of}
 use Rattle.warp_replica.specs.Replica.{ReplicaState, standing_of, Stands}

@@ -1,11 +1,10 @@
-use Rattle.std.proofs.Common.{◌≡◌, ◌≤◌, length, subst, sym, ap, arith, rules, w64, FitsSigned}
+use Rattle.std.proofs.Common.{◌≤◌, length, subst, arith, rules, w64, FitsSigned}
 use Rattle.std.proofs.lemmas.Int.{to_z-of_z}
 use Rattle.std.proofs.lemmas.Bool.Decides.{nat_tests}
 use Rattle.warp_record.specs.declared.line.Query.TheVariants.{Var}
 use Rattle.warp_record.specs.declared.reply.Reply.TheVariants as reply
 use Rattle.warp_record.specs.declared.reply.Refusal.TheVariants.{NoVar}
 use Rattle.warp_replica.specs.Gives.{GivesQuery}
-use Rattle.warp_replica.specs.Replica.{ReplicaState}
 use Rattle.warp_replica.proofs.Variables.{as_many, has_value}
 use Rattle.warp_replica.proofs.replica.Replica.tell.Goals as goal
 
