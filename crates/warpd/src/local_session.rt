@@ -1,6 +1,7 @@
 //! A session of one replica without peers.
 ghost use Rattle.std.specs.Prelude.{◌≡◌, ◌<◌, ◌≤◌, IfSome, length};
 ghost use Rattle.warp_tag.specs.Limits.{most_reads};
+ghost use Rattle.warp_step.specs.Counter.{IsUnused};
 ghost use Rattle.warpd.specs.LocalSession.{TranscribesAll};
 
 use crate::session::{SessionEnd, session};
@@ -34,11 +35,10 @@ pub fn run_session<R: Source, W: Sink>(
 
 #[cfg(test)]
 mod tests {
-    ghost use Rattle.warp_step.specs.Counter.{IsUnused};
-
     use super::*;
     use crate::memory::{MemoryReader, MemoryWriter};
     use crate::stream::Stream;
+    use std::cell::Cell;
     use std::io::Read;
     use std::marker::Brand;
     use std::sync::ledger::{Blank, Ledger};
@@ -61,7 +61,7 @@ mod tests {
     fn run<R: Read + Drop, L: Ledger, M: Ledger>(
         alloc: Global,
         reader: R,
-        writer: MemoryWriter,
+        writer: MemoryWriter<'_>,
         reads: Blank,
         writes: Blank,
     ) -> Result<(SessionEnd, Vec<u8>), OutOfMemory>
@@ -110,7 +110,8 @@ mod tests {
         for (lines, answers) in rows {
             for most in [1, 7, 4_096] {
                 let reader = MemoryReader::new(lines.as_bytes(), most, None);
-                let writer = MemoryWriter::new(Vec::new(alloc), most, None);
+                let count = Cell::new(0);
+                let writer = MemoryWriter::new(alloc, &count, most, None);
                 let (end, written) = run::<_, Brand, Brand>(
                     alloc,
                     reader,
@@ -136,7 +137,8 @@ mod tests {
         for cut in 0..bytes.len() {
             let first = MemoryReader::new(&bytes[..cut], 4_096, None);
             let second = MemoryReader::new(&bytes[cut..], 4_096, None);
-            let writer = MemoryWriter::new(Vec::new(alloc), 4_096, None);
+            let count = Cell::new(0);
+            let writer = MemoryWriter::new(alloc, &count, 4_096, None);
             let (end, written) = run::<_, Brand, Brand>(
                 alloc,
                 first.chain(second),

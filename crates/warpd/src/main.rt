@@ -221,6 +221,7 @@ fn answer<R: Source, W: Sink>(alloc: Global, streams: &mut Streams<R, W>) -> Ses
 mod tests {
     use super::*;
     use crate::memory::{MemoryReader, MemoryWriter};
+    use std::cell::Cell;
     use std::io::Read;
     use std::test::Fail;
 
@@ -239,7 +240,7 @@ mod tests {
         rt: &HostRuntime,
         words: Vec<String>,
         reader: R,
-        writer: MemoryWriter,
+        writer: MemoryWriter<'_>,
         reads: Blank,
         writes: Blank,
     ) -> Result<(ExitCode, Vec<u8>, Vec<u8>), Fail>
@@ -251,7 +252,8 @@ mod tests {
             source: Stream::<_, L>::new(reader, reads),
             sink: Stream::<_, M>::new(writer, writes),
         };
-        let mut errors = MemoryWriter::new(Vec::new(alloc), 7, None);
+        let count = Cell::new(0);
+        let mut errors = MemoryWriter::new(alloc, &count, 7, None);
         let (status, told) = perform(rt, alloc, Ok(words), &mut streams, &mut errors);
         told?;
         let Streams { source: _, sink } = streams;
@@ -278,7 +280,8 @@ mod tests {
         for (line, sound, status, output, errors) in rows {
             let words = owned(alloc, line)?;
             let reader = MemoryReader::new(b"event 0 5 0 0 3\nvar 0\n", 7, None);
-            let writer = MemoryWriter::new(Vec::new(alloc), 7, sound);
+            let count = Cell::new(0);
+            let writer = MemoryWriter::new(alloc, &count, 7, sound);
             let (reads, writes) = (Blank::new(1), Blank::new(1));
             let (ended, written, told) = run_over::<_, Brand, Brand>(
                 &rt, words, reader, writer, reads, writes,
