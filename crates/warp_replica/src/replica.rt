@@ -59,6 +59,16 @@ impl<T: Timeline> Replica<T> {
         })
     }
 
+    /// What is known of any replica: its timeline stands for its program and its records, none of which is there twice.
+    /// It does nothing.
+    pub fn valid(&self)
+        ensures stands { (done : List Row) × Stands T.stands_for self.now done }
+        ensures once { EachOnce self.now.records }
+    {
+        // A look at the table shows it.
+        let _length = self.table.len();
+    }
+
     /// Its program.
     pub fn program(&self) -> &Program
         ensures { result.now ≡ self.now.program }

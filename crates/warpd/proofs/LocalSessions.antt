@@ -6,8 +6,8 @@ use Rattle.warp_record.specs.declared.reply.Reply.{Reply}
 use Rattle.warp_record.specs.Lines.{Piece, Whole, Long, Torn, lines_of}
 use Rattle.warp_replica.specs.Gives.{Gives}
 use Rattle.warp_replica.specs.Desk.{LocalState, LocalGives}
-use Rattle.warpd.specs.Session.{GivesPiece, GivesAll, Session, Transcribes}
-use Rattle.warpd.specs.LocalSession.{TranscribesAll}
+use Rattle.warpd.specs.Session.{GivesPiece, GivesAll, Session, Transcribes, TranscribesLines}
+use Rattle.warpd.specs.LocalSession.{TranscribesAll, TranscribesSoFar}
 
 -- what a piece gives at a local it gives on the log, and the program stays
 piece_on_log : (s s' : LocalState) (piece : Piece) (reply : Reply) → GivesPiece LocalGives s piece reply s'
@@ -27,19 +27,26 @@ pieces_on_log s s' (piece ∷ pieces) (reply ∷ replies) g =
 pieces_on_log s s' [] (reply ∷ replies) g = absurd g
 pieces_on_log s s' (piece ∷ pieces) [] g = absurd g
 
--- a transcript at a local that has taken no record is one from the empty log
+-- a session at a local that has taken no record is one from the empty log
+session_from_empty : (P : Program) (s s' : LocalState) (bytes text : List ℕ) → s.program ≡ P → s.records ≡ []
+    → Session LocalGives s bytes text s' → Session (Gives P) [] bytes text s'.records
+session_from_empty P s s' bytes text is empty g = (
+  g.0,
+  subst (λ (Q : Program). GivesAll (Gives Q) [] (lines_of bytes) g.0 s'.records) is
+      (subst (λ (log : List Record). GivesAll (Gives s.program) log (lines_of bytes) g.0 s'.records) empty
+      (pieces_on_log s s' (lines_of bytes) g.0 g.1)),
+  g.2,
+)
+
+-- so is its transcript, of all bytes
 pub from_empty : (P : Program) (s s' : LocalState) (left written written' : Option (List ℕ)) → s.program ≡ P → s.records ≡ []
     → Transcribes LocalGives s left written written' s' → TranscribesAll P left written written'
 from_empty P s s' None written written' is empty t = t
 from_empty P s s' (Some input) written written' is empty t =
-    let on_log = pieces_on_log s s' (lines_of input) t.1.0 t.1.1 in (
-      t.0,
-      s'.records,
-      (
-        t.1.0,
-        subst (λ (Q : Program). GivesAll (Gives Q) [] (lines_of input) t.1.0 s'.records) is
-            (subst (λ (log : List Record). GivesAll (Gives s.program) log (lines_of input) t.1.0 s'.records) empty on_log),
-        t.1.2,
-      ),
-      t.2,
-    )
+    (t.0, s'.records, session_from_empty P s s' input t.0 is empty t.1, t.2)
+
+-- and of the lines before a failed read
+pub lines_from_empty : (P : Program) (s s' : LocalState) (left left' written written' : Option (List ℕ)) → s.program ≡ P → s.records ≡ []
+    → TranscribesLines LocalGives s left left' written written' s' → TranscribesSoFar P left left' written written'
+lines_from_empty P s s' left left' written written' is empty t =
+    (s'.records, (t.0, t.1, t.2, t.3, t.4, (t.5.0, session_from_empty P s s' t.0 t.5.0 is empty t.5.1, t.5.2)))

@@ -16,7 +16,7 @@ use Rattle.warp_record.specs.Lines.{Piece, is_end, IsOneLine, ended, unended, li
 use Rattle.warp_record.proofs.LineCuts.{lines_of-ended, lines_of-unended, one_line_before, one_line_more}
 use Rattle.warpd.proofs.Fronts.{more_of_rest}
 use Rattle.warpd.specs.Session.{GivesPiece, GivesAll, GivesText, Transcribes, reply_line}
-use Rattle.warpd.specs.inner.Turns.{At, AreCutOff, Answers, Taken, Takes, Ends, pieces_fed}
+use Rattle.warpd.specs.inner.Turns.{At, AreCutOff, Answered, Taken, Takes, Ends, pieces_fed}
 
 -- ---- whole lines
 
@@ -64,8 +64,8 @@ module _ {S : Type 0} (gives : S → Line → Reply → S → Type 0) where
   )
 
   -- pieces that were answered, and then more of them
-  Answers-append : (ps qs : List Piece) (a b c : At S) → Answers gives ps a b → Answers gives qs b c → Answers gives (ps ++ qs) a c
-  Answers-append ps qs a b c first second = record {
+  Answered-append : (ps qs : List Piece) (a b c : At S) → Answered gives ps a b → Answered gives qs b c → Answered gives (ps ++ qs) a c
+  Answered-append ps qs a b c first second = record {
     text = first.text ++ second.text;
     sent = first.sent ++ second.sent;
     given = GivesText-append a.state b.state c.state ps qs first.text second.text first.given second.given;
@@ -78,15 +78,15 @@ module _ {S : Type 0} (gives : S → Line → Reply → S → Type 0) where
   }
 
   -- where a session is before the answers does not depend on what the feed kept
-  Answers-from : (ps : List Piece) (a b : At S) (kept : Option (List ℕ))
-      → Answers gives ps (record a { held = record { kept = kept; gathered = a.held.gathered } }) b → Answers gives ps a b
-  Answers-from ps a b kept was = record { text = was.text; sent = was.sent; given = was.given; out = was.out; rest = was.rest }
+  Answered-from : (ps : List Piece) (a b : At S) (kept : Option (List ℕ))
+      → Answered gives ps (record a { held = record { kept = kept; gathered = a.held.gathered } }) b → Answered gives ps a b
+  Answered-from ps a b kept was = record { text = was.text; sent = was.sent; given = was.given; out = was.out; rest = was.rest }
 
   -- the reply to a piece came behind what was gathered, of which a front had gone out
-  pub Answers-reply : (piece : Piece) (said : Reply) (a b : At S) (sent mid : List ℕ) → GivesPiece gives a.state piece said b.state
+  pub Answered-reply : (piece : Piece) (said : Reply) (a b : At S) (sent mid : List ℕ) → GivesPiece gives a.state piece said b.state
       → Appends a.written b.written sent → sent ++ mid ≡ a.held.gathered → b.held.gathered ≡ mid ++ reply_line said
-      → Answers gives (piece ∷ []) a b
-  Answers-reply piece said a b sent mid gives out before behind = record {
+      → Answered gives (piece ∷ []) a b
+  Answered-reply piece said a b sent mid gives out before behind = record {
     text = reply_line said;
     sent = sent;
     given = (said ∷ [], (b.state, gives, refl), sym (append-nil (reply_line said)));
@@ -95,9 +95,9 @@ module _ {S : Type 0} (gives : S → Line → Reply → S → Type 0) where
   }
 
   -- all that was gathered went out
-  Answers-flushed : (ps : List Piece) (a b c : At S) → Answers gives ps a b → c.state ≡ b.state → c.held.gathered ≡ []
-      → Appends b.written c.written b.held.gathered → Answers gives ps a c
-  Answers-flushed ps a b c was same empty out = record {
+  Answered-flushed : (ps : List Piece) (a b c : At S) → Answered gives ps a b → c.state ≡ b.state → c.held.gathered ≡ []
+      → Appends b.written c.written b.held.gathered → Answered gives ps a c
+  Answered-flushed ps a b c was same empty out = record {
     text = was.text;
     sent = was.sent ++ b.held.gathered;
     given = subst (GivesText gives a.state ps was.text) (sym same) was.given;
@@ -106,9 +106,9 @@ module _ {S : Type 0} (gives : S → Line → Reply → S → Type 0) where
   }
 
   -- where nothing was gathered before and after, the replies' text went out
-  Answers-out : (ps : List Piece) (a b : At S) → a.held.gathered ≡ [] → b.held.gathered ≡ [] → Answers gives ps a b
+  Answered-out : (ps : List Piece) (a b : At S) → a.held.gathered ≡ [] → b.held.gathered ≡ [] → Answered gives ps a b
       → (text : List ℕ) × GivesText gives a.state ps text b.state × Appends a.written b.written text
-  Answers-out ps a b none empty was = (
+  Answered-out ps a b none empty was = (
     was.text,
     was.given,
     subst (Appends a.written b.written)
@@ -117,8 +117,8 @@ module _ {S : Type 0} (gives : S → Line → Reply → S → Type 0) where
   )
 
   -- no piece was answered
-  pub Answers-nil : (a : At S) → Answers gives [] a a
-  Answers-nil a = record {
+  pub Answered-nil : (a : At S) → Answered gives [] a a
+  Answered-nil a = record {
     text = [];
     sent = [];
     given = ([], refl, refl);
@@ -143,7 +143,7 @@ module _ {S : Type 0} (gives : S → Line → Reply → S → Type 0) where
   -- a line feed ended the unfinished line, which was answered
   Takes-line : (a b : At S) (piece : List ℕ) (given : Piece) → first_end piece < length piece
       → ((line : List ℕ) → a.held.kept ≡ kept_of line → given ≡ ended (line ++ before_first is_end piece))
-      → b.held.kept ≡ kept_of [] → Answers gives (given ∷ []) a b → Takes gives (take (first_end piece + 1) piece) a b
+      → b.held.kept ≡ kept_of [] → Answered gives (given ∷ []) a b → Takes gives (take (first_end piece + 1) piece) a b
   Takes-line a b piece given some is_line fresh answers start seen was =
       let before : List ℕ = before_first is_end piece in
       let line : List ℕ = was.line ++ before in
@@ -160,14 +160,14 @@ module _ {S : Type 0} (gives : S → Line → Reply → S → Type 0) where
         cut_off = AreCutOff-append was.lines (line ++ 10 ∷ []) was.cut_off (AreCutOff-line line one);
         one_line = All-nil (λ (byte : ℕ). is_end byte ≡ false);
         kept = fresh;
-        answers = subst (λ (l : List Piece). Answers gives l start b) (sym last)
-            (Answers-append (lines_of was.lines) (given ∷ []) start a b was.answers answers);
+        answers = subst (λ (l : List Piece). Answered gives l start b) (sym last)
+            (Answered-append (lines_of was.lines) (given ∷ []) start a b was.answers answers);
       }
 
   -- bytes without a line feed went on with the line
   Takes-rest : (a b : At S) (piece : List ℕ) → first_end piece ≡ length piece
       → ((line : List ℕ) → a.held.kept ≡ kept_of line → b.held.kept ≡ kept_of (line ++ piece))
-      → Answers gives [] a b → Takes gives piece a b
+      → Answered gives [] a b → Takes gives piece a b
   Takes-rest a b piece none keeps answers start seen was = record {
     lines = was.lines;
     line = was.line ++ piece;
@@ -176,8 +176,8 @@ module _ {S : Type 0} (gives : S → Line → Reply → S → Type 0) where
     cut_off = was.cut_off;
     one_line = one_line_more was.line piece was.one_line none;
     kept = keeps was.line was.kept;
-    answers = subst (λ (l : List Piece). Answers gives l start b) (append-nil (lines_of was.lines))
-        (Answers-append (lines_of was.lines) [] start a b was.answers answers);
+    answers = subst (λ (l : List Piece). Answered gives l start b) (append-nil (lines_of was.lines))
+        (Answered-append (lines_of was.lines) [] start a b was.answers answers);
   }
 
   -- a push into the feed, and the answer to the line that it gave, if it gave one
@@ -186,20 +186,20 @@ module _ {S : Type 0} (gives : S → Line → Reply → S → Type 0) where
       → IfSome fed (λ given. (line : List ℕ) → a.held.kept ≡ kept_of line → piece_of given ≡ ended (line ++ before_first is_end piece))
       → OnSome fed (kept ≡ kept_of [])
       → IfNone fed ((line : List ℕ) → a.held.kept ≡ kept_of line → kept ≡ kept_of (line ++ piece))
-      → b.held.kept ≡ kept → Answers gives (pieces_fed fed) (record a { held = record { kept = kept; gathered = a.held.gathered } }) b
+      → b.held.kept ≡ kept → Answered gives (pieces_fed fed) (record a { held = record { kept = kept; gathered = a.held.gathered } }) b
       → Takes gives (take n piece) a b
   Takes-pushed a b kept piece n (Some given) count some is_line fresh keeps same answers =
       let here : first_end piece < length piece = some.0 refl in
       let all : n ≡ first_end piece + 1 = omega arith in
       subst (λ (m : ℕ). Takes gives (take m piece) a b) (sym all)
-      (Takes-line a b piece (piece_of given) here is_line (same ∙ fresh) (Answers-from (piece_of given ∷ []) a b kept answers))
+      (Takes-line a b piece (piece_of given) here is_line (same ∙ fresh) (Answered-from (piece_of given ∷ []) a b kept answers))
   Takes-pushed a b kept piece n None count some is_line fresh keeps same answers =
       let within : first_end piece ≤ length piece = prefix_len-le-length (λ (byte : ℕ). not (is_end byte)) piece in
       let past : first_end piece < length piece → ⊥ = λ here. true≢false (sym (some.1 here)) in
       let all : first_end piece ≡ length piece = omega arith in
       let whole : take n piece ≡ piece = take_all n piece (omega arith) in
       subst (λ (l : List ℕ). Takes gives l a b) (sym whole)
-      (Takes-rest a b piece all (λ line is. same ∙ keeps line is) (Answers-from [] a b kept answers))
+      (Takes-rest a b piece all (λ line is. same ∙ keeps line is) (Answered-from [] a b kept answers))
 
   -- all bytes, and then all that was gathered went out
   pub Takes-flushed : (bytes : List ℕ) (front : ℕ) (a b c : At S) → length bytes ≤ front → Takes gives (take front bytes) a b
@@ -214,23 +214,23 @@ module _ {S : Type 0} (gives : S → Line → Reply → S → Type 0) where
         cut_off = t.cut_off;
         one_line = t.one_line;
         kept = kept ∙ t.kept;
-        answers = Answers-flushed (lines_of t.lines) start b c t.answers same empty out;
+        answers = Answered-flushed (lines_of t.lines) start b c t.answers same empty out;
       }
 
   -- the last line was answered, if there was one, and all that was gathered went out
   pub Ends-last : (a b c : At S) (kept : Option (List ℕ)) (fed : Option Fed)
       → ((line : List ℕ) → a.held.kept ≡ kept_of line → option_map piece_of fed ≡ unended line)
-      → Answers gives (pieces_fed fed) (record a { held = record { kept = kept; gathered = a.held.gathered } }) b
+      → Answered gives (pieces_fed fed) (record a { held = record { kept = kept; gathered = a.held.gathered } }) b
       → c.state ≡ b.state → c.held.gathered ≡ [] → Appends b.written c.written b.held.gathered → Ends gives a c
   Ends-last a b c kept fed is_line answers same empty out start seen was =
       let is : lines_of seen ≡ lines_of was.lines ++ pieces_fed fed =
       ap lines_of was.cut ∙ was.cut_off was.line
       ∙ ap (λ (l : List Piece). lines_of was.lines ++ l) (lines_of-unended was.line was.one_line)
       ∙ ap (λ (o : Option Piece). lines_of was.lines ++ option_to_list o) (sym (is_line was.line was.kept)) in
-      let all : Answers gives (lines_of seen) start b =
-      subst (λ (l : List Piece). Answers gives l start b) (sym is)
-      (Answers-append (lines_of was.lines) (pieces_fed fed) start a b was.answers (Answers-from (pieces_fed fed) a b kept answers)) in
-      (Answers-flushed (lines_of seen) start b c all same empty out, empty)
+      let all : Answered gives (lines_of seen) start b =
+      subst (λ (l : List Piece). Answered gives l start b) (sym is)
+      (Answered-append (lines_of was.lines) (pieces_fed fed) start a b was.answers (Answered-from (pieces_fed fed) a b kept answers)) in
+      (Answered-flushed (lines_of seen) start b c all same empty out, empty)
 
   -- ---- whole sessions
 
@@ -241,7 +241,7 @@ module _ {S : Type 0} (gives : S → Line → Reply → S → Type 0) where
   transcribed_whole (Some input) (Some rest) seen a b c none taken ends reads over =
       let all : input ≡ seen = reads ∙ ap (λ (l : List ℕ). seen ++ l) over ∙ append-nil seen in
       let done = ends a seen taken in
-      Answers-out (lines_of input) a c none done.1 (subst (λ (l : List ℕ). Answers gives (lines_of l) a c) (sym all) done.0)
+      Answered-out (lines_of input) a c none done.1 (subst (λ (l : List ℕ). Answered gives (lines_of l) a c) (sym all) done.0)
 
   -- all that a source gave was taken, and then it gave nothing: the transcript is out
   pub transcribed : (left mid left-after : Option (List ℕ)) (seen buffer : List ℕ) (count : ℕ) (a b c : At S) → a.held.gathered ≡ [] → Taken gives seen a b

@@ -6,7 +6,7 @@ use Rattle.clap.specs.declared.error.kind.ErrorKind.TheVariants as kind
 use Rattle.warp_tag.specs.Limits.{most_reads}
 use Rattle.warp_step.specs.Program.{Program as ReactorProgram}
 use Rattle.warp_step.specs.Twice.{twice}
-use Rattle.warpd.specs.LocalSession.{TranscribesAll}
+use Rattle.warpd.specs.LocalSession.{TranscribesAll, TranscribesSoFar}
 use Rattle.warpd.specs.Words.{program_in, warpd_command}
 use Rattle.warpd.specs.declared.session.SessionEnd.{SessionEnd}
 use Rattle.warpd.specs.declared.session.SessionEnd.TheVariants.{End, ReadFault, WriteFault, TooManyReads, NoMemory}
@@ -69,7 +69,8 @@ pub record Seen : Type 0 where
 -- what a session of this program did by the time that it ended so
 abbrev pub EndsSo : ReactorProgram → Seen → Seen → SessionEnd → Type 0
 EndsSo P before after End = TranscribesAll P before.left before.written after.written
-EndsSo P before after ReadFault = before.failed_reads < after.failed_reads
+EndsSo P before after ReadFault =
+    (before.failed_reads < after.failed_reads) × TranscribesSoFar P before.left after.left before.written after.written
 EndsSo P before after WriteFault = before.failed_writes < after.failed_writes
 EndsSo P before after TooManyReads = IfSome before.left (λ input. most_reads ≤ length input)
 EndsSo P before after NoMemory = after ≡ before

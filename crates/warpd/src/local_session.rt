@@ -2,7 +2,7 @@
 ghost use Rattle.std.specs.Prelude.{◌≡◌, ◌<◌, ◌≤◌, IfSome, length};
 ghost use Rattle.warp_tag.specs.Limits.{most_reads};
 ghost use Rattle.warp_step.specs.Counter.{IsUnused};
-ghost use Rattle.warpd.specs.LocalSession.{TranscribesAll};
+ghost use Rattle.warpd.specs.LocalSession.{TranscribesAll, TranscribesSoFar};
 
 use crate::session::{SessionEnd, session};
 use crate::stream::{Sink, Source};
@@ -22,6 +22,9 @@ pub fn run_session<R: Source, W: Sink>(
     ensures bytes { result ≡ SessionEnd.End →
         TranscribesAll program (R.left source.old) (W.written sink.old) (W.written sink.new) }
     ensures read_fault { result ≡ SessionEnd.ReadFault → R.failures source.old < R.failures source.new }
+    // Before a failed read the lines so far were answered, and no torn one.
+    ensures lines { result ≡ SessionEnd.ReadFault →
+        TranscribesSoFar program (R.left source.old) (R.left source.new) (W.written sink.old) (W.written sink.new) }
     ensures write_fault { result ≡ SessionEnd.WriteFault → W.failures sink.old < W.failures sink.new }
     ensures many { result ≡ SessionEnd.TooManyReads → IfSome (R.left source.old) (λ input. most_reads ≤ length input) }
     // Without memory nothing was read or written.

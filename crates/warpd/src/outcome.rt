@@ -18,7 +18,7 @@ pub enum Outcome {
     Words,
     /// More sessions and peers than there are lanes.
     TooManyLanes,
-    /// The program was read and refused, for the reason with this number, 1 to 8.
+    /// The program was read and refused, for the reason with this number, 1 to 7.
     Program(u8),
     /// The schedule was read and refused at this line: from 1, or 0 where it is too long.
     Schedule(u64),

@@ -8,7 +8,7 @@ ghost use Rattle.warp_step.specs.Counter.{IsUnused};
 ghost use Rattle.warp_record.specs.Lines.{piece_of};
 ghost use Rattle.warpd.specs.Session.{GivesPiece, Transcribes, TranscribesLines};
 ghost use Rattle.warpd.specs.Stream.{Counts};
-ghost use Rattle.warpd.specs.inner.Turns.{Answers, Turn, Takes, Ends, at, nothing, pieces_fed};
+ghost use Rattle.warpd.specs.inner.Turns.{Answered, Turn, Takes, Ends, at, nothing, pieces_fed};
 
 use crate::stream::{Failed, Sink, Source, write_all};
 use std::alloc::{AllocError, Global};
@@ -105,7 +105,7 @@ impl Transcriber {
         sink: &mut W,
         fed: Option<Fed>,
     ) -> Result<(), Failed>
-        ensures turn { Turn (λ _. Answers D.gives (pieces_fed fed))
+        ensures turn { Turn (λ _. Answered D.gives (pieces_fed fed))
             (at (D.state desk.old) self.old (W.written sink.old) (W.failures sink.old))
             (at (D.state desk.new) self.new (W.written sink.new) (W.failures sink.new)) result }
         ensures kept { self.new.kept ≡ self.old.kept }

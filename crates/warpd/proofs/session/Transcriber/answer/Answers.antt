@@ -5,12 +5,12 @@ use Rattle.warp_record.specs.Lines.{piece_of}
 use Rattle.warp_record.specs.Reply.{reply_spelling}
 use Rattle.warpd.specs.Session.{reply_line}
 use Rattle.warpd.specs.inner.Turns.{Held}
-use Rattle.warpd.proofs.TurnsLemmas.{Answers-nil, Answers-reply}
+use Rattle.warpd.proofs.TurnsLemmas.{Answered-nil, Answered-reply}
 use Rattle.warpd.proofs.session.Transcriber.answer.Goals.{then-is_full+in_ok-flush, else-is_full}
 use Rattle.warpd.proofs.session.Transcriber.answer.Goals as goal
 
 pub returns-in_default-clause-turn : goal.returns-in_default-clause-turn
-returns-in_default-clause-turn g c = record { does = rw c.in_default.is (Answers-nil g.D.Desk.gives _); failures = refl }
+returns-in_default-clause-turn g c = record { does = rw c.in_default.is (Answered-nil g.D.Desk.gives _); failures = refl }
 
 pub returns-clause-turn : goal.returns-clause-turn
 returns-clause-turn g c =
@@ -37,6 +37,6 @@ returns-clause-turn g c =
     ∙ ap (λ (h : Held). h.gathered ++ reply_line said) c.self-2.view_is in
     record {
       does = rw c.in-Some.is
-          (Answers-reply g.D.Desk.gives (piece_of c.in-Some.fed) said _ _ room.0 mid.self.gathered c.reply_to-reply.ensures room.1 room.2 behind);
+          (Answered-reply g.D.Desk.gives (piece_of c.in-Some.fed) said _ _ room.0 mid.self.gathered c.reply_to-reply.ensures room.1 room.2 behind);
       failures = room.3;
     }
