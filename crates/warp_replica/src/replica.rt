@@ -5,6 +5,7 @@ ghost use Rattle.warp_record.specs.declared.line.Query.{Query};
 ghost use Rattle.warp_record.specs.Reply.{IsReply};
 ghost use Rattle.warp_step.specs.Run.{Row};
 ghost use Rattle.warp_line.specs.Timeline.{Standing, IsDone, KeepsDone, NowStands, Settles};
+ghost use Rattle.warp_table.specs.Log.{EachOnce};
 ghost use Rattle.warp_table.specs.Names.{with_record};
 ghost use Rattle.warp_table.specs.Check.{refusal_of};
 ghost use Rattle.warp_replica.specs.Replica.{standing_of, Stands};

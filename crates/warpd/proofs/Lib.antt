@@ -1,5 +1,6 @@
 pub mod Fronts
 pub mod TurnsLemmas
 pub mod LocalSessions
+pub mod Endings
 pub mod FaultlessWalks
 pub mod GivenArguments
