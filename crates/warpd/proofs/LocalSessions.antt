@@ -1,5 +1,5 @@
 -- A session of a `Local` is one of its log.
-use Rattle.std.proofs.Common.{◌≡◌, ◌⊎◌, ℕ, List, [], ◌∷◌, ap, subst, ◌∙◌, refl, inl, inr, Option, Some, None}
+use Rattle.std.proofs.Common.{◌≡◌, ℕ, List, [], ◌∷◌, ap, subst, inl, inr, Option, Some, None}
 use Rattle.warp_step.specs.Program.{Program}
 use Rattle.warp_record.specs.declared.line.Record.{Record}
 use Rattle.warp_record.specs.declared.reply.Reply.{Reply}

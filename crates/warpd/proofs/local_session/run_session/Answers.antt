@@ -1,5 +1,5 @@
 -- The session of the new local is one from the empty log.
-use Rattle.std.proofs.Common.{◌≡◌, ◌∙◌, ap}
+use Rattle.std.proofs.Common.{◌∙◌, ap}
 use Rattle.warp_replica.specs.Desk.{local_state}
 use Rattle.warpd.proofs.LocalSessions.{from_empty, lines_from_empty}
 use Rattle.warpd.proofs.local_session.run_session.Goals as goal
