@@ -2,7 +2,8 @@
 //!
 //! An `Arena` is a `Vec` of nodes. Each used node is in the doubly linked tag list (by tag, then by origin) and
 //! in the doubly linked list of its origin (by tag); the unused ones are in a free list. Contracts see none of
-//! these links: they see the entries in order, each with the handle that names it, how many nodes are free, and for how many memory was taken.
+//! these links: they see the entries in order, each with the handle that names it, how many nodes are free, and for how
+//! many memory was taken.
 #![tactic(auto)]
 
 mod arena;
