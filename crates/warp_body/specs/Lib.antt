@@ -1,4 +1,3 @@
 pub mod Presence
 pub mod Term
 pub mod Effect
-pub mod Codes

@@ -1,6 +1,6 @@
 //! Tags and landings: their ranges, their order, and where a delay leads.
 ghost use Rattle.std.specs.Prelude.{◌≡◌, ℕ, ◌≤◌, SomeIff};
-ghost use Rattle.warp_tag.specs.Limits.{last_microstep, last_time, longest_delay, longest_stop};
+ghost use Rattle.warp_tag.specs.Limits.{last_microstep, last_time, longest_delay, longest_period, longest_stop};
 
 use std::marker::Model;
 
@@ -12,6 +12,9 @@ pub const MAX_TIME: u64 = 1_000_001;
 
 /// The last microstep of a time.
 pub const LAST_MICROSTEP: u32 = 15;
+
+/// The longest delay, offset or period that a program can name.
+pub const MAX_PERIOD: u64 = 1_000_000;
 
 /// The longest delay that a call of `Tag::after` is given: two delays of a program, added.
 pub const MAX_DELAY: u64 = 2_000_000;
@@ -124,5 +127,6 @@ pub fn tag_limits()
     ensures stop { longest_stop ≡ MAX_STOP }
     ensures time { last_time ≡ MAX_TIME }
     ensures microstep { last_microstep ≡ LAST_MICROSTEP }
+    ensures period { longest_period ≡ MAX_PERIOD }
     ensures delay { longest_delay ≡ MAX_DELAY }
 {}
