@@ -8,9 +8,10 @@ use std::marker::Model;
 use warp_tag::OutOfMemory;
 
 /// What can be present at a tag, and can be pending: what a reaction may react to.
-#[derive(Clone, Copy, Debug, PartialEq, Eq)]
+#[derive(Clone, Copy, Debug, Default, PartialEq, Eq)]
 pub enum Target {
     /// The first tag of a run.
+    #[default]
     Startup,
     /// The timer with this number.
     Timer(u32),

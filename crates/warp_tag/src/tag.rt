@@ -20,7 +20,7 @@ pub const MAX_PERIOD: u64 = 1_000_000;
 pub const MAX_DELAY: u64 = 2_000_000;
 
 /// A time, 0 to `MAX_TIME`, and a microstep, 0 to `LAST_MICROSTEP`. Tags are ordered by time, then by microstep.
-#[derive(Clone, Copy, Debug, PartialEq, Eq, PartialOrd, Ord, Hash)]
+#[derive(Clone, Copy, Debug, Default, PartialEq, Eq, PartialOrd, Ord, Hash)]
 pub struct Tag {
     time: u64,
     micro: u32,
@@ -63,6 +63,14 @@ impl Tag {
         } else {
             None
         }
+    }
+
+    /// The tag at which a time begins, at microstep 0.
+    pub fn beginning_of(time: u64) -> Tag
+        requires { time ≤ last_time }
+        ensures { result ≡ record { time = time; microstep = 0 } }
+    {
+        Tag { time, micro: 0 }
     }
 
     /// The time, in the program's own unit.
