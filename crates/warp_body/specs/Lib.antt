@@ -1,3 +1,4 @@
 pub mod Presence
 pub mod Term
 pub mod Effect
+pub mod Codes
