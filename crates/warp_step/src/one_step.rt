@@ -3,7 +3,7 @@ ghost use Rattle.std.specs.Prelude.{◌≡◌, ℕ, ◌+◌, ◌≤◌, ◌++◌
 ghost use Rattle.std.specs.List.{list_all};
 ghost use Rattle.warp_tag.specs.Moment.{is_before};
 ghost use Rattle.warp_step.specs.Snapshot.{Snapshot, IsStateOf};
-ghost use Rattle.warp_step.specs.Step.{CanStep, Step, Room, room_of, sources_of};
+ghost use Rattle.warp_step.specs.Step.{CanStep, Step, Room, room_of, source_of, sources_of};
 
 use crate::arrive::arrive;
 use crate::meter::Meter;

@@ -1,5 +1,8 @@
 //! The program `twice`.
-ghost use Rattle.std.specs.Prelude.{◌≡◌, IfOk};
+ghost use Rattle.std.specs.Prelude.{◌≡◌, IfOk, ◌∷◌, []};
+ghost use Rattle.warp_body.specs.Term.{VariableAt, term_of};
+ghost use Rattle.warp_body.specs.Effect.{SetVariable, PutOutput, Done, Then};
+ghost use Rattle.warp_body.specs.declared.place.Target.TheVariants as to;
 ghost use Rattle.warp_step.specs.Program.{rule_of};
 ghost use Rattle.warp_step.specs.Twice.{twice, on_a, on_b};
 
