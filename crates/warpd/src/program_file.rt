@@ -1,0 +1,88 @@
+//! The program that a word names: `builtin:twice`, or that of a file.
+ghost use Rattle.std.specs.Prelude.{◌≡◌, ◌≢◌, ◌⊎◌, ◌+◌, IfErr, IfOk, IfSome, take};
+ghost use Rattle.std.specs.IoError.{error_kind};
+ghost use Rattle.std.specs.declared.io.ErrorKind.TheVariants.{OutOfMemory};
+ghost use Rattle.warp_prog.specs.Limits.{most_bytes};
+ghost use Rattle.warp_prog.specs.Load.{Loads};
+ghost use Rattle.warpd.specs.Outcome.{IsNamed, IsRefused, LacksProgram};
+
+use crate::outcome::Outcome;
+use std::alloc::Global;
+use std::io::Read;
+use std::rt::Files;
+use std::{fs, io};
+use warp_prog::{LoadError, load};
+use warp_step::Program;
+
+/// One more than the most bytes of a program file: as many are read, so that a longer file is seen to be one.
+const ENOUGH: u64 = 1_048_577;
+
+/// The program that this word names: `builtin:twice`, or that of the file at this path.
+pub(crate) fn program_named<F: Files>(files: &F, alloc: Global, name: &str) -> Result<Program, Outcome>
+    ensures ok { IfOk result (IsNamed name.now) }
+    ensures err { IfErr result (LacksProgram name.now) }
+{
+    if name == "builtin:twice" {
+        return built_in(alloc);
+    }
+    match fs::open(files, name) {
+        Ok(file) => loaded(alloc, file),
+        Err(error) => Err(lost(&error)),
+    }
+}
+
+/// The program `twice`.
+fn built_in(alloc: Global) -> Result<Program, Outcome>
+    ensures ok { IfOk result (λ P. P ≡ twice) }
+    ensures err { IfErr result (λ outcome. outcome ≡ Outcome.Memory) }
+{
+    match Program::twice(alloc) {
+        Ok(program) => Ok(program),
+        Err(_) => Err(Outcome::Memory),
+    }
+}
+
+/// The program that a reader's bytes spell.
+fn loaded<R: Read + Drop>(alloc: Global, reader: R) -> Result<Program, Outcome>
+    ensures ok { IfOk result (λ P. (bytes : List ℕ) × Loads bytes P) }
+    ensures err { IfErr result IsRefused }
+{
+    let bytes = first_bytes(alloc, reader)?;
+    match load(alloc, &bytes) {
+        Ok(program) => Ok(program),
+        Err(error) => Err(refused(error)),
+    }
+}
+
+/// The bytes of a reader, but no more than one past the most of a program file.
+fn first_bytes<R: Read + Drop>(alloc: Global, reader: R) -> Result<Vec<u8>, Outcome>
+    ensures bytes { IfOk result (λ bytes. IfSome (R.remaining reader) (λ all. bytes.items ≡ take (most_bytes + 1) all)) }
+    ensures err { IfErr result (λ outcome. (outcome ≡ Outcome.NoProgram) ⊎ (outcome ≡ Outcome.Memory)) }
+{
+    let mut bytes = Vec::new(alloc);
+    match reader.take(ENOUGH).read_to_end(&mut bytes) {
+        Ok(_) => Ok(bytes),
+        Err(error) => Err(lost(&error)),
+    }
+}
+
+/// How the run ends where the file couldn't be read for this error.
+fn lost(error: &io::Error) -> Outcome
+    ensures memory { error_kind error.now ≡ OutOfMemory → result ≡ Outcome.Memory }
+    ensures file { error_kind error.now ≢ OutOfMemory → result ≡ Outcome.NoProgram }
+{
+    if error.kind() == io::ErrorKind::OutOfMemory {
+        Outcome::Memory
+    } else {
+        Outcome::NoProgram
+    }
+}
+
+/// How the run ends where the file was refused.
+fn refused(error: LoadError) -> Outcome
+{
+    match error {
+        LoadError::Memory => Outcome::Memory,
+        _ => Outcome::Program(error.number()),
+    }
+}
