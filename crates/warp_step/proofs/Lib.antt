@@ -1,1 +1,3 @@
 pub mod EventLemmas
+pub mod TagsOfStep
+pub mod TraceLemmas
