@@ -1,6 +1,7 @@
 use Rattle.std.proofs.Common.{None}
 use Rattle.warp_step.proofs.TraceLemmas.{one_rest}
 use Rattle.warp_step.proofs.TagsOfStep.{all_at}
+use Rattle.warp_step.proofs.TagsOfRun.{few_rows}
 use Rattle.warp_step.proofs.TraceExists.{is_end}
 use Rattle.warp_step.proofs.TagsOfBox.{size}
 use Rattle.warp_step.specs.Snapshot.{start_state}
