@@ -12,6 +12,9 @@ use Rattle.warp_step.specs.Snapshot.{Snapshot, start_state}
 use Rattle.warp_step.specs.Step.{state_after, outputs_after}
 use Rattle.warp_step.specs.Run.{Row, Run, RunFrom, IsNext, waits, is_after, given_at}
 use Rattle.warp_step.specs.declared.pending.Waiting.{Waiting}
+use Rattle.warp_step.proofs.TagsOfBox.{is_inside, was_inside, size, passed, passed_grows, passed_few}
+use Rattle.warp_step.proofs.TagsOfStep.{all_at}
+use Rattle.warp_step.proofs.TagsOfRun.{Holds, waits_at, stays_inside, start_inside}
 
 pub after_trans : (last : Option Moment) (t u : Moment) → is_after last t ≡ true → is_before t u ≡ true → is_after last u ≡ true
 after_trans None t u h k = refl
@@ -139,3 +142,60 @@ is_end E last s none t = waits_is E last s t ∙ elim (cases_Bool (is_after last
   | inl a ↦ let b = none t a in rw a b
   | inr a ↦ rw a refl
 ]
+
+-- what is inside a box is inside a wider one
+wider : (T M U N : ℕ) (E : List Event) → T ≤ U → M ≤ N → list_all (λ e. is_inside T M e.tag) E ≡ true → list_all (λ e. is_inside U N e.tag) E ≡ true
+wider T M U N [] t m h = refl
+wider T M U N (e ∷ es) t m h =
+    let front : is_inside T M e.tag ≡ true = grind (arith, nat_tests) in
+    let back : list_all (λ d. is_inside T M d.tag) es ≡ true = grind (arith, nat_tests) in
+    let rest = wider T M U N es t m back in
+    let here : is_inside U N e.tag ≡ true = grind (arith, nat_tests) in
+    grind (arith, nat_tests)
+
+-- some box holds a program and its events
+some_box : (P : Program) (E : List Event) → (T : ℕ) × (M : ℕ) × Holds T M P E
+some_box P [] = (P.stop, P.top, record { stop = omega arith; top = omega arith; events = refl })
+some_box P (e ∷ es) =
+    let small = some_box P es in
+    let T = small.0 in
+    let M = small.1 in
+    let rest = wider T M (T + e.tag.time) (M + e.tag.microstep) es (omega arith) (omega arith) small.2.events in
+    let here : is_inside (T + e.tag.time) (M + e.tag.microstep) e.tag ≡ true = grind (arith, nat_tests) in
+    let stop = small.2.stop in
+    let top = small.2.top in
+    (T + e.tag.time, M + e.tag.microstep, record { stop = omega arith; top = omega arith; events = grind (arith, nat_tests) })
+
+-- the rows from here on, with so many tags of a box left at the most
+module _ (T M : ℕ) (P : Program) (E : List Event) (box : Holds T M P E) where
+  exists_from : (n : ℕ) (last : Option Moment) (s : Snapshot) → was_inside T M last ≡ true
+      → all_at (is_inside T M) s ≡ true → size T M ≤ passed M last + n → (rows : List Row) × RunFrom P E last s rows
+  exists_from zero last s was pending enough = elim (next_or_none last (standing E s)) [
+    | inl none ↦ ([], is_end E last s none)
+    | inr found ↦
+        let t = found.0 in
+        let next = is_next E last s t found.1 in
+        let here : is_inside T M t ≡ true = waits_at (is_inside T M) E last s t box.events pending next.waiting in
+        let grows = passed_grows T M last t was found.1.after in
+        let few = passed_few T M (Some t) here in
+        absurd (omega arith)
+  ]
+  exists_from (suc n) last s was pending enough = elim (next_or_none last (standing E s)) [
+    | inl none ↦ ([], is_end E last s none)
+    | inr found ↦
+        let t = found.0 in
+        let next = is_next E last s t found.1 in
+        let here : is_inside T M t ≡ true = waits_at (is_inside T M) E last s t box.events pending next.waiting in
+        let grows = passed_grows T M last t was found.1.after in
+        let left : size T M ≤ passed M (Some t) + n = omega arith in
+        let new : Snapshot = state_after P s t (given_at t E) in
+        let rest = exists_from n (Some t) new here (stays_inside T M P E s t box here pending) left in
+        let row : Row = record { tag = t; state = new; outputs = outputs_after P s t (given_at t E) } in
+        (row ∷ rest.0, (next, record { state = refl; outputs = refl }, rest.1))
+  ]
+
+pub exists : (P : Program) (E : List Event) → (trace : List Row) × Run P E trace
+exists P E =
+    let boxed = some_box P E in
+    exists_from boxed.0 boxed.1 P E boxed.2 (size boxed.0 boxed.1) None (start_state P) refl
+    (start_inside boxed.0 boxed.1 P boxed.2.stop) (omega arith)
