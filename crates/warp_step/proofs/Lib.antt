@@ -4,3 +4,4 @@ pub mod TagsOfRun
 pub mod TagsOfStep
 pub mod TraceExists
 pub mod TraceLemmas
+pub mod VariablesOfRun

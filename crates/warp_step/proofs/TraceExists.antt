@@ -16,10 +16,6 @@ use Rattle.warp_step.proofs.TagsOfBox.{is_inside, was_inside, size, passed, pass
 use Rattle.warp_step.proofs.TagsOfStep.{all_at}
 use Rattle.warp_step.proofs.TagsOfRun.{Holds, waits_at, stays_inside, start_inside}
 
-pub after_trans : (last : Option Moment) (t u : Moment) → is_after last t ≡ true → is_before t u ≡ true → is_after last u ≡ true
-after_trans None t u h k = refl
-after_trans (Some l) t u h k = before_trans l t u h k
-
 -- the tag is one of the list
 abbrev pub stands : Moment → List Moment → Bool
 stands t ts = list_any (is_same t) ts
