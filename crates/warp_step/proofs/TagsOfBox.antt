@@ -1,5 +1,5 @@
 -- Boxes of tags: how many of them have been passed at a tag, and how many there are.
-use Rattle.std.proofs.Common.{◌≡◌, inl, inr, ℕ, ◌+◌, ◌*◌, ◌<◌, ◌≤◌, Bool, true, false, ◌&&◌, nat_le, nat_lt, Option, Some, None, arith, ap}
+use Rattle.std.proofs.Common.{◌≡◌, inl, inr, ℕ, ◌+◌, ◌*◌, ◌<◌, ◌≤◌, Bool, true, ◌&&◌, nat_le, nat_lt, Option, Some, None, arith, ap}
 use Rattle.std.proofs.lemmas.Bool.{cases_Bool}
 use Rattle.std.proofs.lemmas.Bool.Decides.{nat_tests}
 use Rattle.warp_tag.specs.Moment.{Moment}
@@ -18,7 +18,7 @@ was_inside T M (Some t) = is_inside T M t
 abbrev pub size : ℕ → ℕ → ℕ
 size T M = (T + 1) * (M + 1)
 
--- how many tags inside are not after the last row
+-- how many tags with microsteps up to this one are not after the last row
 abbrev pub passed : ℕ → Option Moment → ℕ
 passed M None = 0
 passed M (Some t) = t.time * (M + 1) + t.microstep + 1
@@ -27,6 +27,7 @@ passed M (Some t) = t.time * (M + 1) + t.microstep + 1
 whole_times : (a b w : ℕ) → a < b → a * w + w ≤ b * w
 whole_times a b w h = grind (arith, nat_tests)
 
+-- a tag after the last row has passed more
 pub passed_grows : (T M : ℕ) (last : Option Moment) (t : Moment) → was_inside T M last ≡ true → is_after last t ≡ true
     → passed M last + 1 ≤ passed M (Some t)
 passed_grows T M None t was after_it = omega arith
@@ -44,6 +45,7 @@ passed_grows T M (Some l) t was after_it =
           omega arith
     ]
 
+-- and none has passed more than there are
 pub passed_few : (T M : ℕ) (last : Option Moment) → was_inside T M last ≡ true → passed M last ≤ size T M
 passed_few T M None was = omega arith
 passed_few T M (Some t) was =

@@ -1,5 +1,5 @@
 -- The tags of a run: they grow, and where the events and the program are inside a box of tags, so are they.
-use Rattle.std.proofs.Common.{◌≡◌, inl, inr, ℕ, ◌+◌, ◌≤◌, Bool, true, false, not, ◌&&◌, ◌||◌, IsTrue, List, [], ◌∷◌, length, Option, Some, None, arith, ap, ◌∙◌, sym, refl, subst}
+use Rattle.std.proofs.Common.{◌≡◌, inl, inr, ℕ, ◌+◌, ◌≤◌, Bool, true, false, not, IsTrue, List, [], ◌∷◌, length, Option, Some, None, arith, ap, ◌∙◌, refl}
 use Rattle.std.specs.List.{list_all, list_any, AllByRecursion}
 use Rattle.std.proofs.lemmas.Bool.{cases_Bool}
 use Rattle.std.proofs.lemmas.Bool.Decides.{nat_tests}
@@ -70,8 +70,7 @@ rows_left T M P E last s (r ∷ rows) box was pending run =
     let after : is_after last r.tag ≡ true = waits_after E last s r.tag run.0.waiting in
     let here : is_inside T M r.tag ≡ true = waits_at (is_inside T M) E last s r.tag box.events pending run.0.waiting in
     let grows = passed_grows T M last r.tag was after in
-    let next : all_at (is_inside T M) r.state ≡ true =
-        ap (all_at (is_inside T M)) run.1.state ∙ stays_inside T M P E s r.tag box here pending in
+    let next = ap (all_at (is_inside T M)) run.1.state ∙ stays_inside T M P E s r.tag box here pending in
     let rest = rows_left T M P E (Some r.tag) r.state rows box here next run.2 in
     omega arith
 
@@ -161,6 +160,5 @@ pub rows_in_time : (P : Program) (E : List Event) (last : Option Moment) (s : Sn
 rows_in_time P E last s [] events pending run = tt
 rows_in_time P E last s (row ∷ rows) events pending run =
     let here : is_in_time P row.tag ≡ true = waits_at (is_in_time P) E last s row.tag events pending run.0.waiting in
-    let next : all_at (is_in_time P) row.state ≡ true =
-        ap (all_at (is_in_time P)) run.1.state ∙ in_time P s row.tag (given_at row.tag E) here pending in
+    let next = ap (all_at (is_in_time P)) run.1.state ∙ in_time P s row.tag (given_at row.tag E) here pending in
     ((here, next), rows_in_time P E (Some row.tag) row.state rows events next run.2)

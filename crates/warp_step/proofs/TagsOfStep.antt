@@ -1,21 +1,17 @@
 -- What a step does to the tags that are pending: each stood before the step at another tag, or lands from the step's tag.
-use Rattle.std.proofs.Common.{◌≡◌, inl, inr, ℕ, ℤ, ◌+◌, ◌≤◌, Bool, true, false, not, ◌&&◌, ◌||◌, ◌==◌, nat_lt, nat_le, IsTrue, List, [], ◌∷◌, length, filter, Option, Some, None, refl, arith, ap, sym, subst}
+use Rattle.std.proofs.Common.{◌≡◌, inl, inr, ℕ, ℤ, ◌+◌, ◌≤◌, Bool, true, false, not, ◌&&◌, ◌||◌, ◌==◌, nat_lt, nat_le, IsTrue, List, [], ◌∷◌, length, filter, Option, Some, None, refl, arith}
 use Rattle.std.specs.Prelude.{pos, if◌then◌else◌}
 use Rattle.std.specs.List.{list_all, list_any}
 use Rattle.std.proofs.lemmas.Bool.{cases_Bool}
 use Rattle.std.proofs.lemmas.Bool.Decides.{nat_tests}
 use Rattle.warp_tag.specs.Limits.{most_pending}
 use Rattle.warp_tag.specs.Moment.{Moment, is_before, is_same}
-use Rattle.warp_tag.specs.Landing.{landing}
-use Rattle.warp_tag.specs.declared.tag.Landing.{Landing}
-use Rattle.warp_tag.specs.declared.tag.Landing.TheVariants.{At, PastStop, PastMicro}
-use Rattle.warp_tag.proofs.Lists.{filter-here, filter-past}
 use Rattle.warp_body.specs.Presence.{Presence, present_at}
 use Rattle.warp_body.specs.declared.place.Target.{Target}
 use Rattle.warp_body.specs.declared.place.Target.TheVariants as to
 use Rattle.warp_body.specs.declared.stmt.Wish.{Wish}
 use Rattle.warp_step.specs.Program.{Program, delay_of, starts_of}
-use Rattle.warp_step.specs.Snapshot.{Snapshot, key_before, has_key, with_entry, with_loss, entered, entered_where, landed, first_tag, begins, with_timers, with_startup, start_state}
+use Rattle.warp_step.specs.Snapshot.{Snapshot, key_before, has_key, with_entry, entered, landed, first_tag, begins, with_timers, with_startup, start_state}
 use Rattle.warp_step.specs.Events.{is_in_time}
 use Rattle.warp_step.specs.Step.{present_first, without_entries, repeats, with_repeats, reacted, with_wish, with_wishes, with_all_wishes, delivered, with_links, state_after}
 use Rattle.warp_step.specs.declared.out.Given.{Given}
@@ -31,6 +27,7 @@ all_at p s = list_all (λ w. p w.tag) s.pending
 abbrev pub lands : Program → Moment → Moment → Bool
 lands P t u = is_before t u && (nat_le u.time P.stop || u.time == t.time) && nat_le u.microstep P.top
 
+-- entries with one more at a tag that passes still pass
 entries_with : (p : Moment → Bool) (tag : Moment) (target : Target) (value : ℤ) (ws : List Waiting) → p tag ≡ true
     → list_all (λ w. p w.tag) ws ≡ true → list_all (λ w. p w.tag) (with_entry tag target value ws) ≡ true
 entries_with p tag target value [] here h = grind (arith, nat_tests)
@@ -46,6 +43,7 @@ entries_with p tag target value (w ∷ ws) here h = elim (cases_Bool (key_before
   ])
 ]
 
+-- so do those of a state into which it enters
 entered_at : (p : Moment → Bool) (tag : Moment) (target : Target) (value : ℤ) (s : Snapshot) → p tag ≡ true → all_at p s ≡ true
     → all_at p (entered tag target value s) ≡ true
 entered_at p tag target value s here h = elim (cases_Bool (list_any (has_key tag target) s.pending || nat_lt (length s.pending) most_pending)) [
@@ -53,8 +51,9 @@ entered_at p tag target value s here h = elim (cases_Bool (list_any (has_key tag
   | inr full ↦ rw full h
 ]
 
--- what lands passes the test where all tags do that land from there
+-- a test that all tags pass that land from a tag
 module _ (P : Program) (t : Moment) (p : Moment → Bool) (good : (u : Moment) → lands P t u ≡ true → p u ≡ true) where
+  -- what is pending passes it, with what lands too
   landed_at : (delay : ℕ) (target : Target) (value : ℤ) (s : Snapshot) → all_at p s ≡ true → all_at p (landed P t delay target value s) ≡ true
   landed_at delay target value s h = elim (cases_Bool (delay == 0)) [
     | inl now ↦ elim (cases_Bool (nat_le (t.microstep + 1) P.top)) [
@@ -73,6 +72,7 @@ module _ (P : Program) (t : Moment) (p : Moment → Bool) (good : (u : Moment) �
     ]
   ]
 
+  -- timers that are pending again
   repeated_at : (again : Bool) (period number : ℕ) (s : Snapshot) → all_at p s ≡ true
       → all_at p (if again then landed P t period (to.Timer number) (pos 0) s else s) ≡ true
   repeated_at true period number s h = landed_at period (to.Timer number) (pos 0) s h
@@ -86,6 +86,7 @@ module _ (P : Program) (t : Moment) (p : Moment → Bool) (good : (u : Moment) �
       repeats_at present (number + 1) timers (if again then landed P t timer.period (to.Timer number) (pos 0) s else s)
       (repeated_at again timer.period number s h)
 
+  -- actions that reactions wish
   wishes_at : (ws : List Wish) (s : Snapshot) → all_at p s ≡ true → all_at p (with_wishes P t ws s) ≡ true
   wishes_at [] s h = h
   wishes_at (w ∷ ws) s h =
@@ -95,6 +96,7 @@ module _ (P : Program) (t : Moment) (p : Moment → Bool) (good : (u : Moment) �
   all_wishes_at [] s h = h
   all_wishes_at (ws ∷ wss) s h = all_wishes_at wss (with_wishes P t ws s) (wishes_at ws s h)
 
+  -- values that links deliver
   delivered_at : (target : ℕ) (value : Option ℤ) (delay : Option ℕ) (s : Snapshot) → all_at p s ≡ true
       → all_at p (delivered P t target value delay s) ≡ true
   delivered_at target None delay s h = h
@@ -152,8 +154,9 @@ in_time P s t X here h =
     let time : t.time ≤ P.stop = grind (arith, nat_tests) in
     in_box P s t X P.stop P.top (omega arith) (omega arith) time h
 
--- what is pending at the start stands at the first microstep, at times up to the stop
+-- a test that all tags pass at which something may be pending at the start: the first microsteps up to the stop
 module _ (P : Program) (p : Moment → Bool) (good : (time : ℕ) → time ≤ P.stop → p (record { time = time; microstep = 0 }) ≡ true) where
+  -- one timer, all timers, and startup
   timer_at : (offset number : ℕ) (s : Snapshot) → all_at p s ≡ true
       → all_at p (if nat_le offset P.stop then entered (record { time = offset; microstep = 0 }) (to.Timer number) (pos 0) s else s) ≡ true
   timer_at offset number s h = elim (cases_Bool (nat_le offset P.stop)) [
@@ -177,6 +180,7 @@ module _ (P : Program) (p : Moment → Bool) (good : (time : ℕ) → time ≤ P
     | inr none ↦ rw none h
   ]
 
+  -- all that is pending at the start passes it
   pub start_at : all_at p (start_state P) ≡ true
   start_at =
       let bare : Snapshot = record { vars = starts_of P; pending = []; lost = 0 } in

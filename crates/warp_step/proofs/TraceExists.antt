@@ -1,12 +1,12 @@
 -- A trace that fits: from each row to the least tag that waits, until none does.
-use Rattle.std.proofs.Common.{◌≡◌, ◌⊎◌, inl, inr, ℕ, zero, suc, ◌+◌, ◌≤◌, Bool, true, false, ◌&&◌, ◌||◌, IsTrue, List, [], ◌∷◌, ◌++◌, length, map, ap, sym, ◌∙◌, refl, subst, arith, Option, Some, None}
+use Rattle.std.proofs.Common.{◌≡◌, ◌⊎◌, inl, inr, ℕ, zero, suc, ◌+◌, ◌≤◌, Bool, true, false, ◌&&◌, ◌||◌, List, [], ◌∷◌, ◌++◌, map, ap, sym, ◌∙◌, refl, subst, arith, Option, Some, None}
 use Rattle.std.specs.List.{list_all, list_any}
 use Rattle.std.proofs.lemmas.Bool.{cases_Bool}
 use Rattle.std.proofs.lemmas.Bool.Decides.{nat_tests}
 use Rattle.std.proofs.lemmas.List.Folds.{list_any-append}
 use Rattle.warp_tag.specs.Moment.{Moment, is_before, is_same}
 use Rattle.warp_tag.specs.Table.{Event}
-use Rattle.warp_tag.proofs.Tags.{same_is, is_same_self, not_before_self, before_trans, not_before_trans}
+use Rattle.warp_tag.proofs.Tags.{same_is, is_same_self, not_before_self, not_before_trans}
 use Rattle.warp_step.specs.Program.{Program}
 use Rattle.warp_step.specs.Snapshot.{Snapshot, start_state}
 use Rattle.warp_step.specs.Step.{state_after, outputs_after}
@@ -24,6 +24,7 @@ stands t ts = list_any (is_same t) ts
 abbrev pub standing : List Event → Snapshot → List Moment
 standing E s = map (λ e. e.tag) E ++ map (λ w. w.tag) s.pending
 
+-- a test of a list's images
 any_map : {X Y : Type 0} (p : Y → Bool) (f : X → Y) (xs : List X) → list_any p (map f xs) ≡ list_any (λ x. p (f x)) xs
 any_map p f [] = refl
 any_map p f (x ∷ xs) = ap (λ b. p (f x) || b) (any_map p f xs)
@@ -140,7 +141,8 @@ is_end E last s none t = waits_is E last s t ∙ elim (cases_Bool (is_after last
 ]
 
 -- what is inside a box is inside a wider one
-wider : (T M U N : ℕ) (E : List Event) → T ≤ U → M ≤ N → list_all (λ e. is_inside T M e.tag) E ≡ true → list_all (λ e. is_inside U N e.tag) E ≡ true
+wider : (T M U N : ℕ) (E : List Event) → T ≤ U → M ≤ N → list_all (λ e. is_inside T M e.tag) E ≡ true
+    → list_all (λ e. is_inside U N e.tag) E ≡ true
 wider T M U N [] t m h = refl
 wider T M U N (e ∷ es) t m h =
     let front : is_inside T M e.tag ≡ true = grind (arith, nat_tests) in
@@ -190,6 +192,7 @@ module _ (T M : ℕ) (P : Program) (E : List Event) (box : Holds T M P E) where
         (row ∷ rest.0, (next, record { state = refl; outputs = refl }, rest.1))
   ]
 
+-- a trace fits
 pub exists : (P : Program) (E : List Event) → (trace : List Row) × Run P E trace
 exists P E =
     let boxed = some_box P E in

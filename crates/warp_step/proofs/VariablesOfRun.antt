@@ -1,5 +1,5 @@
 -- Each row of a run has as many variables as the program.
-use Rattle.std.proofs.Common.{◌≡◌, ℕ, ℤ, ◌+◌, Bool, true, false, List, [], ◌∷◌, length, Option, Some, None, slice_get, ◌||◌, nat_lt, nat_le, inl, inr, refl, ap, ◌∙◌, sym}
+use Rattle.std.proofs.Common.{◌≡◌, ℕ, ℤ, ◌+◌, Bool, true, false, List, [], ◌∷◌, length, Option, Some, None, slice_get, ◌||◌, nat_lt, nat_le, inl, inr, refl, ap, ◌∙◌}
 use Rattle.std.specs.Prelude.{pos, if◌then◌else◌}
 use Rattle.std.specs.Option.{option_map_or}
 use Rattle.std.specs.List.{list_any, AllByRecursion}
@@ -19,7 +19,7 @@ use Rattle.warp_body.specs.declared.place.Target.TheVariants as to
 use Rattle.warp_body.specs.declared.stmt.Wish.{Wish}
 use Rattle.warp_step.specs.Program.{Program, Rule, delay_of, starts_of}
 use Rattle.warp_step.specs.Snapshot.{Snapshot, entered, entered_where, landed, with_timers, with_startup, start_state, has_key, begins, first_tag}
-use Rattle.warp_step.specs.Step.{Reacting, is_triggered, effect_in, react, after_reactions, order_of, present_first, no_wishes, reacted, without_entries, repeats, with_repeats, with_wish, with_wishes, with_all_wishes, delivered, with_links, state_after}
+use Rattle.warp_step.specs.Step.{Reacting, is_triggered, react, after_reactions, order_of, present_first, no_wishes, reacted, without_entries, with_repeats, with_wish, with_wishes, with_all_wishes, delivered, with_links, state_after}
 use Rattle.warp_step.specs.Run.{Row, Run, RunFrom, state_at_end, given_at}
 use Rattle.warp_step.specs.declared.out.Given.{Given}
 use Rattle.warp_step.specs.declared.parts.Link.{Link}
@@ -30,6 +30,7 @@ chosen : (b : Bool) (x y : Effect) (n : ℕ) → length x.vars ≡ n → length 
 chosen true x y n h k = h
 chosen false x y n h k = k
 
+-- statements and bodies keep the number of variables
 mutual
   one_vars : (s : Statement) (now : Effect) → length (effect_of_one s now).vars ≡ length now.vars
   one_vars (SetVariable k e) now = length-set now.vars k (value_of e now.vars now.present)
@@ -79,6 +80,7 @@ same_vars : (b : Bool) (x s : Snapshot) → x.vars ≡ s.vars → (if b then x e
 same_vars true x s h = h
 same_vars false x s h = refl
 
+-- so do wishes and links
 wishes_vars : (P : Program) (t : Moment) (ws : List Wish) (s : Snapshot) → (with_wishes P t ws s).vars ≡ s.vars
 wishes_vars P t [] s = refl
 wishes_vars P t (w ∷ ws) s =
@@ -110,6 +112,7 @@ step_vars P s t X =
     let start : Reacting = record { vars = s.vars; present = present_first P s t X; wishes = no_wishes P } in
     ap (λ (vs : List ℤ). length vs) (linked ∙ wished) ∙ reactions_vars P (order_of P) start
 
+-- timers at the start leave them
 timers_vars : (stop number : ℕ) (ts : List Timer) (s : Snapshot) → (with_timers stop number ts s).vars ≡ s.vars
 timers_vars stop number [] s = refl
 timers_vars stop number (t ∷ ts) s =

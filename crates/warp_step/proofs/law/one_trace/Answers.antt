@@ -2,7 +2,6 @@
 use Rattle.std.proofs.Common.{None}
 use Rattle.warp_step.proofs.TraceLemmas.{one_rest}
 use Rattle.warp_step.proofs.TraceExists.{exists}
-use Rattle.warp_step.proofs.VariablesOfRun.{run_vars}
 use Rattle.warp_step.specs.Snapshot.{start_state}
 use Rattle.warp_step.proofs.law.one_trace.Goals as goal
 
