@@ -1,2 +1,3 @@
 pub mod EventLemmas
 pub mod ValidLemmas
+pub mod Sameness
