@@ -45,6 +45,7 @@ fn run_reaction(
         ≡ react number (rule_of reaction.now) (record { vars = vars.old; present = present.old; wishes = lists_of wishes.old }) }
     ensures vars { length vars.new ≡ length vars.old }
     ensures places { places_of present.new ≡ places_of present.old }
+    ensures sources { present.new.sources ≡ present.old.sources }
     ensures wishes { IsTrue (list_all (list_all (wish_fits (sizes_of vars.old present.old))) (lists_of wishes.old)) →
         IsTrue (list_all (list_all (wish_fits (sizes_of vars.old present.old))) (lists_of wishes.new)) }
 {
@@ -67,6 +68,7 @@ pub(crate) fn run_reactions(
         ≡ after_reactions program.now (order_of program.now) (record { vars = vars.old; present = present.old; wishes = no_wishes program.now }) }
     ensures vars { length vars.new ≡ length vars.old }
     ensures places { places_of present.new ≡ places_of present.old }
+    ensures sources { present.new.sources ≡ present.old.sources }
     ensures wishes { IsTrue (list_all (list_all (wish_fits (program_sizes program.now))) (lists_of wishes.new)) }
     ensures bodies { length wishes.new ≡ length wishes.old }
 {
