@@ -1,15 +1,19 @@
--- One reaction of a program: that it fits, and what it leaves.
-use Rattle.std.proofs.Common.{◌≡◌, ℕ, zero, suc, ◌<◌, ◌≢◌, Bool, List, [], ◌∷◌, length, map, set, get_or, drop, replicate, ◌+◌, IsTrue, refl, ap, sym, ◌∙◌, inl, inr, arith, cond, Some}
-use Rattle.std.specs.Prelude.{slice_get}
+-- One reaction of a program: that it fits, and what it leaves; and one output.
+use Rattle.std.proofs.Common.{◌≡◌, ℕ, zero, suc, ◌<◌, ◌≢◌, Bool, List, [], ◌∷◌, ◌++◌, length, map, set, get_or, drop, replicate, ◌+◌, IsTrue, refl, ap, sym, ◌∙◌, inl, inr, arith, Option, None, Some}
+use Rattle.std.specs.Prelude.{ℤ, slice_get}
 use Rattle.std.specs.Option.{option_map_or}
 use Rattle.std.specs.List.{list_all}
 use Rattle.std.proofs.lemmas.Bool.{cases_Bool, and_parts, and_from, cond-true, cond-false}
-use Rattle.std.proofs.lemmas.List.{get_or-map, get_or-set_other, drop_more, length-map}
+use Rattle.std.proofs.lemmas.List.{append_assoc, get_or-map, get_or-set_other, drop_more, length-map}
 use Rattle.std.proofs.lemmas.Option.{slice_get-get_or}
+use Rattle.warp_tag.specs.Moment.{Moment}
+use Rattle.warp_body.specs.Presence.{Presence, present_at}
+use Rattle.warp_body.specs.declared.place.Target.TheVariants as to
 use Rattle.warp_body.specs.declared.stmt.Wish.{Wish}
+use Rattle.warp_step.specs.declared.out.Out.{Out}
 use Rattle.warp_step.specs.Program.{Program, Rule, rule_of}
 use Rattle.warp_step.specs.declared.reaction.Reaction.{Reaction}
-use Rattle.warp_step.specs.Step.{Reacting, react, is_triggered, after_reactions, numbers}
+use Rattle.warp_step.specs.Step.{Reacting, react, is_triggered, after_reactions, numbers, outputs_from, with_output}
 
 -- all elements pass after a write of one that passes
 pub list_all_set : {X : Type 0} (p : X → Bool) (xs : List X) (i : ℕ) (y : X) → IsTrue (list_all p xs) → IsTrue (p y) → IsTrue (list_all p (set xs i y))
@@ -54,3 +58,19 @@ pub rule_at : (items : List Reaction) (rules : List Rule) (n : ℕ) (r : Reactio
 rule_at items rules n r view lt is =
     let lengths : length items ≡ length rules = sym (length-map items rule_of) ∙ ap length view in
     (omega arith, ap rule_of is ∙ sym (get_or-map rule_of items n r (rule_of r) lt) ∙ ap (λ (rs : List Rule). get_or rs n (rule_of r)) view)
+
+-- an output in front of others
+output_in_front : (n : ℕ) (t : Moment) (o : Option ℤ) (outs : List Out) → with_output n t o [] ++ outs ≡ with_output n t o outs
+output_in_front n t None outs = refl
+output_in_front n t (Some v) outs = refl
+
+-- the outputs of the ports from a number on are that of the port with it, and those from the next one on
+pub outputs_one_more : (front : List Out) (n : ℕ) (t : Moment) (present : Presence) (ports : List ℕ) → n < length ports
+    → (front ++ with_output n t (present_at present (to.Port (get_or ports n 0))) []) ++ outputs_from (n + 1) t present (drop (n + 1) ports)
+    ≡ front ++ outputs_from n t present (drop n ports)
+outputs_one_more front n t present ports lt =
+    let own = present_at present (to.Port (get_or ports n 0)) in
+    let rest = outputs_from (n + 1) t present (drop (n + 1) ports) in
+    append_assoc front (with_output n t own []) rest
+    ∙ ap (λ (outs : List Out). front ++ outs) (output_in_front n t own rest)
+    ∙ ap (λ (ps : List ℕ). front ++ outputs_from n t present ps) (sym (drop_more ports n 0 lt))
