@@ -2,3 +2,4 @@ pub mod EventLemmas
 pub mod ValidLemmas
 pub mod Sameness
 pub mod ReactLemmas
+pub mod SourceLemmas
