@@ -9,7 +9,6 @@ use Rattle.std.proofs.lemmas.Option.{slice_get-get_or}
 use Rattle.warp_tag.specs.Moment.{Moment}
 use Rattle.warp_body.specs.Presence.{Presence, present_at}
 use Rattle.warp_body.specs.declared.place.Target.TheVariants as to
-use Rattle.warp_body.specs.declared.stmt.Wish.{Wish}
 use Rattle.warp_step.specs.declared.out.Out.{Out}
 use Rattle.warp_step.specs.Program.{Program, Rule, rule_of}
 use Rattle.warp_step.specs.declared.reaction.Reaction.{Reaction}
@@ -48,7 +47,7 @@ pub after_one_more : (P : Program) (n : ℕ) (rule : Rule) (now : Reacting) → 
 after_one_more P n rule now lt is =
     let rest = drop (n + 1) P.reactions in
     let there : slice_get P.reactions n ≡ Some rule =
-        slice_get-get_or P.reactions n rule lt ∙ ap (λ (r : Rule). Some r) (sym is) in
+    slice_get-get_or P.reactions n rule lt ∙ ap (λ (r : Rule). Some r) (sym is) in
     ap (λ (rs : List Rule). after_reactions P (numbers n rs) now) (drop_more P.reactions n rule lt)
     ∙ ap (λ o. after_reactions P (numbers (n + 1) rest) (option_map_or (λ r. react n r now) o now)) there
 

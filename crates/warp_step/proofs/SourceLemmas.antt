@@ -1,5 +1,5 @@
 -- The sources of a program's ports: one a port, and each is a port.
-use Rattle.std.proofs.Common.{◌≡◌, ℕ, ◌+◌, ◌<◌, ◌≤◌, List, [], ◌∷◌, ◌++◌, length, map, drop, get_or, nat_lt, ◌==◌, ◌&&◌, arith, IsTrue, refl, sym, ap, ◌∙◌, subst, inl, inr, is_none}
+use Rattle.std.proofs.Common.{◌≡◌, ℕ, ◌+◌, ◌<◌, ◌≤◌, List, [], ◌∷◌, ◌++◌, length, map, drop, nat_lt, ◌==◌, ◌&&◌, arith, IsTrue, refl, sym, ap, ◌∙◌, subst, inl, inr, is_none}
 use Rattle.std.specs.List.{list_all}
 use Rattle.std.proofs.lemmas.Bool.{cases_Bool, and_parts, and_from, lt-ltb, cond-true, cond-false}
 use Rattle.std.proofs.lemmas.List.{append_assoc, drop_more, length-map}

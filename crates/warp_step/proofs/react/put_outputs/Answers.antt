@@ -1,5 +1,5 @@
 -- outputs are ports of a valid program, and few enough
-use Rattle.std.proofs.Common.{◌≡◌, ℕ, ◌+◌, ◌<◌, ◌≤◌, ◌++◌, IsTrue, List, [], drop, get_or, nat_lt, length, ap, sym, ◌∙◌, subst, refl, arith}
+use Rattle.std.proofs.Common.{◌≡◌, ℕ, ◌+◌, ◌<◌, ◌≤◌, ◌++◌, List, [], drop, get_or, nat_lt, length, ap, ◌∙◌, arith}
 use Rattle.std.proofs.lemmas.Bool.{ltb-true}
 use Rattle.warp_tag.specs.Limits.{most_outputs}
 use Rattle.warp_body.specs.Presence.{present_at}
@@ -26,9 +26,9 @@ put_output-requires c =
     let same : length c.outputs-port-items.result.now ≡ length P.outputs = ap length c.outputs-port-items.ensures in
     let lt : n < length P.outputs = omega arith in
     let within : get_or P.outputs n 0 < length P.ports =
-        ltb-true _ _ (list_all_get (λ k. nat_lt k (length P.ports)) P.outputs n 0 (outputs_within P c.valid.ensures) lt) in
+    ltb-true _ _ (list_all_get (λ k. nat_lt k (length P.ports)) P.outputs n 0 (outputs_within P c.valid.ensures) lt) in
     let here : get_or c.outputs-port-items.result.now n 0 ≡ get_or P.outputs n 0 =
-        ap (λ (ports : List ℕ). get_or ports n 0) c.outputs-port-items.ensures in
+    ap (λ (ports : List ℕ). get_or ports n 0) c.outputs-port-items.ensures in
     let ports : length c.args.present.now.ports ≡ length P.ports = ap (λ (p : Places). p.ports) c.requires.places in
     let room = c.loop-number.invariant.room in
     record { port = omega arith; room = omega arith }
@@ -49,8 +49,8 @@ loop-number-preserved c =
     let so_far = c.loop-number.invariant.capacity in
     record {
       rest = ap (λ (outs : List Out). outs ++ outputs_from (n + 1) t present (drop (n + 1) P.outputs)) put
-      ∙ ap (λ (ports : List ℕ). (front ++ with_output n t (present_at present (to.Port (get_or ports n 0))) []) ++ outputs_from (n + 1) t present (drop (n + 1) P.outputs)) c.outputs-port-items.ensures
-      ∙ outputs_one_more front n t present P.outputs lt ∙ c.loop-number.invariant.rest;
+          ∙ ap (λ (ports : List ℕ). (front ++ with_output n t (present_at present (to.Port (get_or ports n 0))) []) ++ outputs_from (n + 1) t present (drop (n + 1) P.outputs)) c.outputs-port-items.ensures
+          ∙ outputs_one_more front n t present P.outputs lt ∙ c.loop-number.invariant.rest;
       room = omega arith;
       capacity = omega arith;
     }

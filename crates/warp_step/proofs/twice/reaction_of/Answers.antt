@@ -1,9 +1,9 @@
 -- field by field, as the search computes long
-use Rattle.std.proofs.Common.{◌≡◌, ℕ, ◌∷◌, [], ap, sym, ◌∙◌}
-use Rattle.warp_body.specs.Term.{Term, VariableAt, term_of}
-use Rattle.warp_body.specs.Effect.{Statement, Body, SetVariable, PutOutput, Done, Then, statement_of, statements_of, statement_step}
+use Rattle.std.proofs.Common.{◌≡◌, ℕ, ap, sym, ◌∙◌}
+use Rattle.warp_body.specs.Term.{VariableAt, term_of}
+use Rattle.warp_body.specs.Effect.{Statement, SetVariable, PutOutput, Done, Then, statement_of, statements_of, statement_step}
 use Rattle.warp_body.specs.declared.expr.Expr.{Expr, Variable}
-use Rattle.warp_body.specs.declared.stmt.Stmt.{Stmt, Set, Put, fold-roll-Stmt}
+use Rattle.warp_body.specs.declared.stmt.Stmt.{Set, Put, fold-roll-Stmt}
 use Rattle.warp_body.specs.declared.stmt.Stmt.TheOpen.{Stmt-F}
 use Rattle.warp_body.specs.declared.stmt.Stmt.TheVariants.{rolls-Set, rolls-Put}
 use Rattle.warp_step.proofs.twice.reaction_of.Goals as goal
@@ -20,7 +20,7 @@ returns c =
     let reads = c.new.ensures.items in
     let writes = c.in_ok-writes.ensures.items in
     let body : statements_of c.in_ok-body.body.items ≡ Then (SetVariable 0 (term_of c.args.value)) (Then (PutOutput 2 (VariableAt 0)) Done) =
-        ap statements_of c.in_ok-body.ensures.items
-        ∙ ap (λ (s : Statement). Then s (Then (statement_of (Put 2 (Variable 0))) Done)) (of_set 0 c.args.value)
-        ∙ ap (λ (s : Statement). Then (SetVariable 0 (term_of c.args.value)) (Then s Done)) (of_put 2 (Variable 0)) in
+    ap statements_of c.in_ok-body.ensures.items
+    ∙ ap (λ (s : Statement). Then s (Then (statement_of (Put 2 (Variable 0))) Done)) (of_set 0 c.args.value)
+    ∙ ap (λ (s : Statement). Then (SetVariable 0 (term_of c.args.value)) (Then s Done)) (of_put 2 (Variable 0)) in
     λ i. record { reactor = 0; triggers = triggers i; reads = reads i; writes = writes i; body = body i }
