@@ -9,6 +9,8 @@ mod expr;
 mod operator;
 mod place;
 mod stmt;
+#[cfg(test)]
+mod tests;
 
 pub use expr::{Expr, eval};
 pub use operator::{BinaryOperator, UnaryOperator};
