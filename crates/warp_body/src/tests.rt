@@ -15,20 +15,37 @@ const LEAST: i64 = -9_223_372_036_854_775_808;
 
 const GREATEST: i64 = 9_223_372_036_854_775_807;
 
-fn unary(alloc: Global, operator: UnaryOperator, a: Expr) -> Result<Expr, OutOfMemory> {
-    Ok(Expr::Unary(operator, Box::new(alloc, a)?))
+/// An expression in a place of its own.
+fn boxed(rt: &impl Abort, alloc: Global, expr: Expr) -> Box<Expr> {
+    Box::new(alloc, expr).expect(rt, "memory")
 }
 
-fn binary(alloc: Global, operator: BinaryOperator, a: Expr, b: Expr) -> Result<Expr, OutOfMemory> {
-    Ok(Expr::Binary(operator, Box::new(alloc, a)?, Box::new(alloc, b)?))
+fn unary(rt: &impl Abort, alloc: Global, operator: UnaryOperator, a: Expr) -> Expr {
+    Expr::Unary(operator, boxed(rt, alloc, a))
 }
 
-fn choice(alloc: Global, condition: Expr, a: Expr, b: Expr) -> Result<Expr, OutOfMemory> {
-    Ok(Expr::If(
-        Box::new(alloc, condition)?,
-        Box::new(alloc, a)?,
-        Box::new(alloc, b)?,
-    ))
+fn binary(rt: &impl Abort, alloc: Global, operator: BinaryOperator, a: Expr, b: Expr) -> Expr {
+    let a = boxed(rt, alloc, a);
+    let b = boxed(rt, alloc, b);
+    Expr::Binary(operator, a, b)
+}
+
+/// An operator over two numbers.
+fn both(rt: &impl Abort, alloc: Global, operator: BinaryOperator, a: i64, b: i64) -> Expr {
+    binary(rt, alloc, operator, Expr::Number(a), Expr::Number(b))
+}
+
+/// A choice between two numbers, by a number.
+fn choice(rt: &impl Abort, alloc: Global, condition: i64, a: i64, b: i64) -> Expr {
+    let condition = boxed(rt, alloc, Expr::Number(condition));
+    let a = boxed(rt, alloc, Expr::Number(a));
+    let b = boxed(rt, alloc, Expr::Number(b));
+    Expr::If(condition, a, b)
+}
+
+/// The list of these statements.
+fn body<const N: usize>(rt: &impl Abort, alloc: Global, stmts: [Stmt; N]) -> Vec<Stmt> {
+    Vec::from_array(alloc, stmts).expect(rt, "memory")
 }
 
 /// Two timers, two actions and three ports; a link without delay leads from port 1 to port 2.
@@ -174,7 +191,7 @@ fn values_of_operators(rt: HostRuntime) -> Result<(), Fail> {
         (BinaryOperator::Or, 2, 0, 1),
         (BinaryOperator::Or, 0, 0, 0),
     ] {
-        let expr = binary(alloc, operator, Expr::Number(a), Expr::Number(b))?;
+        let expr = both(&rt, alloc, operator, a, b);
         assert_eq!(rt; value(&rt, &expr, &vars, &present), want, "{expr:?}");
     }
     for (operator, a, want) in [
@@ -183,16 +200,11 @@ fn values_of_operators(rt: HostRuntime) -> Result<(), Fail> {
         (UnaryOperator::Not, 0, 1),
         (UnaryOperator::Not, -2, 0),
     ] {
-        let expr = unary(alloc, operator, Expr::Number(a))?;
+        let expr = unary(&rt, alloc, operator, Expr::Number(a));
         assert_eq!(rt; value(&rt, &expr, &vars, &present), want, "{expr:?}");
     }
     for (condition, want) in [(2, 10), (-1, 10), (0, 20)] {
-        let expr = choice(
-            alloc,
-            Expr::Number(condition),
-            Expr::Number(10),
-            Expr::Number(20),
-        )?;
+        let expr = choice(&rt, alloc, condition, 10, 20);
         assert_eq!(rt; value(&rt, &expr, &vars, &present), want, "{expr:?}");
     }
     Ok(())
@@ -213,45 +225,58 @@ fn run(
     run_body(body, vars, present, wishes);
 }
 
-fn variable_is_less(alloc: Global, variable: u32, than: i64) -> Result<Expr, OutOfMemory> {
+/// Whether a variable is less than a number.
+fn is_less(rt: &impl Abort, alloc: Global, variable: u32, number: i64) -> Expr {
     binary(
+        rt,
         alloc,
         BinaryOperator::Less,
         Expr::Variable(variable),
-        Expr::Number(than),
+        Expr::Number(number),
     )
 }
 
-/// Variable 0 is 1; where port 1 is present a smaller choice schedules action 1 and puts port 0, else variable 1 is 100;
-/// then variable 1 is what port 0 has.
-fn nested(alloc: Global) -> Result<Vec<Stmt>, OutOfMemory> {
-    let small = vec![in alloc; Stmt::Set(1, Expr::Number(50))]?;
-    let large = vec![in alloc;
-        Stmt::Schedule(1, 1_000_000, Expr::Variable(0)),
-        Stmt::Put(0, Expr::Number(8)),
-        Stmt::Schedule(0, 0, Expr::Value(Target::Port(0))),
-    ]?;
-    let yes = vec![in alloc; Stmt::If(variable_is_less(alloc, 0, 1)?, small, large)]?;
-    let no = vec![in alloc; Stmt::Set(1, Expr::Number(100))]?;
-    Ok(vec![in alloc;
-        Stmt::Set(0, Expr::Number(1)),
-        Stmt::If(Expr::Present(Target::Port(1)), yes, no),
-        Stmt::Set(
-            1,
-            binary(
-                alloc,
-                BinaryOperator::Add,
-                Expr::Variable(1),
-                Expr::Value(Target::Port(0))
-            )?
-        ),
-    ]?)
+/// Variable 0 is 1; where port 1 is present a choice inside schedules both actions and puts port 0, else variable 1 is
+/// 100; then variable 1 grows by what port 0 has.
+fn nested(rt: &impl Abort, alloc: Global) -> Vec<Stmt> {
+    let small = body(rt, alloc, [Stmt::Set(1, Expr::Number(50))]);
+    let large = body(
+        rt,
+        alloc,
+        [
+            Stmt::Schedule(1, 1_000_000, Expr::Variable(0)),
+            Stmt::Put(0, Expr::Number(8)),
+            Stmt::Schedule(0, 0, Expr::Value(Target::Port(0))),
+        ],
+    );
+    let present = body(
+        rt,
+        alloc,
+        [Stmt::If(is_less(rt, alloc, 0, 1), small, large)],
+    );
+    let absent = body(rt, alloc, [Stmt::Set(1, Expr::Number(100))]);
+    let grown = binary(
+        rt,
+        alloc,
+        BinaryOperator::Add,
+        Expr::Variable(1),
+        Expr::Value(Target::Port(0)),
+    );
+    body(
+        rt,
+        alloc,
+        [
+            Stmt::Set(0, Expr::Number(1)),
+            Stmt::If(Expr::Present(Target::Port(1)), present, absent),
+            Stmt::Set(1, grown),
+        ],
+    )
 }
 
 #[test]
 fn effect_of_a_nested_choice(rt: HostRuntime) -> Result<(), Fail> {
     let alloc = rt.alloc();
-    let body = nested(alloc)?;
+    let body = nested(&rt, alloc);
     let mut vars = Vars::from_vec(vec![in alloc; 5, -3]?);
     let mut present = places(alloc)?;
     let mut wishes = Wishes::new();
@@ -283,12 +308,13 @@ fn effect_of_a_nested_choice(rt: HostRuntime) -> Result<(), Fail> {
 }
 
 /// So many schedulings of action 1, with delays and values in order.
-fn schedulings(alloc: Global, count: u32) -> Result<Vec<Stmt>, OutOfMemory> {
+fn schedulings(rt: &impl Abort, alloc: Global, count: u32) -> Vec<Stmt> {
     let mut body = Vec::new(alloc);
     for i in 0..count {
-        body.push(Stmt::Schedule(1, u64::from(i), Expr::Number(i64::from(i))))?;
+        let stmt = Stmt::Schedule(1, u64::from(i), Expr::Number(i64::from(i)));
+        body.push(stmt).expect(rt, "memory");
     }
-    Ok(body)
+    body
 }
 
 #[test]
@@ -299,7 +325,7 @@ fn sixteen_wishes_have_room(rt: HostRuntime) -> Result<(), Fail> {
     let mut wishes = Wishes::new();
     run(
         &rt,
-        &schedulings(alloc, 16)?,
+        &schedulings(&rt, alloc, 16),
         &mut vars,
         &mut present,
         &mut wishes,
@@ -313,11 +339,11 @@ fn sixteen_wishes_have_room(rt: HostRuntime) -> Result<(), Fail> {
     }
 
     let sizes = sizes(&vars, &present);
-    assert!(rt; !fits(&schedulings(alloc, 17)?, sizes, 16));
+    assert!(rt; !fits(&schedulings(&rt, alloc, 17), sizes, 16));
     for (first, second, want) in [(8, 8, true), (16, 0, true), (9, 8, false), (0, 17, false)] {
-        let first = schedulings(alloc, first)?;
-        let second = schedulings(alloc, second)?;
-        let body = vec![in alloc; Stmt::If(Expr::Number(0), first, second)]?;
+        let first = schedulings(&rt, alloc, first);
+        let second = schedulings(&rt, alloc, second);
+        let body = body(&rt, alloc, [Stmt::If(Expr::Number(0), first, second)]);
         assert_eq!(rt; fits(&body, sizes, 16), want, "{body:?}");
     }
     Ok(())
@@ -329,8 +355,8 @@ fn bodies_that_fit(rt: HostRuntime) -> Result<(), Fail> {
     let alloc = rt.alloc();
     let vars = Vars::from_vec(vec![in alloc; 0, 0]?);
     let sizes = sizes(&vars, &places(alloc)?);
-    let past = vec![in alloc; Stmt::Set(2, Expr::Number(7))]?;
-    let past_too = vec![in alloc; Stmt::Set(2, Expr::Number(7))]?;
+    let past = body(&rt, alloc, [Stmt::Set(2, Expr::Number(7))]);
+    let past_too = body(&rt, alloc, [Stmt::Set(2, Expr::Number(7))]);
     for (stmt, want) in [
         (Stmt::Set(1, Expr::Variable(1)), true),
         (Stmt::Put(2, Expr::Value(Target::Port(2))), true),
@@ -347,10 +373,10 @@ fn bodies_that_fit(rt: HostRuntime) -> Result<(), Fail> {
         (Stmt::Put(0, Expr::Value(Target::Action(2))), false),
         (Stmt::Put(0, Expr::Present(Target::Timer(2))), false),
         (
-            Stmt::Set(0, unary(alloc, UnaryOperator::Not, Expr::Variable(2))?),
+            Stmt::Set(0, unary(&rt, alloc, UnaryOperator::Not, Expr::Variable(2))),
             false,
         ),
-        (Stmt::Put(0, variable_is_less(alloc, 2, 7)?), false),
+        (Stmt::Put(0, is_less(&rt, alloc, 2, 7)), false),
         (
             Stmt::If(Expr::Variable(2), Vec::new(alloc), Vec::new(alloc)),
             false,
@@ -358,7 +384,7 @@ fn bodies_that_fit(rt: HostRuntime) -> Result<(), Fail> {
         (Stmt::If(Expr::Number(1), past, Vec::new(alloc)), false),
         (Stmt::If(Expr::Number(1), Vec::new(alloc), past_too), false),
     ] {
-        let body = vec![in alloc; Stmt::Set(0, Expr::Number(7)), stmt]?;
+        let body = body(&rt, alloc, [Stmt::Set(0, Expr::Number(7)), stmt]);
         assert_eq!(rt; fits(&body, sizes, 16), want, "{body:?}");
     }
     Ok(())
@@ -368,29 +394,29 @@ fn bodies_that_fit(rt: HostRuntime) -> Result<(), Fail> {
 #[test]
 fn copies_are_the_same_and_others_are_not(rt: HostRuntime) -> Result<(), Fail> {
     let alloc = rt.alloc();
-    let all = vec![in alloc;
+    let all = [
         Expr::Number(1),
         Expr::Number(2),
         Expr::Variable(1),
         Expr::Value(Target::Timer(1)),
         Expr::Value(Target::Action(1)),
         Expr::Present(Target::Timer(1)),
-        unary(alloc, UnaryOperator::Negate, Expr::Number(1))?,
-        unary(alloc, UnaryOperator::Not, Expr::Number(1))?,
-        binary(alloc, BinaryOperator::And, Expr::Number(1), Expr::Number(2))?,
-        binary(alloc, BinaryOperator::Or, Expr::Number(1), Expr::Number(2))?,
-        binary(alloc, BinaryOperator::And, Expr::Number(2), Expr::Number(1))?,
-        choice(alloc, Expr::Number(1), Expr::Number(2), Expr::Number(3))?,
-        choice(alloc, Expr::Number(1), Expr::Number(3), Expr::Number(2))?,
-    ]?;
-    let bodies = vec![in alloc;
+        unary(&rt, alloc, UnaryOperator::Negate, Expr::Number(1)),
+        unary(&rt, alloc, UnaryOperator::Not, Expr::Number(1)),
+        both(&rt, alloc, BinaryOperator::And, 1, 2),
+        both(&rt, alloc, BinaryOperator::Or, 1, 2),
+        both(&rt, alloc, BinaryOperator::And, 2, 1),
+        choice(&rt, alloc, 1, 2, 3),
+        choice(&rt, alloc, 1, 3, 2),
+    ];
+    let bodies = [
         Vec::new(alloc),
-        nested(alloc)?,
-        schedulings(alloc, 1)?,
-        schedulings(alloc, 2)?,
-        vec![in alloc; Stmt::Set(1, Expr::Number(1))]?,
-        vec![in alloc; Stmt::Put(1, Expr::Number(1))]?,
-    ]?;
+        nested(&rt, alloc),
+        schedulings(&rt, alloc, 1),
+        schedulings(&rt, alloc, 2),
+        body(&rt, alloc, [Stmt::Set(1, Expr::Number(1))]),
+        body(&rt, alloc, [Stmt::Put(1, Expr::Number(1))]),
+    ];
     for (i, a) in all.iter().enumerate() {
         assert!(rt; a.copy(alloc)?.same(a), "{a:?}");
         for (j, b) in all.iter().enumerate() {
