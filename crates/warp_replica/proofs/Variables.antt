@@ -6,7 +6,7 @@ use Rattle.warp_tag.specs.Table.{Event, live}
 use Rattle.warp_step.specs.Program.{Program}
 use Rattle.warp_step.specs.Snapshot.{Snapshot, start_state}
 use Rattle.warp_step.specs.Run.{Row, Run, state_at_end}
-use Rattle.warp_step.proofs.RunLemmas.{run_vars, start_vars}
+use Rattle.warp_step.proofs.VariablesOfRun.{end_vars}
 use Rattle.warp_record.specs.declared.line.Record.{Record}
 use Rattle.warp_table.specs.Names.{table_of}
 use Rattle.warp_replica.specs.Gives.{HasValue}
@@ -19,7 +19,7 @@ module _ (P : Program) (records : List Record) (done : List Row) (state : Snapsh
 
   -- there are as many as the program has
   pub as_many : length vars ≡ length P.variables
-  as_many = ap length are_last ∙ run_vars P (live (table_of records)) None (start_state P) done runs ∙ start_vars P
+  as_many = ap length are_last ∙ end_vars P (live (table_of records)) done runs
 
   -- each has its value at the end of the run
   pub has_value : (number : ℕ) (value : ℤ) → number < length vars → value ≡ get_or vars number value → HasValue P records number value
