@@ -1,2 +1,4 @@
 pub mod EventLemmas
+pub mod ValidLemmas
+pub mod Sameness
 pub mod PendingLemmas

@@ -1,6 +1,6 @@
 -- The order of pending entries, and what an entry that comes in leaves as it is.
 use Rattle.std.proofs.Common.{◌≡◌, ◌⊎◌, inl, inr, ℕ, zero, suc, ◌<◌, ◌≤◌, Bool, true, false, ◌&&◌, ◌||◌, List, [], ◌∷◌, get_or, length, set, ap, sym, ◌∙◌, refl, subst, arith, IsTrue}
-use Rattle.std.specs.Prelude.{ℤ, pos, if◌then◌else◌}
+use Rattle.std.specs.Prelude.{ℤ, pos, slice_get, Option, Some, None, if◌then◌else◌}
 use Rattle.std.specs.List.{list_any, prefix_len, insert, AllByRecursion}
 use Rattle.std.specs.List.Sorted.{IsPartitionedBy, IsPartitionPoint}
 use Rattle.std.proofs.lemmas.Bool.{cases_Bool}
@@ -11,8 +11,9 @@ use Rattle.warp_tag.proofs.Tags.{before_trans, before_same, same_before, same_tr
 use Rattle.warp_body.specs.Presence.{target_before, is_target}
 use Rattle.warp_body.specs.declared.place.Target.{Target}
 use Rattle.warp_body.specs.declared.place.Target.TheVariants as to
-use Rattle.warp_step.specs.Snapshot.{key_before, has_key, AreInOrder, with_entry}
+use Rattle.warp_step.specs.Snapshot.{key_before, has_key, AreInOrder, with_entry, earlier, least_pending}
 use Rattle.warp_step.specs.declared.pending.Waiting.{Waiting}
+use Rattle.warp_step.proofs.ValidLemmas.{same_target}
 
 -- an entry with this value
 abbrev pub entry : Moment → Target → ℤ → Waiting
@@ -90,26 +91,7 @@ key_before_trans t k w v h g = elim (before_why t k w h) [
   ]
 ]
 
--- one target
-pub same_target : (a b : Target) → is_target a b ≡ true → a ≡ b
-same_target to.Startup to.Startup h = refl
-same_target (to.Timer n) (to.Timer m) h = ap (λ (k : ℕ). to.Timer k) (grind (arith, nat_tests))
-same_target (to.Action n) (to.Action m) h = ap (λ (k : ℕ). to.Action k) (grind (arith, nat_tests))
-same_target (to.Port n) (to.Port m) h = ap (λ (k : ℕ). to.Port k) (grind (arith, nat_tests))
-same_target to.Startup (to.Timer m) h = let no : false ≡ true = h in cc
-same_target to.Startup (to.Action m) h = let no : false ≡ true = h in cc
-same_target to.Startup (to.Port m) h = let no : false ≡ true = h in cc
-same_target (to.Timer n) to.Startup h = let no : false ≡ true = h in cc
-same_target (to.Timer n) (to.Action m) h = let no : false ≡ true = h in cc
-same_target (to.Timer n) (to.Port m) h = let no : false ≡ true = h in cc
-same_target (to.Action n) to.Startup h = let no : false ≡ true = h in cc
-same_target (to.Action n) (to.Timer m) h = let no : false ≡ true = h in cc
-same_target (to.Action n) (to.Port m) h = let no : false ≡ true = h in cc
-same_target (to.Port n) to.Startup h = let no : false ≡ true = h in cc
-same_target (to.Port n) (to.Timer m) h = let no : false ≡ true = h in cc
-same_target (to.Port n) (to.Action m) h = let no : false ≡ true = h in cc
-
--- and an entry of a key has its tag and target
+-- an entry at a key has its tag and target
 pub at_is : (t : Moment) (k : Target) (w : Waiting) → has_key t k w ≡ true → (t ≡ w.tag) × (k ≡ w.target)
 at_is t k w h =
     let tags : is_same t w.tag ≡ true = grind (arith, nat_tests) in
@@ -242,3 +224,37 @@ pub comes_last : (t : Moment) (k : Target) (ws : List Waiting) (n : ℕ) → Are
 comes_last t k ws n ordered p h =
     let other = λ (d : Waiting) (l : n < length ws). absurd {A = has_key t k (get_or ws n d) ≡ false} (omega arith) in
     record { answer = sym (with_new t k (pos 0) ws n ordered p other).1; entries = λ v. (with_new t k v ws n ordered p other).0 }
+
+-- the tag, if there is one, is not before this one
+abbrev pub NotBefore : Moment → Option Moment → Type 0
+NotBefore t None = Unit {0}
+NotBefore t (Some u) = is_before u t ≡ false
+
+earlier_not_before : (t u : Moment) (o : Option Moment) → is_before u t ≡ false → NotBefore t o → is_before (earlier u o) t ≡ false
+earlier_not_before t u None h none = h
+earlier_not_before t u (Some v) h other = elim (cases_Bool (is_before v u)) [
+  | inl b ↦ rw b other
+  | inr b ↦ rw b h
+]
+
+-- no entry above a key is before its tag
+above_not_before : (t : Moment) (k : Target) (w : Waiting) → key_before t k w ≡ true → is_before w.tag t ≡ false
+above_not_before t k w h = grind (arith, nat_tests)
+
+least_above : (t : Moment) (k : Target) (ws : List Waiting) → Above t k ws → NotBefore t (least_pending ws)
+least_above t k [] all = tt
+least_above t k (w ∷ ws) all =
+    let here : is_before w.tag t ≡ false = above_not_before t k w all.0 in
+    earlier_not_before t w.tag (least_pending ws) here (least_above t k ws all.1)
+
+-- so the least tag is the first
+earlier_is : (t : Moment) (o : Option Moment) → NotBefore t o → earlier t o ≡ t
+earlier_is t None none = refl
+earlier_is t (Some u) h = rw h refl
+
+pub least_first : (ws : List Waiting) (w : Waiting) → AreInOrder ws → slice_get ws 0 ≡ Some w → Some w.tag ≡ least_pending ws
+least_first [] w ordered h = cc
+least_first (v ∷ ws) w ordered h =
+    let first : v ≡ w = cc in
+    let least : earlier v.tag (least_pending ws) ≡ v.tag = earlier_is v.tag (least_pending ws) (least_above v.tag v.target ws ordered.0) in
+    ap (λ (x : Waiting). Some x.tag) (sym first) ∙ ap (λ (t : Moment). Some t) (sym least)
