@@ -2,3 +2,10 @@ pub mod EventLemmas
 pub mod ValidLemmas
 pub mod Sameness
 pub mod PendingLemmas
+pub mod TagsOfBox
+pub mod TagsOfRun
+pub mod TagsOfStep
+pub mod TraceExists
+pub mod TraceLemmas
+pub mod VariablesOfRun
+pub mod TargetsOfStep
