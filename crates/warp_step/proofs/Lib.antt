@@ -9,3 +9,4 @@ pub mod TraceExists
 pub mod TraceLemmas
 pub mod VariablesOfRun
 pub mod TargetsOfStep
+pub mod FrontLemmas
