@@ -7,7 +7,7 @@ use Rattle.warp_tag.specs.Moment.{Moment, is_before, is_same}
 use Rattle.warp_body.specs.Presence.{Presence, with_value}
 use Rattle.warp_body.specs.declared.place.Target.{Target}
 use Rattle.warp_body.specs.declared.place.Target.TheVariants as to
-use Rattle.warp_step.specs.Snapshot.{AreInOrder, key_before}
+use Rattle.warp_step.specs.Snapshot.{Snapshot, AreInOrder, key_before}
 use Rattle.warp_step.specs.Step.{arrived_entries}
 use Rattle.warp_step.specs.inner.Front.{HasOtherHead}
 use Rattle.warp_step.specs.declared.pending.Waiting.{Waiting}
@@ -63,3 +63,25 @@ front_at t (w ∷ ws) (suc n) ordered early here other =
     let both = and_parts (is_same w.tag t) (list_all (λ v. is_same v.tag t) (take n ws)) here in
     let rest = front_at t ws n ordered.1 first.1 both.1 other in
     rw both.0 (ap (λ (xs : List Waiting). w ∷ xs) rest.0, rest.1)
+
+-- a rest of an order is one
+pub order_drop : (n : ℕ) (ws : List Waiting) → AreInOrder ws → AreInOrder (drop n ws)
+order_drop zero ws ordered = ordered
+order_drop (suc n) [] ordered = tt
+order_drop (suc n) (w ∷ ws) ordered = order_drop n ws ordered.1
+
+-- what is taken of the entries of a state, where so many stand at the tag
+pub record Taken (t : Moment) (old : Snapshot) (left : List Waiting) (before after : Presence) : Type 0 where
+  pub rest : left ≡ filter (λ w. not (is_same w.tag t)) old.pending
+  pub present : after ≡ arrived_entries (filter (λ w. is_same w.tag t) old.pending) before
+
+pub taken : (t : Moment) (old : Snapshot) (ws left : List Waiting) (n : ℕ) (before after : Presence) → ws ≡ old.pending → AreInOrder ws
+    → IsTrue (list_all (λ w. not (is_before w.tag t)) old.pending) → IsTrue (list_all (λ w. is_same w.tag t) (take n ws)) → HasOtherHead t (drop n ws)
+    → left ≡ drop n ws → after ≡ arrived_entries (take n ws) before → Taken t old left before after
+taken t old ws left n before after same ordered early here other dropped arrives =
+    let none : IsTrue (list_all (λ w. not (is_before w.tag t)) ws) = rw same early in
+    let front = front_at t ws n ordered none here other in
+    record {
+      rest = dropped ∙ sym front.1 ∙ ap (filter (λ w. not (is_same w.tag t))) same;
+      present = arrives ∙ ap (λ (xs : List Waiting). arrived_entries xs before) (sym front.0 ∙ ap (filter (λ w. is_same w.tag t)) same);
+    }

@@ -168,7 +168,7 @@ module _ (P : Program) where
       let b = and_parts (fits w.target) (nat_le w.tag.time P.stop) a.0 in
       (b.0, and_from (nat_le w.tag.time P.stop) (nat_le w.tag.microstep P.top) b.1 a.1)
 
-  fit_targets : (ws : List Waiting) → IsTrue (list_all (entry_fits P) ws) → list_all (λ w. fits w.target) ws ≡ true
+  pub fit_targets : (ws : List Waiting) → IsTrue (list_all (entry_fits P) ws) → list_all (λ w. fits w.target) ws ≡ true
   fit_targets ws h = list_all_weaker (entry_fits P) (λ w. fits w.target) (λ w x. (fit_parts w x).0) ws h
 
   fit_tags : (ws : List Waiting) → IsTrue (list_all (entry_fits P) ws) → IsTrue (list_all (λ w. is_in_time P w.tag) ws)
