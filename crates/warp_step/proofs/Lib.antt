@@ -10,3 +10,5 @@ pub mod TraceLemmas
 pub mod VariablesOfRun
 pub mod TargetsOfStep
 pub mod FrontLemmas
+pub mod ReactLemmas
+pub mod SourceLemmas

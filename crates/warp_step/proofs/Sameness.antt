@@ -1,5 +1,5 @@
 -- The derived `==` of a program's parts decides whether they are equal.
-use Rattle.std.proofs.Common.{◌≡◌, ℕ, Bool, true, false, ◌&&◌, nat_eq, Option, Some, None, refl, ap, sym, ◌∙◌}
+use Rattle.std.proofs.Common.{◌≡◌, ℕ, ◌&&◌, nat_eq, Option, Some, None, refl, ap}
 use Rattle.std.specs.Bool.{Decides}
 use Rattle.std.specs.Option.{option_eq}
 use Rattle.std.specs.Ordering.{int_eq}
@@ -55,4 +55,3 @@ same_input a b =
     Decides-like _ (λ p i. record { origin = p.0 i; port = p.1 i })
     (λ e. (ap (λ (v : ProgramInput). v.origin) e, ap (λ (v : ProgramInput). v.port) e))
     (Decides-and _ _ (Decides-eqb a.origin b.origin) (Decides-eqb a.port b.port))
-

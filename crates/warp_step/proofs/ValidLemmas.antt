@@ -1,10 +1,9 @@
 -- What a valid program's numbers are good for.
 use Rattle.std.proofs.Common.{◌≡◌, ℕ, zero, suc, ◌<◌, ◌≤◌, Bool, true, false, ◌&&◌, ◌++◌, List, [], ◌∷◌, length, map, get_or, nat_lt, nat_le, not, arith, IsTrue, Option, Some, None, refl, sym, ap, ◌∙◌, subst, inl, inr}
-use Rattle.std.specs.Prelude.{slice_index, slice_get}
 use Rattle.std.specs.List.{list_all, list_any}
 use Rattle.std.specs.Option.{IfSome}
 use Rattle.std.proofs.lemmas.Bool.{cases_Bool, and_parts, and_from, or_cases, ltb-true, leb-true, eqb-true, lt-ltb}
-use Rattle.std.proofs.lemmas.List.{get_or-map, get_or_default}
+use Rattle.std.proofs.lemmas.List.{get_or-map}
 use Rattle.std.proofs.lemmas.List.Folds.{list_all_at, list_all-append}
 use Rattle.std.proofs.lemmas.Option.{slice_get-get_or}
 use Rattle.warp_tag.specs.Limits.{longest_stop, longest_period, last_microstep, most_origins, most_reactors, most_variables, most_ports, most_actions, most_timers, most_reactions, most_links, most_inputs, most_outputs, most_wishes}
@@ -16,7 +15,7 @@ use Rattle.warp_body.specs.declared.place.Target.{Target}
 use Rattle.warp_body.specs.declared.place.Target.TheVariants as to
 use Rattle.warp_step.specs.Program.{Program, Rule, delay_of}
 use Rattle.warp_step.specs.Step.{port_of}
-use Rattle.warp_step.specs.Valid.{is_valid, is_within_limits, have_reactors, is_distinct, is_rising, fed, has, names, is_readable, is_writable, owns_variable, term_may, statement_may, body_may, rule_fits, link_fits, leads_on, input_fits, program_places, program_sizes}
+use Rattle.warp_step.specs.Valid.{is_valid, is_within_limits, is_distinct, is_rising, fed, has, names, is_readable, is_writable, owns_variable, term_may, statement_may, body_may, rule_fits, link_fits, leads_on, input_fits, program_places, program_sizes}
 use Rattle.warp_step.specs.declared.parts.Action.{Action}
 use Rattle.warp_step.specs.declared.parts.Link.{Link}
 use Rattle.warp_step.specs.declared.parts.ProgramInput.{ProgramInput}

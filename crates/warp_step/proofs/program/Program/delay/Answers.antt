@@ -13,5 +13,5 @@ returns-clause-range c =
     let a = c.index.result.now in
     let valid : IsTrue (is_valid P) = subst (λ (Q : Program). IsTrue (is_valid Q)) c.self.view_is c.self.invariant in
     let is : a ≡ get_or P.actions c.args.action a =
-        c.index.ensures ∙ ap (λ (Q : Program). get_or Q.actions c.args.action a) c.self.view_is in
+    c.index.ensures ∙ ap (λ (Q : Program). get_or Q.actions c.args.action a) c.self.view_is in
     subst (λ (b : Action). b.delay ≤ longest_period) (sym is) (action_delay P c.args.action a valid c.requires)
