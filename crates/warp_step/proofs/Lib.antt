@@ -12,3 +12,4 @@ pub mod TargetsOfStep
 pub mod FrontLemmas
 pub mod ReactLemmas
 pub mod SourceLemmas
+pub mod StepLemmas
