@@ -1,7 +1,6 @@
 -- each turn goes on by what stands at one tag
-use Rattle.std.proofs.Common.{rules, arith, ◌≡◌, ◌∙◌, ◌+◌, ◌-◌, ◌<◌, ◌≤◌, List, [], Some, None, length, drop, take, map, ap, sym, subst, IsTrue}
+use Rattle.std.proofs.Common.{rules, arith, ◌≡◌, ◌∙◌, ◌+◌, ◌-◌, ◌<◌, ◌≤◌, List, [], Some, None, length, drop, take, map, sym, subst, IsTrue}
 use Rattle.std.specs.List.{list_all}
-use Rattle.warp_tag.specs.Moment.{is_before}
 use Rattle.warp_tag.specs.Table.{live, IsTable}
 use Rattle.warp_tag.specs.declared.entry.Entry.{Entry}
 use Rattle.warp_step.specs.Snapshot.{Snapshot, least_pending, start_state}
