@@ -6,6 +6,10 @@ use Rattle.clap.specs.declared.error.kind.ErrorKind.TheVariants as kind
 use Rattle.warp_tag.specs.Limits.{most_reads}
 use Rattle.warp_step.specs.Program.{Program as ReactorProgram}
 use Rattle.warp_step.specs.Twice.{twice}
+use Rattle.warp_prog.specs.Load.{IsLoaded, IsRefused}
+use Rattle.warp_prog.specs.Refusal.{number_of}
+use Rattle.warp_prog.specs.declared.error.LoadError.{LoadError}
+use Rattle.warp_prog.specs.declared.error.LoadError.TheVariants.{Memory as WantOfMemory}
 use Rattle.warpd.specs.LocalSession.{TranscribesAll, TranscribesSoFar}
 use Rattle.warpd.specs.Words.{program_in, warpd_command}
 use Rattle.warpd.specs.declared.session.SessionEnd.{SessionEnd}
@@ -75,11 +79,28 @@ EndsSo P before after WriteFault = before.failed_writes < after.failed_writes
 EndsSo P before after TooManyReads = IfSome before.left (λ input. most_reads ≤ length input)
 EndsSo P before after NoMemory = after ≡ before
 
--- the run of the program of this name ends so: `builtin:twice` as its session does, and of another name nothing is done
+-- the program of this name: `builtin:twice`, or that of some bytes, which were read of a file
+abbrev pub IsNamed : List ℕ → ReactorProgram → Type 0
+IsNamed name P = (name ≡ codes "builtin:twice" → P ≡ twice) × (name ≢ codes "builtin:twice" → (bytes : List ℕ) × IsLoaded bytes P)
+
+-- the outcome where a file was refused so: its number, but for want of memory
+abbrev pub refused_outcome : LoadError → Outcome
+refused_outcome WantOfMemory = Memory
+refused_outcome error = Program (number_of error)
+
+-- There is no program of this name, and the run ends so: memory was wanting; or it is a file's that couldn't be read, or of
+-- which some bytes were refused.
+abbrev pub IsNone : List ℕ → Outcome → Type 0
+IsNone name outcome =
+    (outcome ≡ Memory)
+    ⊎ ((name ≢ codes "builtin:twice")
+    × ((outcome ≡ NoProgram) ⊎ ((bytes : List ℕ) × (error : LoadError) × IsRefused bytes error × (outcome ≡ refused_outcome error))))
+
+-- the run of the program of this name ends so: as its session does; or where there is none, nothing is done
 abbrev pub Runs : List ℕ → Seen → Seen → Outcome → Type 0
 Runs name before after outcome =
-    (name ≡ codes "builtin:twice" → (end : SessionEnd) × (outcome ≡ end_outcome end) × EndsSo twice before after end)
-    × (name ≢ codes "builtin:twice" → (outcome ≡ NoProgram) × (after ≡ before))
+    ((P : ReactorProgram) × IsNamed name P × ((end : SessionEnd) × (outcome ≡ end_outcome end) × EndsSo P before after end))
+    ⊎ (IsNone name outcome × (after ≡ before))
 
 -- the run whose words are these ends so: words with no fault run the program that they name, and of others the
 -- parser's text is shown; for want of memory nothing is done

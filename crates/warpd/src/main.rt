@@ -5,6 +5,7 @@ mod local_session;
 #[cfg(test)]
 mod memory;
 mod outcome;
+mod program_file;
 mod session;
 mod stream;
 mod words;
@@ -16,15 +17,16 @@ ghost use Rattle.std.specs.Process.{exit_status};
 ghost use Rattle.std.specs.declared.io.ErrorKind.TheVariants.{OutOfMemory};
 ghost use Rattle.clap.specs.Words.{kind_of};
 ghost use Rattle.warp_step.specs.Counter.{IsUnused};
-ghost use Rattle.warp_step.specs.Twice.{twice};
 ghost use Rattle.warpd.specs.Outcome.{EndsSo, IsShown, Obeys, Runs, Seen, line_of, status_of};
 ghost use Rattle.warpd.specs.Words.{program_of};
 
 use clap::error::ErrorKind;
 use local_session::run_session;
 use outcome::{Outcome, outcome_of, say, status};
+use program_file::program_named;
 use session::SessionEnd;
 use std::alloc::{AllocError, Global};
+use std::fs::Files;
 use std::io::{Eprint, Print, Write};
 use std::marker::{Brand, Model};
 use std::process::ExitCode;
@@ -107,7 +109,7 @@ fn without_words<P: Eprint>(rt: &P, error: &io::Error) -> Outcome
 
 /// Does what the words ask for, or ends for the reason that there are none; tells the outcome on `errors`, and gives
 /// its exit status. The second part says whether the outcome could be told.
-fn perform<P: Print + Eprint, R: Source, W: Sink, E: Write>(
+fn perform<P: Print + Eprint + Files, R: Source, W: Sink, E: Write>(
     rt: &P,
     alloc: Global,
     arguments: Result<Vec<String>, Outcome>,
@@ -138,7 +140,7 @@ fn end<E: Write>(outcome: Outcome, errors: &mut E) -> (ExitCode, io::Result<()>)
 }
 
 /// Does what the words ask for.
-fn obey<P: Print + Eprint, R: Source, W: Sink>(
+fn obey<P: Print + Eprint + Files, R: Source, W: Sink>(
     rt: &P,
     alloc: Global,
     arguments: &[String],
@@ -150,13 +152,14 @@ fn obey<P: Print + Eprint, R: Source, W: Sink>(
         return Outcome::Memory;
     };
     match words(alloc, line.as_slice()) {
-        Ok(job) => carry_out(alloc, job, streams),
+        Ok(job) => carry_out(rt, alloc, job, streams),
         Err(error) => show(rt, &error),
     }
 }
 
 /// Does the job.
-fn carry_out<R: Source, W: Sink>(
+fn carry_out<F: Files, R: Source, W: Sink>(
+    files: &F,
     alloc: Global,
     job: Job<'_>,
     streams: &mut Streams<R, W>,
@@ -164,7 +167,7 @@ fn carry_out<R: Source, W: Sink>(
     ensures { Runs (program_of job.entry) streams.old streams.new result }
 {
     match job {
-        Job::Run { program } => run(alloc, program, streams),
+        Job::Run { program } => run(files, alloc, program, streams),
     }
 }
 
@@ -197,24 +200,29 @@ fn show<P: Print + Eprint>(rt: &P, error: &clap::Error) -> Outcome
 }
 
 /// Runs the program of this name over the streams.
-fn run<R: Source, W: Sink>(alloc: Global, program: &str, streams: &mut Streams<R, W>) -> Outcome
-    ensures { Runs program.now streams.old streams.new result }
+fn run<F: Files, R: Source, W: Sink>(
+    files: &F,
+    alloc: Global,
+    name: &str,
+    streams: &mut Streams<R, W>,
+) -> Outcome
+    ensures { Runs name.now streams.old streams.new result }
 {
-    if program == "builtin:twice" {
-        outcome_of(answer(alloc, streams))
-    } else {
-        Outcome::NoProgram
+    match program_named(files, alloc, name) {
+        Ok(program) => outcome_of(answer(alloc, program, streams)),
+        Err(outcome) => outcome,
     }
 }
 
-/// A session of `builtin:twice` over the streams.
-fn answer<R: Source, W: Sink>(alloc: Global, streams: &mut Streams<R, W>) -> SessionEnd
-    ensures { EndsSo twice streams.old streams.new result }
+/// A session of the program over the streams.
+fn answer<R: Source, W: Sink>(
+    alloc: Global,
+    program: Program,
+    streams: &mut Streams<R, W>,
+) -> SessionEnd
+    ensures { EndsSo program streams.old streams.new result }
 {
-    match Program::twice(alloc) {
-        Ok(program) => run_session(alloc, program, &mut streams.source, &mut streams.sink),
-        Err(_) => SessionEnd::NoMemory,
-    }
+    run_session(alloc, program, &mut streams.source, &mut streams.sink)
 }
 
 #[cfg(test)]

@@ -1,26 +1,26 @@
 //! The program that a word names: `builtin:twice`, or that of a file.
-ghost use Rattle.std.specs.Prelude.{◌≡◌, ◌≢◌, ◌⊎◌, ◌+◌, IfErr, IfOk, IfSome, take};
+ghost use Rattle.std.specs.Prelude.{◌≡◌, ◌≢◌, ◌⊎◌, ◌+◌, ℕ, IfErr, IfOk, IfSome, List, take};
 ghost use Rattle.std.specs.IoError.{error_kind};
 ghost use Rattle.std.specs.declared.io.ErrorKind.TheVariants.{OutOfMemory};
-ghost use Rattle.warp_prog.specs.Limits.{most_bytes};
-ghost use Rattle.warp_prog.specs.Load.{Loads};
-ghost use Rattle.warpd.specs.Outcome.{IsNamed, IsRefused, LacksProgram};
+ghost use Rattle.warp_step.specs.Twice.{twice};
+ghost use Rattle.warp_prog.specs.Load.{IsLoaded, IsRefused};
+ghost use Rattle.warp_prog.specs.Reading.{longest_file};
+ghost use Rattle.warpd.specs.Outcome.{IsNamed, IsNone, refused_outcome};
 
 use crate::outcome::Outcome;
 use std::alloc::Global;
-use std::io::Read;
-use std::rt::Files;
-use std::{fs, io};
+use std::fs::{self, Files};
+use std::io::{self, Read};
 use warp_prog::{LoadError, load};
 use warp_step::Program;
 
-/// One more than the most bytes of a program file: as many are read, so that a longer file is seen to be one.
+/// One more than the most bytes of a program file: as many are read, so that a longer one is seen to be longer.
 const ENOUGH: u64 = 1_048_577;
 
-/// The program that this word names: `builtin:twice`, or that of the file at this path.
+/// The program of this name: `builtin:twice`, or that of the file at this path.
 pub(crate) fn program_named<F: Files>(files: &F, alloc: Global, name: &str) -> Result<Program, Outcome>
     ensures ok { IfOk result (IsNamed name.now) }
-    ensures err { IfErr result (LacksProgram name.now) }
+    ensures err { IfErr result (IsNone name.now) }
 {
     if name == "builtin:twice" {
         return built_in(alloc);
@@ -44,8 +44,9 @@ fn built_in(alloc: Global) -> Result<Program, Outcome>
 
 /// The program that a reader's bytes spell.
 fn loaded<R: Read + Drop>(alloc: Global, reader: R) -> Result<Program, Outcome>
-    ensures ok { IfOk result (λ P. (bytes : List ℕ) × Loads bytes P) }
-    ensures err { IfErr result IsRefused }
+    ensures ok { IfOk result (λ P. (bytes : List ℕ) × IsLoaded bytes P) }
+    ensures err { IfErr result (λ outcome. (outcome ≡ Outcome.NoProgram) ⊎ (outcome ≡ Outcome.Memory)
+        ⊎ ((bytes : List ℕ) × (error : LoadError) × IsRefused bytes error × (outcome ≡ refused_outcome error))) }
 {
     let bytes = first_bytes(alloc, reader)?;
     match load(alloc, &bytes) {
@@ -56,7 +57,7 @@ fn loaded<R: Read + Drop>(alloc: Global, reader: R) -> Result<Program, Outcome>
 
 /// The bytes of a reader, but no more than one past the most of a program file.
 fn first_bytes<R: Read + Drop>(alloc: Global, reader: R) -> Result<Vec<u8>, Outcome>
-    ensures bytes { IfOk result (λ bytes. IfSome (R.remaining reader) (λ all. bytes.items ≡ take (most_bytes + 1) all)) }
+    ensures bytes { IfOk result (λ bytes. IfSome (R.remaining reader) (λ all. bytes.items ≡ take (longest_file + 1) all)) }
     ensures err { IfErr result (λ outcome. (outcome ≡ Outcome.NoProgram) ⊎ (outcome ≡ Outcome.Memory)) }
 {
     let mut bytes = Vec::new(alloc);
@@ -80,6 +81,7 @@ fn lost(error: &io::Error) -> Outcome
 
 /// How the run ends where the file was refused.
 fn refused(error: LoadError) -> Outcome
+    ensures { result ≡ refused_outcome error }
 {
     match error {
         LoadError::Memory => Outcome::Memory,

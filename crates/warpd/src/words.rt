@@ -30,7 +30,8 @@ const STATUSES: &str = "\
 Exit status:
   0  done, or help or the version was asked for
   2  the words were not understood
-  4  there is no such program, or a standard stream failed
+  3  the program was refused
+  4  the program couldn't be read, or a standard stream failed
   5  memory ran out";
 
 const RUN_ABOUT: &str = "Answers the lines of standard input on standard output";
@@ -45,9 +46,9 @@ standard output, in order.
 P is the event's place in the log, from 1, and N the length of the log. A line that is not
 understood or not allowed is answered by refused K, and changes nothing.
 
-The program builtin:twice stops at time 100. Its variable 0 begins at 0. An event of
-origin 0 for input 0 doubles it and adds the value; an event of origin 1 for input 1 takes
-the value from it.";
+PROGRAM is the path of a program file, which docs/FORMATS.md describes, or builtin:twice.
+That stops at time 100. Its variable 0 begins at 0. An event of origin 0 for input 0 doubles
+it and adds the value; an event of origin 1 for input 1 takes the value from it.";
 
 const RUN_NOTES: &str = "\
 Why a line is refused:
@@ -61,12 +62,21 @@ Why a line is refused:
   8  there is no memory for it
   9  it is longer than 128 bytes
 
+Why a program file is refused:
+  1  it is no JSON text
+  2  it has not the shape of a program file
+  3  it goes past a limit
+  4  a name is unknown in its place
+  5  something stands twice
+  6  a link without delay leads back
+  7  a reaction uses what it doesn't declare
+
 Example:
   printf 'event 0 5 0 0 3\\nvar 0\\n' | warpd run builtin:twice";
 
 const PROGRAM: &str = "PROGRAM";
 
-const PROGRAM_HELP: &str = "The program to run; this version has builtin:twice";
+const PROGRAM_HELP: &str = "The program to run: the path of a program file, or builtin:twice";
 
 /// Reads the words of the command line, of which the first is the program's own name.
 /// An error is a mistake in the words, a request for help or the version, or want of memory; its text is for the user.

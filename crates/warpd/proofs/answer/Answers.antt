@@ -1,13 +1,12 @@
 -- The session over the streams ends as `run_session` says.
 use Rattle.std.proofs.Common.{◌≡◌, refl, subst}
-use Rattle.warp_step.specs.Program.{Program}
 use Rattle.warpd.specs.Outcome.{EndsSo, Seen}
 use Rattle.warpd.specs.declared.session.SessionEnd.TheVariants.{NoMemory}
 use Rattle.warpd.proofs.Endings.{ends_so}
 use Rattle.warpd.proofs.answer.Goals as goal
 
-pub returns-in-Ok : goal.returns-in-Ok
-returns-in-Ok g c =
+pub returns : goal.returns
+returns g c =
     let e = c.run_session.ensures in
     let before : Seen = record {
       left = g.R.Source.left c.streams.inside.source;
@@ -22,7 +21,6 @@ returns-in-Ok g c =
       failed_writes = g.W.Sink.failures c.run_session.new.sink;
     } in
     let same : c.run_session.result ≡ NoMemory → after ≡ before = λ ended. let m = e.memory ended in rw (m.0, m.1) refl in
-    let ends : EndsSo c.in-Ok.program before after c.run_session.result =
-    ends_so c.in-Ok.program before after c.run_session.result e.bytes e.read_fault e.lines e.write_fault e.many same in
-    subst (λ (P : Program). EndsSo P c.args.streams.now after c.run_session.result) c.in-Ok.ensures
-    (subst (λ (seen : Seen). EndsSo c.in-Ok.program seen after c.run_session.result) c.streams.view_is ends)
+    let ends : EndsSo c.args.program before after c.run_session.result =
+    ends_so c.args.program before after c.run_session.result e.bytes e.read_fault e.lines e.write_fault e.many same in
+    subst (λ (seen : Seen). EndsSo c.args.program seen after c.run_session.result) c.streams.view_is ends
