@@ -1,26 +1,26 @@
 -- Objects and lists of a file.
-use Rattle.std.specs.Prelude.{ℕ, Bool, true, false, ◌&&◌, ◌||◌, List, [], ◌∷◌, Option, Some, None, bytes_eq, if◌then◌else◌}
-use Rattle.serde_json.specs.Data.{Data, null, boolean, number, string, array, object, Items, no_items, item, Members, no_members, member}
+use Rattle.std.specs.Prelude.{ℕ, Bool, true, false, ◌&&◌, ◌||◌, List, [], ◌∷◌, Option, Some, None, bytes_eq}
+use Rattle.serde_json.specs.Data.{Data, object, Items, no_items, item, Members, no_members, member}
 use Rattle.serde_json.specs.Find.{get, as_array}
 use Rattle.warp_prog.specs.Chain.{◌>>=◌}
 
 -- whether a key is one of these
-unfoldable pub is_one_of : List (List ℕ) → List ℕ → Bool
+abbrev pub is_one_of : List (List ℕ) → List ℕ → Bool
 is_one_of [] key = false
 is_one_of (k ∷ ks) key = bytes_eq k key || is_one_of ks key
 
 -- whether each member's key is one of these
-unfoldable pub are_keys : List (List ℕ) → Members → Bool
+abbrev pub are_keys : List (List ℕ) → Members → Bool
 are_keys keys no_members = true
 are_keys keys (member k d ms) = is_one_of keys k && are_keys keys ms
 
 -- whether this is an object whose keys are all among these
-unfoldable pub has_only : List (List ℕ) → Data → Bool
+abbrev pub has_only : List (List ℕ) → Data → Bool
 has_only keys (object ms) = are_keys keys ms
 has_only keys _ = false
 
 -- the items of a list under a key; none where the key is not there
-unfoldable pub items_or_none : Option Data → Option Items
+abbrev pub items_or_none : Option Data → Option Items
 items_or_none None = Some no_items
 items_or_none (Some d) = as_array d
 
@@ -28,7 +28,7 @@ abbrev pub items_at : List ℕ → Data → Option Items
 items_at key d = items_or_none (get key d)
 
 -- the items, each read by this
-unfoldable pub each : {A : Type 0} → (Data → Option A) → Items → Option (List A)
+abbrev pub each : {A : Type 0} → (Data → Option A) → Items → Option (List A)
 each f no_items = Some []
 each f (item d ds) = do
   x ← f d

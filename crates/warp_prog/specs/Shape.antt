@@ -1,13 +1,12 @@
 -- The tables of a program file: which values each key of each object may have, and the tree that they make.
 use Rattle.std.specs.Prelude.{ℕ, List, [], ◌∷◌, Option, Some, None, codes, if◌then◌else◌}
-use Rattle.serde_json.specs.Data.{Data, null, boolean, number, string, array, object, Items, no_items, item}
+use Rattle.serde_json.specs.Data.{Data, array, no_items, item}
 use Rattle.serde_json.specs.Find.{get}
 use Rattle.warp_prog.specs.Chain.{◌>>=◌}
-use Rattle.warp_prog.specs.File.{Word, NamedBody, NamedDone, File, ReactorPart, ReactionPart}
+use Rattle.warp_prog.specs.File.{NamedBody, NamedDone, File, ReactorPart, ReactionPart}
 use Rattle.warp_prog.specs.Json.{has_only, list_at, unless_empty}
 use Rattle.warp_prog.specs.Word.{name_at, port_at, integer_at}
 use Rattle.warp_prog.specs.Statements.{body_of}
-use Rattle.warp_prog.specs.declared.file.PortName.{PortName}
 use Rattle.warp_prog.specs.declared.file.VariablePart.{VariablePart}
 use Rattle.warp_prog.specs.declared.file.ActionPart.{ActionPart}
 use Rattle.warp_prog.specs.declared.file.TimerPart.{TimerPart}
@@ -77,7 +76,7 @@ reaction_of d = if has_only reaction_keys d then (do
   writes ← list_at name_at (codes "writes") d
   body ← body_or_none (get (codes "body") d)
   Some (record { triggers = triggers; reads = reads; writes = writes; body = body }))
-  else None
+    else None
 
 -- the keys of a reactor
 abbrev pub reactor_keys : List (List ℕ)
@@ -103,7 +102,7 @@ reactor_of d = if has_only reactor_keys d then (do
     timers = timers;
     reactions = reactions;
   }))
-  else None
+    else None
 
 -- the keys of the top object
 abbrev pub file_keys : List (List ℕ)
@@ -129,4 +128,4 @@ file_of d = if has_only file_keys d then (do
     inputs = inputs;
     outputs = outputs;
   }))
-  else None
+    else None

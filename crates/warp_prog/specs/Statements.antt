@@ -1,6 +1,6 @@
 -- Statements as they stand in a file.
-use Rattle.std.specs.Prelude.{ℕ, ℤ, List, Option, Some, None, option_map, codes, bytes_eq, if◌then◌else◌}
-use Rattle.serde_json.specs.Data.{Data, null, boolean, number, string, array, object, Items, no_items, item}
+use Rattle.std.specs.Prelude.{ℕ, ℤ, List, Option, Some, None, codes, bytes_eq, if◌then◌else◌}
+use Rattle.serde_json.specs.Data.{Data, array, Items, no_items, item}
 use Rattle.serde_json.specs.Find.{as_str}
 use Rattle.warp_prog.specs.Chain.{◌>>=◌}
 use Rattle.warp_prog.specs.File.{Word, NamedTerm, NamedStatement, SetNamed, PutNamed, ScheduleNamed, ChooseNamed, NamedBody, NamedDone, NamedThen}
@@ -30,11 +30,11 @@ unfoldable mutual
       first ← body_of y
       second ← body_of z
       Some (ChooseNamed e first second))
-     else (do
-      name ← name_at x
-      delay ← integer_at y
-      e ← term_of z
-      scheduling word name delay e)
+        else (do
+          name ← name_at x
+          delay ← integer_at y
+          e ← term_of z
+          scheduling word name delay e)
   statement_of _ = None
 
   -- a list of statements

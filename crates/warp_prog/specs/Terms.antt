@@ -1,9 +1,9 @@
 -- Expressions as they stand in a file.
-use Rattle.std.specs.Prelude.{ℕ, List, [], ◌∷◌, Option, Some, None, option_map, codes, bytes_eq, if◌then◌else◌}
-use Rattle.serde_json.specs.Data.{Data, null, boolean, number, string, array, object, Items, no_items, item}
+use Rattle.std.specs.Prelude.{ℕ, List, Option, Some, None, option_map, codes, bytes_eq, if◌then◌else◌}
+use Rattle.serde_json.specs.Data.{Data, number, string, array, no_items, item}
 use Rattle.serde_json.specs.Find.{as_i64, as_str}
 use Rattle.warp_prog.specs.Chain.{◌>>=◌}
-use Rattle.warp_prog.specs.File.{Word, NamedTerm, Literal, Named, PresentNamed, OneNamed, TwoNamed, ChoiceNamed}
+use Rattle.warp_prog.specs.File.{NamedTerm, Literal, Named, PresentNamed, OneNamed, TwoNamed, ChoiceNamed}
 use Rattle.warp_prog.specs.Word.{name_of}
 use Rattle.warp_prog.specs.declared.operator.UnaryOperator.{UnaryOperator}
 use Rattle.warp_prog.specs.declared.operator.UnaryOperator.TheVariants.{Negate, Not}

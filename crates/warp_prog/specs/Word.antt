@@ -1,5 +1,5 @@
 -- Names and references to ports, as texts.
-use Rattle.std.specs.Prelude.{ℕ, ℤ, Bool, true, false, ◌&&◌, ◌||◌, ◌==◌, nat_le, nat_lt, List, [], ◌∷◌, length, Option, Some, None, if◌then◌else◌}
+use Rattle.std.specs.Prelude.{ℕ, ℤ, Bool, true, false, ◌&&◌, ◌||◌, ◌==◌, nat_le, List, [], ◌∷◌, length, Option, Some, None, if◌then◌else◌}
 use Rattle.serde_json.specs.Data.{Data}
 use Rattle.serde_json.specs.Find.{as_str, as_number, as_i64}
 use Rattle.std.specs.List.{before_first, after_first}
@@ -20,7 +20,7 @@ abbrev pub is_word_byte : ℕ → Bool
 is_word_byte b = is_letter b || (nat_le 48 b && nat_le b 57) || b == 95
 
 -- all of these are
-unfoldable pub are_word_bytes : List ℕ → Bool
+abbrev pub are_word_bytes : List ℕ → Bool
 are_word_bytes [] = true
 are_word_bytes (b ∷ bs) = is_word_byte b && are_word_bytes bs
 
@@ -30,11 +30,11 @@ begins_with_letter [] = false
 begins_with_letter (b ∷ bs) = is_letter b
 
 -- a name: 1 to 32 bytes of ASCII letters, digits and `_`, the first a letter
-unfoldable pub is_name : List ℕ → Bool
+abbrev pub is_name : List ℕ → Bool
 is_name s = begins_with_letter s && nat_le (length s) longest_name && are_word_bytes s
 
 -- the name that a text is
-unfoldable pub name_of : List ℕ → Option Word
+abbrev pub name_of : List ℕ → Option Word
 name_of s = if is_name s then Some s else None
 
 -- the reference to a port that a text is: two names with `.` between them

@@ -2,5 +2,7 @@
 #![tactic(auto)]
 
 mod file;
+mod misread;
 mod name;
 mod operator;
+mod shape;

@@ -1,0 +1,3 @@
+//! From a JSON value to the tree of a file.
+
+pub(crate) mod json;
