@@ -1,3 +1,5 @@
 //! From a JSON value to the tree of a file.
 
 pub(crate) mod json;
+pub(crate) mod parts;
+pub(crate) mod word;
