@@ -2,6 +2,8 @@
 use Rattle.std.proofs.Common.{◌≡◌, List, ◌∷◌, [], ◌++◌, length, Option, None, option_map, refl}
 use Rattle.serde_json.specs.View.{items_view}
 use Rattle.serde_json.specs.declared.value.Value.{Value}
+use Rattle.serde_json.specs.Data.{array}
+use Rattle.warp_prog.specs.Terms.{term_of}
 use Rattle.warp_prog.specs.Json.{two_items, three_items}
 
 -- what was read so far, and then the rest
@@ -20,3 +22,11 @@ not_three (a ∷ []) h = refl
 not_three (a ∷ (b ∷ [])) h = refl
 not_three (a ∷ (b ∷ (c ∷ []))) h = absurd (h refl)
 not_three (a ∷ (b ∷ (c ∷ (d ∷ vs)))) h = refl
+
+pub no_term : (vs : List Value) → ¬ (length vs ≡ 2) → ¬ (length vs ≡ 3) → ¬ (length vs ≡ 4) → term_of (array (items_view vs)) ≡ None
+no_term [] h k l = refl
+no_term (a ∷ []) h k l = refl
+no_term (a ∷ (b ∷ [])) h k l = absurd (h refl)
+no_term (a ∷ (b ∷ (c ∷ []))) h k l = absurd (k refl)
+no_term (a ∷ (b ∷ (c ∷ (d ∷ [])))) h k l = absurd (l refl)
+no_term (a ∷ (b ∷ (c ∷ (d ∷ (e ∷ vs))))) h k l = refl
