@@ -1,4 +1,1 @@
-pub mod ValidLemmas
-pub mod TraceLemmas
-pub mod TraceExists
 pub mod EventLemmas

@@ -1,4 +1,5 @@
 pub mod Program
+pub mod Codes
 pub mod View
 pub mod Valid
 pub mod Snapshot
