@@ -6,3 +6,9 @@ pub mod Json
 pub mod Terms
 pub mod Statements
 pub mod Shape
+pub mod Limits
+pub mod Uses
+pub mod Names
+pub mod Twice
+pub mod Backward
+pub mod Undeclared

@@ -1,8 +1,10 @@
 //! Program files: what stands in one, as a tree with names.
 #![tactic(auto)]
 
+mod backward;
 mod file;
 mod misread;
 mod name;
+mod named;
 mod operator;
 mod shape;
