@@ -12,3 +12,5 @@ pub mod Names
 pub mod Twice
 pub mod Backward
 pub mod Undeclared
+pub mod Numbered
+pub mod Load

@@ -3,8 +3,10 @@
 
 mod backward;
 mod file;
+mod law;
 mod misread;
 mod name;
 mod named;
 mod operator;
+mod scope;
 mod shape;

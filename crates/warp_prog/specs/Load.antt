@@ -1,0 +1,40 @@
+-- What a program file is refused for, and which program it spells.
+use Rattle.std.specs.Prelude.{◌≡◌, ℕ, ◌<◌, ◌==◌, Bool, true, false, ◌&&◌, ◌||◌, Option, Some, None}
+use Rattle.serde_json.specs.Data.{Data}
+use Rattle.warp_step.specs.Program.{Program}
+use Rattle.warp_prog.specs.File.{File}
+use Rattle.warp_prog.specs.Shape.{file_of}
+use Rattle.warp_prog.specs.Limits.{exceeds_limits}
+use Rattle.warp_prog.specs.Names.{names_unknown}
+use Rattle.warp_prog.specs.Twice.{names_twice}
+use Rattle.warp_prog.specs.Backward.{leads_back}
+use Rattle.warp_prog.specs.Undeclared.{is_undeclared}
+use Rattle.warp_prog.specs.Numbered.{numbered}
+
+-- whether the fault of this number stands in what was read: 2 if it is no file; in a file 3, a limit; 4, a name; 5, something twice;
+-- 6, a link that leads back; 7, a use that is not declared
+abbrev pub is_at_fault : ℕ → Option File → Bool
+is_at_fault k None = k == 2
+is_at_fault k (Some f) =
+    (k == 3 && exceeds_limits f) || (k == 4 && names_unknown f) || (k == 5 && names_twice f) || (k == 6 && leads_back f)
+    || (k == 7 && is_undeclared f)
+
+-- a JSON value has the fault of this number, 2 to 7
+abbrev pub HasFault : Data → ℕ → Type 0
+HasFault v k = is_at_fault k (file_of v) ≡ true
+
+-- and none of a lower number
+abbrev pub IsFirstFault : Data → ℕ → Type 0
+IsFirstFault v k = HasFault v k × ((j : ℕ) → j < k → is_at_fault j (file_of v) ≡ false)
+
+-- a file without fault
+pub record IsFaultless (f : File) : Type 0 where
+  pub limits : exceeds_limits f ≡ false
+  pub names : names_unknown f ≡ false
+  pub twice : names_twice f ≡ false
+  pub order : leads_back f ≡ false
+  pub declared : is_undeclared f ≡ false
+
+-- a JSON value spells a program: it is a file without fault, whose numbered parts are the program's
+abbrev pub SpellsProgram : Data → Program → Type 0
+SpellsProgram v P = (f : File) × (file_of v ≡ Some f) × IsFaultless f × (P ≡ numbered f)
