@@ -1,3 +1,4 @@
 pub mod EachLemmas
 pub mod Has
 pub mod Stands
+pub mod OnceLemmas

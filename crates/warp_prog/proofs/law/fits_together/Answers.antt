@@ -4,6 +4,7 @@ use Rattle.warp_prog.specs.File.{File}
 use Rattle.warp_prog.specs.Load.{IsFaultless}
 use Rattle.warp_prog.specs.Numbered.{numbered}
 use Rattle.warp_prog.proofs.Stands.{stand_all}
+use Rattle.warp_prog.proofs.OnceLemmas.{once-every}
 use Rattle.warp_prog.proofs.law.fits_together.Goals as goal
 
 pub returns : goal.returns
