@@ -5,6 +5,10 @@ use Rattle.warp_prog.specs.Load.{IsFaultless}
 use Rattle.warp_prog.specs.Numbered.{numbered}
 use Rattle.warp_prog.proofs.Stands.{stand_all}
 use Rattle.warp_prog.proofs.OnceLemmas.{once-every}
+use Rattle.warp_prog.proofs.Ranges.{in-range}
+use Rattle.warp_prog.proofs.Bodies.{schedules-body}
+use Rattle.warp_prog.proofs.Distinct.{no-output}
+use Rattle.warp_prog.proofs.Rules.{reaction-fits}
 use Rattle.warp_prog.proofs.law.fits_together.Goals as goal
 
 pub returns : goal.returns
