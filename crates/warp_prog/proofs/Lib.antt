@@ -6,3 +6,5 @@ pub mod Ranges
 pub mod Bodies
 pub mod Distinct
 pub mod Rules
+pub mod Eachs
+pub mod Ports

@@ -9,6 +9,8 @@ use Rattle.warp_prog.proofs.Ranges.{in-range}
 use Rattle.warp_prog.proofs.Bodies.{schedules-body}
 use Rattle.warp_prog.proofs.Distinct.{no-output}
 use Rattle.warp_prog.proofs.Rules.{reaction-fits}
+use Rattle.warp_prog.proofs.Eachs.{rising-each}
+use Rattle.warp_prog.proofs.Ports.{NamedPort}
 use Rattle.warp_prog.proofs.law.fits_together.Goals as goal
 
 pub returns : goal.returns
