@@ -8,3 +8,5 @@ pub mod Distinct
 pub mod Rules
 pub mod Eachs
 pub mod Ports
+pub mod Links
+pub mod Fits

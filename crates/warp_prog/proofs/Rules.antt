@@ -18,7 +18,7 @@ use Rattle.warp_prog.specs.Twice.{repeats, all_names}
 use Rattle.warp_prog.specs.Uses.{body_uses, is_among, action_names, is_trigger}
 use Rattle.warp_prog.specs.Numbered.{numbered_reaction, numbered_body, readable, writable, output_number, action_number, once, past}
 use Rattle.warp_prog.specs.declared.scope.Before.{Before}
-use Rattle.warp_prog.proofs.Stands.{Stands, has_variable, is_read, is_written}
+use Rattle.warp_prog.proofs.Stands.{Stands, reactor-there, has_variable, is_read, is_written}
 use Rattle.warp_prog.proofs.OnceLemmas.{once-among, once-every}
 use Rattle.warp_prog.proofs.Ranges.{all-pass, all-both, all-since, in-range}
 use Rattle.warp_prog.proofs.Bodies.{Allows, is_right, is_period, body-may, schedules-body}
@@ -52,9 +52,6 @@ module _ (P : Program) (b : Before) (r : ReactorPart) (rs : List ReactorPart) (s
         (once-among (writable b r) name n.writes w);
   }
 
-  pub there : nat_lt b.reactors P.reactors ≡ true
-  there = let h : b.reactors + length (r ∷ rs) ≡ P.reactors = s.reactors in lt-ltb b.reactors P.reactors (omega arith)
-
   pub reaction-fits : (n : ReactionPart) → IsSound r n → rule_fits P (numbered_reaction b r n) ≡ true
   reaction-fits n sound =
       let body = or_parts _ _ sound.known in
@@ -71,4 +68,4 @@ module _ (P : Program) (b : Before) (r : ReactorPart) (rs : List ReactorPart) (s
       let periods = all-since is_no_period is_period (λ x e. (in-range 0 longest_period x e).1) (body_delays n.body) delays.1 in
       let may = body-may P b r n (numbered_reaction b r n) (allows n) n.body uses periods in
       let few = subst (λ k. nat_le k most_wishes ≡ true) (sym (schedules-body b r n.body)) (le-leb (length (body_delays n.body)) most_wishes (ltb-false most_wishes (length (body_delays n.body)) wishes.1)) in
-      and_from _ _ (and_from _ _ (and_from _ _ (and_from _ _ (and_from _ _ there triggers) reads) written) may) few
+      and_from _ _ (and_from _ _ (and_from _ _ (and_from _ _ (and_from _ _ (reactor-there P b r rs s) triggers) reads) written) may) few

@@ -1,5 +1,5 @@
 -- Where the parts of a reactor stand in its program, and that its names stand for them.
-use Rattle.std.proofs.Common.{◌≡◌, ℕ, zero, suc, ◌+◌, ◌<◌, Bool, true, false, not, ◌&&◌, ◌||◌, ◌==◌, cond, List, [], ◌∷◌, ◌++◌, length, map, drop, ap, sym, subst, ◌∙◌, refl, zero-add, suc-add, bytes_eq, unsigned_abs, eq-eqb, length-append, arith}
+use Rattle.std.proofs.Common.{◌≡◌, ℕ, zero, suc, ◌+◌, ◌<◌, Bool, true, false, not, ◌&&◌, ◌||◌, ◌==◌, cond, List, [], ◌∷◌, ◌++◌, length, map, drop, ap, sym, subst, ◌∙◌, refl, zero-add, suc-add, bytes_eq, unsigned_abs, eq-eqb, lt-ltb, nat_lt, length-append, arith}
 use Rattle.std.specs.List.{list_any, list_all}
 use Rattle.std.proofs.lemmas.Bool.{cases_Bool, true≢false, and_from, and_parts, cond_both}
 use Rattle.std.proofs.lemmas.List.{length-map}
@@ -70,6 +70,10 @@ same : (n : ℕ) → (n == n) ≡ true
 same n = eq-eqb n n refl
 
 module _ (P : Program) (b : Before) (r : ReactorPart) (rs : List ReactorPart) (s : Stands P b (r ∷ rs)) where
+  -- the reactor is one of the program's
+  pub reactor-there : nat_lt b.reactors P.reactors ≡ true
+  reactor-there = let h : b.reactors + length (r ∷ rs) ≡ P.reactors = s.reactors in lt-ltb b.reactors P.reactors (omega arith)
+
   -- the number of a variable's name is one of the reactor's variables
   pub has_variable : (name : Word) → is_among (variable_names r) name ≡ true → owns_variable P b.reactors (variable_number b r name) ≡ true
   has_variable name h =
