@@ -1,5 +1,5 @@
 -- Items of a list: each read, and two or three of them.
-use Rattle.std.proofs.Common.{◌≡◌, List, ◌∷◌, [], ◌++◌, length, Option, None, option_map, refl}
+use Rattle.std.proofs.Common.{◌≡◌, List, ◌∷◌, [], ◌++◌, ◌<◌, ◌≤◌, arith, length, Option, None, option_map, refl}
 use Rattle.serde_json.specs.View.{items_view}
 use Rattle.serde_json.specs.declared.value.Value.{Value}
 use Rattle.serde_json.specs.Data.{array}
@@ -23,10 +23,15 @@ not_three (a ∷ (b ∷ [])) h = refl
 not_three (a ∷ (b ∷ (c ∷ []))) h = absurd (h refl)
 not_three (a ∷ (b ∷ (c ∷ (d ∷ vs)))) h = refl
 
-pub no_term : (vs : List Value) → ¬ (length vs ≡ 2) → ¬ (length vs ≡ 3) → ¬ (length vs ≡ 4) → term_of (array (items_view vs)) ≡ None
-no_term [] h k l = refl
-no_term (a ∷ []) h k l = refl
-no_term (a ∷ (b ∷ [])) h k l = absurd (h refl)
-no_term (a ∷ (b ∷ (c ∷ []))) h k l = absurd (k refl)
-no_term (a ∷ (b ∷ (c ∷ (d ∷ [])))) h k l = absurd (l refl)
-no_term (a ∷ (b ∷ (c ∷ (d ∷ (e ∷ vs))))) h k l = refl
+pub too_few : (vs : List Value) → length vs < 2 → term_of (array (items_view vs)) ≡ None
+too_few [] h = refl
+too_few (a ∷ []) h = refl
+too_few (a ∷ (b ∷ vs)) h = absurd (omega (arith, h))
+
+pub too_many : (vs : List Value) → 5 ≤ length vs → term_of (array (items_view vs)) ≡ None
+too_many [] h = refl
+too_many (a ∷ []) h = refl
+too_many (a ∷ (b ∷ [])) h = absurd (omega (arith, h))
+too_many (a ∷ (b ∷ (c ∷ []))) h = absurd (omega (arith, h))
+too_many (a ∷ (b ∷ (c ∷ (d ∷ [])))) h = absurd (omega (arith, h))
+too_many (a ∷ (b ∷ (c ∷ (d ∷ (e ∷ vs))))) h = refl
