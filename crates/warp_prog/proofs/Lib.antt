@@ -1,4 +1,4 @@
-pub mod EachLemmas
+pub mod ItemLemmas
 pub mod Has
 pub mod Stands
 pub mod OnceLemmas
