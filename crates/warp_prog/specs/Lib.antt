@@ -12,3 +12,4 @@ pub mod Names
 pub mod Twice
 pub mod Backward
 pub mod Undeclared
+pub mod inner

@@ -54,7 +54,10 @@ action_names r = map (λ (a : ActionPart). a.name) r.actions
 abbrev pub timer_names : ReactorPart → List Word
 timer_names r = map (λ (t : TimerPart). t.name) r.timers
 
--- a name of something whose presence starts a reaction: an input, an action, a timer or `startup`
+-- a name of what carries a value at a tag: an input or an action
+abbrev pub carries_value : ReactorPart → Word → Bool
+carries_value r name = is_among r.inputs name || is_among (action_names r) name
+
+-- a name of what can start a reaction: an input, an action, a timer or `startup`
 abbrev pub is_trigger : ReactorPart → Word → Bool
-is_trigger r name =
-    is_among r.inputs name || is_among (action_names r) name || is_among (timer_names r) name || bytes_eq name startup
+is_trigger r name = carries_value r name || (is_among (timer_names r) name || bytes_eq name startup)

@@ -6,5 +6,8 @@ mod file;
 mod misread;
 mod name;
 mod named;
+mod names;
 mod operator;
 mod shape;
+mod undeclared;
+mod uses;
