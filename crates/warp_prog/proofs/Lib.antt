@@ -1,2 +1,4 @@
 pub mod EachLemmas
 pub mod Anys
+pub mod AllNames
+pub mod Rooms

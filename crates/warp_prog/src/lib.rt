@@ -9,5 +9,6 @@ mod named;
 mod names;
 mod operator;
 mod shape;
+mod twice;
 mod undeclared;
 mod uses;
