@@ -2,3 +2,4 @@ pub mod EachLemmas
 pub mod Anys
 pub mod AllNames
 pub mod Rooms
+pub mod Depths

@@ -1,5 +1,5 @@
 -- What a body does with names, and what a name stands for in a reactor.
-use Rattle.std.specs.Prelude.{ℕ, ℤ, Bool, ◌||◌, List, [], ◌∷◌, ◌++◌, map, bytes_eq, codes}
+use Rattle.std.specs.Prelude.{Bool, ◌||◌, List, [], ◌∷◌, ◌++◌, map, bytes_eq, codes}
 use Rattle.std.specs.List.{list_any}
 use Rattle.warp_prog.specs.File.{Word, ReactorPart, NamedTerm, Literal, Named, PresentNamed, OneNamed, TwoNamed, ChoiceNamed, NamedStatement, SetNamed, PutNamed, ScheduleNamed, ChooseNamed, NamedBody, NamedDone, NamedThen}
 use Rattle.warp_prog.specs.declared.file.VariablePart.{VariablePart}

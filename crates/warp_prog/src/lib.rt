@@ -3,6 +3,7 @@
 
 mod backward;
 mod file;
+mod limits;
 mod misread;
 mod name;
 mod named;

@@ -1,5 +1,5 @@
 -- some name that is left is no trigger exactly if some of all is none
-use Rattle.std.proofs.Common.{◌≡◌, drop, map, not}
+use Rattle.std.proofs.Common.{◌≡◌, drop, not}
 use Rattle.std.specs.List.{list_any}
 use Rattle.warp_prog.specs.Uses.{is_trigger}
 use Rattle.warp_prog.specs.View.{reactor_tree}

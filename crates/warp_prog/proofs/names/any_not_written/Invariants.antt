@@ -1,5 +1,5 @@
 -- some name that is left cannot be written exactly if some of all cannot
-use Rattle.std.proofs.Common.{◌≡◌, drop, map, not}
+use Rattle.std.proofs.Common.{◌≡◌, drop, not}
 use Rattle.std.specs.List.{list_any}
 use Rattle.warp_prog.specs.Names.{is_written}
 use Rattle.warp_prog.specs.View.{reactor_tree}

@@ -1,4 +1,4 @@
-use Rattle.std.proofs.Common.{rules, arith}
+use Rattle.std.proofs.Common.{arith}
 use Rattle.warp_prog.specs.View.{reactor_tree}
 use Rattle.warp_prog.proofs.AllNames.{count_all_names}
 use Rattle.warp_prog.proofs.Rooms.{room_for_one}
