@@ -1,4 +1,5 @@
--- A file that goes past a limit: a number outside its range, too many things, or a body that is too deep or schedules too often.
+-- A file that goes past a limit: a number outside its range, too many things, or a body that is too deep or schedules
+-- too often.
 use Rattle.std.specs.Prelude.{ℕ, ℤ, pos, ◌+◌, max, nat_lt, Bool, false, ◌||◌, List, [], ◌∷◌, ◌++◌, length, Option, Some, None}
 use Rattle.std.specs.List.{list_any}
 use Rattle.std.specs.Int.Signed.{le_z, lt_z}
@@ -25,9 +26,9 @@ deepest = 24
 abbrev pub is_outside : ℤ → ℤ → ℤ → Bool
 is_outside low high n = lt_z n low || lt_z high n
 
--- a delay, an offset or a period that is not one
-abbrev pub is_no_period : ℤ → Bool
-is_no_period n = is_outside (pos 0) (pos longest_period) n
+-- a delay, an offset or a period outside its range
+abbrev pub period_exceeds : ℤ → Bool
+period_exceeds n = is_outside (pos 0) (pos longest_period) n
 
 -- more things than this
 abbrev pub are_more_than : {A : Type 0} → ℕ → List A → Bool
@@ -90,26 +91,27 @@ abbrev mutual
 abbrev pub is_too_deep : NamedTerm → Bool
 is_too_deep e = nat_lt deepest (term_depth e)
 
--- a body that is too deep or schedules too often, or in which an expression is too deep or a delay is none
+-- a body that is too deep or schedules too often, or in which an expression is too deep or a delay is outside its range
 abbrev pub body_exceeds : NamedBody → Bool
 body_exceeds b =
     list_any is_too_deep (body_terms b)
     || nat_lt deepest (body_depth b)
-    || list_any is_no_period (body_delays b)
+    || list_any period_exceeds (body_delays b)
     || are_more_than most_wishes (body_delays b)
 
--- an action whose delay is none, and a timer whose offset or period is none
+-- an action whose delay is outside its range
 abbrev pub action_exceeds : ActionPart → Bool
-action_exceeds a = is_no_period a.delay
+action_exceeds a = period_exceeds a.delay
 
+-- a timer whose offset or period is
 abbrev pub timer_exceeds : TimerPart → Bool
-timer_exceeds t = is_no_period t.offset || is_no_period t.period
+timer_exceeds t = period_exceeds t.offset || period_exceeds t.period
 
--- a reaction whose body exceeds its limits
+-- a reaction whose body goes past a limit
 abbrev pub reaction_exceeds : ReactionPart → Bool
 reaction_exceeds n = body_exceeds n.body
 
--- a reactor in which something exceeds its limits
+-- a reactor in which one of these stands
 abbrev pub reactor_exceeds : ReactorPart → Bool
 reactor_exceeds r = list_any action_exceeds r.actions || list_any timer_exceeds r.timers || list_any reaction_exceeds r.reactions
 
@@ -137,25 +139,25 @@ numbers_exceed f =
     || is_outside (pos 0) (pos longest_stop) f.stop
     || is_outside (pos 1) (pos most_origins) f.origins
 
--- a delay that is none
+-- a delay that is there and outside its range
 abbrev pub delay_exceeds : Option ℤ → Bool
 delay_exceeds None = false
-delay_exceeds (Some delay) = is_no_period delay
+delay_exceeds (Some delay) = period_exceeds delay
 
--- a link whose delay is none
+-- a link with such a delay
 abbrev pub link_exceeds : LinkPart → Bool
 link_exceeds l = delay_exceeds l.delay
 
--- a number that is no origin, of so many
-abbrev pub is_no_origin : ℤ → ℤ → Bool
-is_no_origin origins n = lt_z n (pos 0) || le_z origins n
+-- a number that is none of so many origins
+abbrev pub origin_exceeds : ℤ → ℤ → Bool
+origin_exceeds origins n = lt_z n (pos 0) || le_z origins n
 
--- a reactor, a link or a program input that exceeds its limits
+-- a reactor, a link or a program input that goes past a limit
 abbrev pub parts_exceed : File → Bool
 parts_exceed f =
     list_any reactor_exceeds f.reactors
     || list_any link_exceeds f.links
-    || list_any (λ (i : InputPart). is_no_origin f.origins i.origin) f.inputs
+    || list_any (λ (i : InputPart). origin_exceeds f.origins i.origin) f.inputs
 
 -- a file that goes past a limit
 abbrev pub exceeds_limits : File → Bool

@@ -20,7 +20,7 @@ is_known r (Schedules name) = is_among (action_names r) name
 abbrev pub is_written : ReactorPart → Word → Bool
 is_written r name = is_among r.outputs name || is_among (action_names r) name
 
--- a reaction that is on or reads what is no trigger, writes what is no output and no action, or whose body uses what is unknown
+-- a reaction that is on or reads what is no trigger, writes what cannot be written, or whose body uses what is unknown
 abbrev pub reaction_unknown : ReactorPart → ReactionPart → Bool
 reaction_unknown r n =
     list_any (λ name. not (is_trigger r name)) n.triggers

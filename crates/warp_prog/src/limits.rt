@@ -2,7 +2,7 @@
 ghost use Rattle.std.specs.Prelude.{◌≡◌, ◌≤◌, ◌-◌, ℕ, map, nat_lt, SomeIff};
 ghost use Rattle.std.specs.List.{list_any};
 ghost use Rattle.warp_tag.specs.Limits.{most_variables, most_ports, most_actions, most_timers, most_reactions};
-ghost use Rattle.warp_prog.specs.Limits.{is_outside, is_no_period, is_no_origin, numbers_exceed, lists_exceed, total, totals_exceed, action_exceeds, timer_exceeds, link_exceeds, reaction_exceeds, reactor_exceeds, parts_exceed, exceeds_limits};
+ghost use Rattle.warp_prog.specs.Limits.{is_outside, period_exceeds, origin_exceeds, numbers_exceed, lists_exceed, total, totals_exceed, action_exceeds, timer_exceeds, link_exceeds, reaction_exceeds, reactor_exceeds, parts_exceed, exceeds_limits};
 ghost use Rattle.warp_prog.specs.View.{file_tree, reactor_tree, reaction_tree};
 ghost use Rattle.warp_prog.specs.inner.Kind.{count_of};
 ghost use Rattle.warp_prog.specs.declared.file.InputPart.{InputPart};
@@ -145,7 +145,7 @@ fn any_action(actions: &[ActionPart]) -> bool
     ensures { result ≡ list_any action_exceeds actions.now }
 {
     for action in actions {
-        if is_no_period(action.delay) {
+        if period_exceeds(action.delay) {
             return true;
         }
     }
@@ -156,7 +156,7 @@ fn any_timer(timers: &[TimerPart]) -> bool
     ensures { result ≡ list_any timer_exceeds timers.now }
 {
     for timer in timers {
-        if is_no_period(timer.offset) || is_no_period(timer.period) {
+        if period_exceeds(timer.offset) || period_exceeds(timer.period) {
             return true;
         }
     }
@@ -190,12 +190,12 @@ fn link_exceeds(link: &LinkPart) -> bool
 {
     match link.delay {
         None => false,
-        Some(delay) => is_no_period(delay),
+        Some(delay) => period_exceeds(delay),
     }
 }
 
 fn any_input(inputs: &[InputPart], origins: i64) -> bool
-    ensures { result ≡ list_any (λ (i : InputPart). is_no_origin origins i.origin) inputs.now }
+    ensures { result ≡ list_any (λ (i : InputPart). origin_exceeds origins i.origin) inputs.now }
 {
     for input in inputs {
         if input.origin < 0 || input.origin >= origins {
@@ -205,9 +205,9 @@ fn any_input(inputs: &[InputPart], origins: i64) -> bool
     false
 }
 
-/// Whether a number is no delay, offset or period.
-fn is_no_period(number: i64) -> bool
-    ensures { result ≡ is_no_period number }
+/// Whether a delay, an offset or a period is outside its range.
+fn period_exceeds(number: i64) -> bool
+    ensures { result ≡ period_exceeds number }
 {
     is_outside(number, 0, LONGEST_PERIOD)
 }

@@ -68,6 +68,7 @@ fn names_repeat(reactor: &Reactor) -> bool
         || cause_names_repeat(reactor)
 }
 
+/// Whether the name of an input or an output stands twice in its reactor.
 fn port_names_repeat(reactor: &Reactor) -> bool
     ensures { let p = stands_twice bytes_eq (all_names (reactor_tree reactor.now)) in
         result ≡ (list_any p reactor.now.inputs.items || list_any p reactor.now.outputs.items) }
@@ -75,6 +76,7 @@ fn port_names_repeat(reactor: &Reactor) -> bool
     any_stands_twice(reactor, &reactor.inputs) || any_stands_twice(reactor, &reactor.outputs)
 }
 
+/// Whether the name of an action or a timer stands twice in its reactor.
 fn cause_names_repeat(reactor: &Reactor) -> bool
     ensures { let p = stands_twice bytes_eq (all_names (reactor_tree reactor.now)) in
         result ≡ (list_any p (action_names (reactor_tree reactor.now)) || list_any p (timer_names (reactor_tree reactor.now))) }
@@ -110,12 +112,14 @@ fn room_in_reactor(reactor: &Reactor, name: &str) -> Option<usize>
     room_for_cause_name(reactor, name, rest)
 }
 
+/// The room for a name beside `startup`.
 fn room_beside_startup(name: &str) -> usize
     ensures { (if bytes_eq name.now startup then 1 else 0) + result ≡ 1 }
 {
     if name == "startup" { 0 } else { ONCE }
 }
 
+/// The room that is left of so much after the inputs and outputs of this name; `None` where it is not enough.
 fn room_for_port_name(reactor: &Reactor, name: &str, room: usize) -> Option<usize>
     ensures { let n = how_often bytes_eq reactor.now.inputs.items name.now + how_often bytes_eq reactor.now.outputs.items name.now in
         SomeIff result (n ≤ room) (room - n) }
@@ -124,6 +128,7 @@ fn room_for_port_name(reactor: &Reactor, name: &str, room: usize) -> Option<usiz
     room_for(&reactor.outputs, name, left)
 }
 
+/// The room that is left of so much after the actions and timers of this name; `None` where it is not enough.
 fn room_for_cause_name(reactor: &Reactor, name: &str, room: usize) -> Option<usize>
     ensures { let n = how_often bytes_eq (action_names (reactor_tree reactor.now)) name.now + how_often bytes_eq (timer_names (reactor_tree reactor.now)) name.now in
         SomeIff result (n ≤ room) (room - n) }

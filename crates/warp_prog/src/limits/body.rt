@@ -1,12 +1,12 @@
 //! Bodies that go past a limit.
 ghost use Rattle.std.specs.Prelude.{◌≡◌, ◌≤◌, ◌-◌, length, nat_lt, SomeIff};
 ghost use Rattle.std.specs.List.{list_any};
-ghost use Rattle.warp_prog.specs.Limits.{term_depth, statement_depth, body_depth, statement_terms, body_terms, statement_delays, body_delays, is_too_deep, is_no_period, body_exceeds};
+ghost use Rattle.warp_prog.specs.Limits.{term_depth, statement_depth, body_depth, statement_terms, body_terms, statement_delays, body_delays, is_too_deep, period_exceeds, body_exceeds};
 ghost use Rattle.warp_prog.specs.View.{term_tree, statement_tree};
 ghost use Rattle.warp_prog.specs.inner.Rule.{statements_tree};
 
 use crate::file::{Expression, Statement};
-use crate::limits::is_no_period;
+use crate::limits::period_exceeds;
 
 /// How deep an expression may be, and a list of statements.
 const DEEPEST: usize = 24;
@@ -14,13 +14,13 @@ const DEEPEST: usize = 24;
 /// How many schedulings may be written in a body.
 const MOST_WISHES: usize = 16;
 
-/// Whether a body is too deep or schedules too often, or an expression in it is too deep, or a delay is none.
+/// Whether a body is too deep or schedules too often, an expression in it is too deep, or a delay is outside its range.
 pub(crate) fn body_exceeds(body: &[Statement]) -> bool
     ensures { result ≡ body_exceeds (statements_tree body.now) }
 {
     has_deep_term(body)
         || is_deeper(body, DEEPEST)
-        || has_no_delay(body)
+        || delay_exceeds(body)
         || room_for_wishes(body, MOST_WISHES).is_none()
 }
 
@@ -96,29 +96,29 @@ fn is_deeper_statement(statement: &Statement, levels: usize) -> bool
     }
 }
 
-/// Whether a scheduling in the body has a delay that is none.
-#[cycle(has_no_delay)]
+/// Whether a scheduling in the body has a delay outside its range.
+#[cycle(delay_exceeds)]
 #[tactic(auto, using(crate::proofs::Anys::anys))]
-fn has_no_delay(body: &[Statement]) -> bool
-    ensures { result ≡ list_any is_no_period (body_delays (statements_tree body.now)) }
+fn delay_exceeds(body: &[Statement]) -> bool
+    ensures { result ≡ list_any period_exceeds (body_delays (statements_tree body.now)) }
 {
     for statement in body {
-        if statement_has_no_delay(statement) {
+        if statement_delay_exceeds(statement) {
             return true;
         }
     }
     false
 }
 
-#[cycle(has_no_delay)]
+#[cycle(delay_exceeds)]
 #[tactic(auto, using(crate::proofs::Anys::anys))]
-fn statement_has_no_delay(statement: &Statement) -> bool
-    ensures { result ≡ list_any is_no_period (statement_delays (statement_tree statement.now)) }
+fn statement_delay_exceeds(statement: &Statement) -> bool
+    ensures { result ≡ list_any period_exceeds (statement_delays (statement_tree statement.now)) }
 {
     match statement {
         Statement::Set(..) | Statement::Put(..) => false,
-        Statement::Schedule(_, delay, _) => is_no_period(*delay),
-        Statement::If(_, first, second) => has_no_delay(first) || has_no_delay(second),
+        Statement::Schedule(_, delay, _) => period_exceeds(*delay),
+        Statement::If(_, first, second) => delay_exceeds(first) || delay_exceeds(second),
     }
 }
 
