@@ -43,3 +43,21 @@ list_at f key d = items_at key d >>= each f
 abbrev pub unless_empty : {A : Type 0} → List A → Option (List A)
 unless_empty [] = None
 unless_empty (x ∷ xs) = Some (x ∷ xs)
+
+-- two items
+abbrev pub two_items : Items → Option (Data × Data)
+two_items (item a (item b no_items)) = Some (a, b)
+two_items _ = None
+
+-- three items
+abbrev pub three_items : Items → Option (Data × Data × Data)
+three_items (item a (item b (item c no_items))) = Some (a, b, c)
+three_items _ = None
+
+-- the two values of a list of two
+abbrev pub pair_of : Data → Option (Data × Data)
+pair_of d = as_array d >>= two_items
+
+-- the three values of a list of three
+abbrev pub triple_of : Data → Option (Data × Data × Data)
+triple_of d = as_array d >>= three_items

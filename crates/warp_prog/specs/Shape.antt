@@ -1,10 +1,11 @@
 -- The tables of a program file: which values each key of each object may have, and the tree that they make.
 use Rattle.std.specs.Prelude.{ℕ, List, [], ◌∷◌, Option, Some, None, codes, if◌then◌else◌}
-use Rattle.serde_json.specs.Data.{Data, array, no_items, item}
+use Rattle.std.specs.Option.{option_or}
+use Rattle.serde_json.specs.Data.{Data}
 use Rattle.serde_json.specs.Find.{get}
 use Rattle.warp_prog.specs.Chain.{◌>>=◌}
 use Rattle.warp_prog.specs.File.{NamedBody, NamedDone, File, ReactorPart, ReactionPart}
-use Rattle.warp_prog.specs.Json.{has_only, list_at, unless_empty}
+use Rattle.warp_prog.specs.Json.{pair_of, triple_of, has_only, list_at, unless_empty}
 use Rattle.warp_prog.specs.Word.{name_at, port_at, integer_at}
 use Rattle.warp_prog.specs.Statements.{body_of}
 use Rattle.warp_prog.specs.declared.file.VariablePart.{VariablePart}
@@ -14,50 +15,58 @@ use Rattle.warp_prog.specs.declared.file.LinkPart.{LinkPart}
 use Rattle.warp_prog.specs.declared.file.InputPart.{InputPart}
 
 -- a variable: [name, start]
-unfoldable pub variable_of : Data → Option VariablePart
-variable_of (array (item x (item y no_items))) = do
+abbrev pub variable_of : Data → Option VariablePart
+variable_of d = do
+  (x, y) ← pair_of d
   name ← name_at x
   start ← integer_at y
   Some (record { name = name; start = start })
-variable_of _ = None
 
 -- an action: [name, delay]
-unfoldable pub action_of : Data → Option ActionPart
-action_of (array (item x (item y no_items))) = do
+abbrev pub action_of : Data → Option ActionPart
+action_of d = do
+  (x, y) ← pair_of d
   name ← name_at x
   delay ← integer_at y
   Some (record { name = name; delay = delay })
-action_of _ = None
 
 -- a timer: [name, offset, period]
-unfoldable pub timer_of : Data → Option TimerPart
-timer_of (array (item x (item y (item z no_items)))) = do
+abbrev pub timer_of : Data → Option TimerPart
+timer_of d = do
+  (x, y, z) ← triple_of d
   name ← name_at x
   offset ← integer_at y
   period ← integer_at z
   Some (record { name = name; offset = offset; period = period })
-timer_of _ = None
 
--- a link: [from, to] or [from, to, delay]
-unfoldable pub link_of : Data → Option LinkPart
-link_of (array (item x (item y no_items))) = do
+-- a link with no delay: [from, to]
+abbrev pub plain_link_of : Data → Option LinkPart
+plain_link_of d = do
+  (x, y) ← pair_of d
   source ← port_at x
   target ← port_at y
   Some (record { source = source; target = target; delay = None })
-link_of (array (item x (item y (item z no_items)))) = do
+
+-- a link with a delay: [from, to, delay]
+abbrev pub delayed_link_of : Data → Option LinkPart
+delayed_link_of d = do
+  (x, y, z) ← triple_of d
   source ← port_at x
   target ← port_at y
   delay ← integer_at z
   Some (record { source = source; target = target; delay = Some delay })
-link_of _ = None
+
+-- a link of either kind
+abbrev pub link_of : Data → Option LinkPart
+link_of d = option_or (plain_link_of d) (delayed_link_of d)
 
 -- a program input: [origin, to]
-unfoldable pub input_of : Data → Option InputPart
-input_of (array (item x (item y no_items))) = do
+abbrev pub input_of : Data → Option InputPart
+input_of d = do
+  (x, y) ← pair_of d
   origin ← integer_at x
   port ← port_at y
   Some (record { origin = origin; port = port })
-input_of _ = None
 
 -- a body under a key; empty where the key is not there
 unfoldable pub body_or_none : Option Data → Option NamedBody

@@ -4,18 +4,18 @@ use Rattle.serde_json.specs.Data.{Data, number, string, array, no_items, item}
 use Rattle.serde_json.specs.Find.{as_i64, as_str}
 use Rattle.warp_prog.specs.Chain.{◌>>=◌}
 use Rattle.warp_prog.specs.File.{NamedTerm, Literal, Named, PresentNamed, OneNamed, TwoNamed, ChoiceNamed}
-use Rattle.warp_prog.specs.Word.{name_of}
+use Rattle.warp_prog.specs.Word.{name_of, name_at}
 use Rattle.warp_prog.specs.declared.operator.UnaryOperator.{UnaryOperator}
 use Rattle.warp_prog.specs.declared.operator.UnaryOperator.TheVariants.{Negate, Not}
 use Rattle.warp_prog.specs.declared.operator.BinaryOperator.{BinaryOperator}
 use Rattle.warp_prog.specs.declared.operator.BinaryOperator.TheVariants.{Add, Subtract, Multiply, Divide, Remainder, Equal, Less, And, Or}
 
 -- the operator over one part with this word
-unfoldable pub unary_of : List ℕ → Option UnaryOperator
+abbrev pub unary_of : List ℕ → Option UnaryOperator
 unary_of w = if bytes_eq w (codes "neg") then Some Negate else (if bytes_eq w (codes "not") then Some Not else None)
 
 -- the operator over two parts with this word
-unfoldable pub binary_of : List ℕ → Option BinaryOperator
+abbrev pub binary_of : List ℕ → Option BinaryOperator
 binary_of w =
     if bytes_eq w (codes "+") then Some Add
     else (if bytes_eq w (codes "-") then Some Subtract
@@ -28,35 +28,25 @@ binary_of w =
     else (if bytes_eq w (codes "or") then Some Or
     else None))))))))
 
--- of `present`: that this name is
-abbrev pub presence_of : NamedTerm → Option NamedTerm
-presence_of (Literal n) = None
-presence_of (Named name) = Some (PresentNamed name)
-presence_of (PresentNamed name) = None
-presence_of (OneNamed op a) = None
-presence_of (TwoNamed op a b) = None
-presence_of (ChoiceNamed c a b) = None
+-- an operator over one part
+abbrev pub of_one : List ℕ → NamedTerm → Option NamedTerm
+of_one w a = option_map (λ op. OneNamed op a) (unary_of w)
 
--- an expression of a word and one part
-unfoldable pub of_one : List ℕ → NamedTerm → Option NamedTerm
-of_one w a = if bytes_eq w (codes "present") then presence_of a else option_map (λ op. OneNamed op a) (unary_of w)
-
--- of a word and two parts
-unfoldable pub of_two : List ℕ → NamedTerm → NamedTerm → Option NamedTerm
+-- an operator over two parts
+abbrev pub of_two : List ℕ → NamedTerm → NamedTerm → Option NamedTerm
 of_two w a b = option_map (λ op. TwoNamed op a b) (binary_of w)
 
--- of a word and three parts
-unfoldable pub of_three : List ℕ → NamedTerm → NamedTerm → NamedTerm → Option NamedTerm
+-- a choice
+abbrev pub of_three : List ℕ → NamedTerm → NamedTerm → NamedTerm → Option NamedTerm
 of_three w c a b = if bytes_eq w (codes "if") then Some (ChoiceNamed c a b) else None
 
 -- an expression: a number, a name, or a list of a word and its parts
-unfoldable pub term_of : Data → Option NamedTerm
+abbrev pub term_of : Data → Option NamedTerm
 term_of (number n) = option_map Literal (as_i64 n)
 term_of (string s) = option_map Named (name_of s)
 term_of (array (item w (item a no_items))) = do
   word ← as_str w
-  first ← term_of a
-  of_one word first
+  if bytes_eq word (codes "present") then option_map PresentNamed (name_at a) else term_of a >>= of_one word
 term_of (array (item w (item a (item b no_items)))) = do
   word ← as_str w
   first ← term_of a

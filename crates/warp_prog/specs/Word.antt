@@ -38,20 +38,20 @@ abbrev pub name_of : List ℕ → Option Word
 name_of s = if is_name s then Some s else None
 
 -- the reference to a port that a text is: two names with `.` between them
-unfoldable pub port_of : List ℕ → Option PortName
+abbrev pub port_of : List ℕ → Option PortName
 port_of s = do
   reactor ← name_of (before_first (λ b. b == 46) s)
   port ← name_of (after_first (λ b. b == 46) s)
   Some (record { reactor = reactor; port = port })
 
 -- the name that a value is
-unfoldable pub name_at : Data → Option Word
+abbrev pub name_at : Data → Option Word
 name_at d = as_str d >>= name_of
 
 -- the reference to a port that a value is
-unfoldable pub port_at : Data → Option PortName
+abbrev pub port_at : Data → Option PortName
 port_at d = as_str d >>= port_of
 
 -- the number that a value is
-unfoldable pub integer_at : Data → Option ℤ
+abbrev pub integer_at : Data → Option ℤ
 integer_at d = as_number d >>= as_i64

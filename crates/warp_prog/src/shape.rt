@@ -1,3 +1,6 @@
 //! From a JSON value to the tree of a file.
 
+pub(crate) mod expression;
 pub(crate) mod json;
+pub(crate) mod parts;
+pub(crate) mod word;

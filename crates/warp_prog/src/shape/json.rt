@@ -3,7 +3,7 @@ ghost use Rattle.std.specs.Prelude.{◌≡◌, List, Option, Some, None, IfOk, E
 ghost use Rattle.serde_json.specs.Data.{Data};
 ghost use Rattle.serde_json.specs.Find.{get};
 ghost use Rattle.serde_json.specs.View.{view, items_view, members_view};
-ghost use Rattle.warp_prog.specs.Json.{is_one_of, are_keys, has_only, items_at, each, list_at};
+ghost use Rattle.warp_prog.specs.Json.{is_one_of, are_keys, has_only, items_at, each, list_at, pair_of, triple_of};
 
 use crate::misread::Misread;
 use serde_json::{Map, Value};
@@ -79,5 +79,27 @@ pub(crate) fn has_only(value: &Value, keys: &[&str]) -> bool
     match value.as_object() {
         Some(members) => are_keys(keys, members),
         None => false,
+    }
+}
+
+/// The two values of a list of two.
+#[tactic(auto, using(crate::proofs::ItemLemmas::not_two))]
+pub(crate) fn pair(value: &Value) -> Option<(&Value, &Value)>
+    ensures { option_map (λ p. (view p.0.now, view p.1.now)) result ≡ pair_of (view value.now) }
+{
+    match value.as_array()?.as_slice() {
+        [a, b] => Some((a, b)),
+        _ => None,
+    }
+}
+
+/// The three values of a list of three.
+#[tactic(auto, using(crate::proofs::ItemLemmas::not_three))]
+pub(crate) fn triple(value: &Value) -> Option<(&Value, &Value, &Value)>
+    ensures { option_map (λ p. (view p.0.now, view p.1.now, view p.2.now)) result ≡ triple_of (view value.now) }
+{
+    match value.as_array()?.as_slice() {
+        [a, b, c] => Some((a, b, c)),
+        _ => None,
     }
 }
