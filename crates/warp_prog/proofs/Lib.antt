@@ -1,4 +1,3 @@
-pub mod EachLemmas
 pub mod Anys
 pub mod AllNames
 pub mod Rooms
