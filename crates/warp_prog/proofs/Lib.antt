@@ -1,3 +1,7 @@
+pub mod Anys
+pub mod AllNames
+pub mod Rooms
+pub mod Depths
 pub mod ItemLemmas
 pub mod Has
 pub mod Stands

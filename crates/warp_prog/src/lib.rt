@@ -4,9 +4,14 @@
 mod backward;
 mod file;
 mod law;
+mod limits;
 mod misread;
 mod name;
 mod named;
+mod names;
 mod operator;
 mod scope;
 mod shape;
+mod twice;
+mod undeclared;
+mod uses;
