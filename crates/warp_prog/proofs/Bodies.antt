@@ -10,7 +10,7 @@ use Rattle.warp_body.specs.declared.place.Target.TheVariants as to
 use Rattle.warp_step.specs.Program.{Program, Rule}
 use Rattle.warp_step.specs.Valid.{names, owns_variable, term_may, statement_may, body_may}
 use Rattle.warp_prog.specs.File.{Word, ReactorPart, ReactionPart, NamedTerm, Literal, Named, PresentNamed, OneNamed, TwoNamed, ChoiceNamed, NamedStatement, SetNamed, PutNamed, ScheduleNamed, ChooseNamed, NamedBody, NamedDone, NamedThen}
-use Rattle.warp_prog.specs.Limits.{statement_delays, body_delays, is_no_period}
+use Rattle.warp_prog.specs.Limits.{statement_delays, body_delays, period_exceeds}
 use Rattle.warp_prog.specs.Names.{is_known}
 use Rattle.warp_prog.specs.Undeclared.{is_declared, may_read}
 use Rattle.warp_prog.specs.Uses.{Use, Reads, Asks, Sets, Puts, Schedules, term_uses, statement_uses, body_uses, is_among, variable_names, action_names, is_trigger}

@@ -6,7 +6,7 @@ use Rattle.std.proofs.lemmas.Bool.{cases_Bool, true≢false, and_from, and_parts
 use Rattle.std.proofs.lemmas.List.Folds.{list_any-append}
 use Rattle.warp_step.specs.Valid.{is_distinct}
 use Rattle.warp_prog.specs.File.{Word, ReactorPart}
-use Rattle.warp_prog.specs.Twice.{how_often, repeats, all_names}
+use Rattle.warp_prog.specs.Twice.{how_often, stands_twice, repeats, all_names}
 use Rattle.warp_prog.specs.Uses.{startup, is_among, variable_names, action_names, timer_names}
 use Rattle.warp_prog.proofs.OnceLemmas.{same_name, own_name}
 
@@ -17,29 +17,29 @@ any-less p q f (x ∷ xs) h = let parts = or_parts (p x) (list_any p xs) h in or
 
 module _ {X : Type 0} (same : X → X → Bool) where
   -- what stands nowhere is not found
-  never : (x : X) (xs : List X) → how_often same x xs ≤ 0 → list_any (same x) xs ≡ false
+  never : (x : X) (xs : List X) → how_often same xs x ≤ 0 → list_any (same x) xs ≡ false
   never x [] h = refl
   never x (y ∷ ys) h =
       elim (cases_Bool (same x y)) [
         | inl so ↦
-            (let e : how_often same x (y ∷ ys) ≡ 1 + how_often same x ys = ap (λ b. (if b then 1 else 0) + how_often same x ys) so in absurd (omega arith))
+            (let e : how_often same (y ∷ ys) x ≡ 1 + how_often same ys x = ap (λ b. (if b then 1 else 0) + how_often same ys x) so in absurd (omega arith))
         | inr not_so ↦
-            (let e : how_often same x (y ∷ ys) ≡ 0 + how_often same x ys = ap (λ b. (if b then 1 else 0) + how_often same x ys) not_so in
+            (let e : how_often same (y ∷ ys) x ≡ 0 + how_often same ys x = ap (λ b. (if b then 1 else 0) + how_often same ys x) not_so in
             or_from (same x y) (list_any (same x) ys) not_so (never x ys (omega arith)))
       ]
 
-  at-least : (x y : X) (ys : List X) → how_often same x ys ≤ how_often same x (y ∷ ys)
+  at-least : (x y : X) (ys : List X) → how_often same ys x ≤ how_often same (y ∷ ys) x
   at-least x y ys = omega arith
 
   -- the first stands not among the rest, of which none stands twice
   pub apart-first : (x : X) (xs : List X) → same x x ≡ true → repeats same (x ∷ xs) ≡ false → (list_any (same x) xs ≡ false) × (repeats same xs ≡ false)
   apart-first x xs own h =
-      let parts = or_parts (nat_lt 1 (how_often same x (x ∷ xs))) (list_any (λ y. nat_lt 1 (how_often same y (x ∷ xs))) xs) h in
-      let once : how_often same x (x ∷ xs) ≤ 1 = ltb-false 1 (how_often same x (x ∷ xs)) parts.0 in
-      let e : how_often same x (x ∷ xs) ≡ 1 + how_often same x xs = ap (λ b. (if b then 1 else 0) + how_often same x xs) own in
+      let parts = or_parts (stands_twice same (x ∷ xs) x) (list_any (stands_twice same (x ∷ xs)) xs) h in
+      let once : how_often same (x ∷ xs) x ≤ 1 = ltb-false 1 (how_often same (x ∷ xs) x) parts.0 in
+      let e : how_often same (x ∷ xs) x ≡ 1 + how_often same xs x = ap (λ b. (if b then 1 else 0) + how_often same xs x) own in
       (never x xs (omega arith),
-       any-less (λ y. nat_lt 1 (how_often same y (x ∷ xs))) (λ y. nat_lt 1 (how_often same y xs))
-         (λ y f. (let most = ltb-false 1 (how_often same y (x ∷ xs)) f in let least = at-least y x xs in le-ltb 1 (how_often same y xs) (omega arith))) xs parts.1)
+       any-less (stands_twice same (x ∷ xs)) (stands_twice same xs)
+         (λ y f. (let most = ltb-false 1 (how_often same (x ∷ xs) y) f in let least = at-least y x xs in le-ltb 1 (how_often same xs y) (omega arith))) xs parts.1)
 
   -- of the end of a list
   pub apart-rest : ((x : X) → same x x ≡ true) → (xs ys : List X) → repeats same (xs ++ ys) ≡ false → repeats same ys ≡ false
@@ -81,6 +81,7 @@ apart-names name (x ∷ xs) ys h a =
 -- an action of a reactor in which no name stands twice is no output
 pub no-output : (r : ReactorPart) (name : Word) → repeats bytes_eq (all_names r) ≡ false → is_among (action_names r) name ≡ true →
     is_among r.outputs name ≡ false
+unfolding all_names
 no-output r name h a =
     let h0 = (apart-first bytes_eq startup (variable_names r ++ (r.inputs ++ (r.outputs ++ (action_names r ++ timer_names r)))) (own_name startup) h).1 in
     let h1 = apart-rest bytes_eq own_name (variable_names r) (r.inputs ++ (r.outputs ++ (action_names r ++ timer_names r))) h0 in

@@ -11,7 +11,7 @@ use Rattle.warp_step.specs.declared.parts.Port.{Port}
 use Rattle.warp_step.specs.declared.parts.Action.{Action}
 use Rattle.warp_step.specs.declared.parts.Timer.{Timer}
 use Rattle.warp_prog.specs.File.{Word, File, ReactorPart, ReactionPart}
-use Rattle.warp_prog.specs.Limits.{is_outside, is_no_period, is_no_origin, are_more_than, total, totals_exceed, body_exceeds, reactor_exceeds, link_exceeds, exceeds_limits}
+use Rattle.warp_prog.specs.Limits.{is_outside, period_exceeds, origin_exceeds, are_more_than, total, totals_exceed, body_exceeds, reactor_exceeds, link_exceeds, exceeds_limits}
 use Rattle.warp_prog.specs.Names.{reaction_unknown, is_input, is_output}
 use Rattle.warp_prog.specs.Undeclared.{reaction_undeclared}
 use Rattle.warp_prog.specs.Twice.{repeats, all_names, same_port, targets}
@@ -50,42 +50,39 @@ all-fail bad xs h = all-since bad (λ x. not (bad x)) (λ x e. not_from_false (b
 module _ (f : File) (h : IsFaultless f) where
   within : is_within_limits (numbered f) ≡ true
   within =
-      let l10 = or_parts _ _ h.limits in
-      let l9 = or_parts _ _ l10.0 in
-      let l8 = or_parts _ _ l9.0 in
-      let l7 = or_parts _ _ l8.0 in
-      let l6 = or_parts _ _ l7.0 in
-      let l5 = or_parts _ _ l6.0 in
-      let l4 = or_parts _ _ l5.0 in
-      let l3 = or_parts _ _ l4.0 in
-      let l2 = or_parts _ _ l3.0 in
-      let l1 = or_parts _ _ l2.0 in
-      let t4 = or_parts _ _ l7.1 in
+      let parts = or_parts _ _ h.limits in
+      let totals = or_parts _ _ parts.0 in
+      let lists = or_parts _ _ totals.0 in
+      let n2 = or_parts _ _ lists.0 in
+      let n1 = or_parts _ _ n2.0 in
+      let c3 = or_parts _ _ lists.1 in
+      let c2 = or_parts _ _ c3.0 in
+      let c1 = or_parts _ _ c2.0 in
+      let t4 = or_parts _ _ totals.1 in
       let t3 = or_parts _ _ t4.0 in
       let t2 = or_parts _ _ t3.0 in
       let t1 = or_parts _ _ t2.0 in
-      let stop = in-range 0 longest_stop f.stop l1.1 in
-      let origins = in-range 1 most_origins f.origins l2.1 in
+      let stop = in-range 0 longest_stop f.stop n1.1 in
+      let origins = in-range 1 most_origins f.origins n2.1 in
       and_from _ _ (and_from _ _ (and_from _ _
         (and_from _ _ (and_from _ _ (and_from _ _ stop.1 refl) origins.0) origins.1)
-        (and_from _ _ (and_from _ _ (few most_reactors f.reactors l3.1)
+        (and_from _ _ (and_from _ _ (few most_reactors f.reactors c1.0)
           (few-each its_variables (λ r. length r.variables) (λ b r. length-map r.variables _) most_variables f.reactors t1.0))
           (few-each its_ports (λ r. length r.inputs + length r.outputs) (λ b r. simp (length-append, length-map)) most_ports f.reactors t1.1)))
         (and_from _ _ (and_from _ _ (few-each its_actions (λ r. length r.actions) (λ b r. length-map r.actions _) most_actions f.reactors t2.1)
           (few-each its_timers (λ r. length r.timers) (λ b r. length-map r.timers _) most_timers f.reactors t3.1))
           (few-each its_reactions (λ r. length r.reactions) (λ b r. length-map r.reactions _) most_reactions f.reactors t4.1)))
-        (and_from _ _ (and_from _ _ (few-mapped (numbered_link f.reactors) most_links f.links l4.1) (few-mapped (numbered_input f.reactors) most_inputs f.inputs l5.1))
-          (few-mapped (source_number f.reactors) most_outputs f.outputs l6.1))
+        (and_from _ _ (and_from _ _ (few-mapped (numbered_link f.reactors) most_links f.links c1.1) (few-mapped (numbered_input f.reactors) most_inputs f.inputs c2.1))
+          (few-mapped (source_number f.reactors) most_outputs f.outputs c3.1))
 
   reactors-right : list_all (λ r. not (reactor_exceeds r)) f.reactors ≡ true
   reactors-right =
-      let l10 = or_parts _ _ h.limits in
-      let l9 = or_parts _ _ l10.0 in
-      all-fail reactor_exceeds f.reactors (or_parts _ _ l9.0).1
+      let parts = or_parts _ _ (or_parts _ _ h.limits).1 in
+      all-fail reactor_exceeds f.reactors (or_parts _ _ parts.0).0
 
   actions-right : (r : ReactorPart) → not (reactor_exceeds r) ≡ true →
-      (list_any (λ (a : ActionPart). is_no_period a.delay) r.actions ≡ false)
-      × (list_any (λ (t : TimerPart). is_no_period t.offset || is_no_period t.period) r.timers ≡ false)
+      (list_any (λ (a : ActionPart). period_exceeds a.delay) r.actions ≡ false)
+      × (list_any (λ (t : TimerPart). period_exceeds t.offset || period_exceeds t.period) r.timers ≡ false)
       × (list_any (λ (n : ReactionPart). body_exceeds n.body) r.reactions ≡ false)
   actions-right r e =
       let parts = or_parts _ _ (not-true (reactor_exceeds r) e) in
@@ -112,18 +109,18 @@ module _ (f : File) (h : IsFaultless f) where
       let actions =
         all-each P its_actions (λ (a : Action). nat_lt a.reactor P.reactors && nat_le a.delay longest_period) (λ r. not (reactor_exceeds r))
           (λ b r rs s e. all-map (λ (a : ActionPart). record { reactor = b.reactors; delay = unsigned_abs a.delay })
-            (λ (a : Action). nat_lt a.reactor P.reactors && nat_le a.delay longest_period) (λ (a : ActionPart). not (is_no_period a.delay))
-            (λ a e. and_from _ _ (reactor-there P b r rs s) (in-range 0 longest_period a.delay (not-true (is_no_period a.delay) e)).1)
-            r.actions (all-fail (λ (a : ActionPart). is_no_period a.delay) r.actions (actions-right r e).0))
+            (λ (a : Action). nat_lt a.reactor P.reactors && nat_le a.delay longest_period) (λ (a : ActionPart). not (period_exceeds a.delay))
+            (λ a e. and_from _ _ (reactor-there P b r rs s) (in-range 0 longest_period a.delay (not-true (period_exceeds a.delay) e)).1)
+            r.actions (all-fail (λ (a : ActionPart). period_exceeds a.delay) r.actions (actions-right r e).0))
           f.reactors nothing_before (stand_all f) reactors-right in
       let timers =
         all-each P its_timers (λ (t : Timer). nat_lt t.reactor P.reactors && nat_le t.offset longest_period && nat_le t.period longest_period) (λ r. not (reactor_exceeds r))
           (λ b r rs s e. all-map (λ (t : TimerPart). record { reactor = b.reactors; offset = unsigned_abs t.offset; period = unsigned_abs t.period })
             (λ (t : Timer). nat_lt t.reactor P.reactors && nat_le t.offset longest_period && nat_le t.period longest_period)
-            (λ (t : TimerPart). not (is_no_period t.offset || is_no_period t.period))
-            (λ t e. (let ps = or_parts (is_no_period t.offset) (is_no_period t.period) (not-true (is_no_period t.offset || is_no_period t.period) e) in
+            (λ (t : TimerPart). not (period_exceeds t.offset || period_exceeds t.period))
+            (λ t e. (let ps = or_parts (period_exceeds t.offset) (period_exceeds t.period) (not-true (period_exceeds t.offset || period_exceeds t.period) e) in
               and_from _ _ (and_from _ _ (reactor-there P b r rs s) (in-range 0 longest_period t.offset ps.0).1) (in-range 0 longest_period t.period ps.1).1))
-            r.timers (all-fail (λ (t : TimerPart). is_no_period t.offset || is_no_period t.period) r.timers (actions-right r e).1))
+            r.timers (all-fail (λ (t : TimerPart). period_exceeds t.offset || period_exceeds t.period) r.timers (actions-right r e).1))
           f.reactors nothing_before (stand_all f) reactors-right in
       and_from _ _ (and_from _ _ (and_from _ _ variables ports) actions) timers
 
@@ -171,8 +168,8 @@ module _ (f : File) (h : IsFaultless f) where
 
   links : (list_all (link_fits (numbered f)) (numbered f).links && list_all (input_fits (numbered f)) (numbered f).inputs && is_distinct (fed (numbered f))) ≡ true
   links =
-      let l10 = or_parts _ _ h.limits in
-      let delays = (or_parts _ _ l10.0).1 in
+      let parts = or_parts _ _ (or_parts _ _ h.limits).1 in
+      let delays = (or_parts _ _ parts.0).1 in
       let u3 = or_parts _ _ h.names in
       let u2 = or_parts _ _ u3.0 in
       let u1 = or_parts _ _ u2.0 in
@@ -181,24 +178,24 @@ module _ (f : File) (h : IsFaultless f) where
       let t1 = or_parts _ _ t2.0 in
       let known = all-pass (λ (l : LinkPart). is_output f.reactors l.source && is_input f.reactors l.target) f.links u1.1 in
       let inputs = all-pass (λ (i : InputPart). is_input f.reactors i.port) f.inputs u2.1 in
-      let ok : LinkPart → Bool = λ (l : LinkPart). (not (link_exceeds l.delay) && not (is_backward f.reactors l)) && (is_output f.reactors l.source && is_input f.reactors l.target) in
+      let ok : LinkPart → Bool = λ (l : LinkPart). (not (link_exceeds l) && not (is_backward f.reactors l)) && (is_output f.reactors l.source && is_input f.reactors l.target) in
       let lead = all-map (numbered_link f.reactors) (link_fits (numbered f)) ok
         (λ l e.
-          (let e2 = and_parts (not (link_exceeds l.delay) && not (is_backward f.reactors l)) (is_output f.reactors l.source && is_input f.reactors l.target) e in
-          let e1 = and_parts (not (link_exceeds l.delay)) (not (is_backward f.reactors l)) e2.0 in
-          link-fits f t1.0 l (not-true (link_exceeds l.delay) e1.0) (not-true (is_backward f.reactors l) e1.1) e2.1))
+          (let e2 = and_parts (not (link_exceeds l) && not (is_backward f.reactors l)) (is_output f.reactors l.source && is_input f.reactors l.target) e in
+          let e1 = and_parts (not (link_exceeds l)) (not (is_backward f.reactors l)) e2.0 in
+          link-fits f t1.0 l (not-true (link_exceeds l) e1.0) (not-true (is_backward f.reactors l) e1.1) e2.1))
         f.links
-        (all-both (λ (l : LinkPart). not (link_exceeds l.delay) && not (is_backward f.reactors l)) (λ (l : LinkPart). is_output f.reactors l.source && is_input f.reactors l.target) f.links
-          (all-both (λ (l : LinkPart). not (link_exceeds l.delay)) (λ (l : LinkPart). not (is_backward f.reactors l)) f.links
-            (all-fail (λ (l : LinkPart). link_exceeds l.delay) f.links delays) (all-fail (is_backward f.reactors) f.links h.order))
+        (all-both (λ (l : LinkPart). not (link_exceeds l) && not (is_backward f.reactors l)) (λ (l : LinkPart). is_output f.reactors l.source && is_input f.reactors l.target) f.links
+          (all-both (λ (l : LinkPart). not (link_exceeds l)) (λ (l : LinkPart). not (is_backward f.reactors l)) f.links
+            (all-fail (λ (l : LinkPart). link_exceeds l) f.links delays) (all-fail (is_backward f.reactors) f.links h.order))
           known) in
-      let given = all-map (numbered_input f.reactors) (input_fits (numbered f)) (λ (i : InputPart). not (is_no_origin f.origins i.origin) && is_input f.reactors i.port)
+      let given = all-map (numbered_input f.reactors) (input_fits (numbered f)) (λ (i : InputPart). not (origin_exceeds f.origins i.origin) && is_input f.reactors i.port)
         (λ i e.
-          (let e1 = and_parts (not (is_no_origin f.origins i.origin)) (is_input f.reactors i.port) e in
-          input-fits f t1.0 i (not-true (is_no_origin f.origins i.origin) e1.0) e1.1))
+          (let e1 = and_parts (not (origin_exceeds f.origins i.origin)) (is_input f.reactors i.port) e in
+          input-fits f t1.0 i (not-true (origin_exceeds f.origins i.origin) e1.0) e1.1))
         f.inputs
-        (all-both (λ (i : InputPart). not (is_no_origin f.origins i.origin)) (λ (i : InputPart). is_input f.reactors i.port) f.inputs
-          (all-fail (λ (i : InputPart). is_no_origin f.origins i.origin) f.inputs l10.1) inputs) in
+        (all-both (λ (i : InputPart). not (origin_exceeds f.origins i.origin)) (λ (i : InputPart). is_input f.reactors i.port) f.inputs
+          (all-fail (λ (i : InputPart). origin_exceeds f.origins i.origin) f.inputs parts.1) inputs) in
       let reached = all-joined (is_input f.reactors) (map (λ (l : LinkPart). l.target) f.links) (map (λ (i : InputPart). i.port) f.inputs)
         (all-map (λ (l : LinkPart). l.target) (is_input f.reactors) (λ (l : LinkPart). is_output f.reactors l.source && is_input f.reactors l.target)
           (λ l e. (and_parts (is_output f.reactors l.source) (is_input f.reactors l.target) e).1) f.links known)

@@ -10,7 +10,7 @@ use Rattle.warp_step.specs.Valid.{has, reactor_of, link_fits, leads_on, input_fi
 use Rattle.warp_step.specs.declared.parts.Port.{Port}
 use Rattle.warp_prog.specs.File.{Word, File, ReactorPart}
 use Rattle.warp_prog.specs.Backward.{place, is_backward}
-use Rattle.warp_prog.specs.Limits.{link_exceeds, is_no_origin, is_no_period}
+use Rattle.warp_prog.specs.Limits.{delay_exceeds, link_exceeds, origin_exceeds}
 use Rattle.warp_prog.specs.Names.{is_input, is_output}
 use Rattle.warp_prog.specs.Twice.{repeats, same_port, targets}
 use Rattle.warp_prog.specs.Uses.{is_among}
@@ -79,7 +79,7 @@ module _ (f : File) (d : repeats bytes_eq (map (λ (r : ReactorPart). r.name) f.
         (subst (λ n. has (in_each its_named nothing_before f.reactors) n (λ e. same_port q e.at) ≡ true) e (by-name number its kind finds q k))
 
   -- a link
-  leads : (l : LinkPart) (delay : Option ℤ) → link_exceeds delay ≡ false →
+  leads : (l : LinkPart) (delay : Option ℤ) → delay_exceeds delay ≡ false →
       (is_none delay && nat_le (place f.reactors l.target.reactor) (place f.reactors l.source.reactor)) ≡ false →
       is_output f.reactors l.source ≡ true → is_input f.reactors l.target ≡ true →
       leads_on (numbered f) (numbered_link f.reactors l) (option_map unsigned_abs delay) ≡ true
@@ -89,7 +89,7 @@ module _ (f : File) (d : repeats bytes_eq (map (λ (r : ReactorPart). r.name) f.
       ∙ lt-ltb (place f.reactors l.source.reactor) (place f.reactors l.target.reactor)
         (leb-false (place f.reactors l.target.reactor) (place f.reactors l.source.reactor) back)
 
-  pub link-fits : (l : LinkPart) → link_exceeds l.delay ≡ false → is_backward f.reactors l ≡ false →
+  pub link-fits : (l : LinkPart) → link_exceeds l ≡ false → is_backward f.reactors l ≡ false →
       (is_output f.reactors l.source && is_input f.reactors l.target) ≡ true → link_fits (numbered f) (numbered_link f.reactors l) ≡ true
   link-fits l limit back known =
       let ports = and_parts (is_output f.reactors l.source) (is_input f.reactors l.target) known in
@@ -97,7 +97,7 @@ module _ (f : File) (d : repeats bytes_eq (map (λ (r : ReactorPart). r.name) f.
         (of-kind input_number (λ r. r.inputs) (λ k. k) finds-input l.target ports.1)) (leads l l.delay limit back ports.0 ports.1)
 
   -- a program input
-  pub input-fits : (i : InputPart) → is_no_origin f.origins i.origin ≡ false → is_input f.reactors i.port ≡ true →
+  pub input-fits : (i : InputPart) → origin_exceeds f.origins i.origin ≡ false → is_input f.reactors i.port ≡ true →
       input_fits (numbered f) (numbered_input f.reactors i) ≡ true
   input-fits i limit known =
       and_from _ _ (is-origin f.origins i.origin limit) (of-kind input_number (λ r. r.inputs) (λ k. k) finds-input i.port known)
@@ -114,15 +114,15 @@ module _ (f : File) (d : repeats bytes_eq (map (λ (r : ReactorPart). r.name) f.
         (λ p q h k e. one-number output_number (λ r. r.outputs) (λ k. not k) finds-output p q h k e) f.outputs known once
 
   -- no input has two sources
-  fed-targets : fed (numbered f) ≡ map (target_number f.reactors) (targets f)
+  fed-targets : fed (numbered f) ≡ map (target_number f.reactors) (targets f.links f.inputs)
   fed-targets =
       ap₂ (λ xs ys. xs ++ ys)
         (map-map (λ l. l.target) (numbered_link f.reactors) f.links ∙ sym (map-map (target_number f.reactors) (λ (l : LinkPart). l.target) f.links))
         (map-map (λ i. i.port) (numbered_input f.reactors) f.inputs ∙ sym (map-map (target_number f.reactors) (λ (i : InputPart). i.port) f.inputs))
       ∙ sym (map-append (target_number f.reactors) (map (λ (l : LinkPart). l.target) f.links) (map (λ (i : InputPart). i.port) f.inputs))
 
-  pub fed-distinct : list_all (is_input f.reactors) (targets f) ≡ true → repeats same_port (targets f) ≡ false → is_distinct (fed (numbered f)) ≡ true
+  pub fed-distinct : list_all (is_input f.reactors) (targets f.links f.inputs) ≡ true → repeats same_port (targets f.links f.inputs) ≡ false → is_distinct (fed (numbered f)) ≡ true
   fed-distinct known once =
       ap is_distinct fed-targets
       ∙ distinct-numbers same_port own_port (target_number f.reactors) (is_input f.reactors)
-        (λ p q h k e. one-number input_number (λ r. r.inputs) (λ k. k) finds-input p q h k e) (targets f) known once
+        (λ p q h k e. one-number input_number (λ r. r.inputs) (λ k. k) finds-input p q h k e) (targets f.links f.inputs) known once

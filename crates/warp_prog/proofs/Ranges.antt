@@ -4,7 +4,7 @@ use Rattle.std.specs.List.{list_any, list_all}
 use Rattle.std.specs.Int.Signed.{le_z, lt_z}
 use Rattle.std.proofs.lemmas.Bool.{cases_Bool, true≢false, and_from, and_parts, or_parts, or_from, not-false, le-leb, ltb-false, lt-ltb, ltb-true, leb-true, lt-leb, leb-false}
 use Rattle.std.proofs.lemmas.List.Folds.{list_all-append, list_any-append}
-use Rattle.warp_prog.specs.Limits.{is_outside, is_no_origin}
+use Rattle.warp_prog.specs.Limits.{is_outside, origin_exceeds}
 
 -- where none fails, all pass
 pub all-pass : {X : Type 0} (p : X → Bool) (xs : List X) → list_any (λ x. not (p x)) xs ≡ false → list_all p xs ≡ true
@@ -36,14 +36,14 @@ pub all-joined : {X : Type 0} (p : X → Bool) (xs ys : List X) → list_all p x
 all-joined p xs ys h k = list_all-append p xs ys ∙ and_from (list_all p xs) (list_all p ys) h k
 
 -- a number that is not outside
-pub in-range : (low high : ℕ) (n : ℤ) → is_outside low high n ≡ false → (nat_le low (unsigned_abs n) ≡ true) × (nat_le (unsigned_abs n) high ≡ true)
+pub in-range : (low high : ℕ) (n : ℤ) → is_outside (pos low) (pos high) n ≡ false → (nat_le low (unsigned_abs n) ≡ true) × (nat_le (unsigned_abs n) high ≡ true)
 in-range low high (pos n) h =
     let parts = or_parts (nat_lt n low) (nat_lt high n) h in
     (le-leb low n (ltb-false n low parts.0), le-leb n high (ltb-false high n parts.1))
 in-range low high (negsuc n) h = absurd (true≢false h)
 
 -- an origin
-pub is-origin : (origins n : ℤ) → is_no_origin origins n ≡ false → nat_lt (unsigned_abs n) (unsigned_abs origins) ≡ true
+pub is-origin : (origins n : ℤ) → origin_exceeds origins n ≡ false → nat_lt (unsigned_abs n) (unsigned_abs origins) ≡ true
 is-origin (pos m) (pos n) h = lt-ltb n m (leb-false m n (or_parts (nat_lt n 0) (nat_le m n) h).1)
 is-origin (negsuc m) (pos n) h = absurd (true≢false (or_parts (nat_lt n 0) true h).1)
 is-origin m (negsuc n) h = absurd (true≢false h)

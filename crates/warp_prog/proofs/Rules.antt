@@ -11,7 +11,7 @@ use Rattle.warp_body.specs.declared.place.Target.TheVariants as to
 use Rattle.warp_step.specs.Program.{Program, Rule}
 use Rattle.warp_step.specs.Valid.{names, is_readable, is_writable, rule_fits}
 use Rattle.warp_prog.specs.File.{Word, ReactorPart, ReactionPart}
-use Rattle.warp_prog.specs.Limits.{body_exceeds, body_delays, is_no_period, are_more_than}
+use Rattle.warp_prog.specs.Limits.{body_exceeds, body_delays, period_exceeds, are_more_than}
 use Rattle.warp_prog.specs.Names.{is_known, reaction_unknown}
 use Rattle.warp_prog.specs.Undeclared.{is_declared, may_read, reaction_undeclared}
 use Rattle.warp_prog.specs.Twice.{repeats, all_names}
@@ -65,7 +65,7 @@ module _ (P : Program) (b : Before) (r : ReactorPart) (rs : List ReactorPart) (s
       let written = once-every (is_writable P b.reactors) (writable b r) ok (λ name e. is_written P b r rs s name e) n.writes (all-pass ok n.writes writes.1) in
       let uses = all-both (is_known r) (is_declared r n) (body_uses n.body) (all-pass (is_known r) (body_uses n.body) body.1)
         (all-pass (is_declared r n) (body_uses n.body) sound.declared) in
-      let periods = all-since is_no_period is_period (λ x e. (in-range 0 longest_period x e).1) (body_delays n.body) delays.1 in
+      let periods = all-since period_exceeds is_period (λ x e. (in-range 0 longest_period x e).1) (body_delays n.body) delays.1 in
       let may = body-may P b r n (numbered_reaction b r n) (allows n) n.body uses periods in
       let few = subst (λ k. nat_le k most_wishes ≡ true) (sym (schedules-body b r n.body)) (le-leb (length (body_delays n.body)) most_wishes (ltb-false most_wishes (length (body_delays n.body)) wishes.1)) in
       and_from _ _ (and_from _ _ (and_from _ _ (and_from _ _ (and_from _ _ (reactor-there P b r rs s) triggers) reads) written) may) few
