@@ -1,22 +1,21 @@
 -- A body whose uses are known and declared does what its reaction may.
-use Rattle.std.proofs.Common.{◌≡◌, ℕ, ◌+◌, ℤ, Bool, true, false, not, ◌&&◌, ◌||◌, cond, List, [], ◌∷◌, ◌++◌, length, map, ap, ap₂, sym, subst, ◌∙◌, refl, inl, inr, unsigned_abs, nat_le, length-append}
-use Rattle.std.specs.List.{list_any, list_all}
-use Rattle.std.proofs.lemmas.Bool.{cases_Bool, true≢false, and_from, and_parts, or_cases, or_parts, cond_both}
+use Rattle.std.proofs.Common.{◌≡◌, ◌+◌, ℤ, Bool, true, ◌&&◌, ◌||◌, ◌++◌, length, ap, ap₂, sym, ◌∙◌, refl, unsigned_abs, nat_le, length-append}
+use Rattle.std.specs.List.{list_all}
+use Rattle.std.proofs.lemmas.Bool.{and_from, and_parts, cond_both}
 use Rattle.warp_tag.specs.Limits.{longest_period}
-use Rattle.warp_body.specs.Term.{Term, VariableAt, ValueAt}
+use Rattle.warp_body.specs.Term.{VariableAt, ValueAt}
 use Rattle.warp_body.specs.Effect.{schedules_of, schedules_of_one}
-use Rattle.warp_body.specs.declared.place.Target.{Target}
 use Rattle.warp_body.specs.declared.place.Target.TheVariants as to
 use Rattle.warp_step.specs.Program.{Program, Rule}
 use Rattle.warp_step.specs.Valid.{names, owns_variable, term_may, statement_may, body_may}
 use Rattle.warp_prog.specs.File.{Word, ReactorPart, ReactionPart, NamedTerm, Literal, Named, PresentNamed, OneNamed, TwoNamed, ChoiceNamed, NamedStatement, SetNamed, PutNamed, ScheduleNamed, ChooseNamed, NamedBody, NamedDone, NamedThen}
-use Rattle.warp_prog.specs.Limits.{statement_delays, body_delays, period_exceeds}
+use Rattle.warp_prog.specs.Limits.{statement_delays, body_delays}
 use Rattle.warp_prog.specs.Names.{is_known}
 use Rattle.warp_prog.specs.Undeclared.{is_declared, may_read}
-use Rattle.warp_prog.specs.Uses.{Use, Reads, Asks, Sets, Puts, Schedules, term_uses, statement_uses, body_uses, is_among, variable_names, action_names, is_trigger}
+use Rattle.warp_prog.specs.Uses.{Use, Reads, Asks, Sets, Puts, Schedules, term_uses, statement_uses, body_uses, is_among, variable_names, action_names}
 use Rattle.warp_prog.specs.Numbered.{numbered_term, numbered_statement, numbered_body, readable, variable_number, output_number, action_number}
 use Rattle.warp_prog.specs.declared.scope.Before.{Before}
-use Rattle.warp_prog.proofs.Ranges.{all-parts, in-range}
+use Rattle.warp_prog.proofs.Ranges.{all-parts}
 
 -- what a rule allows to the names of a reaction
 pub record Allows (P : Program) (b : Before) (r : ReactorPart) (n : ReactionPart) (rule : Rule) : Type 0 where

@@ -1,16 +1,10 @@
 -- What stands in each reactor, one after another: how much it is, what holds of all of it, and in which order it stands.
-use Rattle.std.proofs.Common.{◌≡◌, ℕ, ◌+◌, ◌≤◌, ◌<◌, Bool, true, false, not, ◌&&◌, ◌||◌, ◌==◌, List, [], ◌∷◌, ◌++◌, length, map, ap, ap₂, sym, subst, ◌∙◌, refl, unsigned_abs, nat_le, nat_lt, length-append, le-leb, leb-true, arith}
-use Rattle.std.specs.List.{list_any, list_all}
-use Rattle.std.proofs.lemmas.Bool.{true≢false, and_from, and_parts, or_parts}
-use Rattle.std.proofs.lemmas.List.{length-map}
-use Rattle.warp_tag.specs.Limits.{longest_period}
+use Rattle.std.proofs.Common.{◌≡◌, ℕ, ◌+◌, ◌≤◌, Bool, true, List, [], ◌∷◌, ◌++◌, length, map, ap₂, ◌∙◌, refl, nat_le, length-append, le-leb, leb-true, arith}
+use Rattle.std.specs.List.{list_all}
+use Rattle.std.proofs.lemmas.Bool.{and_from, and_parts}
 use Rattle.warp_step.specs.Program.{Program, Rule}
 use Rattle.warp_step.specs.Valid.{is_rising}
-use Rattle.warp_step.specs.declared.parts.Variable.{Variable}
-use Rattle.warp_step.specs.declared.parts.Port.{Port}
-use Rattle.warp_step.specs.declared.parts.Action.{Action}
-use Rattle.warp_step.specs.declared.parts.Timer.{Timer}
-use Rattle.warp_prog.specs.File.{Word, ReactorPart, ReactionPart}
+use Rattle.warp_prog.specs.File.{ReactorPart, ReactionPart}
 use Rattle.warp_prog.specs.Limits.{total}
 use Rattle.warp_prog.specs.Numbered.{past, in_each, its_reactions, numbered_reaction}
 use Rattle.warp_prog.specs.declared.scope.Before.{Before}

@@ -1,31 +1,30 @@
 -- The program of a file without fault is valid.
-use Rattle.std.proofs.Common.{◌≡◌, ℕ, ◌+◌, ◌≤◌, ◌<◌, ℤ, Bool, true, false, not, ◌&&◌, ◌||◌, ◌==◌, List, [], ◌∷◌, ◌++◌, length, map, ap, ap₂, sym, subst, ◌∙◌, refl, unsigned_abs, bytes_eq, nat_le, nat_lt, length-append, le-leb, ltb-false}
+use Rattle.std.proofs.Common.{◌≡◌, ℕ, ◌+◌, Bool, true, false, not, ◌&&◌, ◌||◌, List, length, map, ap, ◌∙◌, refl, unsigned_abs, bytes_eq, nat_le, nat_lt, length-append, le-leb, ltb-false}
 use Rattle.std.specs.List.{list_any, list_all}
 use Rattle.std.proofs.lemmas.Bool.{and_from, and_parts, or_parts, not-true, not_from_false}
 use Rattle.std.proofs.lemmas.List.{length-map}
 use Rattle.warp_tag.specs.Limits.{longest_stop, longest_period, most_origins, most_reactors, most_variables, most_ports, most_actions, most_timers, most_reactions, most_links, most_inputs, most_outputs}
-use Rattle.warp_step.specs.Program.{Program, Rule}
-use Rattle.warp_step.specs.Valid.{has, rule_fits, is_rising, link_fits, input_fits, fed, is_distinct, is_within_limits, have_reactors, is_valid}
+use Rattle.warp_step.specs.Program.{Program}
+use Rattle.warp_step.specs.Valid.{has, rule_fits, link_fits, input_fits, fed, is_distinct, is_within_limits, have_reactors, is_valid}
 use Rattle.warp_step.specs.declared.parts.Variable.{Variable}
 use Rattle.warp_step.specs.declared.parts.Port.{Port}
 use Rattle.warp_step.specs.declared.parts.Action.{Action}
 use Rattle.warp_step.specs.declared.parts.Timer.{Timer}
 use Rattle.warp_prog.specs.File.{Word, File, ReactorPart, ReactionPart}
-use Rattle.warp_prog.specs.Limits.{is_outside, period_exceeds, origin_exceeds, are_more_than, total, totals_exceed, body_exceeds, reactor_exceeds, link_exceeds, exceeds_limits}
+use Rattle.warp_prog.specs.Limits.{period_exceeds, origin_exceeds, are_more_than, total, body_exceeds, reactor_exceeds, link_exceeds}
 use Rattle.warp_prog.specs.Names.{reaction_unknown, is_input, is_output}
 use Rattle.warp_prog.specs.Undeclared.{reaction_undeclared}
-use Rattle.warp_prog.specs.Twice.{repeats, all_names, same_port, targets}
+use Rattle.warp_prog.specs.Twice.{repeats, all_names}
 use Rattle.warp_prog.specs.Backward.{is_backward}
 use Rattle.warp_prog.specs.Load.{IsFaultless}
 use Rattle.warp_prog.specs.Numbered.{nothing_before, in_each, its_variables, its_ports, its_actions, its_timers, its_reactions, numbered, numbered_reaction, numbered_link, numbered_input, source_number}
-use Rattle.warp_prog.specs.declared.file.PortName.{PortName}
 use Rattle.warp_prog.specs.declared.file.VariablePart.{VariablePart}
 use Rattle.warp_prog.specs.declared.file.ActionPart.{ActionPart}
 use Rattle.warp_prog.specs.declared.file.TimerPart.{TimerPart}
 use Rattle.warp_prog.specs.declared.file.LinkPart.{LinkPart}
 use Rattle.warp_prog.specs.declared.file.InputPart.{InputPart}
 use Rattle.warp_prog.specs.declared.scope.Before.{Before}
-use Rattle.warp_prog.proofs.Stands.{Stands, stand_all, reactor-there}
+use Rattle.warp_prog.proofs.Stands.{stand_all, reactor-there}
 use Rattle.warp_prog.proofs.Ranges.{all-pass, all-since, all-both, all-joined, in-range}
 use Rattle.warp_prog.proofs.Rules.{reaction-fits}
 use Rattle.warp_prog.proofs.Eachs.{length-each, all-each, all-map, all-true, rising-each}

@@ -1,7 +1,6 @@
 -- The element of a number: in a list after others, in a list of pictures, and where a name is found.
-use Rattle.std.proofs.Common.{◌≡◌, ℕ, zero, suc, ◌+◌, ◌<◌, Bool, true, false, not, ◌&&◌, ◌||◌, cond, List, [], ◌∷◌, ◌++◌, length, map, drop, Option, Some, None, ap, sym, subst, ◌∙◌, refl, inl, inr, one-add, zero-add, suc-add, append_assoc, map-id, bytes_eq, slice_get, arith}
-use Rattle.std.specs.List.{list_any, list_all}
-use Rattle.std.proofs.lemmas.Bool.{cases_Bool, true≢false, and_from, and_parts, cond-true, cond-false}
+use Rattle.std.proofs.Common.{◌≡◌, ℕ, zero, suc, ◌+◌, ◌<◌, Bool, true, false, not, ◌&&◌, ◌||◌, cond, List, [], ◌∷◌, ◌++◌, length, map, drop, ap, sym, subst, ◌∙◌, refl, inl, inr, one-add, zero-add, suc-add, append_assoc, map-id, bytes_eq, arith}
+use Rattle.std.proofs.lemmas.Bool.{cases_Bool, true≢false, and_from}
 use Rattle.std.proofs.lemmas.List.{length-map}
 use Rattle.warp_step.specs.Valid.{has}
 use Rattle.warp_prog.specs.File.{Word}

@@ -1,11 +1,10 @@
 -- The links, program inputs and program outputs of a file without fault fit its program.
-use Rattle.std.proofs.Common.{◌≡◌, ℕ, ◌+◌, ◌≤◌, ◌<◌, ℤ, Bool, true, false, not, ◌&&◌, ◌||◌, ◌==◌, Option, Some, None, option_map, is_none, List, [], ◌∷◌, ◌++◌, length, map, ap, ap₂, sym, subst, ◌∙◌, refl, unsigned_abs, bytes_eq, nat_le, nat_lt, zero-add, lt-ltb, leb-false}
+use Rattle.std.proofs.Common.{◌≡◌, ℕ, ℤ, Bool, true, false, not, ◌&&◌, ◌==◌, Option, Some, None, option_map, is_none, List, ◌++◌, map, ap, ap₂, sym, subst, ◌∙◌, refl, unsigned_abs, bytes_eq, nat_le, nat_lt, zero-add, lt-ltb, leb-false}
 use Rattle.std.specs.List.{list_any, list_all}
-use Rattle.std.proofs.lemmas.Bool.{and_from, and_parts, or_parts, not-false}
+use Rattle.std.proofs.lemmas.Bool.{and_from, and_parts}
 use Rattle.std.proofs.lemmas.List.{map-append}
 use Rattle.std.proofs.lemmas.Simd.{map-map}
 use Rattle.warp_tag.specs.Limits.{longest_period}
-use Rattle.warp_step.specs.Program.{Program}
 use Rattle.warp_step.specs.Valid.{has, reactor_of, link_fits, leads_on, input_fits, fed, is_distinct}
 use Rattle.warp_step.specs.declared.parts.Port.{Port}
 use Rattle.warp_prog.specs.File.{Word, File, ReactorPart}
@@ -20,10 +19,9 @@ use Rattle.warp_prog.specs.declared.file.LinkPart.{LinkPart}
 use Rattle.warp_prog.specs.declared.file.InputPart.{InputPart}
 use Rattle.warp_prog.proofs.Has.{has-map, has-less}
 use Rattle.warp_prog.proofs.OnceLemmas.{own_name}
-use Rattle.warp_prog.proofs.Ranges.{in-range, is-origin, all-joined}
+use Rattle.warp_prog.proofs.Ranges.{in-range, is-origin}
 use Rattle.warp_prog.proofs.Distinct.{distinct-numbers}
-use Rattle.warp_prog.proofs.Eachs.{all-map}
-use Rattle.warp_prog.proofs.Ports.{NamedPort, its_named, ports-named, at-first, the-first, is_named, Finds, finds-each, finds-input, finds-output, one-name, reactor-is}
+use Rattle.warp_prog.proofs.Ports.{NamedPort, its_named, ports-named, the-first, is_named, Finds, finds-each, finds-input, finds-output, one-name, reactor-is}
 
 own_port : (p : PortName) → same_port p p ≡ true
 own_port p = and_from _ _ (own_name p.reactor) (own_name p.port)

@@ -1,7 +1,7 @@
 -- The ports that references name: where they stand, of which reactor they are, and that no two references name one.
-use Rattle.std.proofs.Common.{◌≡◌, ℕ, zero, suc, ◌+◌, ◌≤◌, ◌<◌, Bool, true, false, not, ◌&&◌, ◌||◌, ◌==◌, cond, List, [], ◌∷◌, ◌++◌, length, map, drop, ap, ap₂, sym, subst, subst₂, ◌∙◌, refl, inl, inr, bytes_eq, append_assoc, map-id, length-append, eq-eqb, eqb-true, add_assoc, add-zero, slice_get, arith}
+use Rattle.std.proofs.Common.{◌≡◌, ℕ, zero, suc, ◌+◌, Bool, true, false, not, ◌&&◌, ◌||◌, ◌==◌, List, [], ◌∷◌, ◌++◌, length, map, drop, ap, ap₂, sym, subst, subst₂, ◌∙◌, refl, inl, inr, bytes_eq, length-append, eq-eqb, eqb-true, add_assoc, add-zero, slice_get}
 use Rattle.std.specs.Bool.{if◌then◌else◌}
-use Rattle.std.specs.List.{list_any, list_all}
+use Rattle.std.specs.List.{list_any}
 use Rattle.std.specs.Option.{option_map_or}
 use Rattle.std.proofs.lemmas.Bool.{cases_Bool, true≢false, and_from, and_parts, or_parts, or_cases, or_from, cond-true, cond-false}
 use Rattle.std.proofs.lemmas.List.{length-map, map-append}
@@ -9,15 +9,14 @@ use Rattle.std.proofs.lemmas.Simd.{map-map}
 use Rattle.warp_step.specs.Program.{Program}
 use Rattle.warp_step.specs.Valid.{has, reactor_of}
 use Rattle.warp_step.specs.declared.parts.Port.{Port}
-use Rattle.warp_prog.specs.File.{Word, File, ReactorPart}
+use Rattle.warp_prog.specs.File.{Word, ReactorPart}
 use Rattle.warp_prog.specs.Backward.{place}
-use Rattle.warp_prog.specs.Names.{is_input, is_output}
 use Rattle.warp_prog.specs.Twice.{repeats, same_port}
 use Rattle.warp_prog.specs.Uses.{is_among}
-use Rattle.warp_prog.specs.Numbered.{nothing_before, past, in_each, its_ports, place_among, input_number, output_number, port_number, source_number, target_number}
+use Rattle.warp_prog.specs.Numbered.{past, in_each, its_ports, place_among, input_number, output_number, port_number}
 use Rattle.warp_prog.specs.declared.file.PortName.{PortName}
 use Rattle.warp_prog.specs.declared.scope.Before.{Before}
-use Rattle.warp_prog.proofs.Has.{has-first, has-second, has-map, has-less, has-both, has-fact}
+use Rattle.warp_prog.proofs.Has.{has-first, has-second, has-less, has-both, has-fact}
 use Rattle.warp_prog.proofs.Stands.{has-left, drop-past}
 use Rattle.warp_prog.proofs.OnceLemmas.{same_name, own_name}
 use Rattle.warp_prog.proofs.Distinct.{apart-first}

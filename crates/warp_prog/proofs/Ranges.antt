@@ -1,9 +1,8 @@
 -- Tests of all and of some, and numbers in range.
-use Rattle.std.proofs.Common.{◌≡◌, ℕ, suc, ◌≤◌, ◌<◌, ℤ, pos, negsuc, Bool, true, false, not, ◌&&◌, ◌||◌, cond, List, [], ◌∷◌, ◌++◌, ap, sym, subst, ◌∙◌, refl, inl, inr, unsigned_abs, nat_le, nat_lt, arith}
+use Rattle.std.proofs.Common.{◌≡◌, ℕ, ℤ, pos, negsuc, Bool, true, false, not, ◌&&◌, List, [], ◌∷◌, ◌++◌, sym, ◌∙◌, refl, unsigned_abs, nat_le, nat_lt}
 use Rattle.std.specs.List.{list_any, list_all}
-use Rattle.std.specs.Int.Signed.{le_z, lt_z}
-use Rattle.std.proofs.lemmas.Bool.{cases_Bool, true≢false, and_from, and_parts, or_parts, or_from, not-false, le-leb, ltb-false, lt-ltb, ltb-true, leb-true, lt-leb, leb-false}
-use Rattle.std.proofs.lemmas.List.Folds.{list_all-append, list_any-append}
+use Rattle.std.proofs.lemmas.Bool.{true≢false, and_from, and_parts, or_parts, not-false, le-leb, ltb-false, lt-ltb, leb-false}
+use Rattle.std.proofs.lemmas.List.Folds.{list_all-append}
 use Rattle.warp_prog.specs.Limits.{is_outside, origin_exceeds}
 
 -- where none fails, all pass

@@ -1,27 +1,25 @@
 -- A reaction of a file without fault fits its program.
-use Rattle.std.proofs.Common.{◌≡◌, ℕ, ◌+◌, ◌≤◌, ◌<◌, ℤ, Bool, true, false, not, ◌&&◌, ◌||◌, cond, List, [], ◌∷◌, ◌++◌, length, map, ap, sym, subst, ◌∙◌, refl, inl, inr, bytes_eq, nat_le, nat_lt, arith}
-use Rattle.std.specs.Bool.{if◌then◌else◌}
-use Rattle.std.specs.List.{list_any, list_all}
-use Rattle.std.proofs.lemmas.Bool.{cases_Bool, true≢false, and_from, and_parts, or_parts, or_cases, or_left, or_right, cond-true, cond-false, lt-ltb, ltb-false, le-leb}
+use Rattle.std.proofs.Common.{◌≡◌, Bool, true, false, ◌||◌, List, ◌∷◌, length, map, sym, subst, ◌∙◌, inl, inr, bytes_eq, nat_le}
+use Rattle.std.proofs.lemmas.Bool.{and_from, or_parts, or_cases, or_left, or_right, cond-true, cond-false, ltb-false, le-leb}
 use Rattle.std.proofs.lemmas.List.Folds.{list_any-append}
 use Rattle.warp_tag.specs.Limits.{longest_period, most_wishes}
 use Rattle.warp_body.specs.Presence.{is_target}
 use Rattle.warp_body.specs.declared.place.Target.{Target}
 use Rattle.warp_body.specs.declared.place.Target.TheVariants as to
-use Rattle.warp_step.specs.Program.{Program, Rule}
+use Rattle.warp_step.specs.Program.{Program}
 use Rattle.warp_step.specs.Valid.{names, is_readable, is_writable, rule_fits}
 use Rattle.warp_prog.specs.File.{Word, ReactorPart, ReactionPart}
-use Rattle.warp_prog.specs.Limits.{body_exceeds, body_delays, period_exceeds, are_more_than}
+use Rattle.warp_prog.specs.Limits.{body_exceeds, body_delays, period_exceeds}
 use Rattle.warp_prog.specs.Names.{is_known, reaction_unknown}
-use Rattle.warp_prog.specs.Undeclared.{is_declared, may_read, reaction_undeclared}
+use Rattle.warp_prog.specs.Undeclared.{is_declared, reaction_undeclared}
 use Rattle.warp_prog.specs.Twice.{repeats, all_names}
 use Rattle.warp_prog.specs.Uses.{body_uses, is_among, action_names, is_trigger}
-use Rattle.warp_prog.specs.Numbered.{numbered_reaction, numbered_body, readable, writable, output_number, action_number, once, past}
+use Rattle.warp_prog.specs.Numbered.{numbered_reaction, readable, writable, output_number, action_number, once}
 use Rattle.warp_prog.specs.declared.scope.Before.{Before}
 use Rattle.warp_prog.proofs.Stands.{Stands, reactor-there, has_variable, is_read, is_written}
 use Rattle.warp_prog.proofs.OnceLemmas.{once-among, once-every}
 use Rattle.warp_prog.proofs.Ranges.{all-pass, all-both, all-since, in-range}
-use Rattle.warp_prog.proofs.Bodies.{Allows, is_right, is_period, body-may, schedules-body}
+use Rattle.warp_prog.proofs.Bodies.{Allows, is_period, body-may, schedules-body}
 use Rattle.warp_prog.proofs.Distinct.{no-output}
 
 -- a reaction that is within the limits, whose names are known and whose uses are declared

@@ -1,9 +1,7 @@
 -- Where the parts of a reactor stand in its program, and that its names stand for them.
-use Rattle.std.proofs.Common.{◌≡◌, ℕ, zero, suc, ◌+◌, ◌<◌, Bool, true, false, not, ◌&&◌, ◌||◌, ◌==◌, cond, List, [], ◌∷◌, ◌++◌, length, map, drop, ap, sym, subst, ◌∙◌, refl, zero-add, suc-add, bytes_eq, unsigned_abs, eq-eqb, lt-ltb, nat_lt, length-append, arith}
-use Rattle.std.specs.List.{list_any, list_all}
-use Rattle.std.proofs.lemmas.Bool.{cases_Bool, true≢false, and_from, and_parts, cond_both}
+use Rattle.std.proofs.Common.{◌≡◌, ℕ, zero, suc, ◌+◌, Bool, true, false, not, ◌&&◌, ◌||◌, ◌==◌, List, [], ◌∷◌, ◌++◌, length, drop, ap, sym, ◌∙◌, refl, zero-add, suc-add, unsigned_abs, eq-eqb, lt-ltb, nat_lt, length-append, arith}
+use Rattle.std.proofs.lemmas.Bool.{cond_both}
 use Rattle.std.proofs.lemmas.List.{length-map}
-use Rattle.warp_body.specs.declared.place.Target.{Target}
 use Rattle.warp_body.specs.declared.place.Target.TheVariants as to
 use Rattle.warp_step.specs.Program.{Program}
 use Rattle.warp_step.specs.Valid.{has, owns_variable, is_readable, is_writable}
