@@ -1,72 +1,234 @@
--- Codes of expressions and statements, so that a model's value may have them: an expression is stored as a list in postfix order.
-use Rattle.std.specs.Prelude.{◌≡◌, ℕ, ℤ, pos, List, [], ◌∷◌, ◌==◌, if◌then◌else◌, refl}
+-- Codes of targets, expressions and bodies, so that a model's value may have them: trees are stored as a list of marks
+-- in postfix order.
+use Rattle.std.specs.Prelude.{◌≡◌, ℕ, ℤ, pos, List, [], ◌∷◌, ◌==◌, slice_index_or, if◌then◌else◌, refl}
 use Rattle.std.specs.Coded.{Coded, code_by, coded×, coded_ℕ, coded_ℤ, coded_list}
 use Rattle.std.proofs.Common.{◌∙◌, ap}
-use Rattle.warp_body.specs.Term.{Term, Constant, VariableAt, InputAt, Sum, Difference, Product}
-use Rattle.warp_body.specs.Effect.{Statement, SetVariable, PutOutput}
+use Rattle.warp_body.specs.Presence.{kind_of, number_of}
+use Rattle.warp_body.specs.Term.{Term, Constant, VariableAt, ValueAt, PresentAt, OfOne, OfTwo, Choice}
+use Rattle.warp_body.specs.Effect.{Statement, SetVariable, PutOutput, ScheduleAction, Choose, Body, Done, Then}
+use Rattle.warp_body.specs.declared.place.Target.{Target}
+use Rattle.warp_body.specs.declared.place.Target.TheVariants.{Startup, Timer, Action, Port}
+use Rattle.warp_body.specs.declared.operator.UnaryOperator.{UnaryOperator}
+use Rattle.warp_body.specs.declared.operator.UnaryOperator.TheVariants.{Negate, Not}
+use Rattle.warp_body.specs.declared.operator.BinaryOperator.{BinaryOperator}
+use Rattle.warp_body.specs.declared.operator.BinaryOperator.TheVariants.{Add, Subtract, Multiply, Divide, Remainder, Equal, Less, And, Or}
 
--- one node of an expression: its kind, and the place or the number that it names
+-- the target of this kind with this number
+abbrev pub target_at : ℕ → ℕ → Target
+target_at kind n = if kind == 0 then Startup else (if kind == 1 then Timer n else (if kind == 2 then Action n else Port n))
+
+-- a target is the one with its own kind and number
+pub target_at-own : (target : Target) → target_at (kind_of target) (number_of target) ≡ target
+target_at-own Startup = refl
+target_at-own (Timer n) = refl
+target_at-own (Action n) = refl
+target_at-own (Port n) = refl
+
+-- a target is stored as its kind and its number
+abbrev pub target_code : Coded Target
+target_code = code_by (ℕ × ℕ) (coded× coded_ℕ coded_ℕ) (λ t. (kind_of t, number_of t)) (λ p. target_at p.0 p.1) target_at-own
+
+-- the place of an operator among those of one operand
+abbrev pub unary_number : UnaryOperator → ℕ
+unary_number Negate = 0
+unary_number Not = 1
+
+-- the place of an operator among those of two operands
+abbrev pub binary_number : BinaryOperator → ℕ
+binary_number Add = 0
+binary_number Subtract = 1
+binary_number Multiply = 2
+binary_number Divide = 3
+binary_number Remainder = 4
+binary_number Equal = 5
+binary_number Less = 6
+binary_number And = 7
+binary_number Or = 8
+
+-- the operator of one operand at this place
+abbrev pub unary_at : ℕ → UnaryOperator
+unary_at n = if n == 0 then Negate else Not
+
+-- the operator of two operands at this place
+abbrev pub binary_at : ℕ → BinaryOperator
+binary_at n =
+    if n == 0 then Add else (if n == 1 then Subtract else (if n == 2 then Multiply else (if n == 3 then Divide else
+    (if n == 4 then Remainder else (if n == 5 then Equal else (if n == 6 then Less else (if n == 7 then And else Or)))))))
+
+-- an operator is the one at its own place
+pub unary_at-own : (o : UnaryOperator) → unary_at (unary_number o) ≡ o
+unary_at-own Negate = refl
+unary_at-own Not = refl
+
+-- and so is one of two operands
+pub binary_at-own : (o : BinaryOperator) → binary_at (binary_number o) ≡ o
+binary_at-own Add = refl
+binary_at-own Subtract = refl
+binary_at-own Multiply = refl
+binary_at-own Divide = refl
+binary_at-own Remainder = refl
+binary_at-own Equal = refl
+binary_at-own Less = refl
+binary_at-own And = refl
+binary_at-own Or = refl
+
+-- one node of an expression or a body: its kind, two places or operators that it names, and its number
 abbrev pub Mark : Type 0
-Mark = ℕ × (ℕ × ℤ)
+Mark = ℕ × (ℕ × (ℕ × ℤ))
+
+-- a node without a number
+abbrev mark : ℕ → ℕ → ℕ → Mark
+mark kind a b = (kind, (a, (b, pos 0)))
 
 -- the expression's nodes in postfix order, in front of these
 abbrev pub spelled : Term → List Mark → List Mark
-spelled (Constant n) rest = (0, (0, n)) ∷ rest
-spelled (VariableAt k) rest = (1, (k, pos 0)) ∷ rest
-spelled (InputAt port) rest = (2, (port, pos 0)) ∷ rest
-spelled (Sum a b) rest = spelled a (spelled b ((3, (0, pos 0)) ∷ rest))
-spelled (Difference a b) rest = spelled a (spelled b ((4, (0, pos 0)) ∷ rest))
-spelled (Product a b) rest = spelled a (spelled b ((5, (0, pos 0)) ∷ rest))
+spelled (Constant n) rest = (0, (0, (0, n))) ∷ rest
+spelled (VariableAt k) rest = mark 1 k 0 ∷ rest
+spelled (ValueAt target) rest = mark 2 (kind_of target) (number_of target) ∷ rest
+spelled (PresentAt target) rest = mark 3 (kind_of target) (number_of target) ∷ rest
+spelled (OfOne o a) rest = spelled a (mark 4 (unary_number o) 0 ∷ rest)
+spelled (OfTwo o a b) rest = spelled a (spelled b (mark 5 (binary_number o) 0 ∷ rest))
+spelled (Choice c a b) rest = spelled c (spelled a (spelled b (mark 6 0 0 ∷ rest)))
 
--- the two newest expressions, joined by an operator of this kind
-abbrev pub joined : ℕ → List Term → List Term
-joined kind [] = []
-joined kind (b ∷ []) = []
-joined kind (b ∷ (a ∷ stack)) = (if kind == 3 then Sum a b else (if kind == 4 then Difference a b else Product a b)) ∷ stack
+-- the same of a statement and of a body, whose last statements come first
+abbrev mutual
+  pub spelled_one : Statement → List Mark → List Mark
+  spelled_one (SetVariable k e) rest = spelled e (mark 8 k 0 ∷ rest)
+  spelled_one (PutOutput port e) rest = spelled e (mark 9 port 0 ∷ rest)
+  spelled_one (ScheduleAction action delay e) rest = spelled e (mark 10 action delay ∷ rest)
+  spelled_one (Choose e first second) rest = spelled e (spelled_body first (spelled_body second (mark 11 0 0 ∷ rest)))
 
--- the expressions read so far, newest first, after one more node
-abbrev pub with_mark : Mark → List Term → List Term
-with_mark m stack =
-    if m.0 == 0
-    then Constant m.1.1 ∷ stack
-    else (if m.0 == 1 then VariableAt m.1.0 ∷ stack else (if m.0 == 2 then InputAt m.1.0 ∷ stack else joined m.0 stack))
+  pub spelled_body : Body → List Mark → List Mark
+  spelled_body Done rest = mark 7 0 0 ∷ rest
+  spelled_body (Then s ss) rest = spelled_body ss (spelled_one s rest)
+
+-- what was read so far, newest first: expressions, and bodies
+pub record Stacks : Type 0 where
+  pub terms : List Term
+  pub bodies : List Body
+
+-- with one more expression
+abbrev pub with_term : Term → Stacks → Stacks
+with_term t now = record { terms = t ∷ now.terms; bodies = now.bodies }
+
+-- with one more body
+abbrev pub with_body : Body → Stacks → Stacks
+with_body b now = record { terms = now.terms; bodies = b ∷ now.bodies }
+
+-- the newest expression as the operand of an operator
+abbrev pub of_newest : UnaryOperator → List Term → List Term
+of_newest o [] = []
+of_newest o (a ∷ ts) = OfOne o a ∷ ts
+
+-- the two newest as the operands of an operator
+abbrev pub of_two_newest : BinaryOperator → List Term → List Term
+of_two_newest o [] = []
+of_two_newest o (b ∷ []) = []
+of_two_newest o (b ∷ (a ∷ ts)) = OfTwo o a b ∷ ts
+
+-- the three newest as a choice
+abbrev pub choice_of_newest : List Term → List Term
+choice_of_newest [] = []
+choice_of_newest (b ∷ []) = []
+choice_of_newest (b ∷ (a ∷ [])) = []
+choice_of_newest (b ∷ (a ∷ (c ∷ ts))) = Choice c a b ∷ ts
+
+-- the newest body with one more statement in front
+abbrev pub in_front : Statement → List Body → List Body
+in_front s [] = []
+in_front s (b ∷ bs) = Then s b ∷ bs
+
+-- the statement of this kind on this expression
+abbrev pub statement_at : Mark → Term → Statement
+statement_at m e =
+    if m.0 == 8 then SetVariable m.1.0 e else (if m.0 == 9 then PutOutput m.1.0 e else ScheduleAction m.1.0 m.1.1.0 e)
+
+-- the newest expression in a statement of this kind, in front of the newest body
+abbrev pub with_statement : Mark → List Term → List Body → Stacks
+with_statement m [] bodies = record { terms = []; bodies = bodies }
+with_statement m (e ∷ ts) bodies = record { terms = ts; bodies = in_front (statement_at m e) bodies }
+
+-- the newest expression and the two newest bodies as a choice, in front of the body before them
+abbrev pub with_choice : List Term → List Body → Stacks
+with_choice [] bodies = record { terms = []; bodies = bodies }
+with_choice (e ∷ ts) [] = record { terms = ts; bodies = [] }
+with_choice (e ∷ ts) (b ∷ []) = record { terms = ts; bodies = [] }
+with_choice (e ∷ ts) (b ∷ (a ∷ bs)) = record { terms = ts; bodies = in_front (Choose e a b) bs }
+
+-- what was read so far, after one more node
+abbrev pub with_mark : Mark → Stacks → Stacks
+with_mark m now =
+    if m.0 == 0 then with_term (Constant m.1.1.1) now else
+    (if m.0 == 1 then with_term (VariableAt m.1.0) now else
+    (if m.0 == 2 then with_term (ValueAt (target_at m.1.0 m.1.1.0)) now else
+    (if m.0 == 3 then with_term (PresentAt (target_at m.1.0 m.1.1.0)) now else
+    (if m.0 == 4 then record now { terms = of_newest (unary_at m.1.0) now.terms } else
+    (if m.0 == 5 then record now { terms = of_two_newest (binary_at m.1.0) now.terms } else
+    (if m.0 == 6 then record now { terms = choice_of_newest now.terms } else
+    (if m.0 == 7 then with_body Done now else
+    (if m.0 == 11 then with_choice now.terms now.bodies else with_statement m now.terms now.bodies))))))))
 
 -- and after a list of nodes
-abbrev pub read : List Mark → List Term → List Term
-read [] stack = stack
-read (m ∷ ms) stack = read ms (with_mark m stack)
+abbrev pub read : List Mark → Stacks → Stacks
+read [] now = now
+read (m ∷ ms) now = read ms (with_mark m now)
 
 -- the newest expression, 0 where there is none
-abbrev pub newest : List Term → Term
-newest [] = Constant (pos 0)
-newest (t ∷ stack) = t
+abbrev pub newest_term : Stacks → Term
+newest_term now = slice_index_or now.terms 0 (Constant (pos 0))
 
--- reading gives back what was spelled
-pub read-spelled : (t : Term) (rest : List Mark) (stack : List Term) → read (spelled t rest) stack ≡ read rest (t ∷ stack)
-read-spelled (Constant n) rest stack = refl
-read-spelled (VariableAt k) rest stack = refl
-read-spelled (InputAt port) rest stack = refl
-read-spelled (Sum a b) rest stack = read-spelled a (spelled b ((3, (0, pos 0)) ∷ rest)) stack ∙ read-spelled b ((3, (0, pos 0)) ∷ rest) (a ∷ stack)
-read-spelled (Difference a b) rest stack = read-spelled a (spelled b ((4, (0, pos 0)) ∷ rest)) stack ∙ read-spelled b ((4, (0, pos 0)) ∷ rest) (a ∷ stack)
-read-spelled (Product a b) rest stack = read-spelled a (spelled b ((5, (0, pos 0)) ∷ rest)) stack ∙ read-spelled b ((5, (0, pos 0)) ∷ rest) (a ∷ stack)
+-- the newest body, the empty one where there is none
+abbrev pub newest_body : Stacks → Body
+newest_body now = slice_index_or now.bodies 0 Done
+
+-- nothing was read yet
+abbrev pub nothing_read : Stacks
+nothing_read = record { terms = []; bodies = [] }
+
+-- reading gives back the expression that was spelled
+pub read-spelled : (t : Term) (rest : List Mark) (now : Stacks) → read (spelled t rest) now ≡ read rest (with_term t now)
+read-spelled (Constant n) rest now = refl
+read-spelled (VariableAt k) rest now = refl
+read-spelled (ValueAt target) rest now = ap (λ t. read rest (with_term (ValueAt t) now)) (target_at-own target)
+read-spelled (PresentAt target) rest now = ap (λ t. read rest (with_term (PresentAt t) now)) (target_at-own target)
+read-spelled (OfOne o a) rest now =
+    read-spelled a (mark 4 (unary_number o) 0 ∷ rest) now ∙ ap (λ p. read rest (with_term (OfOne p a) now)) (unary_at-own o)
+read-spelled (OfTwo o a b) rest now =
+    read-spelled a (spelled b (mark 5 (binary_number o) 0 ∷ rest)) now
+    ∙ read-spelled b (mark 5 (binary_number o) 0 ∷ rest) (with_term a now)
+    ∙ ap (λ p. read rest (with_term (OfTwo p a b) now)) (binary_at-own o)
+read-spelled (Choice c a b) rest now =
+    read-spelled c (spelled a (spelled b (mark 6 0 0 ∷ rest))) now
+    ∙ read-spelled a (spelled b (mark 6 0 0 ∷ rest)) (with_term c now)
+    ∙ read-spelled b (mark 6 0 0 ∷ rest) (with_term a (with_term c now))
+
+-- and the statement, in front of the newest body, and the body
+mutual
+  pub read-spelled_one : (s : Statement) (rest : List Mark) (b : Body) (now : Stacks) →
+      read (spelled_one s rest) (with_body b now) ≡ read rest (with_body (Then s b) now)
+  read-spelled_one (SetVariable k e) rest b now = read-spelled e (mark 8 k 0 ∷ rest) (with_body b now)
+  read-spelled_one (PutOutput port e) rest b now = read-spelled e (mark 9 port 0 ∷ rest) (with_body b now)
+  read-spelled_one (ScheduleAction action delay e) rest b now = read-spelled e (mark 10 action delay ∷ rest) (with_body b now)
+  read-spelled_one (Choose e first second) rest b now =
+      read-spelled e (spelled_body first (spelled_body second (mark 11 0 0 ∷ rest))) (with_body b now)
+      ∙ read-spelled_body first (spelled_body second (mark 11 0 0 ∷ rest)) (with_term e (with_body b now))
+      ∙ read-spelled_body second (mark 11 0 0 ∷ rest) (with_body first (with_term e (with_body b now)))
+
+  pub read-spelled_body : (b : Body) (rest : List Mark) (now : Stacks) → read (spelled_body b rest) now ≡ read rest (with_body b now)
+  read-spelled_body Done rest now = refl
+  read-spelled_body (Then s ss) rest now =
+      read-spelled_body ss (spelled_one s rest) now ∙ read-spelled_one s rest ss now
+
+-- a list of nodes is stored as numbers
+abbrev pub marks_code : Coded (List Mark)
+marks_code = coded_list (coded× coded_ℕ (coded× coded_ℕ (coded× coded_ℕ coded_ℤ)))
 
 -- an expression is stored as its nodes
 abbrev pub term_code : Coded Term
-term_code = code_by (List Mark) (coded_list (coded× coded_ℕ (coded× coded_ℕ coded_ℤ))) (λ t. spelled t []) (λ ms. newest (read ms [])) (λ t. ap newest (read-spelled t [] []))
+term_code =
+    code_by (List Mark) marks_code (λ t. spelled t []) (λ ms. newest_term (read ms nothing_read)) (λ t. ap newest_term (read-spelled t [] nothing_read))
 
--- a statement's kind, its place, and its expression
-abbrev to_parts : Statement → ℕ × (ℕ × Term)
-to_parts (SetVariable k e) = (0, (k, e))
-to_parts (PutOutput port e) = (1, (port, e))
-
--- and back
-abbrev from_parts : ℕ × (ℕ × Term) → Statement
-from_parts p = if p.0 == 0 then SetVariable p.1.0 p.1.1 else PutOutput p.1.0 p.1.1
-
-pub from_parts-to_parts : (s : Statement) → from_parts (to_parts s) ≡ s
-from_parts-to_parts (SetVariable k e) = refl
-from_parts-to_parts (PutOutput port e) = refl
-
--- a statement is stored as these
-abbrev pub statement_code : Coded Statement
-statement_code = code_by (ℕ × (ℕ × Term)) (coded× coded_ℕ (coded× coded_ℕ term_code)) to_parts from_parts from_parts-to_parts
+-- a body is stored as its nodes
+abbrev pub body_code : Coded Body
+body_code =
+    code_by (List Mark) marks_code (λ b. spelled_body b []) (λ ms. newest_body (read ms nothing_read)) (λ b. ap newest_body (read-spelled_body b [] nothing_read))

@@ -1,9 +1,9 @@
 //! Expressions: their values, copies and comparison.
 ghost use Rattle.std.specs.Prelude.{◌≡◌, ℕ, length, IsTrue, IfOk, ◌↔◌};
-ghost use Rattle.warp_body.specs.Presence.{Presence};
 ghost use Rattle.warp_body.specs.Term.{Term, term_of, value_of, term_fits, sizes_of};
 
-use crate::place::{Present, Sizes, Vars};
+use crate::operator::{BinaryOperator, UnaryOperator, as_number, is_true};
+use crate::place::{Present, Sizes, Target, Vars};
 use std::alloc::Global;
 use warp_tag::OutOfMemory;
 
@@ -14,14 +14,16 @@ pub enum Expr {
     Number(i64),
     /// The value of the variable with this number.
     Variable(u32),
-    /// The value of the input port with this number at this tag, 0 where it is absent.
-    Input(u32),
-    /// The sum.
-    Add(Box<Expr>, Box<Expr>),
-    /// The first less the second.
-    Subtract(Box<Expr>, Box<Expr>),
-    /// The product.
-    Multiply(Box<Expr>, Box<Expr>),
+    /// The value of a target at this tag, 0 where it is absent.
+    Value(Target),
+    /// 1 where a target is present at this tag, else 0.
+    Present(Target),
+    /// The result of an operator of one operand.
+    Unary(UnaryOperator, Box<Expr>),
+    /// The result of an operator of two operands.
+    Binary(BinaryOperator, Box<Expr>, Box<Expr>),
+    /// The second where the first isn't 0, else the third.
+    If(Box<Expr>, Box<Expr>, Box<Expr>),
 }
 
 /// The value of an expression.
@@ -32,10 +34,19 @@ pub fn eval(expr: &Expr, vars: &Vars, present: &Present) -> i64
     match expr {
         Expr::Number(n) => *n,
         Expr::Variable(k) => vars.get(*k),
-        Expr::Input(port) => present.get(*port).unwrap_or(0),
-        Expr::Add(a, b) => eval(a, vars, present).wrapping_add(eval(b, vars, present)),
-        Expr::Subtract(a, b) => eval(a, vars, present).wrapping_sub(eval(b, vars, present)),
-        Expr::Multiply(a, b) => eval(a, vars, present).wrapping_mul(eval(b, vars, present)),
+        Expr::Value(target) => present.get(*target).unwrap_or(0),
+        Expr::Present(target) => as_number(present.get(*target).is_some()),
+        Expr::Unary(operator, a) => operator.apply(eval(a, vars, present)),
+        Expr::Binary(operator, a, b) => {
+            operator.apply(eval(a, vars, present), eval(b, vars, present))
+        }
+        Expr::If(condition, a, b) => {
+            if is_true(eval(condition, vars, present)) {
+                eval(a, vars, present)
+            } else {
+                eval(b, vars, present)
+            }
+        }
     }
 }
 
@@ -47,10 +58,10 @@ impl Expr {
         match self {
             Expr::Number(_) => true,
             Expr::Variable(k) => (*k as usize) < sizes.vars,
-            Expr::Input(port) => (*port as usize) < sizes.ports,
-            Expr::Add(a, b) | Expr::Subtract(a, b) | Expr::Multiply(a, b) => {
-                a.fits(sizes) && b.fits(sizes)
-            }
+            Expr::Value(target) | Expr::Present(target) => target.fits(sizes.places),
+            Expr::Unary(_, a) => a.fits(sizes),
+            Expr::Binary(_, a, b) => a.fits(sizes) && b.fits(sizes),
+            Expr::If(condition, a, b) => { condition.fits(sizes) && a.fits(sizes) && b.fits(sizes) }
         }
     }
 
@@ -61,21 +72,22 @@ impl Expr {
         match self {
             Expr::Number(n) => Ok(Expr::Number(*n)),
             Expr::Variable(k) => Ok(Expr::Variable(*k)),
-            Expr::Input(port) => Ok(Expr::Input(*port)),
-            Expr::Add(a, b) => {
+            Expr::Value(target) => Ok(Expr::Value(*target)),
+            Expr::Present(target) => Ok(Expr::Present(*target)),
+            Expr::Unary(operator, a) => {
                 let a = Box::new(alloc, a.copy(alloc)?)?;
-                let b = Box::new(alloc, b.copy(alloc)?)?;
-                Ok(Expr::Add(a, b))
+                Ok(Expr::Unary(*operator, a))
             }
-            Expr::Subtract(a, b) => {
+            Expr::Binary(operator, a, b) => {
                 let a = Box::new(alloc, a.copy(alloc)?)?;
                 let b = Box::new(alloc, b.copy(alloc)?)?;
-                Ok(Expr::Subtract(a, b))
+                Ok(Expr::Binary(*operator, a, b))
             }
-            Expr::Multiply(a, b) => {
+            Expr::If(condition, a, b) => {
+                let condition = Box::new(alloc, condition.copy(alloc)?)?;
                 let a = Box::new(alloc, a.copy(alloc)?)?;
                 let b = Box::new(alloc, b.copy(alloc)?)?;
-                Ok(Expr::Multiply(a, b))
+                Ok(Expr::If(condition, a, b))
             }
         }
     }
@@ -87,10 +99,11 @@ impl Expr {
         match (self, other) {
             (Expr::Number(m), Expr::Number(n)) => m == n,
             (Expr::Variable(m), Expr::Variable(n)) => m == n,
-            (Expr::Input(m), Expr::Input(n)) => m == n,
-            (Expr::Add(a, b), Expr::Add(c, d)) => a.same(c) && b.same(d),
-            (Expr::Subtract(a, b), Expr::Subtract(c, d)) => a.same(c) && b.same(d),
-            (Expr::Multiply(a, b), Expr::Multiply(c, d)) => a.same(c) && b.same(d),
+            (Expr::Value(s), Expr::Value(t)) => s == t,
+            (Expr::Present(s), Expr::Present(t)) => s == t,
+            (Expr::Unary(o, a), Expr::Unary(p, b)) => o == p && a.same(b),
+            (Expr::Binary(o, a, b), Expr::Binary(p, c, d)) => o == p && a.same(c) && b.same(d),
+            (Expr::If(a, b, c), Expr::If(d, e, f)) => a.same(d) && b.same(e) && c.same(f),
             _ => false,
         }
     }

@@ -1,18 +1,98 @@
-//! What a body reads and writes: the variables, and the ports that are present.
-ghost use Rattle.std.specs.Prelude.{◌≡◌, ℕ, ℤ, ◌<◌, List, length, slice_index_or, slice_set, Option, Some, None, pos, IfOk, replicate, ◌==◌};
-ghost use Rattle.warp_body.specs.Presence.{Presence};
+//! What a body reads and writes: the variables, and what is present.
+ghost use Rattle.std.specs.Prelude.{◌≡◌, ℕ, ℤ, ◌<◌, List, length, slice_index_or, slice_set, Option, Some, None, pos, IfOk, ◌==◌, IsTrue, nat_lt};
+ghost use Rattle.std.specs.List.{list_all};
+ghost use Rattle.warp_body.specs.Presence.{Presence, places_of, target_fits, nothing_present, present_at, with_value, kind_of, number_of, target_before, is_target};
 
 use std::alloc::Global;
 use std::marker::Model;
 use warp_tag::OutOfMemory;
 
-/// How many places a program has: the numbers in its bodies are below these.
+/// What can be present at a tag, and can be pending: what a reaction may react to.
+#[derive(Clone, Copy, Debug, Default, PartialEq, Eq)]
+pub enum Target {
+    /// The first tag of a run.
+    #[default]
+    Startup,
+    /// The timer with this number.
+    Timer(u32),
+    /// The action with this number.
+    Action(u32),
+    /// The port with this number.
+    Port(u32),
+}
+
+impl Target {
+    /// The place of its kind in the order of kinds: startup, timers, actions, ports.
+    fn kind(self) -> u8
+        ensures { result ≡ kind_of self }
+    {
+        match self {
+            Target::Startup => 0,
+            Target::Timer(_) => 1,
+            Target::Action(_) => 2,
+            Target::Port(_) => 3,
+        }
+    }
+
+    /// Its number among those of its kind, 0 for startup.
+    fn number(self) -> u32
+        ensures { result ≡ number_of self }
+    {
+        match self {
+            Target::Startup => 0,
+            Target::Timer(n) | Target::Action(n) | Target::Port(n) => n,
+        }
+    }
+
+    /// Whether it comes before the other: in order of kind, then of number.
+    pub fn is_before(self, other: Target) -> bool
+        ensures { result ≡ target_before self other }
+    {
+        let kind = self.kind();
+        let other_kind = other.kind();
+        kind < other_kind || (kind == other_kind && self.number() < other.number())
+    }
+
+    /// Whether the two are one.
+    pub fn is_same(self, other: Target) -> bool
+        ensures { result ≡ is_target self other }
+    {
+        self.kind() == other.kind() && self.number() == other.number()
+    }
+}
+
+/// How many targets there are of each kind.
+#[derive(Clone, Copy, Debug, PartialEq, Eq)]
+pub struct Places {
+    /// Timers.
+    pub timers: usize,
+    /// Actions.
+    pub actions: usize,
+    /// Ports, inputs and outputs together.
+    pub ports: usize,
+}
+
+impl Target {
+    /// Whether it is one of so many.
+    pub fn fits(self, places: Places) -> bool
+        ensures { result ≡ target_fits places self }
+    {
+        match self {
+            Target::Startup => true,
+            Target::Timer(n) => (n as usize) < places.timers,
+            Target::Action(n) => (n as usize) < places.actions,
+            Target::Port(n) => (n as usize) < places.ports,
+        }
+    }
+}
+
+/// How much there is of what a body names: the numbers in it are below these.
 #[derive(Clone, Copy, Debug, PartialEq, Eq)]
 pub struct Sizes {
     /// Variables.
     pub vars: usize,
-    /// Ports, inputs and outputs together.
-    pub ports: usize,
+    /// Targets.
+    pub places: Places,
 }
 
 /// The values of a program's variables, by number.
@@ -82,56 +162,92 @@ impl Vars {
     }
 }
 
-/// Which ports are present at a tag, and with what value: at one tag a port is absent, or present with one value.
+/// What is present at a tag, and with what value: startup, and each timer, action and port, is absent, or present with one
+/// value. A port to which a link without delay leads has the presence of the port from which it leads.
 #[derive(Debug, Drop)]
 pub struct Present {
+    startup: Option<i64>,
+    timers: Vec<Option<i64>>,
+    actions: Vec<Option<i64>>,
     ports: Vec<Option<i64>>,
+    sources: Vec<u32>,
 }
 
 impl Model for Present {
-    ghost use Rattle.warp_body.specs.Presence.{Presence};
+    ghost use Rattle.std.specs.Prelude.{IsTrue};
+    ghost use Rattle.warp_body.specs.Presence.{Presence, are_sources};
 
     ghost Value = { Presence };
 
-    ghost view = { λ p. record { ports = p.ports.items } };
+    ghost view = { λ p. record { startup = p.startup; timers = p.timers.items; actions = p.actions.items; ports = p.ports.items; sources = p.sources.items } };
+
+    ghost invariant = { λ p. IsTrue (are_sources p.ports.items p.sources.items) };
 }
 
 impl Present {
-    /// So many ports, of which none is present.
-    pub fn new(alloc: Global, ports: usize) -> Result<Present, OutOfMemory>
-        ensures { IfOk result (λ p. p ≡ record { ports = replicate ports None }) }
+    /// So many places, of which none is present; the source of a port is the port whose presence it has.
+    pub fn new(alloc: Global, places: Places, sources: Vec<u32>) -> Result<Present, OutOfMemory>
+        requires len { length sources.items ≡ places.ports }
+        requires ports { IsTrue (list_all (λ p. nat_lt p places.ports) sources.items) }
+        ensures { IfOk result (λ p. p ≡ nothing_present places sources.items) }
     {
-        let ports = vec![in alloc; None; ports]?;
-        Ok(Present { ports })
+        let timers = vec![in alloc; None; places.timers]?;
+        let actions = vec![in alloc; None; places.actions]?;
+        let ports = vec![in alloc; None; places.ports]?;
+        Ok(Present {
+            startup: None,
+            timers,
+            actions,
+            ports,
+            sources,
+        })
     }
 
-    /// How many ports there are.
-    pub fn len(&self) -> usize
-        ensures { result ≡ length self.now.ports }
+    /// How many places there are.
+    pub fn places(&self) -> Places
+        ensures { result ≡ places_of self.now }
     {
-        self.ports.len()
+        Places {
+            timers: self.timers.len(),
+            actions: self.actions.len(),
+            ports: self.ports.len(),
+        }
     }
 
-    /// What a port is present with.
-    pub fn get(&self, port: u32) -> Option<i64>
-        requires { port < length self.now.ports }
-        ensures { result ≡ slice_index_or self.now.ports port None }
+    /// What a target is present with.
+    pub fn get(&self, target: Target) -> Option<i64>
+        requires { IsTrue (target_fits (places_of self.now) target) }
+        ensures { result ≡ present_at self.now target }
     {
-        self.ports[port as usize]
+        match target {
+            Target::Startup => self.startup,
+            Target::Timer(n) => self.timers[n as usize],
+            Target::Action(n) => self.actions[n as usize],
+            Target::Port(n) => self.ports[self.sources[n as usize] as usize],
+        }
     }
 
-    /// Makes a port present with a value. Of several values at one tag the last counts.
-    pub fn put(&mut self, port: u32, value: i64)
-        requires { port < length self.old.ports }
-        ensures { self.new ≡ record { ports = slice_set self.old.ports port (Some value) } }
+    /// Makes a target present with a value. Of several values at one tag the last counts.
+    pub fn put(&mut self, target: Target, value: i64)
+        requires { IsTrue (target_fits (places_of self.old) target) }
+        ensures value { self.new ≡ with_value target value self.old }
+        ensures places { places_of self.new ≡ places_of self.old }
     {
-        self.ports[port as usize] = Some(value);
+        match target {
+            Target::Startup => self.startup = Some(value),
+            Target::Timer(n) => self.timers[n as usize] = Some(value),
+            Target::Action(n) => self.actions[n as usize] = Some(value),
+            Target::Port(n) => self.ports[n as usize] = Some(value),
+        }
     }
 
-    /// Makes every port absent.
+    /// Makes everything absent.
     pub fn clear(&mut self)
-        ensures { self.new ≡ record { ports = replicate (length self.old.ports) None } }
+        ensures { self.new ≡ nothing_present (places_of self.old) self.old.sources }
     {
+        self.startup = None;
+        self.timers.fill(None);
+        self.actions.fill(None);
         self.ports.fill(None);
     }
 }

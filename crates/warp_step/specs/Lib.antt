@@ -1,4 +1,5 @@
 pub mod Program
+pub mod Codes
 pub mod View
 pub mod Valid
 pub mod Snapshot
@@ -7,3 +8,4 @@ pub mod Run
 pub mod Events
 pub mod Twice
 pub mod Counter
+pub mod inner

@@ -1,35 +1,132 @@
 -- What holds of every program.
-use Rattle.std.specs.Prelude.{ℕ, Bool, true, not, ◌&&◌, ◌==◌, nat_lt, nat_le, List, [], ◌∷◌, length, map}
+use Rattle.std.specs.Prelude.{ℕ, Bool, true, false, not, ◌&&◌, ◌||◌, ◌==◌, nat_lt, nat_le, List, [], ◌∷◌, ◌++◌, length, map, Option, Some, None, slice_get}
+use Rattle.std.specs.Option.{option_map_or}
 use Rattle.std.specs.List.{list_all, list_any}
-use Rattle.warp_tag.specs.Limits.{longest_stop, last_microstep, most_origins, most_variables, most_ports, most_reactions, most_inputs, most_outputs}
-use Rattle.warp_body.specs.Effect.{body_fits}
+use Rattle.warp_tag.specs.Limits.{longest_stop, longest_period, last_microstep, most_origins, most_reactors, most_variables, most_ports, most_actions, most_timers, most_reactions, most_links, most_inputs, most_outputs, most_wishes}
+use Rattle.warp_body.specs.Presence.{is_target}
+use Rattle.warp_body.specs.Term.{Term, Constant, VariableAt, ValueAt, PresentAt, OfOne, OfTwo, Choice}
+use Rattle.warp_body.specs.Effect.{Statement, SetVariable, PutOutput, ScheduleAction, Choose, Body, Done, Then, schedules_of}
+use Rattle.warp_body.specs.declared.place.Places.{Places}
 use Rattle.warp_body.specs.declared.place.Sizes.{Sizes}
+use Rattle.warp_body.specs.declared.place.Target.{Target}
+use Rattle.warp_body.specs.declared.place.Target.TheVariants as to
 use Rattle.warp_step.specs.Program.{Rule, Program}
-use Rattle.warp_step.specs.declared.reaction.ProgramInput.{ProgramInput}
+use Rattle.warp_step.specs.declared.parts.Link.{Link}
+use Rattle.warp_step.specs.declared.parts.ProgramInput.{ProgramInput}
 
--- the sizes that its bodies are checked against
+-- how many targets it has of each kind
+abbrev pub program_places : Program → Places
+program_places P = record { timers = length P.timers; actions = length P.actions; ports = length P.ports }
+
+-- and how much of all that its bodies name
 abbrev pub program_sizes : Program → Sizes
-program_sizes P = record { vars = length P.starts; ports = P.ports }
+program_sizes P = record { vars = length P.variables; places = program_places P }
 
 -- no number twice
 abbrev pub is_distinct : List ℕ → Bool
 is_distinct [] = true
 is_distinct (n ∷ ns) = not (list_any (λ m. m == n) ns) && is_distinct ns
 
--- each trigger is a port, and each number in the body is in range
+-- each number at most the next
+abbrev pub is_rising : List ℕ → Bool
+is_rising [] = true
+is_rising (n ∷ ns) = list_all (λ m. nat_le n m) ns && is_rising ns
+
+-- the element with this number is there, and passes the test
+abbrev pub has : {X : Type 0} → List X → ℕ → (X → Bool) → Bool
+has {X} xs n test = option_map_or test (slice_get xs n) false
+
+-- the list names the target
+abbrev pub names : List Target → Target → Bool
+names targets target = list_any (is_target target) targets
+
+-- what a reaction of this reactor may name in `on` and `reads`: startup, and its reactor's timers, actions and inputs
+abbrev pub is_readable : Program → ℕ → Target → Bool
+is_readable P reactor to.Startup = true
+is_readable P reactor (to.Timer n) = has P.timers n (λ t. t.reactor == reactor)
+is_readable P reactor (to.Action n) = has P.actions n (λ a. a.reactor == reactor)
+is_readable P reactor (to.Port n) = has P.ports n (λ p. p.is_input && p.reactor == reactor)
+
+-- and in `writes`: its reactor's actions and outputs
+abbrev pub is_writable : Program → ℕ → Target → Bool
+is_writable P reactor to.Startup = false
+is_writable P reactor (to.Timer n) = false
+is_writable P reactor (to.Action n) = has P.actions n (λ a. a.reactor == reactor)
+is_writable P reactor (to.Port n) = has P.ports n (λ p. not p.is_input && p.reactor == reactor)
+
+-- the variable is the reactor's
+abbrev pub owns_variable : Program → ℕ → ℕ → Bool
+owns_variable P reactor n = has P.variables n (λ v. v.reactor == reactor)
+
+-- an expression reads variables of the reaction's reactor, and targets that the reaction names in `on` or `reads`
+abbrev pub term_may : Program → Rule → Term → Bool
+term_may P r (Constant n) = true
+term_may P r (VariableAt k) = owns_variable P r.reactor k
+term_may P r (ValueAt target) = names (r.triggers ++ r.reads) target
+term_may P r (PresentAt target) = names (r.triggers ++ r.reads) target
+term_may P r (OfOne o a) = term_may P r a
+term_may P r (OfTwo o a b) = term_may P r a && term_may P r b
+term_may P r (Choice c a b) = term_may P r c && term_may P r a && term_may P r b
+
+-- a body sets variables of the reactor, and puts and schedules what the reaction names in `writes`, after delays in range
+abbrev mutual
+  pub statement_may : Program → Rule → Statement → Bool
+  statement_may P r (SetVariable k e) = owns_variable P r.reactor k && term_may P r e
+  statement_may P r (PutOutput port e) = names r.writes (to.Port port) && term_may P r e
+  statement_may P r (ScheduleAction action delay e) = names r.writes (to.Action action) && nat_le delay longest_period && term_may P r e
+  statement_may P r (Choose e first second) = term_may P r e && body_may P r first && body_may P r second
+
+  pub body_may : Program → Rule → Body → Bool
+  body_may P r Done = true
+  body_may P r (Then s rest) = statement_may P r s && body_may P r rest
+
+-- a reaction is of a reactor that is there, names what it may, and its body does what it may, with sixteen schedulings or fewer
 abbrev pub rule_fits : Program → Rule → Bool
-rule_fits P r = list_all (λ p. nat_lt p P.ports) r.triggers && body_fits (program_sizes P) r.body
+rule_fits P r =
+    nat_lt r.reactor P.reactors && list_all (is_readable P r.reactor) r.triggers && list_all (is_readable P r.reactor) r.reads
+    && list_all (is_writable P r.reactor) r.writes && body_may P r r.body && nat_le (schedules_of r.body) most_wishes
 
--- its origin and its port are there
+-- the number of a port's reactor
+abbrev pub reactor_of : Program → ℕ → ℕ
+reactor_of P port = option_map_or (λ p. p.reactor) (slice_get P.ports port) 0
+
+-- with a delay it is in range; without one the link leads to a reactor that stands later
+abbrev pub leads_on : Program → Link → Option ℕ → Bool
+leads_on P l (Some delay) = nat_le delay longest_period
+leads_on P l None = nat_lt (reactor_of P l.source) (reactor_of P l.target)
+
+-- a link leads from an output to an input
+abbrev pub link_fits : Program → Link → Bool
+link_fits P l = has P.ports l.source (λ p. not p.is_input) && has P.ports l.target (λ p. p.is_input) && leads_on P l l.delay
+
+-- a program input is of an origin that is there, and leads to an input port
 abbrev pub input_fits : Program → ProgramInput → Bool
-input_fits P i = nat_lt i.origin P.origins && nat_lt i.port P.ports
+input_fits P i = nat_lt i.origin P.origins && has P.ports i.port (λ p. p.is_input)
 
--- a program: within the limits, all numbers in range, one source for each input port, each port once among the outputs
+-- the input ports to which something leads
+abbrev pub fed : Program → List ℕ
+fed P = map (λ l. l.target) P.links ++ map (λ i. i.port) P.inputs
+
+-- stop and counts are within the limits
+abbrev pub is_within_limits : Program → Bool
+is_within_limits P =
+    (nat_le P.stop longest_stop && P.top == last_microstep && nat_le 1 P.origins && nat_le P.origins most_origins)
+    && (nat_le P.reactors most_reactors && nat_le (length P.variables) most_variables && nat_le (length P.ports) most_ports)
+    && (nat_le (length P.actions) most_actions && nat_le (length P.timers) most_timers && nat_le (length P.reactions) most_reactions)
+    && (nat_le (length P.links) most_links && nat_le (length P.inputs) most_inputs && nat_le (length P.outputs) most_outputs)
+
+-- variables, ports, actions and timers are of reactors that are there, and delays, offsets and periods in range
+abbrev pub have_reactors : Program → Bool
+have_reactors P =
+    list_all (λ v. nat_lt v.reactor P.reactors) P.variables && list_all (λ p. nat_lt p.reactor P.reactors) P.ports
+    && list_all (λ a. nat_lt a.reactor P.reactors && nat_le a.delay longest_period) P.actions
+    && list_all (λ t. nat_lt t.reactor P.reactors && nat_le t.offset longest_period && nat_le t.period longest_period) P.timers
+
+-- a program: within the limits; reactions in the order of their reactors; all that is named is there and may be named; one
+-- source for each input port; each port once among the outputs
 abbrev pub is_valid : Program → Bool
 is_valid P =
-    (nat_le P.stop longest_stop && P.top == last_microstep && nat_le 1 P.origins && nat_le P.origins most_origins)
-    && (nat_le (length P.starts) most_variables && nat_le P.ports most_ports && nat_le (length P.reactions) most_reactions)
-    && (nat_le (length P.inputs) most_inputs && nat_le (length P.outputs) most_outputs)
-    && list_all (rule_fits P) P.reactions
-    && (list_all (input_fits P) P.inputs && is_distinct (map (λ i. i.port) P.inputs))
-    && (list_all (λ p. nat_lt p P.ports) P.outputs && is_distinct P.outputs)
+    is_within_limits P && have_reactors P
+    && (list_all (rule_fits P) P.reactions && is_rising (map (λ r. r.reactor) P.reactions))
+    && (list_all (link_fits P) P.links && list_all (input_fits P) P.inputs && is_distinct (fed P))
+    && (list_all (λ n. has P.ports n (λ p. not p.is_input)) P.outputs && is_distinct P.outputs)

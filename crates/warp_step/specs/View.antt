@@ -2,17 +2,21 @@
 use Rattle.std.specs.Prelude.{map}
 use Rattle.warp_tag.specs.Limits.{last_microstep}
 use Rattle.warp_step.specs.Program.{Program, rule_of}
-use Rattle.warp_step.specs.declared.program.Program.TheInside.{Inside}
+use Rattle.warp_step.specs.declared.parts.Parts.{Parts}
 
--- the program with these fields; in this version the last microstep of every program is that of all tags
-abbrev pub program_of : Inside → Program
+-- the program with these parts; in this version the last microstep of every program is that of all tags
+abbrev pub program_of : Parts → Program
 program_of p = record {
   stop = p.stop;
   top = last_microstep;
   origins = p.origins;
-  starts = p.starts.items;
-  ports = p.ports;
+  reactors = p.reactors;
+  variables = p.variables.items;
+  ports = p.ports.items;
+  actions = p.actions.items;
+  timers = p.timers.items;
   reactions = map rule_of p.reactions.items;
+  links = p.links.items;
   inputs = p.inputs.items;
   outputs = p.outputs.items;
 }

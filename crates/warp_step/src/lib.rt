@@ -6,17 +6,20 @@
 //! program and its events have, and `takes` which events those may be.
 #![tactic(auto)]
 
+mod arrive;
 mod counter;
+mod enter;
 mod law;
 mod meter;
 mod one_step;
 mod out;
+mod parts;
+mod pending;
 mod program;
 mod react;
 mod reaction;
 mod state;
-#[cfg(test)]
-mod tests;
+mod twice;
 
 pub use counter::Counter;
 pub use law::one_trace;
@@ -24,5 +27,7 @@ pub use meter::Meter;
 pub use one_step::{Scratch, step};
 pub use out::{Given, Out};
 pub use program::Program;
-pub use reaction::{ProgramInput, Reaction};
+pub use parts::{Action, Link, Parts, Port, ProgramInput, Timer, Variable};
+pub use pending::Waiting;
+pub use reaction::Reaction;
 pub use state::State;

@@ -1,49 +1,99 @@
 //! One step of a program, and the room that it works in.
-ghost use Rattle.std.specs.Prelude.{◌≡◌, ℕ, ◌+◌, ◌≤◌, ◌++◌, IfOk, List, length, vec_len, vec_capacity};
+ghost use Rattle.std.specs.Prelude.{◌≡◌, ℕ, ◌+◌, ◌≤◌, ◌++◌, IfOk, IsTrue, List, length, vec_len, vec_capacity};
+ghost use Rattle.std.specs.List.{list_all};
+ghost use Rattle.warp_tag.specs.Moment.{is_before};
 ghost use Rattle.warp_step.specs.Snapshot.{Snapshot, IsStateOf};
-ghost use Rattle.warp_step.specs.Step.{CanStep, Step};
+ghost use Rattle.warp_step.specs.Step.{CanStep, Step, Room, room_of, source_of, sources_of};
 
+use crate::arrive::arrive;
 use crate::meter::Meter;
 use crate::out::{Given, Out};
+use crate::parts::Link;
 use crate::program::Program;
-use crate::react::{arrive, put_outputs, run_reactions};
+use crate::react::{clear_wishes, put_outputs, run_reactions};
 use crate::state::State;
 use std::alloc::Global;
 use std::marker::Model;
-use warp_body::{Present, Wishes};
+use warp_body::{Places, Present, Wishes};
 use warp_tag::{OutOfMemory, Tag};
 
-/// Room that the steps of one program share. Contracts see the number of ports that it has room for.
+/// Room that the steps of one program share. Contracts see of which program it is: its places, the sources of its ports, and
+/// how many bodies it has.
 #[derive(Drop)]
 pub struct Scratch {
     present: Present,
-    wishes: Wishes,
+    wishes: Vec<Wishes>,
 }
 
 impl Model for Scratch {
-    ghost use Rattle.std.specs.Prelude.{ℕ, length};
+    ghost use Rattle.std.specs.Prelude.{length};
+    ghost use Rattle.warp_body.specs.Presence.{places_of};
+    ghost use Rattle.warp_step.specs.Step.{Room};
 
-    ghost Value = { ℕ };
+    ghost Value = { Room };
 
-    ghost view = { λ s. length s.present.ports };
+    ghost view = { λ s. record { places = places_of s.present; sources = s.present.sources; bodies = length s.wishes.items } };
 }
 
 impl Scratch {
     /// Room for the steps of a program.
     pub fn new(alloc: Global, program: &Program) -> Result<Scratch, OutOfMemory>
-        ensures { IfOk result (λ s. s ≡ program.now.ports) }
+        ensures { IfOk result (λ s. s ≡ room_of program.now) }
     {
-        let present = Present::new(alloc, program.ports())?;
-        Ok(Scratch {
-            present,
-            wishes: Wishes::new(),
-        })
+        program.valid();
+        let places = Places {
+            timers: program.timers().len(),
+            actions: program.actions().len(),
+            ports: program.ports().len(),
+        };
+        let sources = sources(alloc, program)?;
+        let present = Present::new(alloc, places, sources)?;
+        let wishes = empty_wishes(alloc, program.reactions().len())?;
+        Ok(Scratch { present, wishes })
     }
+}
+
+/// The sources of the program's ports, by number.
+fn sources(alloc: Global, program: &Program) -> Result<Vec<u32>, OutOfMemory>
+    ensures { IfOk result (λ sources. sources.items ≡ sources_of program.now) }
+{
+    program.valid();
+    let ports = program.ports().len();
+    let mut sources = Vec::with_capacity(alloc, ports)?;
+    for port in 0..ports {
+        sources.push(source(program.links(), port as u32))?;
+    }
+    Ok(sources)
+}
+
+/// The port whose presence a port has: the source of the first link without delay that leads to it, else itself.
+fn source(links: &[Link], port: u32) -> u32
+    ensures { result ≡ source_of links.now port }
+{
+    for link in links {
+        if link.delay.is_none() && link.target == port {
+            return link.source;
+        }
+    }
+    port
+}
+
+/// So many lists of wishes, all empty.
+fn empty_wishes(alloc: Global, count: usize) -> Result<Vec<Wishes>, OutOfMemory>
+    ensures { IfOk result (λ lists. length lists.items ≡ count) }
+{
+    let mut lists = Vec::with_capacity(alloc, count)?;
+    for _ in 0..count {
+        lists.push(Wishes::new())?;
+    }
+    Ok(lists)
 }
 
 /// One step of a program at a tag, with what is given there. It takes no memory and ticks the meter once.
 ///
-/// The state and the scratch are of this program, and `out` has room for each program output.
+/// The state and the scratch are of this program, and `out` has room for each program output. What is pending at the tag
+/// and what is given is present; timers repeat; the triggered reactions run; their wishes, and what links with a delay
+/// deliver, are entered; and each program output that is present is appended.
 pub fn step<M: Meter>(
     program: &Program,
     state: &mut State,
@@ -54,18 +104,24 @@ pub fn step<M: Meter>(
     meter: &mut M,
 )
     requires can { CanStep program.now state.old tag given.now }
-    requires scratch { scratch.old ≡ program.now.ports }
+    requires scratch { scratch.old ≡ room_of program.now }
     requires room { vec_len out.old + length program.now.outputs ≤ vec_capacity out.old }
     ensures step { (outs : List Out) × (out.new.items ≡ out.old.items ++ outs) × Step program.now state.old tag given.now state.new outs }
     ensures of_program { IsStateOf program.now state.new }
+    ensures later { IsTrue (list_all (λ w. is_before tag w.tag) state.new.pending) }
     ensures scratch { scratch.new ≡ scratch.old }
     ensures capacity { vec_capacity out.old ≤ vec_capacity out.new }
     ensures ticks { M.ticks meter.new ≡ M.ticks meter.old + 1 }
 {
     meter.tick();
-    scratch.present.clear();
-    scratch.wishes.clear();
-    arrive(program, given, &mut scratch.present);
-    state.run(program, &mut scratch.present, &mut scratch.wishes);
-    put_outputs(program, tag, &scratch.present, out);
+    let present = &mut scratch.present;
+    present.clear();
+    clear_wishes(&mut scratch.wishes);
+    state.take_entries(program, tag, present);
+    arrive(program, given, present);
+    state.repeat_timers(program, tag, present);
+    run_reactions(program, &mut state.vars, present, &mut scratch.wishes);
+    state.enter_wishes(program, tag, &scratch.wishes);
+    state.deliver(program, tag, present);
+    put_outputs(program, tag, present, out);
 }

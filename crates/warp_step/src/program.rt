@@ -1,209 +1,248 @@
-//! Programs: how the code keeps one, what it tells, copies, comparison, and the program `twice`.
-ghost use Rattle.std.specs.Prelude.{◌≡◌, ◌↔◌, ℕ, ◌<◌, IsTrue, IfOk, length, map};
-ghost use Rattle.warp_step.specs.Program.{rule_of};
+//! Programs: how the code keeps one, what it tells, copies and comparison.
+ghost use Rattle.std.specs.Prelude.{◌≡◌, ◌↔◌, ℕ, ◌<◌, ◌≤◌, IsTrue, IfOk, length, map};
+ghost use Rattle.warp_tag.specs.Limits.{longest_period};
+ghost use Rattle.warp_step.specs.Program.{rule_of, delay_of};
+ghost use Rattle.warp_step.specs.View.{program_of};
 ghost use Rattle.warp_step.specs.Valid.{is_valid};
-ghost use Rattle.warp_step.specs.Twice.{on_a, on_b};
 
-use crate::reaction::{ProgramInput, Reaction, copy_reactions, same_reactions};
+use crate::parts::{Action, Link, Parts, Port, ProgramInput, Timer, Variable};
+use crate::reaction::{Reaction, copy_reactions, same_reactions};
 use std::alloc::Global;
 use std::marker::Model;
-use warp_body::{Expr, Stmt};
 use warp_tag::OutOfMemory;
 
-/// A reactor program, valid by its type: within the limits, and with all its numbers in range.
+/// A reactor program, valid by its type: within the limits, and with parts that fit together.
 #[derive(Debug, Drop)]
 pub struct Program {
-    stop: u64,
-    origins: u32,
-    starts: Vec<i64>,
-    ports: usize,
-    reactions: Vec<Reaction>,
-    inputs: Vec<ProgramInput>,
-    outputs: Vec<u32>,
+    parts: Parts,
 }
 
 impl Model for Program {
     ghost use Rattle.std.specs.Prelude.{IsTrue};
     ghost use Rattle.warp_step.specs.Program as specs;
+    ghost use Rattle.warp_step.specs.Codes.{program_code};
 
     ghost Value = { specs.Program };
 
-    ghost coded = { specs.program_code };
+    ghost coded = { program_code };
 
     ghost use Rattle.warp_step.specs.View.{program_of};
     ghost use Rattle.warp_step.specs.Valid.{is_valid};
 
-    ghost view = { program_of };
+    ghost view = { λ p. program_of p.parts };
 
-    ghost invariant = { λ p. IsTrue (is_valid (program_of p)) };
+    ghost invariant = { λ p. IsTrue (is_valid (program_of p.parts)) };
 }
 
 impl Program {
-    ghost use Rattle.warp_step.specs.Twice.{twice};
     ghost use Rattle.warp_step.specs.Step.{port_of};
+
+    /// The program with these parts, which fit together. It takes no memory.
+    pub fn new(parts: Parts) -> Program
+        requires { IsTrue (is_valid (program_of parts)) }
+        ensures { result ≡ program_of parts }
+    {
+        Program { parts }
+    }
 
     /// That the program is valid, as each is. It does nothing.
     pub fn valid(&self)
         ensures { IsTrue (is_valid self.now) }
     {
         // A look at a field shows it.
-        let _stop = &self.stop;
+        let _parts = &self.parts;
     }
 
     /// The last time at which the program executes, 0 to 1,000,000 in its own unit.
     pub fn stop(&self) -> u64
         ensures { result ≡ self.now.stop }
     {
-        self.stop
+        self.parts.stop
     }
 
     /// How many origins there are, 1 to 32.
     pub fn origins(&self) -> u32
         ensures { result ≡ self.now.origins }
     {
-        self.origins
+        self.parts.origins
     }
 
-    /// The start values of the variables, by number.
-    pub fn starts(&self) -> &[i64]
-        ensures { result.now ≡ self.now.starts }
+    /// The variables, by number.
+    pub fn variables(&self) -> &[Variable]
+        ensures { result.now ≡ self.now.variables }
     {
-        &self.starts
+        &self.parts.variables
     }
 
-    /// How many ports there are.
-    pub fn ports(&self) -> usize
-        ensures { result ≡ self.now.ports }
+    /// The ports, by number.
+    pub fn ports(&self) -> &[Port]
+        ensures { result.now ≡ self.now.ports }
     {
-        self.ports
+        &self.parts.ports
     }
 
-    /// The reactions, in their order.
+    /// The actions, by number.
+    pub fn actions(&self) -> &[Action]
+        ensures { result.now ≡ self.now.actions }
+    {
+        &self.parts.actions
+    }
+
+    /// The timers, by number.
+    pub fn timers(&self) -> &[Timer]
+        ensures { result.now ≡ self.now.timers }
+    {
+        &self.parts.timers
+    }
+
+    /// The reactions, by number: in the order of the file.
     pub fn reactions(&self) -> &[Reaction]
         ensures { map rule_of result.now ≡ self.now.reactions }
     {
-        &self.reactions
+        &self.parts.reactions
+    }
+
+    /// The links, in the order of the file.
+    pub fn links(&self) -> &[Link]
+        ensures { result.now ≡ self.now.links }
+    {
+        &self.parts.links
     }
 
     /// The program inputs, by number.
     pub fn inputs(&self) -> &[ProgramInput]
         ensures { result.now ≡ self.now.inputs }
     {
-        &self.inputs
-    }
-
-    /// The port that a program input leads to.
-    #[tactic(auto, using(crate::proofs::ValidLemmas::input_port))]
-    pub fn port(&self, input: u32) -> u32
-        requires { input < length self.now.inputs }
-        ensures port { result ≡ port_of self.now input }
-        ensures range { result < self.now.ports }
-    {
-        self.inputs[input as usize].port
+        &self.parts.inputs
     }
 
     /// The ports of the program outputs, by number.
     pub fn outputs(&self) -> &[u32]
         ensures { result.now ≡ self.now.outputs }
     {
-        &self.outputs
+        &self.parts.outputs
+    }
+
+    /// The port that a program input leads to.
+    pub fn port(&self, input: u32) -> u32
+        requires { input < length self.now.inputs }
+        ensures port { result ≡ port_of self.now input }
+        ensures range { result < length self.now.ports }
+    {
+        self.parts.inputs[input as usize].port
+    }
+
+    /// The minimum delay of an action, 0 to 1,000,000.
+    pub fn delay(&self, action: u32) -> u64
+        requires { action < length self.now.actions }
+        ensures delay { result ≡ delay_of self.now action }
+        ensures range { result ≤ longest_period }
+    {
+        self.parts.actions[action as usize].delay
     }
 
     /// The same program.
     pub fn copy(&self, alloc: Global) -> Result<Program, OutOfMemory>
         ensures { IfOk result (λ p. p ≡ self.now) }
     {
-        let starts = self.starts.as_slice().to_vec(alloc)?;
-        let reactions = copy_reactions(alloc, &self.reactions)?;
-        let inputs = self.inputs.as_slice().to_vec(alloc)?;
-        let outputs = self.outputs.as_slice().to_vec(alloc)?;
-        Ok(Program {
-            stop: self.stop,
-            origins: self.origins,
-            starts,
-            ports: self.ports,
-            reactions,
-            inputs,
-            outputs,
-        })
+        let parts = self.parts.copy(alloc)?;
+        Ok(Program { parts })
     }
 
     /// Whether two programs are the same.
     pub fn is_same(&self, other: &Program) -> bool
         ensures { IsTrue result ↔ (self.now ≡ other.now) }
     {
-        if self.stop != other.stop || self.origins != other.origins || self.ports != other.ports {
-            return false;
-        }
-        same_values(&self.starts, &other.starts)
-            && same_inputs(&self.inputs, &other.inputs)
-            && same_numbers(&self.outputs, &other.outputs)
-            && same_reactions(&self.reactions, &other.reactions)
+        self.parts.is_same(&other.parts)
     }
+}
 
-    /// The program `twice`, of two origins: an event of origin 0 doubles the total and adds its value, one of
-    /// origin 1 subtracts its value; each puts the total.
-    pub fn twice(alloc: Global) -> Result<Program, OutOfMemory>
-        ensures { IfOk result (λ p. p ≡ twice) }
+impl Parts {
+    /// The same parts.
+    fn copy(&self, alloc: Global) -> Result<Parts, OutOfMemory>
+        ensures { IfOk result (λ p. program_of p ≡ program_of self.now) }
     {
-        let starts = vec![in alloc; 0]?;
-        let reactions = vec![in alloc; on_a(alloc)?, on_b(alloc)?]?;
-        let a = ProgramInput { origin: 0, port: 0 };
-        let b = ProgramInput { origin: 1, port: 1 };
-        let inputs = vec![in alloc; a, b]?;
-        let outputs = vec![in alloc; 2]?;
-        Ok(Program {
-            stop: 100,
-            origins: 2,
-            starts,
-            ports: 3,
+        let variables = self.variables.as_slice().to_vec(alloc)?;
+        let ports = self.ports.as_slice().to_vec(alloc)?;
+        let actions = self.actions.as_slice().to_vec(alloc)?;
+        let timers = self.timers.as_slice().to_vec(alloc)?;
+        let reactions = copy_reactions(alloc, &self.reactions)?;
+        let links = self.links.as_slice().to_vec(alloc)?;
+        let inputs = self.inputs.as_slice().to_vec(alloc)?;
+        let outputs = self.outputs.as_slice().to_vec(alloc)?;
+        Ok(Parts {
+            stop: self.stop,
+            origins: self.origins,
+            reactors: self.reactors,
+            variables,
+            ports,
+            actions,
+            timers,
             reactions,
+            links,
             inputs,
             outputs,
         })
     }
+
+    /// Whether two are the same.
+    fn is_same(&self, other: &Parts) -> bool
+        ensures { IsTrue result ↔ (program_of self.now ≡ program_of other.now) }
+    {
+        if self.stop != other.stop
+            || self.origins != other.origins
+            || self.reactors != other.reactors
+        {
+            return false;
+        }
+        same_variables(&self.variables, &other.variables)
+            && same_ports(&self.ports, &other.ports)
+            && same_actions(&self.actions, &other.actions)
+            && same_timers(&self.timers, &other.timers)
+            && same_reactions(&self.reactions, &other.reactions)
+            && same_links(&self.links, &other.links)
+            && same_inputs(&self.inputs, &other.inputs)
+            && same_numbers(&self.outputs, &other.outputs)
+    }
 }
 
-/// Of `twice`: `total = 2 * total + a`, and the total is put.
-fn on_a(alloc: Global) -> Result<Reaction, OutOfMemory>
-    ensures { IfOk result (λ r. rule_of r ≡ on_a) }
-{
-    let doubled = Expr::Multiply(
-        Box::new(alloc, Expr::Number(2))?,
-        Box::new(alloc, Expr::Variable(0))?,
-    );
-    let sum = Expr::Add(Box::new(alloc, doubled)?, Box::new(alloc, Expr::Input(0))?);
-    let triggers = vec![in alloc; 0]?;
-    let body = vec![in alloc; Stmt::Set(0, sum), Stmt::Put(2, Expr::Variable(0))]?;
-    Ok(Reaction { triggers, body })
-}
-
-/// Of `twice`: `total = total - b`, and the total is put.
-fn on_b(alloc: Global) -> Result<Reaction, OutOfMemory>
-    ensures { IfOk result (λ r. rule_of r ≡ on_b) }
-{
-    let difference = Expr::Subtract(
-        Box::new(alloc, Expr::Variable(0))?,
-        Box::new(alloc, Expr::Input(1))?,
-    );
-    let triggers = vec![in alloc; 1]?;
-    let body = vec![in alloc; Stmt::Set(0, difference), Stmt::Put(2, Expr::Variable(0))]?;
-    Ok(Reaction { triggers, body })
-}
-
-fn same_values(a: &[i64], b: &[i64]) -> bool
+fn same_variables(a: &[Variable], b: &[Variable]) -> bool
     ensures { IsTrue result ↔ (a.now ≡ b.now) }
 {
     a == b
 }
 
-fn same_numbers(a: &[u32], b: &[u32]) -> bool
+fn same_ports(a: &[Port], b: &[Port]) -> bool
+    ensures { IsTrue result ↔ (a.now ≡ b.now) }
+{
+    a == b
+}
+
+fn same_actions(a: &[Action], b: &[Action]) -> bool
+    ensures { IsTrue result ↔ (a.now ≡ b.now) }
+{
+    a == b
+}
+
+fn same_timers(a: &[Timer], b: &[Timer]) -> bool
+    ensures { IsTrue result ↔ (a.now ≡ b.now) }
+{
+    a == b
+}
+
+fn same_links(a: &[Link], b: &[Link]) -> bool
     ensures { IsTrue result ↔ (a.now ≡ b.now) }
 {
     a == b
 }
 
 fn same_inputs(a: &[ProgramInput], b: &[ProgramInput]) -> bool
+    ensures { IsTrue result ↔ (a.now ≡ b.now) }
+{
+    a == b
+}
+
+fn same_numbers(a: &[u32], b: &[u32]) -> bool
     ensures { IsTrue result ↔ (a.now ≡ b.now) }
 {
     a == b

@@ -1,93 +1,119 @@
-//! The parts of a step: arrivals, reactions, outputs.
-ghost use Rattle.std.specs.Prelude.{◌≡◌, ◌↔◌, ℕ, ◌+◌, ◌≤◌, ◌<◌, ◌++◌, IsTrue, List, [], map, nat_lt, length, vec_len, vec_capacity};
+//! The reactions of a step, and the outputs that it puts.
+ghost use Rattle.std.specs.Prelude.{◌≡◌, ℕ, ◌+◌, ◌≤◌, ◌<◌, ◌++◌, IsTrue, List, [], map, replicate, length, slice_index_or, vec_len, vec_capacity};
 ghost use Rattle.std.specs.List.{list_all};
-ghost use Rattle.warp_body.specs.Presence.{Presence};
-ghost use Rattle.warp_body.specs.Effect.{Effect, body_fits};
+ghost use Rattle.warp_tag.specs.Limits.{most_wishes};
+ghost use Rattle.warp_body.specs.Presence.{Presence, places_of, present_at, target_fits};
+ghost use Rattle.warp_body.specs.declared.place.Target.TheVariants as to;
+ghost use Rattle.warp_body.specs.Effect.{body_fits, schedules_of, wish_fits};
 ghost use Rattle.warp_body.specs.Term.{sizes_of};
 ghost use Rattle.warp_step.specs.Program.{rule_of};
-ghost use Rattle.warp_step.specs.Valid.{rule_fits, input_fits, program_sizes};
-ghost use Rattle.warp_step.specs.Step.{AreInputs, arrived, is_triggered, react, after_reactions, outputs_from};
+ghost use Rattle.warp_step.specs.Valid.{program_places, program_sizes};
+ghost use Rattle.warp_step.specs.Step.{Reacting, after_reactions, is_triggered, lists_of, no_wishes, order_of, outputs_from, react, with_output};
 
-use crate::out::{Given, Out};
+use crate::out::Out;
 use crate::program::Program;
 use crate::reaction::Reaction;
-use warp_body::{Present, Vars, Wishes, run_body};
+use warp_body::{Present, Target, Vars, Wishes, run_body};
 use warp_tag::Tag;
-
-/// Makes the ports of the given inputs present.
-pub(crate) fn arrive(program: &Program, given: &[Given], present: &mut Present)
-    requires inputs { AreInputs program.now given.now }
-    requires ports { length present.old.ports ≡ program.now.ports }
-    ensures present { present.new ≡ arrived program.now given.now present.old }
-    ensures ports { length present.new.ports ≡ length present.old.ports }
-{
-    for g in given {
-        let port = program.port(g.input);
-        present.put(port, g.value);
-    }
-}
 
 /// Whether one of the reaction's triggers is present.
 fn triggered(reaction: &Reaction, present: &Present) -> bool
-    requires { IsTrue (list_all (λ p. nat_lt p (length present.now.ports)) reaction.now.triggers.items) }
+    requires { IsTrue (list_all (target_fits (places_of present.now)) (rule_of reaction.now).triggers) }
     ensures { result ≡ is_triggered (rule_of reaction.now) present.now }
 {
-    for port in &reaction.triggers {
-        if present.get(*port).is_some() {
+    for target in &reaction.triggers {
+        if present.get(*target).is_some() {
             return true;
         }
     }
     false
 }
 
-/// Runs the reaction if it is triggered.
-fn run_reaction(reaction: &Reaction, vars: &mut Vars, present: &mut Present, wishes: &mut Wishes)
-    requires triggers { IsTrue (list_all (λ p. nat_lt p (length present.old.ports)) reaction.now.triggers.items) }
+/// Runs the reaction with this number if it is triggered.
+fn run_reaction(
+    number: usize,
+    reaction: &Reaction,
+    vars: &mut Vars,
+    present: &mut Present,
+    wishes: &mut [Wishes],
+)
+    requires number { number < length wishes.old }
+    requires triggers { IsTrue (list_all (target_fits (places_of present.old)) (rule_of reaction.now).triggers) }
     requires body { IsTrue (body_fits (sizes_of vars.old present.old) (rule_of reaction.now).body) }
-    ensures effect { record { vars = vars.new; present = present.new; wishes = wishes.new.items }
-        ≡ react (rule_of reaction.now) (record { vars = vars.old; present = present.old; wishes = wishes.old.items }) }
+    requires room { schedules_of (rule_of reaction.now).body ≤ most_wishes }
+    requires none { slice_index_or (lists_of wishes.old) number [] ≡ [] }
+    ensures effect { record { vars = vars.new; present = present.new; wishes = lists_of wishes.new }
+        ≡ react number (rule_of reaction.now) (record { vars = vars.old; present = present.old; wishes = lists_of wishes.old }) }
     ensures vars { length vars.new ≡ length vars.old }
-    ensures ports { length present.new.ports ≡ length present.old.ports }
+    ensures places { places_of present.new ≡ places_of present.old }
+    ensures sources { present.new.sources ≡ present.old.sources }
+    ensures wishes { IsTrue (list_all (list_all (wish_fits (sizes_of vars.old present.old))) (lists_of wishes.old)) →
+        IsTrue (list_all (list_all (wish_fits (sizes_of vars.old present.old))) (lists_of wishes.new)) }
 {
     if triggered(reaction, present) {
-        run_body(&reaction.body, vars, present, wishes);
+        run_body(&reaction.body, vars, present, &mut wishes[number]);
     }
 }
 
 /// Runs the reactions that are triggered, in their order.
-#[tactic(auto, using(crate::proofs::ValidLemmas::parts))]
 pub(crate) fn run_reactions(
     program: &Program,
     vars: &mut Vars,
     present: &mut Present,
-    wishes: &mut Wishes,
+    wishes: &mut [Wishes],
 )
-    requires vars { length vars.old ≡ length program.now.starts }
-    requires ports { length present.old.ports ≡ program.now.ports }
-    ensures effect { record { vars = vars.new; present = present.new; wishes = wishes.new.items }
-        ≡ after_reactions program.now.reactions (record { vars = vars.old; present = present.old; wishes = wishes.old.items }) }
+    requires vars { length vars.old ≡ length program.now.variables }
+    requires places { places_of present.old ≡ program_places program.now }
+    requires wishes { lists_of wishes.old ≡ no_wishes program.now }
+    ensures effect { record { vars = vars.new; present = present.new; wishes = lists_of wishes.new }
+        ≡ after_reactions program.now (order_of program.now) (record { vars = vars.old; present = present.old; wishes = no_wishes program.now }) }
     ensures vars { length vars.new ≡ length vars.old }
-    ensures ports { length present.new.ports ≡ length present.old.ports }
+    ensures places { places_of present.new ≡ places_of present.old }
+    ensures sources { present.new.sources ≡ present.old.sources }
+    ensures wishes { IsTrue (list_all (list_all (wish_fits (program_sizes program.now))) (lists_of wishes.new)) }
+    ensures bodies { length wishes.new ≡ length wishes.old }
 {
     program.valid();
-    for reaction in program.reactions() {
-        run_reaction(reaction, vars, present, wishes);
+    for (number, reaction) in program.reactions().iter().enumerate() {
+        run_reaction(number, reaction, vars, present, wishes);
+    }
+}
+
+/// Forgets all wishes.
+pub(crate) fn clear_wishes(wishes: &mut [Wishes])
+    ensures { lists_of wishes.new ≡ replicate (length wishes.old) [] }
+{
+    for list in wishes.iter_mut() {
+        list.clear();
     }
 }
 
 /// Appends an output for each program output that is present.
-#[tactic(auto, using(crate::proofs::ValidLemmas::parts))]
 pub(crate) fn put_outputs(program: &Program, tag: Tag, present: &Present, out: &mut Vec<Out>)
-    requires ports { length present.now.ports ≡ program.now.ports }
+    requires places { places_of present.now ≡ program_places program.now }
     requires room { vec_len out.old + length program.now.outputs ≤ vec_capacity out.old }
     ensures outputs { out.new.items ≡ out.old.items ++ outputs_from 0 tag present.now program.now.outputs }
     ensures capacity { vec_capacity out.old ≤ vec_capacity out.new }
 {
     program.valid();
     for (number, port) in program.outputs().iter().enumerate() {
-        if let Some(value) = present.get(*port) {
-            let port = number as u32;
-            out.push_reserved(Out { tag, port, value });
-        }
+        put_output(number as u32, *port, tag, present, out);
+    }
+}
+
+/// Appends the output with this number if its port is present.
+fn put_output(number: u32, port: u32, tag: Tag, present: &Present, out: &mut Vec<Out>)
+    requires port { port < length present.now.ports }
+    requires room { vec_len out.old < vec_capacity out.old }
+    ensures outputs { out.new.items ≡ out.old.items ++ with_output number tag (present_at present.now (to.Port port)) [] }
+    ensures len { vec_len out.new ≤ vec_len out.old + 1 }
+    ensures capacity { vec_capacity out.old ≤ vec_capacity out.new }
+{
+    if let Some(value) = present.get(Target::Port(port)) {
+        out.push_reserved(Out {
+            tag,
+            port: number,
+            value,
+        });
     }
 }

@@ -1,27 +1,24 @@
-//! Reactions and inputs of a program, their copies and comparison.
+//! Reactions, their copies and comparison.
 ghost use Rattle.std.specs.Prelude.{◌≡◌, ◌↔◌, IsTrue, IfOk, map};
 ghost use Rattle.warp_step.specs.Program.{rule_of};
 
 use std::alloc::Global;
-use warp_body::{Stmt, copy_body, same_body};
+use warp_body::{Stmt, Target, copy_body, same_body};
 use warp_tag::OutOfMemory;
 
 /// A reaction: it runs at a tag at which one of its triggers is present.
 #[derive(Debug, Drop)]
 pub struct Reaction {
-    /// The numbers of the ports that trigger it.
-    pub triggers: Vec<u32>,
+    /// The number of its reactor.
+    pub reactor: u32,
+    /// What triggers it: startup, and timers, actions and inputs of its reactor.
+    pub triggers: Vec<Target>,
+    /// What it reads beside them.
+    pub reads: Vec<Target>,
+    /// The outputs and actions of its reactor that it writes.
+    pub writes: Vec<Target>,
     /// What it does.
     pub body: Vec<Stmt>,
-}
-
-/// A program input: events of its origin arrive at its port.
-#[derive(Clone, Copy, Debug, PartialEq, Eq)]
-pub struct ProgramInput {
-    /// The origin that it belongs to.
-    pub origin: u32,
-    /// The number of the port.
-    pub port: u32,
 }
 
 impl Reaction {
@@ -30,16 +27,36 @@ impl Reaction {
         ensures { IfOk result (λ r. rule_of r ≡ rule_of self.now) }
     {
         let triggers = self.triggers.as_slice().to_vec(alloc)?;
+        let reads = self.reads.as_slice().to_vec(alloc)?;
+        let writes = self.writes.as_slice().to_vec(alloc)?;
         let body = copy_body(alloc, &self.body)?;
-        Ok(Reaction { triggers, body })
+        Ok(Reaction {
+            reactor: self.reactor,
+            triggers,
+            reads,
+            writes,
+            body,
+        })
     }
 
     /// Whether two reactions are the same.
     fn is_same(&self, other: &Reaction) -> bool
         ensures { IsTrue result ↔ (rule_of self.now ≡ rule_of other.now) }
     {
-        self.triggers == other.triggers && same_body(&self.body, &other.body)
+        if self.reactor != other.reactor {
+            return false;
+        }
+        same_targets(&self.triggers, &other.triggers)
+            && same_targets(&self.reads, &other.reads)
+            && same_targets(&self.writes, &other.writes)
+            && same_body(&self.body, &other.body)
     }
+}
+
+fn same_targets(a: &[Target], b: &[Target]) -> bool
+    ensures { IsTrue result ↔ (a.now ≡ b.now) }
+{
+    a == b
 }
 
 /// The same reactions.

@@ -1,49 +1,103 @@
 //! The state of a program between two steps.
-ghost use Rattle.std.specs.Prelude.{◌≡◌, ℕ, [], length, IfOk};
-ghost use Rattle.warp_step.specs.Snapshot.{Snapshot, IsStateOf, start_state, least_pending};
-ghost use Rattle.warp_body.specs.Effect.{Effect};
-ghost use Rattle.warp_step.specs.Step.{after_reactions};
+ghost use Rattle.std.specs.Prelude.{◌≡◌, ◌≤◌, ◌+◌, ℕ, pos, length, map, IfOk};
+ghost use Rattle.std.specs.List.{list_any};
+ghost use Rattle.warp_tag.specs.Limits.{longest_delay};
+ghost use Rattle.warp_step.specs.Program.{rule_of};
+ghost use Rattle.warp_step.specs.Valid.{names};
+ghost use Rattle.warp_body.specs.declared.place.Target.TheVariants as to;
+ghost use Rattle.warp_step.specs.Snapshot.{IsStateOf, entered, landed, least_pending, start_state, with_timers};
 
+use crate::parts::Variable;
+use crate::pending::{Entries, Waiting, enter};
 use crate::program::Program;
-use crate::react::run_reactions;
+use crate::reaction::Reaction;
 use std::alloc::Global;
 use std::marker::Model;
-use warp_body::{Present, Vars, Wishes};
-use warp_tag::{OutOfMemory, Tag};
+use warp_body::{Target, Vars};
+use warp_tag::{Landing, OutOfMemory, Tag};
 
-/// The state of a program between two steps. In this version of programs nothing is ever pending or lost.
+/// The state of a program between two steps: the values of its variables, the entries that are pending (sorted by tag,
+/// then by target, each tag and target once, at most 256), and how many were lost.
 #[derive(Debug, Drop)]
 pub struct State {
-    vars: Vars,
+    pub(crate) vars: Vars,
+    pub(crate) pending: Entries,
+    lost: u64,
 }
 
 impl Model for State {
-    ghost use Rattle.std.specs.Prelude.{[]};
-    ghost use Rattle.warp_step.specs.Snapshot.{Snapshot};
+    ghost use Rattle.warp_step.specs.Snapshot.{Snapshot, AreInOrder};
 
     ghost Value = { Snapshot };
 
-    ghost view = { λ s. record { vars = s.vars; pending = []; lost = 0 } };
+    ghost view = { λ s. record { vars = s.vars; pending = s.pending.items; lost = s.lost } };
+
+    ghost invariant = { λ s. AreInOrder s.pending.items };
 }
 
 impl State {
-    /// The state that a program starts in.
+    /// The state that a program starts in: start values, and pending are startup, if some reaction is triggered by it,
+    /// and each timer whose offset is not past the stop.
     pub fn start(alloc: Global, program: &Program) -> Result<State, OutOfMemory>
-        ensures { IfOk result (λ s. s ≡ start_state program.now) }
+        ensures state { IfOk result (λ s. s ≡ start_state program.now) }
+        ensures of_program { IfOk result (IsStateOf program.now) }
     {
-        let starts = program.starts().to_vec(alloc)?;
-        Ok(State {
-            vars: Vars::from_vec(starts),
-        })
+        let values = start_values(alloc, program.variables())?;
+        let mut state = State {
+            vars: Vars::from_vec(values),
+            pending: Entries::new(),
+            lost: 0,
+        };
+        if begins(program.reactions()) {
+            state.enter(Tag::beginning_of(0), Target::Startup, 0);
+        }
+        state.enter_timers(program);
+        Ok(state)
+    }
+
+    /// Makes each timer whose offset is not past the stop pending at its offset.
+    fn enter_timers(&mut self, program: &Program)
+        ensures { self.new ≡ with_timers program.now.stop 0 program.now.timers self.old }
+    {
+        program.valid();
+        for (number, timer) in program.timers().iter().enumerate() {
+            if timer.offset <= program.stop() {
+                let tag = Tag::beginning_of(timer.offset);
+                self.enter(tag, Target::Timer(number as u32), 0);
+            }
+        }
+    }
+
+    /// Enters a value at a tag to a target: one that is pending takes it; a new one comes in where fewer than 256 are
+    /// pending, and is lost where not.
+    fn enter(&mut self, tag: Tag, target: Target, value: i64)
+        ensures { self.new ≡ entered tag target value self.old }
+    {
+        if !enter(&mut self.pending, tag, target, value) {
+            self.lost = self.lost.saturating_add(1);
+        }
+    }
+
+    /// Enters a value for a target where a delay lands: past the stop nothing is added, past the last microstep it is lost.
+    pub(crate) fn land(&mut self, program: &Program, tag: Tag, delay: u64, target: Target, value: i64)
+        requires time { tag.time ≤ program.now.stop }
+        requires delay { delay ≤ longest_delay }
+        ensures { self.new ≡ landed program.now tag delay target value self.old }
+    {
+        program.valid();
+        match tag.after(delay, program.stop()) {
+            Landing::At(tag) => self.enter(tag, target, value),
+            Landing::PastStop => {}
+            Landing::PastMicro => self.lost = self.lost.saturating_add(1),
+        }
     }
 
     /// The least tag of a pending entry.
     pub fn next(&self) -> Option<Tag>
         ensures { result ≡ least_pending self.now.pending }
     {
-        // A look at a field shows that the state is one with nothing pending.
-        let _vars = &self.vars;
-        None
+        let first = self.pending.as_slice().first()?;
+        Some(first.tag)
     }
 
     /// The same state.
@@ -53,20 +107,9 @@ impl State {
         let values = self.vars.as_slice().to_vec(alloc)?;
         Ok(State {
             vars: Vars::from_vec(values),
+            pending: self.pending.clone()?,
+            lost: self.lost,
         })
-    }
-
-    /// Runs the triggered reactions on the variables.
-    pub(crate) fn run(&mut self, program: &Program, present: &mut Present, wishes: &mut Wishes)
-        requires state { IsStateOf program.now self.old }
-        requires ports { length present.old.ports ≡ program.now.ports }
-        ensures effect { record { vars = self.new.vars; present = present.new; wishes = wishes.new.items }
-            ≡ after_reactions program.now.reactions (record { vars = self.old.vars; present = present.old; wishes = wishes.old.items }) }
-        ensures others { (self.new.pending ≡ []) × (self.old.pending ≡ []) × (self.new.lost ≡ 0) × (self.old.lost ≡ 0) }
-        ensures state { IsStateOf program.now self.new }
-        ensures ports { length present.new.ports ≡ length present.old.ports }
-    {
-        run_reactions(program, &mut self.vars, present, wishes);
     }
 
     /// The values of the variables, by number.
@@ -75,4 +118,49 @@ impl State {
     {
         self.vars.as_slice()
     }
+
+    /// The pending entries, in order of tag, then of target.
+    pub fn pending(&self) -> &[Waiting]
+        ensures { result.now ≡ self.now.pending }
+    {
+        self.pending.as_slice()
+    }
+
+    /// How many entries were lost: a new one while 256 were pending, or one that would land past the last microstep. The
+    /// count stays at the greatest number of 64 bits.
+    pub fn lost(&self) -> u64
+        ensures { result ≡ self.now.lost }
+    {
+        self.lost
+    }
+}
+
+/// The start values of these variables.
+fn start_values(alloc: Global, variables: &[Variable]) -> Result<Vec<i64>, OutOfMemory>
+    ensures { IfOk result (λ values. values.items ≡ map (λ v. v.start) variables.now) }
+{
+    let mut values = Vec::with_capacity(alloc, variables.len())?;
+    for variable in variables {
+        values.push(variable.start)?;
+    }
+    Ok(values)
+}
+
+/// Whether one of the reactions is triggered by startup.
+fn begins(reactions: &[Reaction]) -> bool
+    ensures { result ≡ list_any (λ r. names r.triggers to.Startup) (map rule_of reactions.now) }
+{
+    for reaction in reactions {
+        if names(&reaction.triggers, Target::Startup) {
+            return true;
+        }
+    }
+    false
+}
+
+/// Whether the list names the target.
+fn names(targets: &[Target], target: Target) -> bool
+    ensures { result ≡ names targets.now target }
+{
+    targets.iter().any(|other| target.is_same(*other))
 }

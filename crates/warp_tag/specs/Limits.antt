@@ -13,6 +13,10 @@ last_time = 1000001
 abbrev pub last_microstep : ℕ
 last_microstep = 15
 
+-- the longest delay, offset or period that a program can name
+abbrev pub longest_period : ℕ
+longest_period = 1000000
+
 -- the longest delay that lands: two delays of a program, added
 abbrev pub longest_delay : ℕ
 longest_delay = 2000000
@@ -20,6 +24,10 @@ longest_delay = 2000000
 -- the most origins of a program
 abbrev pub most_origins : ℕ
 most_origins = 32
+
+-- the most reactors of a program
+abbrev pub most_reactors : ℕ
+most_reactors = 64
 
 -- the most variables of a program
 abbrev pub most_variables : ℕ
@@ -32,6 +40,30 @@ most_ports = 256
 -- the most reactions of a program
 abbrev pub most_reactions : ℕ
 most_reactions = 256
+
+-- the most links of a program
+abbrev pub most_links : ℕ
+most_links = 256
+
+-- the most actions of a program
+abbrev pub most_actions : ℕ
+most_actions = 64
+
+-- the most timers of a program
+abbrev pub most_timers : ℕ
+most_timers = 16
+
+-- the most schedulings of a body
+abbrev pub most_wishes : ℕ
+most_wishes = 16
+
+-- the most pending entries of a state
+abbrev pub most_pending : ℕ
+most_pending = 256
+
+-- the greatest count: it stays there
+abbrev pub greatest_count : ℕ
+greatest_count = 18446744073709551615
 
 -- the most inputs of a program
 abbrev pub most_inputs : ℕ

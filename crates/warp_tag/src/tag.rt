@@ -1,6 +1,6 @@
 //! Tags and landings: their ranges, their order, and where a delay leads.
 ghost use Rattle.std.specs.Prelude.{◌≡◌, ℕ, ◌≤◌, SomeIff};
-ghost use Rattle.warp_tag.specs.Limits.{last_microstep, last_time, longest_delay, longest_stop};
+ghost use Rattle.warp_tag.specs.Limits.{last_microstep, last_time, longest_delay, longest_period, longest_stop};
 
 use std::marker::Model;
 
@@ -13,11 +13,14 @@ pub const MAX_TIME: u64 = 1_000_001;
 /// The last microstep of a time.
 pub const LAST_MICROSTEP: u32 = 15;
 
+/// The longest delay, offset or period that a program can name.
+pub const MAX_PERIOD: u64 = 1_000_000;
+
 /// The longest delay that a call of `Tag::after` is given: two delays of a program, added.
 pub const MAX_DELAY: u64 = 2_000_000;
 
 /// A time, 0 to `MAX_TIME`, and a microstep, 0 to `LAST_MICROSTEP`. Tags are ordered by time, then by microstep.
-#[derive(Clone, Copy, Debug, PartialEq, Eq, PartialOrd, Ord, Hash)]
+#[derive(Clone, Copy, Debug, Default, PartialEq, Eq, PartialOrd, Ord, Hash)]
 pub struct Tag {
     time: u64,
     micro: u32,
@@ -60,6 +63,14 @@ impl Tag {
         } else {
             None
         }
+    }
+
+    /// The tag at which a time begins, at microstep 0.
+    pub fn beginning_of(time: u64) -> Tag
+        requires { time ≤ last_time }
+        ensures { result ≡ record { time = time; microstep = 0 } }
+    {
+        Tag { time, micro: 0 }
     }
 
     /// The time, in the program's own unit.
@@ -124,5 +135,6 @@ pub fn tag_limits()
     ensures stop { longest_stop ≡ MAX_STOP }
     ensures time { last_time ≡ MAX_TIME }
     ensures microstep { last_microstep ≡ LAST_MICROSTEP }
+    ensures period { longest_period ≡ MAX_PERIOD }
     ensures delay { longest_delay ≡ MAX_DELAY }
 {}

@@ -1,4 +1,4 @@
--- existence goes by how many events are left
+-- existence goes by how many tags are left in a box that holds the program and its events
 use Rattle.std.proofs.Common.{None}
 use Rattle.warp_step.proofs.TraceLemmas.{one_rest}
 use Rattle.warp_step.proofs.TraceExists.{exists}

@@ -1,12 +1,14 @@
--- the triggers that are left are triggered exactly if all are
-use Rattle.std.proofs.Common.{◌≡◌, drop, length, nat_lt, IsTrue}
-use Rattle.std.specs.List.{list_all}
+-- one of the triggers that are left is present exactly if one of all is
+use Rattle.std.proofs.Common.{◌≡◌, drop, IsTrue, is_some}
+use Rattle.std.specs.List.{list_all, list_any}
+use Rattle.warp_body.specs.Presence.{places_of, target_fits, present_at}
 use Rattle.warp_step.specs.Program.{rule_of}
 use Rattle.warp_step.specs.Step.{is_triggered}
 use Rattle.warp_step.proofs.react.triggered.Given as goal
 
-abbrev pub invariant-loop-port : goal.invariant-loop-port
-invariant-loop-port l = record {
-  rest : is_triggered (record { triggers = drop l.port-index l.reaction.triggers.items; body = (rule_of l.reaction).body }) l.present ≡ is_triggered (rule_of l.reaction) l.present;
-  known : IsTrue (list_all (λ p. nat_lt p (length l.present.ports)) (drop l.port-index l.reaction.triggers.items));
+abbrev pub invariant-loop-target : goal.invariant-loop-target
+invariant-loop-target l = record {
+  rest : list_any (λ target. is_some (present_at l.present target)) (drop l.target-index l.reaction.triggers.items)
+      ≡ is_triggered (rule_of l.reaction) l.present;
+  fits : IsTrue (list_all (target_fits (places_of l.present)) (drop l.target-index l.reaction.triggers.items));
 }

@@ -1,7 +1,0 @@
--- the statements before are the same
-use Rattle.std.proofs.Common.{◌≡◌, map, take}
-use Rattle.warp_body.specs.Effect.{statement_of}
-use Rattle.warp_body.proofs.stmt.same_body.Given as goal
-
-abbrev pub invariant-loop-i : goal.invariant-loop-i
-invariant-loop-i l = map statement_of (take l.i l.a) ≡ map statement_of (take l.i l.b)

@@ -1,7 +1,0 @@
--- `==` of numbers decides whether they are equal
-use Rattle.std.proofs.lemmas.Slice.Eq.{slice_eq-Decides}
-use Rattle.std.proofs.lemmas.Bool.Decides.{Decides-int_eq}
-use Rattle.warp_step.proofs.program.same_values.Goals as goal
-
-pub returns : goal.returns
-returns c = slice_eq-Decides Decides-int_eq _ _ _ c.eq.ensures

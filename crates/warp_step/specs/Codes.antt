@@ -1,0 +1,90 @@
+-- Codes of programs, so that a model's value may have one: a record is stored as its fields.
+use Rattle.std.specs.Prelude.{ℕ, ℤ, Bool, List, Option, refl}
+use Rattle.std.specs.Coded.{Coded, code_by, coded×, coded_ℕ, coded_ℤ, coded_bool, coded_list, coded_option}
+use Rattle.warp_body.specs.Codes.{body_code, target_code}
+use Rattle.warp_body.specs.Effect.{Body}
+use Rattle.warp_body.specs.declared.place.Target.{Target}
+use Rattle.warp_step.specs.Program.{Program, Rule}
+use Rattle.warp_step.specs.declared.parts.Variable.{Variable}
+use Rattle.warp_step.specs.declared.parts.Port.{Port}
+use Rattle.warp_step.specs.declared.parts.Action.{Action}
+use Rattle.warp_step.specs.declared.parts.Timer.{Timer}
+use Rattle.warp_step.specs.declared.parts.Link.{Link}
+use Rattle.warp_step.specs.declared.parts.ProgramInput.{ProgramInput}
+
+abbrev pub variable_code : Coded Variable
+variable_code = code_by (ℕ × ℤ) (coded× coded_ℕ coded_ℤ) (λ v. (v.reactor, v.start)) (λ p. record { reactor = p.0; start = p.1 }) (λ _. refl)
+
+abbrev pub port_code : Coded Port
+port_code = code_by (ℕ × Bool) (coded× coded_ℕ coded_bool) (λ p. (p.reactor, p.is_input)) (λ p. record { reactor = p.0; is_input = p.1 }) (λ _. refl)
+
+abbrev pub action_code : Coded Action
+action_code = code_by (ℕ × ℕ) (coded× coded_ℕ coded_ℕ) (λ a. (a.reactor, a.delay)) (λ p. record { reactor = p.0; delay = p.1 }) (λ _. refl)
+
+abbrev pub timer_code : Coded Timer
+timer_code =
+    code_by (ℕ × (ℕ × ℕ)) (coded× coded_ℕ (coded× coded_ℕ coded_ℕ))
+    (λ t. (t.reactor, (t.offset, t.period))) (λ p. record { reactor = p.0; offset = p.1.0; period = p.1.1 }) (λ _. refl)
+
+abbrev pub link_code : Coded Link
+link_code =
+    code_by (ℕ × (ℕ × Option ℕ)) (coded× coded_ℕ (coded× coded_ℕ (coded_option coded_ℕ)))
+    (λ l. (l.source, (l.target, l.delay))) (λ p. record { source = p.0; target = p.1.0; delay = p.1.1 }) (λ _. refl)
+
+abbrev pub input_code : Coded ProgramInput
+input_code = code_by (ℕ × ℕ) (coded× coded_ℕ coded_ℕ) (λ i. (i.origin, i.port)) (λ p. record { origin = p.0; port = p.1 }) (λ _. refl)
+
+-- lists of targets, and a body
+abbrev pub RuleParts : Type 0
+RuleParts = ℕ × (List Target × (List Target × (List Target × Body)))
+
+abbrev pub rule_code : Coded Rule
+rule_code =
+    code_by RuleParts
+    (coded× coded_ℕ (coded× (coded_list target_code) (coded× (coded_list target_code) (coded× (coded_list target_code) body_code))))
+    (λ r. (r.reactor, (r.triggers, (r.reads, (r.writes, r.body)))))
+    (λ p. record { reactor = p.0; triggers = p.1.0; reads = p.1.1.0; writes = p.1.1.1.0; body = p.1.1.1.1 })
+    (λ _. refl)
+
+-- four numbers, and eight lists
+abbrev pub Numbers : Type 0
+Numbers = ℕ × (ℕ × (ℕ × ℕ))
+
+abbrev pub Things : Type 0
+Things = List Variable × (List Port × (List Action × List Timer))
+
+abbrev pub Wiring : Type 0
+Wiring = List Rule × (List Link × (List ProgramInput × List ℕ))
+
+abbrev pub numbers_code : Coded Numbers
+numbers_code = coded× coded_ℕ (coded× coded_ℕ (coded× coded_ℕ coded_ℕ))
+
+abbrev pub things_code : Coded Things
+things_code = coded× (coded_list variable_code) (coded× (coded_list port_code) (coded× (coded_list action_code) (coded_list timer_code)))
+
+abbrev pub wiring_code : Coded Wiring
+wiring_code = coded× (coded_list rule_code) (coded× (coded_list link_code) (coded× (coded_list input_code) (coded_list coded_ℕ)))
+
+-- a program is stored as its parts
+abbrev pub program_code : Coded Program
+program_code =
+    code_by (Numbers × (Things × Wiring)) (coded× numbers_code (coded× things_code wiring_code))
+    (λ P. (
+      (P.stop, (P.top, (P.origins, P.reactors))),
+      ((P.variables, (P.ports, (P.actions, P.timers))), (P.reactions, (P.links, (P.inputs, P.outputs)))),
+    ))
+    (λ p. record {
+      stop = p.0.0;
+      top = p.0.1.0;
+      origins = p.0.1.1.0;
+      reactors = p.0.1.1.1;
+      variables = p.1.0.0;
+      ports = p.1.0.1.0;
+      actions = p.1.0.1.1.0;
+      timers = p.1.0.1.1.1;
+      reactions = p.1.1.0;
+      links = p.1.1.1.0;
+      inputs = p.1.1.1.1.0;
+      outputs = p.1.1.1.1.1;
+    })
+    (λ _. refl)

@@ -1,0 +1,65 @@
+//! What is present at a tag before the reactions run: the entries that are pending there, and what is given.
+ghost use Rattle.std.specs.Prelude.{◌≡◌, ◌≤◌, IsTrue, not, length, take, drop, filter, List};
+ghost use Rattle.std.specs.List.{list_all};
+ghost use Rattle.warp_tag.specs.Moment.{is_before, is_same};
+ghost use Rattle.warp_body.specs.Presence.{places_of, target_fits};
+ghost use Rattle.warp_step.specs.Valid.{program_places};
+ghost use Rattle.warp_step.specs.Snapshot.{IsStateOf};
+ghost use Rattle.warp_step.specs.Step.{AreInputs, arrived, arrived_entries, without_entries};
+ghost use Rattle.warp_step.specs.inner.Front.{HasOtherHead};
+
+use crate::out::Given;
+use crate::pending::{Waiting, drop_front};
+use crate::program::Program;
+use crate::state::State;
+use warp_body::{Present, Target};
+use warp_tag::Tag;
+
+impl State {
+    /// Makes the targets of the entries at the tag present, and takes these entries out.
+    pub(crate) fn take_entries(&mut self, program: &Program, tag: Tag, present: &mut Present)
+        requires state { IsStateOf program.now self.old }
+        requires places { places_of present.old ≡ program_places program.now }
+        requires none_before { IsTrue (list_all (λ w. not (is_before w.tag tag)) self.old.pending) }
+        ensures state { self.new ≡ without_entries tag self.old }
+        ensures present { present.new ≡ arrived_entries (filter (λ w. is_same w.tag tag) self.old.pending) present.old }
+        ensures places { places_of present.new ≡ places_of present.old }
+        ensures sources { present.new.sources ≡ present.old.sources }
+    {
+        let count = arrive_entries(self.pending.as_slice(), tag, present);
+        drop_front(&mut self.pending, count);
+    }
+}
+
+/// Makes the targets of the first entries with this tag present, and says how many have it.
+fn arrive_entries(entries: &[Waiting], tag: Tag, present: &mut Present) -> usize
+    requires targets { IsTrue (list_all (λ w. target_fits (places_of present.old) w.target) entries.now) }
+    ensures within { result ≤ length entries.now }
+    ensures here { IsTrue (list_all (λ w. is_same w.tag tag) (take result entries.now)) }
+    ensures other { HasOtherHead tag (drop result entries.now) }
+    ensures present { present.new ≡ arrived_entries (take result entries.now) present.old }
+    ensures places { places_of present.new ≡ places_of present.old }
+    ensures sources { present.new.sources ≡ present.old.sources }
+{
+    for (count, entry) in entries.iter().enumerate() {
+        if !entry.tag.is_same(tag) {
+            return count;
+        }
+        present.put(entry.target, entry.value);
+    }
+    entries.len()
+}
+
+/// Makes the ports of the given inputs present.
+pub(crate) fn arrive(program: &Program, given: &[Given], present: &mut Present)
+    requires inputs { AreInputs program.now given.now }
+    requires places { places_of present.old ≡ program_places program.now }
+    ensures present { present.new ≡ arrived program.now given.now present.old }
+    ensures places { places_of present.new ≡ places_of present.old }
+    ensures sources { present.new.sources ≡ present.old.sources }
+{
+    for g in given {
+        let port = program.port(g.input);
+        present.put(Target::Port(port), g.value);
+    }
+}

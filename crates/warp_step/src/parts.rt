@@ -1,0 +1,87 @@
+//! The parts of a program: plain data, which need not fit together.
+use crate::reaction::Reaction;
+
+/// A variable.
+#[derive(Clone, Copy, Debug, PartialEq, Eq)]
+pub struct Variable {
+    /// The number of its reactor.
+    pub reactor: u32,
+    /// Its start value.
+    pub start: i64,
+}
+
+/// A port.
+#[derive(Clone, Copy, Debug, PartialEq, Eq)]
+pub struct Port {
+    /// The number of its reactor.
+    pub reactor: u32,
+    /// Whether it is an input; else it is an output.
+    pub is_input: bool,
+}
+
+/// An action.
+#[derive(Clone, Copy, Debug, PartialEq, Eq)]
+pub struct Action {
+    /// The number of its reactor.
+    pub reactor: u32,
+    /// Its minimum delay, 0 to 1,000,000.
+    pub delay: u64,
+}
+
+/// A timer: it triggers at its offset, and where its period isn't 0, again after each period.
+#[derive(Clone, Copy, Debug, PartialEq, Eq)]
+pub struct Timer {
+    /// The number of its reactor.
+    pub reactor: u32,
+    /// Its offset, 0 to 1,000,000.
+    pub offset: u64,
+    /// Its period, 0 to 1,000,000.
+    pub period: u64,
+}
+
+/// A link from an output port to an input port.
+#[derive(Clone, Copy, Debug, PartialEq, Eq)]
+pub struct Link {
+    /// The number of the output port.
+    pub source: u32,
+    /// The number of the input port.
+    pub target: u32,
+    /// Its delay, 0 to 1,000,000: after 0 it delivers at the next microstep. Without one it delivers at the same tag.
+    pub delay: Option<u64>,
+}
+
+/// A program input: events of its origin arrive at its port.
+#[derive(Clone, Copy, Debug, PartialEq, Eq)]
+pub struct ProgramInput {
+    /// The origin that it belongs to.
+    pub origin: u32,
+    /// The number of the port.
+    pub port: u32,
+}
+
+/// The parts of a program, each by number in the order of the file, over all its reactors.
+#[derive(Debug, Drop)]
+pub struct Parts {
+    /// The last time that is executed, 0 to 1,000,000.
+    pub stop: u64,
+    /// How many origins there are, 1 to 32.
+    pub origins: u32,
+    /// How many reactors there are, at most 64.
+    pub reactors: u32,
+    /// The variables, at most 256.
+    pub variables: Vec<Variable>,
+    /// The ports, at most 256: of each reactor its inputs, then its outputs.
+    pub ports: Vec<Port>,
+    /// The actions, at most 64.
+    pub actions: Vec<Action>,
+    /// The timers, at most 16.
+    pub timers: Vec<Timer>,
+    /// The reactions, at most 256, in the order of their reactors.
+    pub reactions: Vec<Reaction>,
+    /// The links, at most 256.
+    pub links: Vec<Link>,
+    /// The program inputs, at most 64.
+    pub inputs: Vec<ProgramInput>,
+    /// The ports of the program outputs, at most 64.
+    pub outputs: Vec<u32>,
+}

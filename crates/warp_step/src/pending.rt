@@ -1,0 +1,82 @@
+//! The pending entries of a state: sorted by tag, then by target, each tag and target once.
+ghost use Rattle.std.specs.Prelude.{◌≡◌, ◌≤◌, ◌||◌, nat_lt, length, drop, if◌then◌else◌};
+ghost use Rattle.std.specs.List.{list_any, prefix_len};
+ghost use Rattle.arrayvec.specs.ArrayVec.{array_vec_len};
+ghost use Rattle.warp_tag.specs.Limits.{most_pending};
+ghost use Rattle.warp_tag.specs.Moment.{is_before, is_same};
+ghost use Rattle.warp_body.specs.Presence.{target_before};
+ghost use Rattle.warp_step.specs.Snapshot.{AreInOrder, has_key, key_before, with_entry};
+
+use arrayvec::ArrayVec;
+use warp_body::Target;
+use warp_tag::Tag;
+
+/// How many entries may be pending.
+pub(crate) const MOST_PENDING: usize = 256;
+
+/// A pending entry: at its tag its target is present with its value.
+#[derive(Clone, Copy, Debug, PartialEq, Eq, Default)]
+pub struct Waiting {
+    /// When.
+    pub tag: Tag,
+    /// To what it leads.
+    pub target: Target,
+    /// The value.
+    pub value: i64,
+}
+
+/// The pending entries, in order.
+pub(crate) type Entries = ArrayVec<Waiting, MOST_PENDING>;
+
+impl Waiting {
+    /// Whether it comes before this tag and target: by tag, then by target.
+    fn comes_before(&self, tag: Tag, target: Target) -> bool
+        ensures { result ≡ key_before self.now.tag self.now.target (record { tag = tag; target = target; value = self.now.value }) }
+    {
+        self.tag.is_before(tag) || (self.tag.is_same(tag) && self.target.is_before(target))
+    }
+
+    /// Whether it is at this tag, to this target.
+    fn is_at(&self, tag: Tag, target: Target) -> bool
+        ensures { result ≡ has_key tag target self.now }
+    {
+        tag.is_same(self.tag) && target.is_same(self.target)
+    }
+}
+
+/// How many entries come before this tag and target.
+fn place(entries: &[Waiting], tag: Tag, target: Target) -> usize
+    requires { AreInOrder entries.now }
+    ensures place { result ≡ prefix_len (λ w. key_before w.tag w.target (record { tag = tag; target = target; value = w.value })) entries.now }
+    ensures within { result ≤ length entries.now }
+{
+    entries.partition_point(|entry| entry.comes_before(tag, target))
+}
+
+/// Enters a value at a tag to a target: one that is there takes it, a new one comes in where there is room. Answers
+/// whether it is in.
+pub(crate) fn enter(entries: &mut Entries, tag: Tag, target: Target, value: i64) -> bool
+    requires { AreInOrder entries.old.items }
+    ensures answer { result ≡ (list_any (has_key tag target) entries.old.items || nat_lt (length entries.old.items) most_pending) }
+    ensures entries { entries.new.items ≡ (if result then with_entry tag target value entries.old.items else entries.old.items) }
+    ensures order { AreInOrder entries.new.items }
+{
+    let at = place(entries, tag, target);
+    if at < entries.len() && entries[at].is_at(tag, target) {
+        entries[at].value = value;
+        return true;
+    }
+    let is_room = entries.len() < MOST_PENDING;
+    if is_room {
+        entries.insert(at, Waiting { tag, target, value });
+    }
+    is_room
+}
+
+/// Drops the first so many entries.
+pub(crate) fn drop_front(entries: &mut Entries, count: usize)
+    requires { count ≤ length entries.old.items }
+    ensures { entries.new.items ≡ drop count entries.old.items }
+{
+    let _ = entries.drain(..count);
+}
