@@ -40,6 +40,7 @@ impl Scratch {
     pub fn new(alloc: Global, program: &Program) -> Result<Scratch, OutOfMemory>
         ensures { IfOk result (λ s. s ≡ room_of program.now) }
     {
+        program.valid();
         let places = Places {
             timers: program.timers().len(),
             actions: program.actions().len(),
@@ -56,6 +57,7 @@ impl Scratch {
 fn sources(alloc: Global, program: &Program) -> Result<Vec<u32>, OutOfMemory>
     ensures { IfOk result (λ sources. sources.items ≡ sources_of program.now) }
 {
+    program.valid();
     let ports = program.ports().len();
     let mut sources = Vec::with_capacity(alloc, ports)?;
     for port in 0..ports {
