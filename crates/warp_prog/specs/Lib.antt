@@ -6,3 +6,5 @@ pub mod Json
 pub mod Terms
 pub mod Statements
 pub mod Shape
+pub mod Reading
+pub mod Refusal

@@ -1,8 +1,11 @@
-//! Program files: what stands in one, as a tree with names.
+//! Program files: from the bytes of one to what stands in it, as a tree with names.
 #![tactic(auto)]
 
+mod error;
 mod file;
 mod misread;
 mod name;
-mod operator;
+mod reading;
 mod shape;
+
+pub use error::LoadError;
