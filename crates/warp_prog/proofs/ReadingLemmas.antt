@@ -13,4 +13,4 @@ spells_json bytes d h = rw (is_utf8-from_IsUtf8 bytes h.0, h.1) refl
 
 pub spells_none : (bytes : List ℕ) → (IsUtf8 bytes → read bytes ≡ None) → None ≡ json_of bytes
 unfolding json_of
-spells_none bytes h = elim (cases_Bool (is_utf8 bytes)) [ inl yes ↦ rw (yes, h (IsUtf8-from_is_utf8 bytes yes)) refl | inr no ↦ rw no refl ]
+spells_none bytes h = elim (cases_Bool (is_utf8 bytes)) [ inl valid ↦ rw (valid, h (IsUtf8-from_is_utf8 bytes valid)) refl | inr broken ↦ rw broken refl ]
