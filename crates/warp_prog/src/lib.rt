@@ -1,7 +1,8 @@
-//! Program files: what stands in one, as a tree with names.
+//! Program files: from the bytes of one to what stands in it, as a tree with names.
 #![tactic(auto)]
 
 mod backward;
+mod error;
 mod file;
 mod law;
 mod limits;
@@ -9,9 +10,11 @@ mod misread;
 mod name;
 mod named;
 mod names;
-mod operator;
+mod reading;
 mod scope;
 mod shape;
 mod twice;
 mod undeclared;
 mod uses;
+
+pub use error::LoadError;

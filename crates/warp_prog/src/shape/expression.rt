@@ -8,7 +8,7 @@ ghost use Rattle.warp_prog.specs.View.{term_tree};
 use crate::file::Expression;
 use crate::misread::Misread;
 use crate::name::Name;
-use crate::operator::{BinaryOperator, UnaryOperator};
+use warp_body::{BinaryOperator, UnaryOperator};
 use crate::shape::word::name_at;
 use serde_json::Value;
 use std::alloc::Global;
