@@ -1,0 +1,17 @@
+pub mod Anys
+pub mod AllNames
+pub mod Rooms
+pub mod Depths
+pub mod ItemLemmas
+pub mod Has
+pub mod Stands
+pub mod OnceLemmas
+pub mod Ranges
+pub mod Bodies
+pub mod Distinct
+pub mod Rules
+pub mod Eachs
+pub mod Ports
+pub mod Links
+pub mod Fits
+pub mod ReadingLemmas

@@ -1,0 +1,173 @@
+-- The program that a file stands for: its parts in file order, with numbers in the place of names.
+-- A name's number counts what stands before it in the file: all of its kind in the reactors before, and in its own reactor.
+use Rattle.std.specs.Prelude.{ℕ, ◌+◌, unsigned_abs, true, false, List, [], ◌∷◌, ◌++◌, length, map, option_map, bytes_eq, if◌then◌else◌}
+use Rattle.std.specs.List.{position_or_len}
+use Rattle.warp_tag.specs.Limits.{last_microstep}
+use Rattle.warp_body.specs.Term.{Term, Constant, VariableAt, ValueAt, PresentAt, OfOne, OfTwo, Choice}
+use Rattle.warp_body.specs.Effect.{Statement, SetVariable, PutOutput, ScheduleAction, Choose, Body, Done, Then}
+use Rattle.warp_body.specs.declared.place.Target.{Target}
+use Rattle.warp_body.specs.declared.place.Target.TheVariants as to
+use Rattle.warp_step.specs.Program.{Rule, Program}
+use Rattle.warp_step.specs.Valid.{names}
+use Rattle.warp_step.specs.declared.parts.Variable.{Variable}
+use Rattle.warp_step.specs.declared.parts.Port.{Port}
+use Rattle.warp_step.specs.declared.parts.Action.{Action}
+use Rattle.warp_step.specs.declared.parts.Timer.{Timer}
+use Rattle.warp_step.specs.declared.parts.Link.{Link}
+use Rattle.warp_step.specs.declared.parts.ProgramInput.{ProgramInput}
+use Rattle.warp_prog.specs.File.{Word, File, ReactorPart, ReactionPart, NamedTerm, Literal, Named, PresentNamed, OneNamed, TwoNamed, ChoiceNamed, NamedStatement, SetNamed, PutNamed, ScheduleNamed, ChooseNamed, NamedBody, NamedDone, NamedThen}
+use Rattle.warp_prog.specs.Uses.{is_among, variable_names, action_names, timer_names}
+use Rattle.warp_prog.specs.declared.file.PortName.{PortName}
+use Rattle.warp_prog.specs.declared.file.VariablePart.{VariablePart}
+use Rattle.warp_prog.specs.declared.file.ActionPart.{ActionPart}
+use Rattle.warp_prog.specs.declared.file.TimerPart.{TimerPart}
+use Rattle.warp_prog.specs.declared.file.LinkPart.{LinkPart}
+use Rattle.warp_prog.specs.declared.file.InputPart.{InputPart}
+use Rattle.warp_prog.specs.declared.scope.Before.{Before}
+
+-- nothing stands before the first reactor
+abbrev pub nothing_before : Before
+nothing_before = record { reactors = 0; variables = 0; ports = 0; actions = 0; timers = 0 }
+
+-- what stands before the reactor after this one
+abbrev pub past : Before → ReactorPart → Before
+past b r = record {
+  reactors = b.reactors + 1;
+  variables = b.variables + length r.variables;
+  ports = b.ports + (length r.inputs + length r.outputs);
+  actions = b.actions + length r.actions;
+  timers = b.timers + length r.timers;
+}
+
+-- the place of the first of these names that is this one
+abbrev pub place_among : List Word → Word → ℕ
+place_among names name = position_or_len (bytes_eq name) names
+
+-- the number of a variable of a reactor, by its name; of an input, an output, an action and a timer
+abbrev pub variable_number : Before → ReactorPart → Word → ℕ
+variable_number b r name = b.variables + place_among (variable_names r) name
+
+abbrev pub input_number : Before → ReactorPart → Word → ℕ
+input_number b r name = b.ports + place_among r.inputs name
+
+abbrev pub output_number : Before → ReactorPart → Word → ℕ
+output_number b r name = b.ports + (length r.inputs + place_among r.outputs name)
+
+abbrev pub action_number : Before → ReactorPart → Word → ℕ
+action_number b r name = b.actions + place_among (action_names r) name
+
+abbrev pub timer_number : Before → ReactorPart → Word → ℕ
+timer_number b r name = b.timers + place_among (timer_names r) name
+
+-- what a name stands for where something is read: an input, an action, a timer, else `startup`
+abbrev pub readable : Before → ReactorPart → Word → Target
+readable b r name =
+    if is_among r.inputs name then to.Port (input_number b r name)
+    else (if is_among (action_names r) name then to.Action (action_number b r name)
+    else (if is_among (timer_names r) name then to.Timer (timer_number b r name)
+    else to.Startup))
+
+-- what a name stands for where something is written: an output, else an action
+abbrev pub writable : Before → ReactorPart → Word → Target
+writable b r name = if is_among r.outputs name then to.Port (output_number b r name) else to.Action (action_number b r name)
+
+-- an expression: a name is a variable if the reactor has one, else what is read by that name
+abbrev pub numbered_term : Before → ReactorPart → NamedTerm → Term
+numbered_term b r (Literal n) = Constant n
+numbered_term b r (Named name) = if is_among (variable_names r) name then VariableAt (variable_number b r name) else ValueAt (readable b r name)
+numbered_term b r (PresentNamed name) = PresentAt (readable b r name)
+numbered_term b r (OneNamed op e) = OfOne op (numbered_term b r e)
+numbered_term b r (TwoNamed op e f) = OfTwo op (numbered_term b r e) (numbered_term b r f)
+numbered_term b r (ChoiceNamed c e f) = Choice (numbered_term b r c) (numbered_term b r e) (numbered_term b r f)
+
+abbrev mutual
+  -- a statement
+  pub numbered_statement : Before → ReactorPart → NamedStatement → Statement
+  numbered_statement b r (SetNamed name e) = SetVariable (variable_number b r name) (numbered_term b r e)
+  numbered_statement b r (PutNamed name e) = PutOutput (output_number b r name) (numbered_term b r e)
+  numbered_statement b r (ScheduleNamed name delay e) = ScheduleAction (action_number b r name) (unsigned_abs delay) (numbered_term b r e)
+  numbered_statement b r (ChooseNamed e first second) = Choose (numbered_term b r e) (numbered_body b r first) (numbered_body b r second)
+
+  -- a list of statements
+  pub numbered_body : Before → ReactorPart → NamedBody → Body
+  numbered_body b r NamedDone = Done
+  numbered_body b r (NamedThen s ss) = Then (numbered_statement b r s) (numbered_body b r ss)
+
+-- these targets, and after them those that are not among them, each once, in the order of first mention
+abbrev pub once_after : List Target → List Target → List Target
+once_after seen [] = seen
+once_after seen (t ∷ ts) = once_after (if names seen t then seen else seen ++ t ∷ []) ts
+
+-- each target once, in the order of first mention
+abbrev pub once : List Target → List Target
+once ts = once_after [] ts
+
+-- a reaction
+abbrev pub numbered_reaction : Before → ReactorPart → ReactionPart → Rule
+numbered_reaction b r n = record {
+  reactor = b.reactors;
+  triggers = once (map (readable b r) n.triggers);
+  reads = once (map (readable b r) n.reads);
+  writes = once (map (writable b r) n.writes);
+  body = numbered_body b r n.body;
+}
+
+-- what stands in one reactor: its variables, its ports (inputs, then outputs), its actions, its timers, its reactions
+abbrev pub its_variables : Before → ReactorPart → List Variable
+its_variables b r = map (λ (v : VariablePart). record { reactor = b.reactors; start = v.start }) r.variables
+
+abbrev pub its_ports : Before → ReactorPart → List Port
+its_ports b r =
+    map (λ (name : Word). record { reactor = b.reactors; is_input = true }) r.inputs
+    ++ map (λ (name : Word). record { reactor = b.reactors; is_input = false }) r.outputs
+
+abbrev pub its_actions : Before → ReactorPart → List Action
+its_actions b r = map (λ (a : ActionPart). record { reactor = b.reactors; delay = unsigned_abs a.delay }) r.actions
+
+abbrev pub its_timers : Before → ReactorPart → List Timer
+its_timers b r =
+    map (λ (t : TimerPart). record { reactor = b.reactors; offset = unsigned_abs t.offset; period = unsigned_abs t.period }) r.timers
+
+abbrev pub its_reactions : Before → ReactorPart → List Rule
+its_reactions b r = map (numbered_reaction b r) r.reactions
+
+-- what stands in each of these reactors, in file order
+abbrev pub in_each : {A : Type 0} → (Before → ReactorPart → List A) → Before → List ReactorPart → List A
+in_each its b [] = []
+in_each its b (r ∷ rs) = its b r ++ in_each its (past b r) rs
+
+-- the number of the port that a reference names, in the first of these reactors that has its name; any number where none has
+abbrev pub port_number : (Before → ReactorPart → Word → ℕ) → Before → List ReactorPart → PortName → ℕ
+port_number number b [] p = 0
+port_number number b (r ∷ rs) p = if bytes_eq p.reactor r.name then number b r p.port else port_number number (past b r) rs p
+
+-- the number of an output, and of an input, of a file
+abbrev pub source_number : List ReactorPart → PortName → ℕ
+source_number rs p = port_number output_number nothing_before rs p
+
+abbrev pub target_number : List ReactorPart → PortName → ℕ
+target_number rs p = port_number input_number nothing_before rs p
+
+-- a link, and a program input
+abbrev pub numbered_link : List ReactorPart → LinkPart → Link
+numbered_link rs l = record { source = source_number rs l.source; target = target_number rs l.target; delay = option_map unsigned_abs l.delay }
+
+abbrev pub numbered_input : List ReactorPart → InputPart → ProgramInput
+numbered_input rs i = record { origin = unsigned_abs i.origin; port = target_number rs i.port }
+
+-- the program of a file
+abbrev pub numbered : File → Program
+numbered f = record {
+  stop = unsigned_abs f.stop;
+  top = last_microstep;
+  origins = unsigned_abs f.origins;
+  reactors = length f.reactors;
+  variables = in_each its_variables nothing_before f.reactors;
+  ports = in_each its_ports nothing_before f.reactors;
+  actions = in_each its_actions nothing_before f.reactors;
+  timers = in_each its_timers nothing_before f.reactors;
+  reactions = in_each its_reactions nothing_before f.reactors;
+  links = map (numbered_link f.reactors) f.links;
+  inputs = map (numbered_input f.reactors) f.inputs;
+  outputs = map (source_number f.reactors) f.outputs;
+}

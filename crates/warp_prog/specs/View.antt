@@ -1,0 +1,62 @@
+-- The tree that the code's file stands for.
+use Rattle.std.specs.Prelude.{List, [], ◌∷◌, map}
+use Rattle.warp_prog.specs.File.{File, ReactorPart, ReactionPart, NamedTerm, Literal, Named, PresentNamed, OneNamed, TwoNamed, ChoiceNamed, NamedStatement, SetNamed, PutNamed, ScheduleNamed, ChooseNamed, NamedBody, NamedDone, NamedThen}
+use Rattle.warp_prog.specs.declared.file.Expression.{Expression, Number, Value, Present, Unary', Binary', If'}
+use Rattle.warp_prog.specs.declared.file.Statement.{Statement, fold-Statement}
+use Rattle.warp_prog.specs.declared.file.Statement.TheOpen.{Statement-F}
+use Rattle.warp_prog.specs.declared.file.Reaction.{Reaction}
+use Rattle.warp_prog.specs.declared.file.Reactor.{Reactor}
+use Rattle.warp_prog.specs.declared.file.ProgramFile.{ProgramFile}
+
+-- an expression
+abbrev pub term_tree : Expression → NamedTerm
+term_tree (Number n) = Literal n
+term_tree (Value name) = Named name
+term_tree (Present name) = PresentNamed name
+term_tree (Unary' op p a) = OneNamed op (term_tree a)
+term_tree (Binary' op p a q b) = TwoNamed op (term_tree a) (term_tree b)
+term_tree (If' p c q a r b) = ChoiceNamed (term_tree c) (term_tree a) (term_tree b)
+
+-- a list of statements
+abbrev pub body_tree : List NamedStatement → NamedBody
+body_tree [] = NamedDone
+body_tree (s ∷ ss) = NamedThen s (body_tree ss)
+
+-- one statement, with each statement inside already seen as its tree
+abbrev pub statement_step : Statement-F NamedStatement → NamedStatement
+statement_step (Statement-F.Set name e) = SetNamed name (term_tree e)
+statement_step (Statement-F.Put name e) = PutNamed name (term_tree e)
+statement_step (Statement-F.Schedule name delay e) = ScheduleNamed name delay (term_tree e)
+statement_step (Statement-F.If e first second) = ChooseNamed (term_tree e) (body_tree first.items) (body_tree second.items)
+
+-- a statement
+abbrev pub statement_tree : Statement → NamedStatement
+statement_tree = fold-Statement NamedStatement statement_step
+
+-- a reaction
+abbrev pub reaction_tree : Reaction → ReactionPart
+reaction_tree r = record { triggers = r.triggers.items; reads = r.reads.items; writes = r.writes.items; body = body_tree (map statement_tree r.body.items) }
+
+-- a reactor
+abbrev pub reactor_tree : Reactor → ReactorPart
+reactor_tree r = record {
+  name = r.name;
+  variables = r.variables.items;
+  inputs = r.inputs.items;
+  outputs = r.outputs.items;
+  actions = r.actions.items;
+  timers = r.timers.items;
+  reactions = map reaction_tree r.reactions.items;
+}
+
+-- a file
+abbrev pub file_tree : ProgramFile → File
+file_tree f = record {
+  version = f.version;
+  stop = f.stop;
+  origins = f.origins;
+  reactors = map reactor_tree f.reactors.items;
+  links = f.links.items;
+  inputs = f.inputs.items;
+  outputs = f.outputs.items;
+}

@@ -1,0 +1,143 @@
+//! A program file as a tree: all that stands in it, with names, and before any limit is looked at.
+
+use crate::name::Name;
+use warp_body::{BinaryOperator, UnaryOperator};
+
+/// A reference to a port, `REACTOR.PORT` in the file.
+#[derive(Debug, Drop)]
+pub struct PortName {
+    /// The name of the reactor.
+    pub reactor: Name,
+    /// The name of the port in it.
+    pub port: Name,
+}
+
+/// A variable.
+#[derive(Debug, Drop)]
+pub struct VariablePart {
+    /// Its name.
+    pub name: Name,
+    /// The value that it starts with.
+    pub start: i64,
+}
+
+/// An action.
+#[derive(Debug, Drop)]
+pub struct ActionPart {
+    /// Its name.
+    pub name: Name,
+    /// Its minimum delay, as the file has it.
+    pub delay: i64,
+}
+
+/// A timer.
+#[derive(Debug, Drop)]
+pub struct TimerPart {
+    /// Its name.
+    pub name: Name,
+    /// Its offset, as the file has it.
+    pub offset: i64,
+    /// Its period, as the file has it.
+    pub period: i64,
+}
+
+/// A link from an output to an input.
+#[derive(Debug, Drop)]
+pub struct LinkPart {
+    /// Where it begins.
+    pub source: PortName,
+    /// Where it ends.
+    pub target: PortName,
+    /// Its delay, as the file has it; `None`: without delay.
+    pub delay: Option<i64>,
+}
+
+/// A program input.
+#[derive(Debug, Drop)]
+pub struct InputPart {
+    /// The number of its origin, as the file has it.
+    pub origin: i64,
+    /// The port that it leads to.
+    pub port: PortName,
+}
+
+/// An expression.
+#[derive(Debug, Drop)]
+pub enum Expression {
+    /// This number.
+    Number(i64),
+    /// The value of what has this name.
+    Value(Name),
+    /// Whether what has this name is present.
+    Present(Name),
+    /// An operator over one part.
+    Unary(UnaryOperator, Box<Expression>),
+    /// An operator over two parts.
+    Binary(BinaryOperator, Box<Expression>, Box<Expression>),
+    /// The second if the first is not 0, else the third.
+    If(Box<Expression>, Box<Expression>, Box<Expression>),
+}
+
+/// A statement.
+#[derive(Debug, Drop)]
+pub enum Statement {
+    /// The variable of this name has the value of the expression.
+    Set(Name, Expression),
+    /// The output of this name is present with the value of the expression.
+    Put(Name, Expression),
+    /// The action of this name is wished for, with this additional delay and the value of the expression.
+    Schedule(Name, i64, Expression),
+    /// The first list if the expression is not 0, else the second.
+    If(Expression, Vec<Statement>, Vec<Statement>),
+}
+
+/// A reaction.
+#[derive(Debug, Drop)]
+pub struct Reaction {
+    /// What it is on.
+    pub triggers: Vec<Name>,
+    /// What it reads beside.
+    pub reads: Vec<Name>,
+    /// The outputs and actions that it writes.
+    pub writes: Vec<Name>,
+    /// What it does.
+    pub body: Vec<Statement>,
+}
+
+/// A reactor.
+#[derive(Debug, Drop)]
+pub struct Reactor {
+    /// Its name.
+    pub name: Name,
+    /// Its variables.
+    pub variables: Vec<VariablePart>,
+    /// Its inputs.
+    pub inputs: Vec<Name>,
+    /// Its outputs.
+    pub outputs: Vec<Name>,
+    /// Its actions.
+    pub actions: Vec<ActionPart>,
+    /// Its timers.
+    pub timers: Vec<TimerPart>,
+    /// Its reactions.
+    pub reactions: Vec<Reaction>,
+}
+
+/// A program file. Its numbers are as the file has them.
+#[derive(Debug, Drop)]
+pub struct ProgramFile {
+    /// The version of its format.
+    pub version: i64,
+    /// The last time at which the program executes.
+    pub stop: i64,
+    /// How many origins there are.
+    pub origins: i64,
+    /// The reactors.
+    pub reactors: Vec<Reactor>,
+    /// The links.
+    pub links: Vec<LinkPart>,
+    /// The program inputs.
+    pub inputs: Vec<InputPart>,
+    /// The program outputs.
+    pub outputs: Vec<PortName>,
+}

@@ -1,0 +1,20 @@
+//! Program files: from the bytes of one to what stands in it, as a tree with names.
+#![tactic(auto)]
+
+mod backward;
+mod error;
+mod file;
+mod law;
+mod limits;
+mod misread;
+mod name;
+mod named;
+mod names;
+mod reading;
+mod scope;
+mod shape;
+mod twice;
+mod undeclared;
+mod uses;
+
+pub use error::LoadError;

@@ -1,0 +1,87 @@
+//! Names of reactors and of what stands in them, and references to ports.
+ghost use Rattle.std.specs.Prelude.{◌≡◌, ◌↔◌, IsTrue, List};
+ghost use Rattle.warp_prog.specs.Word.{is_letter, is_word_byte, are_word_bytes, is_name, name_of};
+
+use arrayvec::ArrayString;
+use std::marker::Model;
+
+/// How many bytes a name has at most.
+const LONGEST_NAME: usize = 32;
+
+/// A name: a text of at most 32 bytes, which takes no memory of its own. Contracts see it as its bytes.
+#[derive(Debug, Drop)]
+pub struct Name {
+    text: ArrayString<32>,
+}
+
+impl Model for Name {
+    ghost use Rattle.std.specs.Prelude.{ℕ, List};
+    ghost use Rattle.std.specs.Coded.{coded_ℕ, coded_list};
+
+    ghost Value = { List ℕ };
+
+    ghost coded = { coded_list coded_ℕ };
+
+    ghost view = { λ n. n.text.bytes };
+}
+
+impl Name {
+    /// The name that a text is: 1 to 32 bytes of ASCII letters, digits and `_`, the first a letter.
+    pub fn read(text: &str) -> Option<Name>
+        ensures { result ≡ name_of text.now }
+    {
+        if !is_name(text.as_bytes()) {
+            return None;
+        }
+        match ArrayString::from(text) {
+            Ok(text) => Some(Name { text }),
+            Err(_) => None,
+        }
+    }
+
+    /// The name as text.
+    pub fn as_str(&self) -> &str
+        ensures { result.now ≡ self.now }
+    {
+        self.text.as_str()
+    }
+
+    /// Whether two names are the same.
+    pub fn is_same(&self, other: &Name) -> bool
+        ensures { IsTrue result ↔ (self.now ≡ other.now) }
+    {
+        self.as_str() == other.as_str()
+    }
+}
+
+fn is_letter(byte: u8) -> bool
+    ensures { result ≡ is_letter byte }
+{
+    (b'A' <= byte && byte <= b'Z') || (b'a' <= byte && byte <= b'z')
+}
+
+fn is_word_byte(byte: u8) -> bool
+    ensures { result ≡ is_word_byte byte }
+{
+    is_letter(byte) || (b'0' <= byte && byte <= b'9') || byte == b'_'
+}
+
+fn are_word_bytes(text: &[u8]) -> bool
+    ensures { result ≡ are_word_bytes text.now }
+{
+    for byte in text {
+        if !is_word_byte(*byte) {
+            return false;
+        }
+    }
+    true
+}
+
+fn is_name(text: &[u8]) -> bool
+    ensures { result ≡ is_name text.now }
+{
+    match text {
+        [] => false,
+        [first, ..] => is_letter(*first) && text.len() <= LONGEST_NAME && are_word_bytes(text),
+    }
+}

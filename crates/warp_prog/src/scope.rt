@@ -1,0 +1,16 @@
+//! Where a reactor stands in a file: how much stands before it, which gives the numbers of its names.
+
+/// How many reactors, variables, ports, actions and timers stand before a reactor in the file.
+#[derive(Clone, Copy, Debug, PartialEq, Eq)]
+pub(crate) struct Before {
+    /// Reactors.
+    pub reactors: usize,
+    /// Variables.
+    pub variables: usize,
+    /// Ports.
+    pub ports: usize,
+    /// Actions.
+    pub actions: usize,
+    /// Timers.
+    pub timers: usize,
+}
