@@ -10,7 +10,6 @@ use Rattle.warp_tag.specs.Moment.{Moment, is_before, is_same}
 use Rattle.warp_tag.proofs.Tags.{before_trans, before_same, same_before, same_trans, same_is}
 use Rattle.warp_body.specs.Presence.{target_before, is_target}
 use Rattle.warp_body.specs.declared.place.Target.{Target}
-use Rattle.warp_body.specs.declared.place.Target.TheVariants as to
 use Rattle.warp_step.specs.Snapshot.{key_before, has_key, AreInOrder, with_entry, earlier, least_pending}
 use Rattle.warp_step.specs.declared.pending.Waiting.{Waiting}
 use Rattle.warp_step.proofs.ValidLemmas.{same_target}

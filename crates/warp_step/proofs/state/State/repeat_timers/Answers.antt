@@ -1,5 +1,5 @@
 -- a timer's period is a delay that lands
-use Rattle.std.proofs.Common.{◌≡◌, ◌<◌, ◌≤◌, length, get_or, rules, arith}
+use Rattle.std.proofs.Common.{◌≡◌, ◌<◌, length, rules, arith}
 use Rattle.warp_step.proofs.ValidLemmas.{timer_period}
 use Rattle.warp_step.proofs.state.State.repeat_timers.Goals as goal
 
