@@ -2,3 +2,4 @@ pub mod EachLemmas
 pub mod Has
 pub mod Stands
 pub mod OnceLemmas
+pub mod Numbers

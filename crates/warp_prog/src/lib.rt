@@ -7,6 +7,7 @@ mod law;
 mod misread;
 mod name;
 mod named;
+mod numbered;
 mod operator;
 mod scope;
 mod shape;
