@@ -113,7 +113,18 @@ fn readable_cause(before: &Before, reactor: &Reactor, name: &Name) -> Target
 {
     if is_among(&reactor.actions, name) {
         Target::Action(action_number(before, reactor, name))
-    } else if is_among(&reactor.timers, name) {
+    } else {
+        timer_or_startup(before, reactor, name)
+    }
+}
+
+/// The timer of a name, else startup.
+fn timer_or_startup(before: &Before, reactor: &Reactor, name: &Name) -> Target
+    requires { HasRoom before.now (reactor_tree reactor.now) }
+    ensures { let b = before.now in let r = reactor_tree reactor.now in
+        result ≡ (if is_among (timer_names r) name.now then Timer (timer_number b r name.now) else Startup) }
+{
+    if is_among(&reactor.timers, name) {
         Target::Timer(timer_number(before, reactor, name))
     } else {
         Target::Startup
