@@ -1,7 +1,7 @@
 -- The element of a number: in a list after others, in a list of pictures, and where a name is found.
-use Rattle.std.proofs.Common.{◌≡◌, ℕ, zero, suc, ◌+◌, ◌<◌, Bool, true, false, not, ◌&&◌, ◌||◌, cond, List, [], ◌∷◌, ◌++◌, length, map, drop, Option, Some, None, ap, sym, subst, ◌∙◌, refl, inl, inr, one-add, zero-add, suc-add, bytes_eq, slice_get, arith}
-use Rattle.std.specs.List.{list_any, list_all}
-use Rattle.std.proofs.lemmas.Bool.{cases_Bool, true≢false, and_from, and_parts, cond-true, cond-false}
+use Rattle.std.proofs.Common.{◌≡◌, ℕ, zero, suc, ◌+◌, ◌<◌, Bool, true, false, not, ◌&&◌, ◌||◌, cond, List, [], ◌∷◌, ◌++◌, length, map, drop, ap, sym, subst, ◌∙◌, refl, inl, inr, one-add, zero-add, suc-add, append_assoc, map-id, bytes_eq, arith}
+use Rattle.std.proofs.lemmas.Bool.{cases_Bool, true≢false, and_from}
+use Rattle.std.proofs.lemmas.List.{length-map}
 use Rattle.warp_step.specs.Valid.{has}
 use Rattle.warp_prog.specs.File.{Word}
 use Rattle.warp_prog.specs.Uses.{is_among}
@@ -66,3 +66,21 @@ has-found called f q name good (x ∷ xs) ys h =
           subst (λ n. has (f x ∷ (map f xs ++ ys)) n q ≡ true) (sym (place-past name (called x) (map called xs) past))
             (has-found called f q name good xs ys (sym (ap (λ b. b || is_among (map called xs) name) past) ∙ h))
     ]
+
+-- the picture of a name that is found, in the first of two lists and in the second
+module _ {Y : Type 0} (f g : Word → Y) (q : Y → Bool) (ins outs : List Word) (rest : List Y) (name : Word) where
+  pub has-first : ((n : Word) → bytes_eq name n ≡ true → q (f n) ≡ true) → is_among ins name ≡ true →
+      has ((map f ins ++ map g outs) ++ rest) (place_among ins name) q ≡ true
+  has-first good h =
+      subst (λ ps. has ps (place_among ins name) q ≡ true) (sym (append_assoc (map f ins) (map g outs) rest))
+        (subst (λ ns. has (map f ins ++ (map g outs ++ rest)) (place_among ns name) q ≡ true) (map-id ins)
+          (has-found (λ (n : Word). n) f q name good ins (map g outs ++ rest) (subst (λ ns. is_among ns name ≡ true) (sym (map-id ins)) h)))
+
+  pub has-second : ((n : Word) → bytes_eq name n ≡ true → q (g n) ≡ true) → is_among outs name ≡ true →
+      has ((map f ins ++ map g outs) ++ rest) (length ins + place_among outs name) q ≡ true
+  has-second good h =
+      subst (λ ps. has ps (length ins + place_among outs name) q ≡ true) (sym (append_assoc (map f ins) (map g outs) rest))
+        (subst (λ k. has (map f ins ++ (map g outs ++ rest)) (k + place_among outs name) q ≡ true) (length-map ins f)
+          (has-after (map f ins) (map g outs ++ rest) (place_among outs name) q
+            ∙ subst (λ ns. has (map g outs ++ rest) (place_among ns name) q ≡ true) (map-id outs)
+              (has-found (λ (n : Word). n) g q name good outs rest (subst (λ ns. is_among ns name ≡ true) (sym (map-id outs)) h))))

@@ -1,9 +1,7 @@
 -- Where the parts of a reactor stand in its program, and that its names stand for them.
-use Rattle.std.proofs.Common.{◌≡◌, ℕ, zero, suc, ◌+◌, ◌<◌, Bool, true, false, not, ◌&&◌, ◌||◌, ◌==◌, cond, List, [], ◌∷◌, ◌++◌, length, map, drop, ap, sym, subst, ◌∙◌, refl, zero-add, suc-add, bytes_eq, unsigned_abs, eq-eqb, append_assoc, map-id, length-append, arith}
-use Rattle.std.specs.List.{list_any, list_all}
-use Rattle.std.proofs.lemmas.Bool.{cases_Bool, true≢false, and_from, and_parts, cond_both}
+use Rattle.std.proofs.Common.{◌≡◌, ℕ, zero, suc, ◌+◌, Bool, true, false, not, ◌&&◌, ◌||◌, ◌==◌, List, [], ◌∷◌, ◌++◌, length, drop, ap, sym, ◌∙◌, refl, zero-add, suc-add, unsigned_abs, eq-eqb, lt-ltb, nat_lt, length-append, arith}
+use Rattle.std.proofs.lemmas.Bool.{cond_both}
 use Rattle.std.proofs.lemmas.List.{length-map}
-use Rattle.warp_body.specs.declared.place.Target.{Target}
 use Rattle.warp_body.specs.declared.place.Target.TheVariants as to
 use Rattle.warp_step.specs.Program.{Program}
 use Rattle.warp_step.specs.Valid.{has, owns_variable, is_readable, is_writable}
@@ -18,7 +16,7 @@ use Rattle.warp_prog.specs.declared.file.VariablePart.{VariablePart}
 use Rattle.warp_prog.specs.declared.file.ActionPart.{ActionPart}
 use Rattle.warp_prog.specs.declared.file.TimerPart.{TimerPart}
 use Rattle.warp_prog.specs.declared.scope.Before.{Before}
-use Rattle.warp_prog.proofs.Has.{has-after, has-drop, has-found}
+use Rattle.warp_prog.proofs.Has.{has-drop, has-found, has-first, has-second}
 
 -- after so much of the program there stand the parts of these reactors, which are its last
 pub record Stands (P : Program) (b : Before) (rs : List ReactorPart) : Type 0 where
@@ -70,6 +68,10 @@ same : (n : ℕ) → (n == n) ≡ true
 same n = eq-eqb n n refl
 
 module _ (P : Program) (b : Before) (r : ReactorPart) (rs : List ReactorPart) (s : Stands P b (r ∷ rs)) where
+  -- the reactor is one of the program's
+  pub reactor-there : nat_lt b.reactors P.reactors ≡ true
+  reactor-there = let h : b.reactors + length (r ∷ rs) ≡ P.reactors = s.reactors in lt-ltb b.reactors P.reactors (omega arith)
+
   -- the number of a variable's name is one of the reactor's variables
   pub has_variable : (name : Word) → is_among (variable_names r) name ≡ true → owns_variable P b.reactors (variable_number b r name) ≡ true
   has_variable name h =
@@ -103,29 +105,16 @@ module _ (P : Program) (b : Before) (r : ReactorPart) (rs : List ReactorPart) (s
   pub has_input : (name : Word) → is_among r.inputs name ≡ true →
       has P.ports (input_number b r name) (λ p. p.is_input && p.reactor == b.reactors) ≡ true
   has_input name h =
-      let ins : List Port = map (λ (n : Word). record { reactor = b.reactors; is_input = true }) r.inputs in
-      let outs : List Port = map (λ (n : Word). record { reactor = b.reactors; is_input = false }) r.outputs in
-      let q : Port → Bool = λ (p : Port). p.is_input && p.reactor == b.reactors in
-      has_port (place_among r.inputs name) q
-        (subst (λ ps. has ps (place_among r.inputs name) q ≡ true) (sym (append_assoc ins outs (in_each its_ports (past b r) rs)))
-          (subst (λ ns. has (ins ++ (outs ++ in_each its_ports (past b r) rs)) (place_among ns name) q ≡ true) (map-id r.inputs)
-            (has-found (λ (n : Word). n) (λ (n : Word). record { reactor = b.reactors; is_input = true }) q name (λ x e. same b.reactors)
-              r.inputs (outs ++ in_each its_ports (past b r) rs) (subst (λ ns. is_among ns name ≡ true) (sym (map-id r.inputs)) h))))
+      has_port (place_among r.inputs name) (λ p. p.is_input && p.reactor == b.reactors)
+        (has-first (λ (n : Word). record { reactor = b.reactors; is_input = true }) (λ (n : Word). record { reactor = b.reactors; is_input = false })
+          (λ (p : Port). p.is_input && p.reactor == b.reactors) r.inputs r.outputs (in_each its_ports (past b r) rs) name (λ n e. same b.reactors) h)
 
   pub has_output : (name : Word) → is_among r.outputs name ≡ true →
       has P.ports (output_number b r name) (λ p. not p.is_input && p.reactor == b.reactors) ≡ true
   has_output name h =
-      let ins : List Port = map (λ (n : Word). record { reactor = b.reactors; is_input = true }) r.inputs in
-      let outs : List Port = map (λ (n : Word). record { reactor = b.reactors; is_input = false }) r.outputs in
-      let rest : List Port = in_each its_ports (past b r) rs in
-      let q : Port → Bool = λ (p : Port). not p.is_input && p.reactor == b.reactors in
-      has_port (length r.inputs + place_among r.outputs name) q
-        (subst (λ ps. has ps (length r.inputs + place_among r.outputs name) q ≡ true) (sym (append_assoc ins outs rest))
-          (subst (λ k. has (ins ++ (outs ++ rest)) (k + place_among r.outputs name) q ≡ true) (length-map r.inputs (λ (n : Word). record { reactor = b.reactors; is_input = true }))
-            (has-after ins (outs ++ rest) (place_among r.outputs name) q
-              ∙ subst (λ ns. has (outs ++ rest) (place_among ns name) q ≡ true) (map-id r.outputs)
-                (has-found (λ (n : Word). n) (λ (n : Word). record { reactor = b.reactors; is_input = false }) q name (λ x e. same b.reactors)
-                  r.outputs rest (subst (λ ns. is_among ns name ≡ true) (sym (map-id r.outputs)) h)))))
+      has_port (length r.inputs + place_among r.outputs name) (λ p. not p.is_input && p.reactor == b.reactors)
+        (has-second (λ (n : Word). record { reactor = b.reactors; is_input = true }) (λ (n : Word). record { reactor = b.reactors; is_input = false })
+          (λ (p : Port). not p.is_input && p.reactor == b.reactors) r.inputs r.outputs (in_each its_ports (past b r) rs) name (λ n e. same b.reactors) h)
 
   -- what a name stands for may be read by the reactor
   pub is_read : (name : Word) → is_readable P b.reactors (readable b r name) ≡ true

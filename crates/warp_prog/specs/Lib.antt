@@ -14,4 +14,4 @@ pub mod Backward
 pub mod Undeclared
 pub mod Numbered
 pub mod Load
-pub mod Room
+pub mod inner

@@ -1,5 +1,6 @@
--- A file that goes past a limit: a number outside its range, too many things, or a body that is too deep or schedules too often.
-use Rattle.std.specs.Prelude.{ℕ, ℤ, pos, ◌+◌, max, nat_lt, Bool, true, false, not, ◌&&◌, ◌||◌, List, [], ◌∷◌, ◌++◌, length, Option, Some, None}
+-- A file that goes past a limit: a number outside its range, too many things, or a body that is too deep or schedules
+-- too often.
+use Rattle.std.specs.Prelude.{ℕ, ℤ, pos, ◌+◌, max, nat_lt, Bool, false, ◌||◌, List, [], ◌∷◌, ◌++◌, length, Option, Some, None}
 use Rattle.std.specs.List.{list_any}
 use Rattle.std.specs.Int.Signed.{le_z, lt_z}
 use Rattle.warp_tag.specs.Limits.{longest_stop, longest_period, most_origins, most_reactors, most_variables, most_ports, most_reactions, most_actions, most_timers, most_links, most_inputs, most_outputs, most_wishes}
@@ -22,12 +23,12 @@ abbrev pub deepest : ℕ
 deepest = 24
 
 -- a number that is not one of `low` to `high`
-abbrev pub is_outside : ℕ → ℕ → ℤ → Bool
-is_outside low high n = lt_z n (pos low) || lt_z (pos high) n
+abbrev pub is_outside : ℤ → ℤ → ℤ → Bool
+is_outside low high n = lt_z n low || lt_z high n
 
--- a delay, an offset or a period that is not one
-abbrev pub is_no_period : ℤ → Bool
-is_no_period n = is_outside 0 longest_period n
+-- a delay, an offset or a period outside its range
+abbrev pub period_exceeds : ℤ → Bool
+period_exceeds n = is_outside (pos 0) (pos longest_period) n
 
 -- more things than this
 abbrev pub are_more_than : {A : Type 0} → ℕ → List A → Bool
@@ -90,20 +91,29 @@ abbrev mutual
 abbrev pub is_too_deep : NamedTerm → Bool
 is_too_deep e = nat_lt deepest (term_depth e)
 
--- a body that is too deep or schedules too often, or in which an expression is too deep or a delay is none
+-- a body that is too deep or schedules too often, or in which an expression is too deep or a delay is outside its range
 abbrev pub body_exceeds : NamedBody → Bool
 body_exceeds b =
     list_any is_too_deep (body_terms b)
     || nat_lt deepest (body_depth b)
-    || list_any is_no_period (body_delays b)
+    || list_any period_exceeds (body_delays b)
     || are_more_than most_wishes (body_delays b)
 
--- a reactor in which a delay, an offset or a period is none, or a body exceeds its limits
+-- an action whose delay is outside its range
+abbrev pub action_exceeds : ActionPart → Bool
+action_exceeds a = period_exceeds a.delay
+
+-- a timer whose offset or period is
+abbrev pub timer_exceeds : TimerPart → Bool
+timer_exceeds t = period_exceeds t.offset || period_exceeds t.period
+
+-- a reaction whose body goes past a limit
+abbrev pub reaction_exceeds : ReactionPart → Bool
+reaction_exceeds n = body_exceeds n.body
+
+-- a reactor in which one of these stands
 abbrev pub reactor_exceeds : ReactorPart → Bool
-reactor_exceeds r =
-    list_any (λ (a : ActionPart). is_no_period a.delay) r.actions
-    || list_any (λ (t : TimerPart). is_no_period t.offset || is_no_period t.period) r.timers
-    || list_any (λ (n : ReactionPart). body_exceeds n.body) r.reactions
+reactor_exceeds r = list_any action_exceeds r.actions || list_any timer_exceeds r.timers || list_any reaction_exceeds r.reactions
 
 -- more of a kind in all reactors together than there may be
 abbrev pub totals_exceed : List ReactorPart → Bool
@@ -114,26 +124,41 @@ totals_exceed rs =
     || nat_lt most_timers (total (λ r. length r.timers) rs)
     || nat_lt most_reactions (total (λ r. length r.reactions) rs)
 
--- a link whose delay is none
-abbrev pub link_exceeds : Option ℤ → Bool
-link_exceeds None = false
-link_exceeds (Some delay) = is_no_period delay
-
--- a number that is no origin, of so many
-abbrev pub is_no_origin : ℤ → ℤ → Bool
-is_no_origin origins n = lt_z n (pos 0) || le_z origins n
-
--- a file that goes past a limit
-abbrev pub exceeds_limits : File → Bool
-exceeds_limits f =
-    is_outside this_version this_version f.version
-    || is_outside 0 longest_stop f.stop
-    || is_outside 1 most_origins f.origins
-    || are_more_than most_reactors f.reactors
+-- more reactors, links, program inputs or program outputs than there may be
+abbrev pub lists_exceed : File → Bool
+lists_exceed f =
+    are_more_than most_reactors f.reactors
     || are_more_than most_links f.links
     || are_more_than most_inputs f.inputs
     || are_more_than most_outputs f.outputs
-    || totals_exceed f.reactors
-    || list_any reactor_exceeds f.reactors
-    || list_any (λ (l : LinkPart). link_exceeds l.delay) f.links
-    || list_any (λ (i : InputPart). is_no_origin f.origins i.origin) f.inputs
+
+-- a version, a stop or a number of origins outside its range
+abbrev pub numbers_exceed : File → Bool
+numbers_exceed f =
+    is_outside (pos this_version) (pos this_version) f.version
+    || is_outside (pos 0) (pos longest_stop) f.stop
+    || is_outside (pos 1) (pos most_origins) f.origins
+
+-- a delay that is there and outside its range
+abbrev pub delay_exceeds : Option ℤ → Bool
+delay_exceeds None = false
+delay_exceeds (Some delay) = period_exceeds delay
+
+-- a link with such a delay
+abbrev pub link_exceeds : LinkPart → Bool
+link_exceeds l = delay_exceeds l.delay
+
+-- a number that is none of so many origins
+abbrev pub origin_exceeds : ℤ → ℤ → Bool
+origin_exceeds origins n = lt_z n (pos 0) || le_z origins n
+
+-- a reactor, a link or a program input that goes past a limit
+abbrev pub parts_exceed : File → Bool
+parts_exceed f =
+    list_any reactor_exceeds f.reactors
+    || list_any link_exceeds f.links
+    || list_any (λ (i : InputPart). origin_exceeds f.origins i.origin) f.inputs
+
+-- a file that goes past a limit
+abbrev pub exceeds_limits : File → Bool
+exceeds_limits f = numbers_exceed f || lists_exceed f || totals_exceed f.reactors || parts_exceed f

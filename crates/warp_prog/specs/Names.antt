@@ -3,25 +3,29 @@
 use Rattle.std.specs.Prelude.{Bool, not, ◌&&◌, ◌||◌, List, bytes_eq}
 use Rattle.std.specs.List.{list_any}
 use Rattle.warp_prog.specs.File.{Word, File, ReactorPart, ReactionPart}
-use Rattle.warp_prog.specs.Uses.{Use, Reads, Asks, Sets, Puts, Schedules, body_uses, is_among, variable_names, action_names, is_trigger}
+use Rattle.warp_prog.specs.Uses.{Use, Reads, Asks, Sets, Puts, Schedules, body_uses, is_among, variable_names, action_names, carries_value, is_trigger}
 use Rattle.warp_prog.specs.declared.file.PortName.{PortName}
 use Rattle.warp_prog.specs.declared.file.LinkPart.{LinkPart}
 use Rattle.warp_prog.specs.declared.file.InputPart.{InputPart}
 
 -- whether a use names a thing of its kind: a value is a variable's, an input's or an action's
 abbrev pub is_known : ReactorPart → Use → Bool
-is_known r (Reads name) = is_among (variable_names r) name || is_among r.inputs name || is_among (action_names r) name
+is_known r (Reads name) = is_among (variable_names r) name || carries_value r name
 is_known r (Asks name) = is_trigger r name
 is_known r (Sets name) = is_among (variable_names r) name
 is_known r (Puts name) = is_among r.outputs name
 is_known r (Schedules name) = is_among (action_names r) name
 
--- a reaction that is on or reads what is no trigger, writes what is no output and no action, or whose body uses what is unknown
+-- a name of what a reaction can write: an output or an action
+abbrev pub is_written : ReactorPart → Word → Bool
+is_written r name = is_among r.outputs name || is_among (action_names r) name
+
+-- a reaction that is on or reads what is no trigger, writes what cannot be written, or whose body uses what is unknown
 abbrev pub reaction_unknown : ReactorPart → ReactionPart → Bool
 reaction_unknown r n =
     list_any (λ name. not (is_trigger r name)) n.triggers
     || list_any (λ name. not (is_trigger r name)) n.reads
-    || list_any (λ name. not (is_among r.outputs name || is_among (action_names r) name)) n.writes
+    || list_any (λ name. not (is_written r name)) n.writes
     || list_any (λ u. not (is_known r u)) (body_uses n.body)
 
 -- whether some reactor of this name has this input
@@ -32,10 +36,14 @@ is_input rs p = list_any (λ (r : ReactorPart). bytes_eq p.reactor r.name && is_
 abbrev pub is_output : List ReactorPart → PortName → Bool
 is_output rs p = list_any (λ (r : ReactorPart). bytes_eq p.reactor r.name && is_among r.outputs p.port) rs
 
+-- a link that is not from an output to an input
+abbrev pub link_unknown : List ReactorPart → LinkPart → Bool
+link_unknown rs l = not (is_output rs l.source && is_input rs l.target)
+
 -- a file in which a name is unknown in its place
 abbrev pub names_unknown : File → Bool
 names_unknown f =
     list_any (λ (r : ReactorPart). list_any (reaction_unknown r) r.reactions) f.reactors
-    || list_any (λ (l : LinkPart). not (is_output f.reactors l.source && is_input f.reactors l.target)) f.links
+    || list_any (link_unknown f.reactors) f.links
     || list_any (λ (i : InputPart). not (is_input f.reactors i.port)) f.inputs
     || list_any (λ p. not (is_output f.reactors p)) f.outputs

@@ -1,6 +1,6 @@
 -- The program that a file stands for: its parts in file order, with numbers in the place of names.
 -- A name's number counts what stands before it in the file: all of its kind in the reactors before, and in its own reactor.
-use Rattle.std.specs.Prelude.{ℕ, ℤ, ◌+◌, unsigned_abs, Bool, true, false, List, [], ◌∷◌, ◌++◌, length, map, Option, option_map, bytes_eq, if◌then◌else◌}
+use Rattle.std.specs.Prelude.{ℕ, ◌+◌, unsigned_abs, true, false, List, [], ◌∷◌, ◌++◌, length, map, option_map, bytes_eq, if◌then◌else◌}
 use Rattle.std.specs.List.{position_or_len}
 use Rattle.warp_tag.specs.Limits.{last_microstep}
 use Rattle.warp_body.specs.Term.{Term, Constant, VariableAt, ValueAt, PresentAt, OfOne, OfTwo, Choice}

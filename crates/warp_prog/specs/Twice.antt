@@ -8,16 +8,24 @@ use Rattle.warp_prog.specs.declared.file.LinkPart.{LinkPart}
 use Rattle.warp_prog.specs.declared.file.InputPart.{InputPart}
 
 -- how often a value stands in a list
-abbrev pub how_often : {A : Type 0} → (A → A → Bool) → A → List A → ℕ
-how_often same x [] = 0
-how_often same x (y ∷ ys) = (if same x y then 1 else 0) + how_often same x ys
+abbrev pub how_often : {A : Type 0} → (A → A → Bool) → List A → A → ℕ
+how_often same [] x = 0
+how_often same (y ∷ ys) x = (if same x y then 1 else 0) + how_often same ys x
+
+-- a value that stands more than once
+abbrev pub stands_twice : {A : Type 0} → (A → A → Bool) → List A → A → Bool
+stands_twice same xs x = nat_lt 1 (how_often same xs x)
 
 -- a list in which a value stands more than once
 abbrev pub repeats : {A : Type 0} → (A → A → Bool) → List A → Bool
-repeats same xs = list_any (λ x. nat_lt 1 (how_often same x xs)) xs
+repeats same xs = list_any (stands_twice same xs) xs
+
+-- the names of the reactors
+abbrev pub reactor_names : List ReactorPart → List Word
+reactor_names rs = map (λ (r : ReactorPart). r.name) rs
 
 -- the names of a reactor, of all kinds, and `startup`
-abbrev pub all_names : ReactorPart → List Word
+unfoldable pub all_names : ReactorPart → List Word
 all_names r = startup ∷ (variable_names r ++ (r.inputs ++ (r.outputs ++ (action_names r ++ timer_names r))))
 
 -- whether two references are to the same port
@@ -25,13 +33,13 @@ abbrev pub same_port : PortName → PortName → Bool
 same_port p q = bytes_eq p.reactor q.reactor && bytes_eq p.port q.port
 
 -- the ports that links and program inputs lead to
-abbrev pub targets : File → List PortName
-targets f = map (λ (l : LinkPart). l.target) f.links ++ map (λ (i : InputPart). i.port) f.inputs
+abbrev pub targets : List LinkPart → List InputPart → List PortName
+targets ls is = map (λ (l : LinkPart). l.target) ls ++ map (λ (i : InputPart). i.port) is
 
 -- a file with a reactor's name twice, a name twice in a reactor, two sources of an input, or an output listed twice
 abbrev pub names_twice : File → Bool
 names_twice f =
-    repeats bytes_eq (map (λ (r : ReactorPart). r.name) f.reactors)
-    || list_any (λ r. repeats bytes_eq (all_names r)) f.reactors
-    || repeats same_port (targets f)
+    repeats bytes_eq (reactor_names f.reactors)
+    || list_any (λ (r : ReactorPart). repeats bytes_eq (all_names r)) f.reactors
+    || repeats same_port (targets f.links f.inputs)
     || repeats same_port f.outputs

@@ -1,5 +1,5 @@
 -- A file in which a body uses what its reaction does not declare.
-use Rattle.std.specs.Prelude.{Bool, true, not, ◌||◌, List}
+use Rattle.std.specs.Prelude.{Bool, true, not, ◌||◌}
 use Rattle.std.specs.List.{list_any}
 use Rattle.warp_prog.specs.File.{Word, File, ReactorPart, ReactionPart}
 use Rattle.warp_prog.specs.Uses.{Use, Reads, Asks, Sets, Puts, Schedules, body_uses, is_among, variable_names}

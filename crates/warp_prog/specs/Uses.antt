@@ -1,5 +1,5 @@
 -- What a body does with names, and what a name stands for in a reactor.
-use Rattle.std.specs.Prelude.{ℕ, ℤ, Bool, ◌||◌, List, [], ◌∷◌, ◌++◌, map, bytes_eq, codes}
+use Rattle.std.specs.Prelude.{Bool, ◌||◌, List, [], ◌∷◌, ◌++◌, map, bytes_eq, codes}
 use Rattle.std.specs.List.{list_any}
 use Rattle.warp_prog.specs.File.{Word, ReactorPart, NamedTerm, Literal, Named, PresentNamed, OneNamed, TwoNamed, ChoiceNamed, NamedStatement, SetNamed, PutNamed, ScheduleNamed, ChooseNamed, NamedBody, NamedDone, NamedThen}
 use Rattle.warp_prog.specs.declared.file.VariablePart.{VariablePart}
@@ -54,7 +54,10 @@ action_names r = map (λ (a : ActionPart). a.name) r.actions
 abbrev pub timer_names : ReactorPart → List Word
 timer_names r = map (λ (t : TimerPart). t.name) r.timers
 
--- a name of something whose presence starts a reaction: an input, an action, a timer or `startup`
+-- a name of what carries a value at a tag: an input or an action
+abbrev pub carries_value : ReactorPart → Word → Bool
+carries_value r name = is_among r.inputs name || is_among (action_names r) name
+
+-- a name of what can start a reaction: an input, an action, a timer or `startup`
 abbrev pub is_trigger : ReactorPart → Word → Bool
-is_trigger r name =
-    is_among r.inputs name || is_among (action_names r) name || is_among (timer_names r) name || bytes_eq name startup
+is_trigger r name = carries_value r name || (is_among (timer_names r) name || bytes_eq name startup)

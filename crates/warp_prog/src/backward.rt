@@ -23,7 +23,8 @@ pub(crate) fn leads_back(file: &ProgramFile) -> bool
 fn is_backward(reactors: &[Reactor], link: &LinkPart) -> bool
     ensures { result ≡ is_backward (map reactor_tree reactors.now) link.now }
 {
-    link.delay.is_none() && place(reactors, &link.target.reactor) <= place(reactors, &link.source.reactor)
+    link.delay.is_none()
+        && place(reactors, &link.target.reactor) <= place(reactors, &link.source.reactor)
 }
 
 /// The place of the first reactor of a name, from 0; how many there are where there is none.

@@ -4,10 +4,15 @@
 mod backward;
 mod file;
 mod law;
+mod limits;
 mod misread;
 mod name;
 mod named;
+mod names;
 mod numbered;
 mod operator;
 mod scope;
 mod shape;
+mod twice;
+mod undeclared;
+mod uses;

@@ -8,7 +8,7 @@ ghost use Rattle.warp_step.specs.Program.{rule_of};
 ghost use Rattle.warp_step.specs.View.{program_of};
 ghost use Rattle.warp_prog.specs.Load.{IsFaultless};
 ghost use Rattle.warp_prog.specs.Numbered.{nothing_before, past, its_variables, its_ports, its_actions, its_timers, its_reactions, in_each, numbered, numbered_link, numbered_input, source_number};
-ghost use Rattle.warp_prog.specs.Room.{HasRoom, HaveRoom};
+ghost use Rattle.warp_prog.specs.inner.Room.{HasRoom, HaveRoom};
 ghost use Rattle.warp_prog.specs.View.{file_tree, reactor_tree};
 ghost use Rattle.warp_prog.specs.declared.file.InputPart.{InputPart};
 

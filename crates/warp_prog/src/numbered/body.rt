@@ -4,7 +4,7 @@ ghost use Rattle.warp_body.specs.Effect.{statement_of, statements_of};
 ghost use Rattle.warp_body.specs.Term.{term_of};
 ghost use Rattle.warp_prog.specs.File.{Named};
 ghost use Rattle.warp_prog.specs.Numbered.{numbered_term, numbered_statement, numbered_body};
-ghost use Rattle.warp_prog.specs.Room.{HasRoom};
+ghost use Rattle.warp_prog.specs.inner.Room.{HasRoom};
 ghost use Rattle.warp_prog.specs.View.{reactor_tree, term_tree, statement_tree, body_tree};
 
 use crate::file::{Expression, Reactor, Statement};

@@ -3,7 +3,7 @@ ghost use Rattle.std.specs.Prelude.{◌≡◌, ◌++◌, ◌∷◌, [], IfOk, On
 ghost use Rattle.warp_step.specs.Program.{rule_of};
 ghost use Rattle.warp_step.specs.Valid.{names};
 ghost use Rattle.warp_prog.specs.Numbered.{readable, writable, once, numbered_reaction};
-ghost use Rattle.warp_prog.specs.Room.{HasRoom};
+ghost use Rattle.warp_prog.specs.inner.Room.{HasRoom};
 ghost use Rattle.warp_prog.specs.View.{reactor_tree, reaction_tree};
 
 use crate::file::{Reaction, Reactor};

@@ -3,7 +3,7 @@ ghost use Rattle.std.specs.Prelude.{◌≡◌, ◌++◌, OnOk, map};
 ghost use Rattle.warp_step.specs.Program.{rule_of};
 ghost use Rattle.warp_prog.specs.File.{Word};
 ghost use Rattle.warp_prog.specs.Numbered.{its_variables, its_ports, its_actions, its_timers, its_reactions};
-ghost use Rattle.warp_prog.specs.Room.{HasRoom};
+ghost use Rattle.warp_prog.specs.inner.Room.{HasRoom};
 ghost use Rattle.warp_prog.specs.View.{reactor_tree};
 
 use crate::file::Reactor;

@@ -90,7 +90,7 @@ fn of_three(
 
 /// A list of a word and its parts.
 #[cycle(term)]
-#[tactic(auto, using(crate::proofs::EachLemmas::no_term))]
+#[tactic(auto, using(crate::proofs::ItemLemmas::too_few, crate::proofs::ItemLemmas::too_many))]
 fn parts(alloc: Global, items: &[Value]) -> Result<Expression, Misread>
     ensures ok { IfOk result (λ e. term_of (array (items_view items.now)) ≡ Some (term_tree e)) }
     ensures err { result ≡ Err Misread.Shape → term_of (array (items_view items.now)) ≡ None }
@@ -118,7 +118,9 @@ fn parts(alloc: Global, items: &[Value]) -> Result<Expression, Misread>
             let second = expression(alloc, second)?;
             of_three(alloc, word, test, first, second)
         }
-        _ => Err(Misread::Shape),
+        [] => Err(Misread::Shape),
+        [_] => Err(Misread::Shape),
+        [_, _, _, _, _, ..] => Err(Misread::Shape),
     }
 }
 

@@ -83,7 +83,7 @@ pub(crate) fn has_only(value: &Value, keys: &[&str]) -> bool
 }
 
 /// The two values of a list of two.
-#[tactic(auto, using(crate::proofs::EachLemmas::not_two))]
+#[tactic(auto, using(crate::proofs::ItemLemmas::not_two))]
 pub(crate) fn pair(value: &Value) -> Option<(&Value, &Value)>
     ensures { option_map (λ p. (view p.0.now, view p.1.now)) result ≡ pair_of (view value.now) }
 {
@@ -94,7 +94,7 @@ pub(crate) fn pair(value: &Value) -> Option<(&Value, &Value)>
 }
 
 /// The three values of a list of three.
-#[tactic(auto, using(crate::proofs::EachLemmas::not_three))]
+#[tactic(auto, using(crate::proofs::ItemLemmas::not_three))]
 pub(crate) fn triple(value: &Value) -> Option<(&Value, &Value, &Value)>
     ensures { option_map (λ p. (view p.0.now, view p.1.now, view p.2.now)) result ≡ triple_of (view value.now) }
 {

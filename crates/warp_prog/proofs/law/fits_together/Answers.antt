@@ -1,11 +1,5 @@
-use Rattle.std.proofs.Common.{rules, ◌≡◌, IsTrue}
-use Rattle.warp_step.specs.Valid.{is_valid}
-use Rattle.warp_prog.specs.File.{File}
-use Rattle.warp_prog.specs.Load.{IsFaultless}
-use Rattle.warp_prog.specs.Numbered.{numbered}
-use Rattle.warp_prog.proofs.Stands.{stand_all}
-use Rattle.warp_prog.proofs.OnceLemmas.{once-every}
+use Rattle.warp_prog.proofs.Fits.{fits-together}
 use Rattle.warp_prog.proofs.law.fits_together.Goals as goal
 
 pub returns : goal.returns
-returns c = ?
+returns c = λ f h. fits-together f h

@@ -2,7 +2,7 @@
 use Rattle.std.proofs.Common.{◌≡◌, ◌++◌, map, drop}
 use Rattle.warp_step.specs.Program.{rule_of}
 use Rattle.warp_prog.specs.Numbered.{nothing_before, in_each, its_variables, its_ports, its_actions, its_timers, its_reactions}
-use Rattle.warp_prog.specs.Room.{HaveRoom}
+use Rattle.warp_prog.specs.inner.Room.{HaveRoom}
 use Rattle.warp_prog.specs.View.{reactor_tree}
 use Rattle.warp_prog.proofs.numbered.contents_of.Given as goal
 

@@ -1,7 +1,7 @@
 use Rattle.std.proofs.Common.{◌≡◌, drop}
 use Rattle.serde_json.specs.View.{items_view}
 use Rattle.warp_prog.specs.Json.{each}
-use Rattle.warp_prog.proofs.EachLemmas.{after}
+use Rattle.warp_prog.proofs.ItemLemmas.{after}
 use Rattle.warp_prog.proofs.shape.json.each.Given as goal
 
 abbrev pub invariant-loop-item : goal.invariant-loop-item

@@ -1,0 +1,9 @@
+-- some link that is left exceeds its limits exactly if some of all does
+use Rattle.std.proofs.Common.{◌≡◌, drop}
+use Rattle.std.specs.List.{list_any}
+use Rattle.warp_prog.specs.Limits.{link_exceeds}
+use Rattle.warp_prog.proofs.limits.any_link.Given as goal
+
+abbrev pub invariant-loop-link : goal.invariant-loop-link
+invariant-loop-link l =
+    list_any link_exceeds (drop l.link-index l.links) ≡ list_any link_exceeds l.links

@@ -1,0 +1,9 @@
+-- some timer that is left exceeds its limits exactly if some of all does
+use Rattle.std.proofs.Common.{◌≡◌, drop}
+use Rattle.std.specs.List.{list_any}
+use Rattle.warp_prog.specs.Limits.{timer_exceeds}
+use Rattle.warp_prog.proofs.limits.any_timer.Given as goal
+
+abbrev pub invariant-loop-timer : goal.invariant-loop-timer
+invariant-loop-timer l =
+    list_any timer_exceeds (drop l.timer-index l.timers) ≡ list_any timer_exceeds l.timers

@@ -1,0 +1,220 @@
+//! Files that go past a limit.
+ghost use Rattle.std.specs.Prelude.{◌≡◌, ◌≤◌, ◌-◌, ℕ, map, nat_lt, SomeIff};
+ghost use Rattle.std.specs.List.{list_any};
+ghost use Rattle.warp_tag.specs.Limits.{most_variables, most_ports, most_actions, most_timers, most_reactions};
+ghost use Rattle.warp_prog.specs.Limits.{is_outside, period_exceeds, origin_exceeds, numbers_exceed, lists_exceed, total, totals_exceed, action_exceeds, timer_exceeds, link_exceeds, reaction_exceeds, reactor_exceeds, parts_exceed, exceeds_limits};
+ghost use Rattle.warp_prog.specs.View.{file_tree, reactor_tree, reaction_tree};
+ghost use Rattle.warp_prog.specs.inner.Kind.{count_of};
+ghost use Rattle.warp_prog.specs.declared.file.InputPart.{InputPart};
+
+mod body;
+
+use crate::file::{ActionPart, InputPart, LinkPart, ProgramFile, Reaction, Reactor, TimerPart};
+use crate::limits::body::body_exceeds;
+
+const VERSION: i64 = 1;
+
+const LONGEST_STOP: i64 = 1_000_000;
+
+const LONGEST_PERIOD: i64 = 1_000_000;
+
+const MOST_ORIGINS: i64 = 32;
+
+const MOST_REACTORS: usize = 64;
+
+const MOST_VARIABLES: usize = 256;
+
+const MOST_PORTS: usize = 256;
+
+const MOST_ACTIONS: usize = 64;
+
+const MOST_TIMERS: usize = 16;
+
+const MOST_REACTIONS: usize = 256;
+
+const MOST_LINKS: usize = 256;
+
+const MOST_INPUTS: usize = 64;
+
+const MOST_OUTPUTS: usize = 64;
+
+/// Things of which all reactors together have a limit.
+enum Kind {
+    Variables,
+    /// Inputs and outputs together.
+    Ports,
+    Actions,
+    Timers,
+    Reactions,
+}
+
+/// Whether a file goes past a limit: a number outside its range, too many things, or a body past its own limits.
+pub(crate) fn exceeds_limits(file: &ProgramFile) -> bool
+    ensures { result ≡ exceeds_limits (file_tree file.now) }
+{
+    numbers_exceed(file)
+        || lists_exceed(file)
+        || totals_exceed(&file.reactors)
+        || parts_exceed(file)
+}
+
+fn numbers_exceed(file: &ProgramFile) -> bool
+    ensures { result ≡ numbers_exceed (file_tree file.now) }
+{
+    is_outside(file.version, VERSION, VERSION)
+        || is_outside(file.stop, 0, LONGEST_STOP)
+        || is_outside(file.origins, 1, MOST_ORIGINS)
+}
+
+fn lists_exceed(file: &ProgramFile) -> bool
+    ensures { result ≡ lists_exceed (file_tree file.now) }
+{
+    file.reactors.len() > MOST_REACTORS
+        || file.links.len() > MOST_LINKS
+        || file.inputs.len() > MOST_INPUTS
+        || file.outputs.len() > MOST_OUTPUTS
+}
+
+fn totals_exceed(reactors: &[Reactor]) -> bool
+    ensures { result ≡ totals_exceed (map reactor_tree reactors.now) }
+{
+    are_more(reactors, &Kind::Variables, MOST_VARIABLES)
+        || are_more(reactors, &Kind::Ports, MOST_PORTS)
+        || are_more(reactors, &Kind::Actions, MOST_ACTIONS)
+        || are_more(reactors, &Kind::Timers, MOST_TIMERS)
+        || are_more(reactors, &Kind::Reactions, MOST_REACTIONS)
+}
+
+/// Whether all reactors together have more of a kind than so many.
+fn are_more(reactors: &[Reactor], kind: &Kind, most: usize) -> bool
+    ensures { result ≡ nat_lt most (total (count_of kind.now) (map reactor_tree reactors.now)) }
+{
+    room_after_all(reactors, kind, most).is_none()
+}
+
+/// The room that is left of so much after the things of a kind in all reactors; `None` where it is not enough.
+fn room_after_all(reactors: &[Reactor], kind: &Kind, room: usize) -> Option<usize>
+    ensures { let n = total (count_of kind.now) (map reactor_tree reactors.now) in SomeIff result (n ≤ room) (room - n) }
+{
+    let mut left = room;
+    for reactor in reactors {
+        left = room_after(reactor, kind, left)?;
+    }
+    Some(left)
+}
+
+/// The room that is left of so much after the things of a kind in a reactor; `None` where it is not enough.
+fn room_after(reactor: &Reactor, kind: &Kind, room: usize) -> Option<usize>
+    ensures { let n = count_of kind.now (reactor_tree reactor.now) in SomeIff result (n ≤ room) (room - n) }
+{
+    match kind {
+        Kind::Variables => room.checked_sub(reactor.variables.len()),
+        Kind::Ports => room
+            .checked_sub(reactor.inputs.len())?
+            .checked_sub(reactor.outputs.len()),
+        Kind::Actions => room.checked_sub(reactor.actions.len()),
+        Kind::Timers => room.checked_sub(reactor.timers.len()),
+        Kind::Reactions => room.checked_sub(reactor.reactions.len()),
+    }
+}
+
+fn parts_exceed(file: &ProgramFile) -> bool
+    ensures { result ≡ parts_exceed (file_tree file.now) }
+{
+    any_reactor(&file.reactors) || any_link(&file.links) || any_input(&file.inputs, file.origins)
+}
+
+fn any_reactor(reactors: &[Reactor]) -> bool
+    ensures { result ≡ list_any reactor_exceeds (map reactor_tree reactors.now) }
+{
+    for reactor in reactors {
+        if reactor_exceeds(reactor) {
+            return true;
+        }
+    }
+    false
+}
+
+fn reactor_exceeds(reactor: &Reactor) -> bool
+    ensures { result ≡ reactor_exceeds (reactor_tree reactor.now) }
+{
+    any_action(&reactor.actions) || any_timer(&reactor.timers) || any_reaction(&reactor.reactions)
+}
+
+fn any_action(actions: &[ActionPart]) -> bool
+    ensures { result ≡ list_any action_exceeds actions.now }
+{
+    for action in actions {
+        if period_exceeds(action.delay) {
+            return true;
+        }
+    }
+    false
+}
+
+fn any_timer(timers: &[TimerPart]) -> bool
+    ensures { result ≡ list_any timer_exceeds timers.now }
+{
+    for timer in timers {
+        if period_exceeds(timer.offset) || period_exceeds(timer.period) {
+            return true;
+        }
+    }
+    false
+}
+
+fn any_reaction(reactions: &[Reaction]) -> bool
+    ensures { result ≡ list_any reaction_exceeds (map reaction_tree reactions.now) }
+{
+    for reaction in reactions {
+        if body_exceeds(&reaction.body) {
+            return true;
+        }
+    }
+    false
+}
+
+fn any_link(links: &[LinkPart]) -> bool
+    ensures { result ≡ list_any link_exceeds links.now }
+{
+    for link in links {
+        if link_exceeds(link) {
+            return true;
+        }
+    }
+    false
+}
+
+fn link_exceeds(link: &LinkPart) -> bool
+    ensures { result ≡ link_exceeds link.now }
+{
+    match link.delay {
+        None => false,
+        Some(delay) => period_exceeds(delay),
+    }
+}
+
+fn any_input(inputs: &[InputPart], origins: i64) -> bool
+    ensures { result ≡ list_any (λ (i : InputPart). origin_exceeds origins i.origin) inputs.now }
+{
+    for input in inputs {
+        if input.origin < 0 || input.origin >= origins {
+            return true;
+        }
+    }
+    false
+}
+
+/// Whether a delay, an offset or a period is outside its range.
+fn period_exceeds(number: i64) -> bool
+    ensures { result ≡ period_exceeds number }
+{
+    is_outside(number, 0, LONGEST_PERIOD)
+}
+
+/// Whether a number is not one of `low` to `high`.
+fn is_outside(number: i64, low: i64, high: i64) -> bool
+    ensures { result ≡ is_outside low high number }
+{
+    number < low || number > high
+}

@@ -1,0 +1,248 @@
+//! Names and ports that stand twice where they may stand once.
+ghost use Rattle.std.specs.Prelude.{◌≡◌, ◌≤◌, ◌+◌, ◌-◌, ◌||◌, List, ℕ, map, bytes_eq, SomeIff, if◌then◌else◌};
+ghost use Rattle.std.specs.List.{list_any};
+ghost use Rattle.warp_prog.specs.File.{ReactorPart};
+ghost use Rattle.warp_prog.specs.Twice.{how_often, stands_twice, repeats, reactor_names, all_names, same_port, targets, names_twice};
+ghost use Rattle.warp_prog.specs.Uses.{startup, action_names, timer_names};
+ghost use Rattle.warp_prog.specs.View.{file_tree, reactor_tree};
+ghost use Rattle.warp_prog.specs.declared.file.PortName.{PortName};
+
+use crate::file::{InputPart, LinkPart, PortName, ProgramFile, Reactor};
+use crate::named::{Named, is_same};
+
+/// How often a name or a port may stand.
+const ONCE: usize = 1;
+
+/// Whether a reactor's name or a name within a reactor stands twice, an input has two sources, or an output is listed twice.
+pub(crate) fn names_twice(file: &ProgramFile) -> bool
+    ensures { result ≡ names_twice (file_tree file.now) }
+{
+    reactors_repeat(&file.reactors)
+        || any_names_repeat(&file.reactors)
+        || targets_repeat(&file.links, &file.inputs)
+        || outputs_repeat(&file.outputs)
+}
+
+fn reactors_repeat(reactors: &[Reactor]) -> bool
+    ensures { result ≡ repeats bytes_eq (reactor_names (map reactor_tree reactors.now)) }
+{
+    for reactor in reactors {
+        if room_for_reactor(reactors, reactor.name.as_str(), ONCE).is_none() {
+            return true;
+        }
+    }
+    false
+}
+
+/// The room that is left of so much after the reactors of this name; `None` where it is not enough.
+fn room_for_reactor(reactors: &[Reactor], name: &str, room: usize) -> Option<usize>
+    ensures { let n = how_often bytes_eq (reactor_names (map reactor_tree reactors.now)) name.now in SomeIff result (n ≤ room) (room - n) }
+{
+    let mut left = room;
+    for reactor in reactors {
+        if name == reactor.name.as_str() {
+            left = left.checked_sub(1)?;
+        }
+    }
+    Some(left)
+}
+
+fn any_names_repeat(reactors: &[Reactor]) -> bool
+    ensures { result ≡ list_any (λ (r : ReactorPart). repeats bytes_eq (all_names r)) (map reactor_tree reactors.now) }
+{
+    for reactor in reactors {
+        if names_repeat(reactor) {
+            return true;
+        }
+    }
+    false
+}
+
+#[tactic(auto, using(crate::proofs::AllNames::any_all_names))]
+fn names_repeat(reactor: &Reactor) -> bool
+    ensures { result ≡ repeats bytes_eq (all_names (reactor_tree reactor.now)) }
+{
+    stands_twice(reactor, "startup")
+        || any_stands_twice(reactor, &reactor.variables)
+        || port_names_repeat(reactor)
+        || cause_names_repeat(reactor)
+}
+
+/// Whether the name of an input or an output stands twice in its reactor.
+fn port_names_repeat(reactor: &Reactor) -> bool
+    ensures { let p = stands_twice bytes_eq (all_names (reactor_tree reactor.now)) in
+        result ≡ (list_any p reactor.now.inputs.items || list_any p reactor.now.outputs.items) }
+{
+    any_stands_twice(reactor, &reactor.inputs) || any_stands_twice(reactor, &reactor.outputs)
+}
+
+/// Whether the name of an action or a timer stands twice in its reactor.
+fn cause_names_repeat(reactor: &Reactor) -> bool
+    ensures { let p = stands_twice bytes_eq (all_names (reactor_tree reactor.now)) in
+        result ≡ (list_any p (action_names (reactor_tree reactor.now)) || list_any p (timer_names (reactor_tree reactor.now))) }
+{
+    any_stands_twice(reactor, &reactor.actions) || any_stands_twice(reactor, &reactor.timers)
+}
+
+/// Whether the name of one of these things stands twice in the reactor.
+fn any_stands_twice<T: Named>(reactor: &Reactor, things: &[T]) -> bool
+    ensures { result ≡ list_any (stands_twice bytes_eq (all_names (reactor_tree reactor.now))) (map T.called things.now) }
+{
+    for thing in things {
+        if stands_twice(reactor, thing.name().as_str()) {
+            return true;
+        }
+    }
+    false
+}
+
+fn stands_twice(reactor: &Reactor, name: &str) -> bool
+    ensures { result ≡ stands_twice bytes_eq (all_names (reactor_tree reactor.now)) name.now }
+{
+    room_in_reactor(reactor, name).is_none()
+}
+
+/// The room that is left for a name in a reactor; `None` where it stands twice.
+fn room_in_reactor(reactor: &Reactor, name: &str) -> Option<usize>
+    ensures { let n = how_often bytes_eq (all_names (reactor_tree reactor.now)) name.now in SomeIff result (n ≤ 1) (1 - n) }
+{
+    let beside = room_beside_startup(name);
+    let left = room_for(&reactor.variables, name, beside)?;
+    let rest = room_for_port_name(reactor, name, left)?;
+    room_for_cause_name(reactor, name, rest)
+}
+
+/// The room for a name beside `startup`.
+fn room_beside_startup(name: &str) -> usize
+    ensures { (if bytes_eq name.now startup then 1 else 0) + result ≡ 1 }
+{
+    if name == "startup" { 0 } else { ONCE }
+}
+
+/// The room that is left of so much after the inputs and outputs of this name; `None` where it is not enough.
+fn room_for_port_name(reactor: &Reactor, name: &str, room: usize) -> Option<usize>
+    ensures { let n = how_often bytes_eq reactor.now.inputs.items name.now + how_often bytes_eq reactor.now.outputs.items name.now in
+        SomeIff result (n ≤ room) (room - n) }
+{
+    let left = room_for(&reactor.inputs, name, room)?;
+    room_for(&reactor.outputs, name, left)
+}
+
+/// The room that is left of so much after the actions and timers of this name; `None` where it is not enough.
+fn room_for_cause_name(reactor: &Reactor, name: &str, room: usize) -> Option<usize>
+    ensures { let n = how_often bytes_eq (action_names (reactor_tree reactor.now)) name.now + how_often bytes_eq (timer_names (reactor_tree reactor.now)) name.now in
+        SomeIff result (n ≤ room) (room - n) }
+{
+    let left = room_for(&reactor.actions, name, room)?;
+    room_for(&reactor.timers, name, left)
+}
+
+/// The room that is left of so much after the things of this name; `None` where it is not enough.
+fn room_for<T: Named>(things: &[T], name: &str, room: usize) -> Option<usize>
+    ensures { let n = how_often bytes_eq (map T.called things.now) name.now in SomeIff result (n ≤ room) (room - n) }
+{
+    let mut left = room;
+    for thing in things {
+        if name == thing.name().as_str() {
+            left = left.checked_sub(1)?;
+        }
+    }
+    Some(left)
+}
+
+/// A thing that refers to a port.
+trait Refers {
+    ghost refers_to: { Self → PortName };
+
+    /// The port.
+    fn port(&self) -> &PortName
+        ensures { result.now ≡ refers_to self.now };
+}
+
+impl Refers for PortName {
+    ghost refers_to = { λ p. p };
+
+    fn port(&self) -> &PortName {
+        self
+    }
+}
+
+impl Refers for LinkPart {
+    ghost refers_to = { λ l. l.target };
+
+    fn port(&self) -> &PortName {
+        &self.target
+    }
+}
+
+impl Refers for InputPart {
+    ghost refers_to = { λ i. i.port };
+
+    fn port(&self) -> &PortName {
+        &self.port
+    }
+}
+
+#[tactic(auto, using(crate::proofs::Anys::anys))]
+fn targets_repeat(links: &[LinkPart], inputs: &[InputPart]) -> bool
+    ensures { result ≡ repeats same_port (targets links.now inputs.now) }
+{
+    any_target_twice(links, inputs, links) || any_target_twice(links, inputs, inputs)
+}
+
+/// Whether the port of one of these things has two sources among the links and program inputs.
+fn any_target_twice<T: Refers>(links: &[LinkPart], inputs: &[InputPart], things: &[T]) -> bool
+    ensures { result ≡ list_any (stands_twice same_port (targets links.now inputs.now)) (map T.refers_to things.now) }
+{
+    for thing in things {
+        if has_two_sources(links, inputs, thing.port()) {
+            return true;
+        }
+    }
+    false
+}
+
+fn has_two_sources(links: &[LinkPart], inputs: &[InputPart], port: &PortName) -> bool
+    ensures { result ≡ stands_twice same_port (targets links.now inputs.now) port.now }
+{
+    room_for_source(links, inputs, port).is_none()
+}
+
+/// The room that is left for a source of a port; `None` where it has two.
+#[tactic(auto, using(crate::proofs::AllNames::counts))]
+fn room_for_source(links: &[LinkPart], inputs: &[InputPart], port: &PortName) -> Option<usize>
+    ensures { let n = how_often same_port (targets links.now inputs.now) port.now in SomeIff result (n ≤ 1) (1 - n) }
+{
+    let left = room_for_port(links, port, ONCE)?;
+    room_for_port(inputs, port, left)
+}
+
+fn outputs_repeat(outputs: &[PortName]) -> bool
+    ensures { result ≡ repeats same_port outputs.now }
+{
+    for port in outputs {
+        if room_for_port(outputs, port, ONCE).is_none() {
+            return true;
+        }
+    }
+    false
+}
+
+/// The room that is left of so much after the things that refer to this port; `None` where it is not enough.
+fn room_for_port<T: Refers>(things: &[T], port: &PortName, room: usize) -> Option<usize>
+    ensures { let n = how_often same_port (map T.refers_to things.now) port.now in SomeIff result (n ≤ room) (room - n) }
+{
+    let mut left = room;
+    for thing in things {
+        if is_same_port(port, thing.port()) {
+            left = left.checked_sub(1)?;
+        }
+    }
+    Some(left)
+}
+
+fn is_same_port(a: &PortName, b: &PortName) -> bool
+    ensures { result ≡ same_port a.now b.now }
+{
+    is_same(&a.reactor, &b.reactor) && is_same(&a.port, &b.port)
+}
