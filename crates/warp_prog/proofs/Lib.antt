@@ -15,3 +15,4 @@ pub mod Eachs
 pub mod Ports
 pub mod Links
 pub mod Fits
+pub mod RoomLemmas

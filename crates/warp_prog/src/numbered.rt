@@ -40,14 +40,14 @@ pub(crate) fn numbered(alloc: Global, file: &ProgramFile) -> Result<Parts, OutOf
     requires { IsFaultless (file_tree file.now) }
     ensures { IfOk result (λ parts. program_of parts ≡ numbered (file_tree file.now)) }
 {
-    let reactors = &file.reactors;
+    let reactors: &[Reactor] = &file.reactors;
     let contents = contents_of(alloc, reactors)?;
     let links = numbered_links(alloc, reactors, &file.links)?;
     let inputs = numbered_inputs(alloc, reactors, &file.inputs)?;
     let outputs = numbered_outputs(alloc, reactors, &file.outputs)?;
     Ok(Parts {
-        stop: file.stop.unsigned_abs(),
-        origins: file.origins.unsigned_abs() as u32,
+        stop: stop_of(file),
+        origins: origins_of(file),
         reactors: reactors.len() as u32,
         variables: contents.variables,
         ports: contents.ports,
@@ -58,6 +58,19 @@ pub(crate) fn numbered(alloc: Global, file: &ProgramFile) -> Result<Parts, OutOf
         inputs,
         outputs,
     })
+}
+
+fn stop_of(file: &ProgramFile) -> u64
+    ensures { result ≡ unsigned_abs file.now.stop }
+{
+    file.stop.unsigned_abs()
+}
+
+fn origins_of(file: &ProgramFile) -> u32
+    requires { unsigned_abs file.now.origins < 2 ^ 32 }
+    ensures { result ≡ unsigned_abs file.now.origins }
+{
+    file.origins.unsigned_abs() as u32
 }
 
 /// What stands in these reactors.
@@ -103,7 +116,11 @@ impl Contents {
     }
 }
 
-fn numbered_links(alloc: Global, reactors: &[Reactor], links: &[LinkPart]) -> Result<Vec<Link>, OutOfMemory>
+fn numbered_links(
+    alloc: Global,
+    reactors: &[Reactor],
+    links: &[LinkPart],
+) -> Result<Vec<Link>, OutOfMemory>
     requires { HaveRoom nothing_before (map reactor_tree reactors.now) }
     ensures { IfOk result (λ ls. ls.items ≡ map (numbered_link (map reactor_tree reactors.now)) links.now) }
 {
@@ -129,7 +146,11 @@ fn numbered_link(reactors: &[Reactor], link: &LinkPart) -> Link
     }
 }
 
-fn numbered_inputs(alloc: Global, reactors: &[Reactor], inputs: &[InputPart]) -> Result<Vec<ProgramInput>, OutOfMemory>
+fn numbered_inputs(
+    alloc: Global,
+    reactors: &[Reactor],
+    inputs: &[InputPart],
+) -> Result<Vec<ProgramInput>, OutOfMemory>
     requires room { HaveRoom nothing_before (map reactor_tree reactors.now) }
     requires origins { IsTrue (list_all (λ (i : InputPart). nat_lt (unsigned_abs i.origin) (2 ^ 32)) inputs.now) }
     ensures { IfOk result (λ is. is.items ≡ map (numbered_input (map reactor_tree reactors.now)) inputs.now) }
@@ -144,7 +165,11 @@ fn numbered_inputs(alloc: Global, reactors: &[Reactor], inputs: &[InputPart]) ->
     Ok(numbered)
 }
 
-fn numbered_outputs(alloc: Global, reactors: &[Reactor], outputs: &[PortName]) -> Result<Vec<u32>, OutOfMemory>
+fn numbered_outputs(
+    alloc: Global,
+    reactors: &[Reactor],
+    outputs: &[PortName],
+) -> Result<Vec<u32>, OutOfMemory>
     requires { HaveRoom nothing_before (map reactor_tree reactors.now) }
     ensures { IfOk result (λ ns. ns.items ≡ map (source_number (map reactor_tree reactors.now)) outputs.now) }
 {

@@ -1,5 +1,5 @@
 -- For the proofs of the numbers: what stands before a reactor, with what stands in it, is within the limits of a program.
-use Rattle.std.specs.Prelude.{ℕ, ◌+◌, ◌<◌, ◌≤◌, List, length}
+use Rattle.std.specs.Prelude.{◌+◌, ◌<◌, ◌≤◌, List, length}
 use Rattle.warp_tag.specs.Limits.{most_reactors, most_variables, most_ports, most_actions, most_timers}
 use Rattle.warp_prog.specs.File.{ReactorPart}
 use Rattle.warp_prog.specs.Limits.{total}

@@ -28,7 +28,12 @@ fn numbered_name(before: &Before, reactor: &Reactor, name: &Name) -> Expr
     }
 }
 
-fn numbered_term(alloc: Global, before: &Before, reactor: &Reactor, term: &Expression) -> Result<Expr, OutOfMemory>
+fn numbered_term(
+    alloc: Global,
+    before: &Before,
+    reactor: &Reactor,
+    term: &Expression,
+) -> Result<Expr, OutOfMemory>
     requires { HasRoom before.now (reactor_tree reactor.now) }
     ensures { IfOk result (λ e. term_of e ≡ numbered_term before.now (reactor_tree reactor.now) (term_tree term.now)) }
 {
@@ -55,7 +60,12 @@ fn numbered_term(alloc: Global, before: &Before, reactor: &Reactor, term: &Expre
 }
 
 #[cycle(numbered_statement)]
-fn numbered_statement(alloc: Global, before: &Before, reactor: &Reactor, statement: &Statement) -> Result<Stmt, OutOfMemory>
+fn numbered_statement(
+    alloc: Global,
+    before: &Before,
+    reactor: &Reactor,
+    statement: &Statement,
+) -> Result<Stmt, OutOfMemory>
     requires { HasRoom before.now (reactor_tree reactor.now) }
     ensures { IfOk result (λ s. statement_of s ≡ numbered_statement before.now (reactor_tree reactor.now) (statement_tree statement.now)) }
 {
@@ -70,7 +80,11 @@ fn numbered_statement(alloc: Global, before: &Before, reactor: &Reactor, stateme
         }
         Statement::Schedule(name, delay, term) => {
             let action = action_number(before, reactor, name);
-            Ok(Stmt::Schedule(action, delay.unsigned_abs(), numbered_term(alloc, before, reactor, term)?))
+            Ok(Stmt::Schedule(
+                action,
+                delay.unsigned_abs(),
+                numbered_term(alloc, before, reactor, term)?,
+            ))
         }
         Statement::If(condition, first, second) => {
             let condition = numbered_term(alloc, before, reactor, condition)?;
@@ -83,7 +97,12 @@ fn numbered_statement(alloc: Global, before: &Before, reactor: &Reactor, stateme
 
 /// The statements of a body in a reactor.
 #[cycle(numbered_statement)]
-pub(crate) fn numbered_body(alloc: Global, before: &Before, reactor: &Reactor, body: &[Statement]) -> Result<Vec<Stmt>, OutOfMemory>
+pub(crate) fn numbered_body(
+    alloc: Global,
+    before: &Before,
+    reactor: &Reactor,
+    body: &[Statement],
+) -> Result<Vec<Stmt>, OutOfMemory>
     requires { HasRoom before.now (reactor_tree reactor.now) }
     ensures { IfOk result (λ ss. statements_of ss.items ≡ numbered_body before.now (reactor_tree reactor.now) (body_tree (map statement_tree body.now))) }
 {

@@ -109,7 +109,7 @@ fn readable_cause(before: &Before, reactor: &Reactor, name: &Name) -> Target
     requires { HasRoom before.now (reactor_tree reactor.now) }
     ensures { let b = before.now in let r = reactor_tree reactor.now in
         result ≡ (if is_among (action_names r) name.now then Action (action_number b r name.now)
-            else (if is_among (timer_names r) name.now then Timer (timer_number b r name.now) else Startup)) }
+        else (if is_among (timer_names r) name.now then Timer (timer_number b r name.now) else Startup)) }
 {
     if is_among(&reactor.actions, name) {
         Target::Action(action_number(before, reactor, name))

@@ -38,7 +38,12 @@ fn add_once(targets: &mut Vec<Target>, target: Target) -> Result<(), OutOfMemory
 }
 
 /// What these names stand for where something is read, each once.
-fn all_readable(alloc: Global, before: &Before, reactor: &Reactor, names: &[Name]) -> Result<Vec<Target>, OutOfMemory>
+fn all_readable(
+    alloc: Global,
+    before: &Before,
+    reactor: &Reactor,
+    names: &[Name],
+) -> Result<Vec<Target>, OutOfMemory>
     requires { HasRoom before.now (reactor_tree reactor.now) }
     ensures { IfOk result (λ ts. ts.items ≡ once (map (readable before.now (reactor_tree reactor.now)) names.now)) }
 {
@@ -50,7 +55,12 @@ fn all_readable(alloc: Global, before: &Before, reactor: &Reactor, names: &[Name
 }
 
 /// What these names stand for where something is written, each once.
-fn all_writable(alloc: Global, before: &Before, reactor: &Reactor, names: &[Name]) -> Result<Vec<Target>, OutOfMemory>
+fn all_writable(
+    alloc: Global,
+    before: &Before,
+    reactor: &Reactor,
+    names: &[Name],
+) -> Result<Vec<Target>, OutOfMemory>
     requires { HasRoom before.now (reactor_tree reactor.now) }
     ensures { IfOk result (λ ts. ts.items ≡ once (map (writable before.now (reactor_tree reactor.now)) names.now)) }
 {
@@ -62,7 +72,12 @@ fn all_writable(alloc: Global, before: &Before, reactor: &Reactor, names: &[Name
 }
 
 /// A reaction of a reactor.
-pub(crate) fn numbered_reaction(alloc: Global, before: &Before, reactor: &Reactor, reaction: &Reaction) -> Result<warp_step::Reaction, OutOfMemory>
+pub(crate) fn numbered_reaction(
+    alloc: Global,
+    before: &Before,
+    reactor: &Reactor,
+    reaction: &Reaction,
+) -> Result<warp_step::Reaction, OutOfMemory>
     requires { HasRoom before.now (reactor_tree reactor.now) }
     ensures { IfOk result (λ n. rule_of n ≡ numbered_reaction before.now (reactor_tree reactor.now) (reaction_tree reaction.now)) }
 {

@@ -15,7 +15,11 @@ use warp_step::{Action, Port, Reaction, Timer, Variable};
 use warp_tag::OutOfMemory;
 
 /// Adds the variables of a reactor.
-pub(crate) fn add_variables(variables: &mut Vec<Variable>, before: &Before, reactor: &Reactor) -> Result<(), OutOfMemory>
+pub(crate) fn add_variables(
+    variables: &mut Vec<Variable>,
+    before: &Before,
+    reactor: &Reactor,
+) -> Result<(), OutOfMemory>
     requires { HasRoom before.now (reactor_tree reactor.now) }
     ensures { OnOk result (variables.new.items ≡ variables.old.items ++ its_variables before.now (reactor_tree reactor.now)) }
 {
@@ -29,7 +33,11 @@ pub(crate) fn add_variables(variables: &mut Vec<Variable>, before: &Before, reac
 }
 
 /// Adds the ports of a reactor: its inputs, then its outputs.
-pub(crate) fn add_ports(ports: &mut Vec<Port>, before: &Before, reactor: &Reactor) -> Result<(), OutOfMemory>
+pub(crate) fn add_ports(
+    ports: &mut Vec<Port>,
+    before: &Before,
+    reactor: &Reactor,
+) -> Result<(), OutOfMemory>
     requires { HasRoom before.now (reactor_tree reactor.now) }
     ensures { OnOk result (ports.new.items ≡ ports.old.items ++ its_ports before.now (reactor_tree reactor.now)) }
 {
@@ -40,7 +48,12 @@ pub(crate) fn add_ports(ports: &mut Vec<Port>, before: &Before, reactor: &Reacto
 }
 
 /// Adds a port of a reactor for each of these names.
-fn add_each(ports: &mut Vec<Port>, names: &[Name], reactor: u32, is_input: bool) -> Result<(), OutOfMemory>
+fn add_each(
+    ports: &mut Vec<Port>,
+    names: &[Name],
+    reactor: u32,
+    is_input: bool,
+) -> Result<(), OutOfMemory>
     ensures { OnOk result (ports.new.items ≡ ports.old.items ++ map (λ (name : Word). record { reactor = reactor; is_input = is_input }) names.now) }
 {
     for _name in names {
@@ -50,7 +63,11 @@ fn add_each(ports: &mut Vec<Port>, names: &[Name], reactor: u32, is_input: bool)
 }
 
 /// Adds the actions of a reactor.
-pub(crate) fn add_actions(actions: &mut Vec<Action>, before: &Before, reactor: &Reactor) -> Result<(), OutOfMemory>
+pub(crate) fn add_actions(
+    actions: &mut Vec<Action>,
+    before: &Before,
+    reactor: &Reactor,
+) -> Result<(), OutOfMemory>
     requires { HasRoom before.now (reactor_tree reactor.now) }
     ensures { OnOk result (actions.new.items ≡ actions.old.items ++ its_actions before.now (reactor_tree reactor.now)) }
 {
@@ -64,7 +81,11 @@ pub(crate) fn add_actions(actions: &mut Vec<Action>, before: &Before, reactor: &
 }
 
 /// Adds the timers of a reactor.
-pub(crate) fn add_timers(timers: &mut Vec<Timer>, before: &Before, reactor: &Reactor) -> Result<(), OutOfMemory>
+pub(crate) fn add_timers(
+    timers: &mut Vec<Timer>,
+    before: &Before,
+    reactor: &Reactor,
+) -> Result<(), OutOfMemory>
     requires { HasRoom before.now (reactor_tree reactor.now) }
     ensures { OnOk result (timers.new.items ≡ timers.old.items ++ its_timers before.now (reactor_tree reactor.now)) }
 {
@@ -79,7 +100,12 @@ pub(crate) fn add_timers(timers: &mut Vec<Timer>, before: &Before, reactor: &Rea
 }
 
 /// Adds the reactions of a reactor.
-pub(crate) fn add_reactions(alloc: Global, reactions: &mut Vec<Reaction>, before: &Before, reactor: &Reactor) -> Result<(), OutOfMemory>
+pub(crate) fn add_reactions(
+    alloc: Global,
+    reactions: &mut Vec<Reaction>,
+    before: &Before,
+    reactor: &Reactor,
+) -> Result<(), OutOfMemory>
     requires { HasRoom before.now (reactor_tree reactor.now) }
     ensures { OnOk result (map rule_of reactions.new.items ≡ map rule_of reactions.old.items ++ its_reactions before.now (reactor_tree reactor.now)) }
 {

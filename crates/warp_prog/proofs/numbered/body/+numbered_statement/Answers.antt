@@ -1,5 +1,5 @@
 -- all statements are numbered
-use Rattle.std.proofs.Common.{◌∙◌, ap, map, take}
+use Rattle.std.proofs.Common.{◌∙◌, ap, map}
 use Rattle.std.proofs.lemmas.List.{take_all}
 use Rattle.warp_body.specs.Effect.{body_of}
 use Rattle.warp_prog.specs.Numbered.{numbered_statement}

@@ -1,5 +1,5 @@
 -- the variables so far are those before, and those of the reactor that have been gone over
-use Rattle.std.proofs.Common.{◌≡◌, ◌++◌, map, take, unsigned_abs}
+use Rattle.std.proofs.Common.{◌≡◌, ◌++◌, map, take}
 use Rattle.warp_prog.proofs.numbered.reactor.add_variables.Given as goal
 
 abbrev pub invariant-loop-variable : goal.invariant-loop-variable
