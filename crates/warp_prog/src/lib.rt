@@ -10,6 +10,8 @@ mod name;
 mod named;
 mod names;
 mod numbered;
+#[cfg(test)]
+mod numbered_tests;
 mod operator;
 mod scope;
 mod shape;
