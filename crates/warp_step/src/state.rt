@@ -79,7 +79,14 @@ impl State {
     }
 
     /// Enters a value for a target where a delay lands: past the stop nothing is added, past the last microstep it is lost.
-    pub(crate) fn land(&mut self, program: &Program, tag: Tag, delay: u64, target: Target, value: i64)
+    pub(crate) fn land(
+        &mut self,
+        program: &Program,
+        tag: Tag,
+        delay: u64,
+        target: Target,
+        value: i64,
+    )
         requires time { tag.time ≤ program.now.stop }
         requires delay { delay ≤ longest_delay }
         ensures { self.new ≡ landed program.now tag delay target value self.old }
