@@ -6,6 +6,7 @@ pub mod ItemLemmas
 pub mod Has
 pub mod Stands
 pub mod OnceLemmas
+pub mod Numbers
 pub mod Ranges
 pub mod Bodies
 pub mod Distinct
@@ -15,3 +16,5 @@ pub mod Ports
 pub mod Links
 pub mod Fits
 pub mod ReadingLemmas
+pub mod RoomLemmas
+pub mod FaultLemmas

@@ -6,10 +6,14 @@ mod error;
 mod file;
 mod law;
 mod limits;
+mod loading;
 mod misread;
 mod name;
 mod named;
 mod names;
+mod numbered;
+#[cfg(test)]
+mod numbered_tests;
 mod reading;
 mod scope;
 mod shape;
@@ -18,3 +22,4 @@ mod undeclared;
 mod uses;
 
 pub use error::LoadError;
+pub use loading::load;

@@ -1,0 +1,181 @@
+//! The parts of a program with numbers in the place of names.
+//!
+//! Numbers are given in file order over all reactors. What stands before a reactor is counted on the way, so a name's
+//! number is that count and its place among the names of its kind in its reactor.
+ghost use Rattle.std.specs.Prelude.{◌≡◌, ◌≤◌, ◌<◌, ◌^◌, ◌++◌, IfOk, OnOk, IsTrue, List, map, length, nat_lt, unsigned_abs};
+ghost use Rattle.std.specs.List.{list_all};
+ghost use Rattle.warp_step.specs.Program.{rule_of};
+ghost use Rattle.warp_step.specs.View.{program_of};
+ghost use Rattle.warp_prog.specs.Load.{IsFaultless};
+ghost use Rattle.warp_prog.specs.Numbered.{nothing_before, past, its_variables, its_ports, its_actions, its_timers, its_reactions, in_each, numbered, numbered_link, numbered_input, source_number};
+ghost use Rattle.warp_prog.specs.inner.Room.{HasRoom, HaveRoom};
+ghost use Rattle.warp_prog.specs.View.{file_tree, reactor_tree};
+ghost use Rattle.warp_prog.specs.declared.file.InputPart.{InputPart};
+
+mod body;
+mod place;
+mod reaction;
+mod reactor;
+
+use crate::file::{InputPart, LinkPart, PortName, ProgramFile, Reactor};
+use crate::numbered::place::{nothing_before, past, source_number, target_number};
+use crate::numbered::reactor::{add_actions, add_ports, add_reactions, add_timers, add_variables};
+use crate::scope::Before;
+use std::alloc::Global;
+use warp_step::{Action, Link, Parts, Port, ProgramInput, Reaction, Timer, Variable};
+use warp_tag::OutOfMemory;
+
+/// What stands in reactors, of each kind in file order.
+#[derive(Debug, Drop)]
+struct Contents {
+    variables: Vec<Variable>,
+    ports: Vec<Port>,
+    actions: Vec<Action>,
+    timers: Vec<Timer>,
+    reactions: Vec<Reaction>,
+}
+
+/// The parts of the program that a file without fault stands for.
+pub(crate) fn numbered(alloc: Global, file: &ProgramFile) -> Result<Parts, OutOfMemory>
+    requires { IsFaultless (file_tree file.now) }
+    ensures { IfOk result (λ parts. program_of parts ≡ numbered (file_tree file.now)) }
+{
+    let reactors: &[Reactor] = &file.reactors;
+    let contents = contents_of(alloc, reactors)?;
+    let links = numbered_links(alloc, reactors, &file.links)?;
+    let inputs = numbered_inputs(alloc, reactors, &file.inputs)?;
+    let outputs = numbered_outputs(alloc, reactors, &file.outputs)?;
+    Ok(Parts {
+        stop: stop_of(file),
+        origins: origins_of(file),
+        reactors: reactors.len() as u32,
+        variables: contents.variables,
+        ports: contents.ports,
+        actions: contents.actions,
+        timers: contents.timers,
+        reactions: contents.reactions,
+        links,
+        inputs,
+        outputs,
+    })
+}
+
+fn stop_of(file: &ProgramFile) -> u64
+    ensures { result ≡ unsigned_abs file.now.stop }
+{
+    file.stop.unsigned_abs()
+}
+
+fn origins_of(file: &ProgramFile) -> u32
+    requires { unsigned_abs file.now.origins < 2 ^ 32 }
+    ensures { result ≡ unsigned_abs file.now.origins }
+{
+    file.origins.unsigned_abs() as u32
+}
+
+/// What stands in these reactors.
+fn contents_of(alloc: Global, reactors: &[Reactor]) -> Result<Contents, OutOfMemory>
+    requires { HaveRoom nothing_before (map reactor_tree reactors.now) }
+    ensures variables { IfOk result (λ c. c.variables.items ≡ in_each its_variables nothing_before (map reactor_tree reactors.now)) }
+    ensures ports { IfOk result (λ c. c.ports.items ≡ in_each its_ports nothing_before (map reactor_tree reactors.now)) }
+    ensures actions { IfOk result (λ c. c.actions.items ≡ in_each its_actions nothing_before (map reactor_tree reactors.now)) }
+    ensures timers { IfOk result (λ c. c.timers.items ≡ in_each its_timers nothing_before (map reactor_tree reactors.now)) }
+    ensures reactions { IfOk result (λ c. map rule_of c.reactions.items ≡ in_each its_reactions nothing_before (map reactor_tree reactors.now)) }
+{
+    let mut contents = Contents {
+        variables: Vec::new(alloc),
+        ports: Vec::new(alloc),
+        actions: Vec::new(alloc),
+        timers: Vec::new(alloc),
+        reactions: Vec::new(alloc),
+    };
+    let mut before = nothing_before();
+    for reactor in reactors {
+        contents.add(alloc, &before, reactor)?;
+        before = past(&before, reactor);
+    }
+    Ok(contents)
+}
+
+impl Contents {
+    /// Adds what stands in a reactor.
+    fn add(&mut self, alloc: Global, before: &Before, reactor: &Reactor) -> Result<(), OutOfMemory>
+        requires { HasRoom before.now (reactor_tree reactor.now) }
+        ensures variables { OnOk result (self.new.variables.items ≡ self.old.variables.items ++ its_variables before.now (reactor_tree reactor.now)) }
+        ensures ports { OnOk result (self.new.ports.items ≡ self.old.ports.items ++ its_ports before.now (reactor_tree reactor.now)) }
+        ensures actions { OnOk result (self.new.actions.items ≡ self.old.actions.items ++ its_actions before.now (reactor_tree reactor.now)) }
+        ensures timers { OnOk result (self.new.timers.items ≡ self.old.timers.items ++ its_timers before.now (reactor_tree reactor.now)) }
+        ensures reactions { OnOk result (map rule_of self.new.reactions.items ≡ map rule_of self.old.reactions.items ++ its_reactions before.now (reactor_tree reactor.now)) }
+    {
+        add_variables(&mut self.variables, before, reactor)?;
+        add_ports(&mut self.ports, before, reactor)?;
+        add_actions(&mut self.actions, before, reactor)?;
+        add_timers(&mut self.timers, before, reactor)?;
+        add_reactions(alloc, &mut self.reactions, before, reactor)?;
+        Ok(())
+    }
+}
+
+fn numbered_links(
+    alloc: Global,
+    reactors: &[Reactor],
+    links: &[LinkPart],
+) -> Result<Vec<Link>, OutOfMemory>
+    requires { HaveRoom nothing_before (map reactor_tree reactors.now) }
+    ensures { IfOk result (λ ls. ls.items ≡ map (numbered_link (map reactor_tree reactors.now)) links.now) }
+{
+    let mut numbered = Vec::with_capacity(alloc, links.len())?;
+    for link in links {
+        numbered.push(numbered_link(reactors, link))?;
+    }
+    Ok(numbered)
+}
+
+fn numbered_link(reactors: &[Reactor], link: &LinkPart) -> Link
+    requires { HaveRoom nothing_before (map reactor_tree reactors.now) }
+    ensures { result ≡ numbered_link (map reactor_tree reactors.now) link.now }
+{
+    let delay = match link.delay {
+        None => None,
+        Some(delay) => Some(delay.unsigned_abs()),
+    };
+    Link {
+        source: source_number(reactors, &link.source),
+        target: target_number(reactors, &link.target),
+        delay,
+    }
+}
+
+fn numbered_inputs(
+    alloc: Global,
+    reactors: &[Reactor],
+    inputs: &[InputPart],
+) -> Result<Vec<ProgramInput>, OutOfMemory>
+    requires room { HaveRoom nothing_before (map reactor_tree reactors.now) }
+    requires origins { IsTrue (list_all (λ (i : InputPart). nat_lt (unsigned_abs i.origin) (2 ^ 32)) inputs.now) }
+    ensures { IfOk result (λ is. is.items ≡ map (numbered_input (map reactor_tree reactors.now)) inputs.now) }
+{
+    let mut numbered = Vec::with_capacity(alloc, inputs.len())?;
+    for input in inputs {
+        numbered.push(ProgramInput {
+            origin: input.origin.unsigned_abs() as u32,
+            port: target_number(reactors, &input.port),
+        })?;
+    }
+    Ok(numbered)
+}
+
+fn numbered_outputs(
+    alloc: Global,
+    reactors: &[Reactor],
+    outputs: &[PortName],
+) -> Result<Vec<u32>, OutOfMemory>
+    requires { HaveRoom nothing_before (map reactor_tree reactors.now) }
+    ensures { IfOk result (λ ns. ns.items ≡ map (source_number (map reactor_tree reactors.now)) outputs.now) }
+{
+    let mut numbered = Vec::with_capacity(alloc, outputs.len())?;
+    for output in outputs {
+        numbered.push(source_number(reactors, output))?;
+    }
+    Ok(numbered)
+}

@@ -1,0 +1,115 @@
+//! Bodies with numbers in the place of names.
+ghost use Rattle.std.specs.Prelude.{◌≡◌, IfOk, map};
+ghost use Rattle.warp_body.specs.Effect.{statement_of, statements_of};
+ghost use Rattle.warp_body.specs.Term.{term_of};
+ghost use Rattle.warp_prog.specs.File.{Named};
+ghost use Rattle.warp_prog.specs.Numbered.{numbered_term, numbered_statement, numbered_body};
+ghost use Rattle.warp_prog.specs.inner.Room.{HasRoom};
+ghost use Rattle.warp_prog.specs.View.{reactor_tree, term_tree, statement_tree, body_tree};
+
+use crate::file::{Expression, Reactor, Statement};
+use crate::name::Name;
+use crate::named::is_among;
+use crate::numbered::place::{action_number, output_number, readable, variable_number};
+use crate::scope::Before;
+use std::alloc::Global;
+use warp_body::{Expr, Stmt};
+use warp_tag::OutOfMemory;
+
+/// What a name stands for in an expression: a variable if the reactor has one, else what is read by that name.
+fn numbered_name(before: &Before, reactor: &Reactor, name: &Name) -> Expr
+    requires { HasRoom before.now (reactor_tree reactor.now) }
+    ensures { term_of result ≡ numbered_term before.now (reactor_tree reactor.now) (Named name.now) }
+{
+    if is_among(&reactor.variables, name) {
+        Expr::Variable(variable_number(before, reactor, name))
+    } else {
+        Expr::Value(readable(before, reactor, name))
+    }
+}
+
+fn numbered_term(
+    alloc: Global,
+    before: &Before,
+    reactor: &Reactor,
+    term: &Expression,
+) -> Result<Expr, OutOfMemory>
+    requires { HasRoom before.now (reactor_tree reactor.now) }
+    ensures { IfOk result (λ e. term_of e ≡ numbered_term before.now (reactor_tree reactor.now) (term_tree term.now)) }
+{
+    match term {
+        Expression::Number(n) => Ok(Expr::Number(*n)),
+        Expression::Value(name) => Ok(numbered_name(before, reactor, name)),
+        Expression::Present(name) => Ok(Expr::Present(readable(before, reactor, name))),
+        Expression::Unary(operator, a) => {
+            let a = Box::new(alloc, numbered_term(alloc, before, reactor, a)?)?;
+            Ok(Expr::Unary(*operator, a))
+        }
+        Expression::Binary(operator, a, b) => {
+            let a = Box::new(alloc, numbered_term(alloc, before, reactor, a)?)?;
+            let b = Box::new(alloc, numbered_term(alloc, before, reactor, b)?)?;
+            Ok(Expr::Binary(*operator, a, b))
+        }
+        Expression::If(condition, a, b) => {
+            let condition = Box::new(alloc, numbered_term(alloc, before, reactor, condition)?)?;
+            let a = Box::new(alloc, numbered_term(alloc, before, reactor, a)?)?;
+            let b = Box::new(alloc, numbered_term(alloc, before, reactor, b)?)?;
+            Ok(Expr::If(condition, a, b))
+        }
+    }
+}
+
+#[cycle(numbered_statement)]
+fn numbered_statement(
+    alloc: Global,
+    before: &Before,
+    reactor: &Reactor,
+    statement: &Statement,
+) -> Result<Stmt, OutOfMemory>
+    requires { HasRoom before.now (reactor_tree reactor.now) }
+    ensures { IfOk result (λ s. statement_of s ≡ numbered_statement before.now (reactor_tree reactor.now) (statement_tree statement.now)) }
+{
+    match statement {
+        Statement::Set(name, term) => {
+            let variable = variable_number(before, reactor, name);
+            Ok(Stmt::Set(variable, numbered_term(alloc, before, reactor, term)?))
+        }
+        Statement::Put(name, term) => {
+            let port = output_number(before, reactor, name);
+            Ok(Stmt::Put(port, numbered_term(alloc, before, reactor, term)?))
+        }
+        Statement::Schedule(name, delay, term) => {
+            let action = action_number(before, reactor, name);
+            Ok(Stmt::Schedule(
+                action,
+                delay.unsigned_abs(),
+                numbered_term(alloc, before, reactor, term)?,
+            ))
+        }
+        Statement::If(condition, first, second) => {
+            let condition = numbered_term(alloc, before, reactor, condition)?;
+            let first = numbered_body(alloc, before, reactor, first)?;
+            let second = numbered_body(alloc, before, reactor, second)?;
+            Ok(Stmt::If(condition, first, second))
+        }
+    }
+}
+
+/// The statements of a body in a reactor.
+#[cycle(numbered_statement)]
+pub(crate) fn numbered_body(
+    alloc: Global,
+    before: &Before,
+    reactor: &Reactor,
+    body: &[Statement],
+) -> Result<Vec<Stmt>, OutOfMemory>
+    requires { HasRoom before.now (reactor_tree reactor.now) }
+    ensures { IfOk result (λ ss. statements_of ss.items ≡ numbered_body before.now (reactor_tree reactor.now) (body_tree (map statement_tree body.now))) }
+{
+    let mut numbered = Vec::with_capacity(alloc, body.len())?;
+    for statement in body {
+        let next = numbered_statement(alloc, before, reactor, statement)?;
+        numbered.push(next)?;
+    }
+    Ok(numbered)
+}

@@ -1,0 +1,174 @@
+//! The numbers of names: what stands before a reactor, and the place of a name among those of its kind.
+ghost use Rattle.std.specs.Prelude.{◌≡◌, ◌≤◌, length, map, if◌then◌else◌};
+ghost use Rattle.warp_body.specs.declared.place.Target.TheVariants.{Startup, Timer, Action};
+ghost use Rattle.warp_prog.specs.Numbered.{nothing_before, past, place_among, variable_number, input_number, output_number, action_number, timer_number, readable, writable, source_number, target_number};
+ghost use Rattle.warp_prog.specs.inner.Room.{HasRoom, HaveRoom};
+ghost use Rattle.warp_prog.specs.Uses.{is_among, action_names, timer_names};
+ghost use Rattle.warp_prog.specs.View.{reactor_tree};
+
+use crate::file::{PortName, Reactor};
+use crate::name::Name;
+use crate::named::{Named, is_among, is_same};
+use crate::scope::Before;
+use warp_body::Target;
+
+/// What stands before the first reactor: nothing.
+pub(crate) fn nothing_before() -> Before
+    ensures { result ≡ nothing_before }
+{
+    Before {
+        reactors: 0,
+        variables: 0,
+        ports: 0,
+        actions: 0,
+        timers: 0,
+    }
+}
+
+/// What stands before the reactor after this one.
+pub(crate) fn past(before: &Before, reactor: &Reactor) -> Before
+    requires { HasRoom before.now (reactor_tree reactor.now) }
+    ensures { result ≡ past before.now (reactor_tree reactor.now) }
+{
+    Before {
+        reactors: before.reactors + 1,
+        variables: before.variables + reactor.variables.len(),
+        ports: before.ports + (reactor.inputs.len() + reactor.outputs.len()),
+        actions: before.actions + reactor.actions.len(),
+        timers: before.timers + reactor.timers.len(),
+    }
+}
+
+/// The place of the first of these things that has this name, from 0; how many there are where none has.
+fn place_among<T: Named>(things: &[T], name: &Name) -> usize
+    ensures place { result ≡ place_among (map T.called things.now) name.now }
+    ensures within { result ≤ length things.now }
+{
+    for (i, thing) in things.iter().enumerate() {
+        if is_same(name, thing.name()) {
+            return i;
+        }
+    }
+    things.len()
+}
+
+/// The number of a variable of a reactor.
+pub(crate) fn variable_number(before: &Before, reactor: &Reactor, name: &Name) -> u32
+    requires { HasRoom before.now (reactor_tree reactor.now) }
+    ensures { result ≡ variable_number before.now (reactor_tree reactor.now) name.now }
+{
+    (before.variables + place_among(&reactor.variables, name)) as u32
+}
+
+/// The number of an input of a reactor.
+pub(crate) fn input_number(before: &Before, reactor: &Reactor, name: &Name) -> u32
+    requires { HasRoom before.now (reactor_tree reactor.now) }
+    ensures { result ≡ input_number before.now (reactor_tree reactor.now) name.now }
+{
+    (before.ports + place_among(&reactor.inputs, name)) as u32
+}
+
+/// The number of an output of a reactor: its outputs stand after its inputs.
+pub(crate) fn output_number(before: &Before, reactor: &Reactor, name: &Name) -> u32
+    requires { HasRoom before.now (reactor_tree reactor.now) }
+    ensures { result ≡ output_number before.now (reactor_tree reactor.now) name.now }
+{
+    (before.ports + (reactor.inputs.len() + place_among(&reactor.outputs, name))) as u32
+}
+
+/// The number of an action of a reactor.
+pub(crate) fn action_number(before: &Before, reactor: &Reactor, name: &Name) -> u32
+    requires { HasRoom before.now (reactor_tree reactor.now) }
+    ensures { result ≡ action_number before.now (reactor_tree reactor.now) name.now }
+{
+    (before.actions + place_among(&reactor.actions, name)) as u32
+}
+
+/// The number of a timer of a reactor.
+fn timer_number(before: &Before, reactor: &Reactor, name: &Name) -> u32
+    requires { HasRoom before.now (reactor_tree reactor.now) }
+    ensures { result ≡ timer_number before.now (reactor_tree reactor.now) name.now }
+{
+    (before.timers + place_among(&reactor.timers, name)) as u32
+}
+
+/// What a name stands for where something is read: an input, an action, a timer, else startup.
+pub(crate) fn readable(before: &Before, reactor: &Reactor, name: &Name) -> Target
+    requires { HasRoom before.now (reactor_tree reactor.now) }
+    ensures { result ≡ readable before.now (reactor_tree reactor.now) name.now }
+{
+    if is_among(&reactor.inputs, name) {
+        Target::Port(input_number(before, reactor, name))
+    } else {
+        readable_cause(before, reactor, name)
+    }
+}
+
+/// What a name that is no input stands for where something is read: an action, a timer, else startup.
+fn readable_cause(before: &Before, reactor: &Reactor, name: &Name) -> Target
+    requires { HasRoom before.now (reactor_tree reactor.now) }
+    ensures { let b = before.now in let r = reactor_tree reactor.now in
+        result ≡ (if is_among (action_names r) name.now then Action (action_number b r name.now)
+        else (if is_among (timer_names r) name.now then Timer (timer_number b r name.now) else Startup)) }
+{
+    if is_among(&reactor.actions, name) {
+        Target::Action(action_number(before, reactor, name))
+    } else {
+        timer_or_startup(before, reactor, name)
+    }
+}
+
+/// The timer of a name, else startup.
+fn timer_or_startup(before: &Before, reactor: &Reactor, name: &Name) -> Target
+    requires { HasRoom before.now (reactor_tree reactor.now) }
+    ensures { let b = before.now in let r = reactor_tree reactor.now in
+        result ≡ (if is_among (timer_names r) name.now then Timer (timer_number b r name.now) else Startup) }
+{
+    if is_among(&reactor.timers, name) {
+        Target::Timer(timer_number(before, reactor, name))
+    } else {
+        Target::Startup
+    }
+}
+
+/// What a name stands for where something is written: an output, else an action.
+pub(crate) fn writable(before: &Before, reactor: &Reactor, name: &Name) -> Target
+    requires { HasRoom before.now (reactor_tree reactor.now) }
+    ensures { result ≡ writable before.now (reactor_tree reactor.now) name.now }
+{
+    if is_among(&reactor.outputs, name) {
+        Target::Port(output_number(before, reactor, name))
+    } else {
+        Target::Action(action_number(before, reactor, name))
+    }
+}
+
+/// The number of the output that a reference names; 0 where no reactor has its name.
+pub(crate) fn source_number(reactors: &[Reactor], port: &PortName) -> u32
+    requires { HaveRoom nothing_before (map reactor_tree reactors.now) }
+    ensures { result ≡ source_number (map reactor_tree reactors.now) port.now }
+{
+    let mut before = nothing_before();
+    for reactor in reactors {
+        if is_same(&port.reactor, &reactor.name) {
+            return output_number(&before, reactor, &port.port);
+        }
+        before = past(&before, reactor);
+    }
+    0
+}
+
+/// The number of the input that a reference names; 0 where no reactor has its name.
+pub(crate) fn target_number(reactors: &[Reactor], port: &PortName) -> u32
+    requires { HaveRoom nothing_before (map reactor_tree reactors.now) }
+    ensures { result ≡ target_number (map reactor_tree reactors.now) port.now }
+{
+    let mut before = nothing_before();
+    for reactor in reactors {
+        if is_same(&port.reactor, &reactor.name) {
+            return input_number(&before, reactor, &port.port);
+        }
+        before = past(&before, reactor);
+    }
+    0
+}

@@ -1,0 +1,117 @@
+//! What stands in a reactor, with numbers in the place of names.
+ghost use Rattle.std.specs.Prelude.{◌≡◌, ◌++◌, OnOk, map};
+ghost use Rattle.warp_step.specs.Program.{rule_of};
+ghost use Rattle.warp_prog.specs.File.{Word};
+ghost use Rattle.warp_prog.specs.Numbered.{its_variables, its_ports, its_actions, its_timers, its_reactions};
+ghost use Rattle.warp_prog.specs.inner.Room.{HasRoom};
+ghost use Rattle.warp_prog.specs.View.{reactor_tree};
+
+use crate::file::Reactor;
+use crate::name::Name;
+use crate::numbered::reaction::numbered_reaction;
+use crate::scope::Before;
+use std::alloc::Global;
+use warp_step::{Action, Port, Reaction, Timer, Variable};
+use warp_tag::OutOfMemory;
+
+/// Adds the variables of a reactor.
+pub(crate) fn add_variables(
+    variables: &mut Vec<Variable>,
+    before: &Before,
+    reactor: &Reactor,
+) -> Result<(), OutOfMemory>
+    requires { HasRoom before.now (reactor_tree reactor.now) }
+    ensures { OnOk result (variables.new.items ≡ variables.old.items ++ its_variables before.now (reactor_tree reactor.now)) }
+{
+    for variable in &reactor.variables {
+        variables.push(Variable {
+            reactor: before.reactors as u32,
+            start: variable.start,
+        })?;
+    }
+    Ok(())
+}
+
+/// Adds the ports of a reactor: its inputs, then its outputs.
+pub(crate) fn add_ports(
+    ports: &mut Vec<Port>,
+    before: &Before,
+    reactor: &Reactor,
+) -> Result<(), OutOfMemory>
+    requires { HasRoom before.now (reactor_tree reactor.now) }
+    ensures { OnOk result (ports.new.items ≡ ports.old.items ++ its_ports before.now (reactor_tree reactor.now)) }
+{
+    let number = before.reactors as u32;
+    add_each(ports, &reactor.inputs, number, true)?;
+    add_each(ports, &reactor.outputs, number, false)?;
+    Ok(())
+}
+
+/// Adds a port of a reactor for each of these names.
+fn add_each(
+    ports: &mut Vec<Port>,
+    names: &[Name],
+    reactor: u32,
+    is_input: bool,
+) -> Result<(), OutOfMemory>
+    ensures { OnOk result (ports.new.items ≡ ports.old.items ++ map (λ (name : Word). record { reactor = reactor; is_input = is_input }) names.now) }
+{
+    for _name in names {
+        ports.push(Port { reactor, is_input })?;
+    }
+    Ok(())
+}
+
+/// Adds the actions of a reactor.
+pub(crate) fn add_actions(
+    actions: &mut Vec<Action>,
+    before: &Before,
+    reactor: &Reactor,
+) -> Result<(), OutOfMemory>
+    requires { HasRoom before.now (reactor_tree reactor.now) }
+    ensures { OnOk result (actions.new.items ≡ actions.old.items ++ its_actions before.now (reactor_tree reactor.now)) }
+{
+    for action in &reactor.actions {
+        actions.push(Action {
+            reactor: before.reactors as u32,
+            delay: action.delay.unsigned_abs(),
+        })?;
+    }
+    Ok(())
+}
+
+/// Adds the timers of a reactor.
+pub(crate) fn add_timers(
+    timers: &mut Vec<Timer>,
+    before: &Before,
+    reactor: &Reactor,
+) -> Result<(), OutOfMemory>
+    requires { HasRoom before.now (reactor_tree reactor.now) }
+    ensures { OnOk result (timers.new.items ≡ timers.old.items ++ its_timers before.now (reactor_tree reactor.now)) }
+{
+    for timer in &reactor.timers {
+        timers.push(Timer {
+            reactor: before.reactors as u32,
+            offset: timer.offset.unsigned_abs(),
+            period: timer.period.unsigned_abs(),
+        })?;
+    }
+    Ok(())
+}
+
+/// Adds the reactions of a reactor.
+pub(crate) fn add_reactions(
+    alloc: Global,
+    reactions: &mut Vec<Reaction>,
+    before: &Before,
+    reactor: &Reactor,
+) -> Result<(), OutOfMemory>
+    requires { HasRoom before.now (reactor_tree reactor.now) }
+    ensures { OnOk result (map rule_of reactions.new.items ≡ map rule_of reactions.old.items ++ its_reactions before.now (reactor_tree reactor.now)) }
+{
+    for reaction in &reactor.reactions {
+        let next = numbered_reaction(alloc, before, reactor, reaction)?;
+        reactions.push(next)?;
+    }
+    Ok(())
+}
