@@ -14,10 +14,6 @@ use Rattle.warp_prog.specs.declared.file.InputPart.{InputPart}
 abbrev pub this_version : ℕ
 this_version = 1
 
--- the most bytes of a file
-abbrev pub most_bytes : ℕ
-most_bytes = 1048576
-
 -- how deep an expression may be, and a list of statements
 abbrev pub deepest : ℕ
 deepest = 24
