@@ -7,5 +7,7 @@ mod misread;
 mod name;
 mod reading;
 mod shape;
+#[cfg(test)]
+mod tests;
 
 pub use error::LoadError;
