@@ -1,8 +1,13 @@
-//! Program files: from the bytes of one to what stands in it, as a tree with names.
+//! Program files: from the bytes of one to the program that it spells, or to its first fault.
+//!
+//! A file is read as JSON, then as a tree with names; five passes look for one fault each in the whole tree; then names get
+//! their numbers. Contracts see the tree as the record `File` in `specs/`, and `load` says which program the bytes spell.
 #![tactic(auto)]
 
 mod backward;
 mod error;
+#[cfg(test)]
+mod fault_tests;
 mod file;
 mod law;
 mod limits;
@@ -17,6 +22,8 @@ mod numbered_tests;
 mod reading;
 mod scope;
 mod shape;
+#[cfg(test)]
+mod tests;
 mod twice;
 mod undeclared;
 mod uses;
