@@ -1,13 +1,15 @@
 //! What no clause says: that the calls succeed, and worked traces, step by step.
-ghost use Rattle.std.specs.Prelude.{◌≡◌, ◌→◌, IsTrue, map};
+ghost use Rattle.std.specs.Prelude.{◌≡◌, ◌==◌, ◌≤◌, IsTrue, length, map, nat_lt, not};
+ghost use Rattle.std.specs.List.{list_all, list_any};
+ghost use Rattle.warp_tag.specs.Moment.{is_before, is_same};
 ghost use Rattle.warp_step.specs.Counter.{IsUnused};
 ghost use Rattle.warp_step.specs.Snapshot.{IsStateOf};
-ghost use Rattle.warp_step.specs.Step.{AreInputs, room_of};
+ghost use Rattle.warp_step.specs.Step.{room_of};
 ghost use Rattle.warp_step.specs.Valid.{is_distinct};
 
 mod programs;
 
-use crate::{Counter, Given, Meter, Out, Program, Scratch, State, step};
+use crate::{Counter, Given, Meter, Out, Program, Scratch, State, Waiting, step};
 use programs::{crowd, pair, pulse};
 use std::alloc::Global;
 use std::marker::Brand;
@@ -56,28 +58,78 @@ struct Row<'a> {
     lost: u64,
 }
 
+/// Whether this input is given.
+fn is_given(given: &[Given], input: u32) -> bool
+    ensures { result ≡ list_any (λ other. other == input) (map (λ g. g.input) given.now) }
+{
+    for other in given {
+        if other.input == input {
+            return true;
+        }
+    }
+    false
+}
+
 /// Whether no input is given twice.
 fn are_distinct(given: &[Given]) -> bool
     ensures { result ≡ is_distinct (map (λ g. g.input) given.now) }
 {
     for i in 0..given.len() {
-        let input = given[i].input;
-        if given[i + 1..].iter().any(|other| other.input == input) {
+        if is_given(&given[i + 1..], given[i].input) {
             return false;
         }
     }
     true
 }
 
-/// Whether these are inputs of the program, none of them twice.
-fn are_inputs(program: &Program, given: &[Given]) -> bool
-    ensures { IsTrue result → AreInputs program.now given.now }
+/// Whether these are inputs of the program.
+fn are_known(program: &Program, given: &[Given]) -> bool
+    ensures { result ≡ list_all (λ g. nat_lt g.input (length program.now.inputs)) given.now }
 {
     let count = program.inputs().len();
-    given.iter().all(|g| (g.input as usize) < count) && are_distinct(given)
+    for g in given {
+        if g.input as usize >= count {
+            return false;
+        }
+    }
+    true
 }
 
-/// A step that may be made, with room made for its outputs.
+/// Whether an entry is pending at the tag.
+fn is_due(pending: &[Waiting], tag: Tag) -> bool
+    ensures { result ≡ list_any (λ w. is_same w.tag tag) pending.now }
+{
+    for entry in pending {
+        if entry.tag.is_same(tag) {
+            return true;
+        }
+    }
+    false
+}
+
+/// Whether no entry is pending before the tag.
+fn is_first(pending: &[Waiting], tag: Tag) -> bool
+    ensures { result ≡ list_all (λ w. not (is_before w.tag tag)) pending.now }
+{
+    for entry in pending {
+        if entry.tag.is_before(tag) {
+            return false;
+        }
+    }
+    true
+}
+
+/// Whether the program executes the tag.
+fn is_executed(program: &Program, tag: Tag) -> bool
+    ensures time { IsTrue result → tag.time ≤ program.now.stop }
+    ensures microstep { tag.microstep ≤ program.now.top }
+{
+    program.valid();
+    let _micro = tag.micro();
+    tag.time() <= program.stop()
+}
+
+/// A step, with room made for its outputs. The test fails where it may not be made.
 fn next_step<M: Meter>(
     rt: &impl Abort,
     program: &Program,
@@ -93,16 +145,15 @@ fn next_step<M: Meter>(
     ensures state { IsStateOf program.now state.new }
     ensures scratch { scratch.new ≡ room_of program.now }
 {
-    program.valid();
-    let pending = state.pending();
-    let some = !given.is_empty() || pending.iter().any(|w| w.tag.is_same(tag));
+    let some = !given.is_empty() || is_due(state.pending(), tag);
     assert!(rt; some, "nothing at {tag:?}");
-    let none_before = pending.iter().all(|w| !w.tag.is_before(tag));
-    assert!(rt; none_before, "some before {tag:?}");
-    assert!(rt; tag.time() <= program.stop(), "past the stop: {tag:?}");
-    assert!(rt; are_inputs(program, given), "{given:?}");
-    out.try_reserve(program.outputs().len())
-        .expect(rt, "memory");
+    let is_first = is_first(state.pending(), tag);
+    assert!(rt; is_first, "some before {tag:?}");
+    let is_executed = is_executed(program, tag);
+    assert!(rt; is_executed, "past the stop: {tag:?}");
+    assert!(rt; are_known(program, given), "{given:?}");
+    assert!(rt; are_distinct(given), "{given:?}");
+    out.try_reserve(program.outputs().len()).expect(rt, "memory");
     step(program, state, scratch, tag, given, out, meter);
 }
 

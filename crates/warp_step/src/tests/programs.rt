@@ -1,7 +1,8 @@
 //! Programs that the tests step.
-ghost use Rattle.std.specs.Prelude.{◌≡◌, ◌≤◌, ◌∷◌, ◌++◌, [], IsTrue, true, false};
-ghost use Rattle.warp_body.specs.Term.{VariableAt, OfTwo, term_of};
-ghost use Rattle.warp_body.specs.Effect.{SetVariable, PutOutput, Done, Then, schedules_of, statements_of};
+ghost use Rattle.std.specs.Prelude.{◌≡◌, ◌≤◌, ◌∷◌, ◌++◌, [], IsTrue, true, false, pos};
+ghost use Rattle.warp_body.specs.Term.{Constant, VariableAt, ValueAt, PresentAt, OfTwo, term_of};
+ghost use Rattle.warp_body.specs.Effect.{SetVariable, PutOutput, Choose, Done, Then, schedules_of, statements_of};
+ghost use Rattle.warp_body.specs.declared.operator.BinaryOperator.TheVariants.{Add, Multiply, Less};
 ghost use Rattle.warp_body.specs.declared.place.Target.TheVariants as to;
 ghost use Rattle.warp_step.specs.Program.{Program, Rule, rule_of};
 ghost use Rattle.warp_step.specs.Valid.{body_may, names};
@@ -132,7 +133,13 @@ pub fn pulse(rt: &impl Abort, alloc: Global) -> Program {
 }
 
 /// The body of the first reactor of `pair`: where the input is positive its square is put.
-fn square(rt: &impl Abort, alloc: Global) -> Vec<Stmt> {
+fn square(rt: &impl Abort, alloc: Global) -> Vec<Stmt>
+    ensures { statements_of result.items ≡ Then
+        (Choose (OfTwo Less (Constant (pos 0)) (ValueAt (to.Port 0)))
+        (Then (PutOutput 1 (OfTwo Multiply (ValueAt (to.Port 0)) (ValueAt (to.Port 0)))) Done)
+        Done)
+        Done }
+{
     let a = Expr::Value(Target::Port(0));
     let is_positive = binary(rt, alloc, BinaryOperator::Less, Expr::Number(0), a);
     let square = binary(
@@ -148,7 +155,13 @@ fn square(rt: &impl Abort, alloc: Global) -> Vec<Stmt> {
 }
 
 /// The body of the second reactor of `pair`: it adds what the link brings, and 100 where its own input is present.
-fn add_up(rt: &impl Abort, alloc: Global) -> Vec<Stmt> {
+fn add_up(rt: &impl Abort, alloc: Global) -> Vec<Stmt>
+    ensures { statements_of result.items ≡ Then
+        (SetVariable 0 (OfTwo Add
+        (OfTwo Add (VariableAt 0) (ValueAt (to.Port 2)))
+        (OfTwo Multiply (Constant (pos 100)) (PresentAt (to.Port 3)))))
+        (Then (PutOutput 4 (VariableAt 0)) Done) }
+{
     let x = Expr::Value(Target::Port(2));
     let is_there = Expr::Present(Target::Port(3));
     let sum = binary(rt, alloc, BinaryOperator::Add, Expr::Variable(0), x);
