@@ -1,4 +1,5 @@
--- Codes of expressions and bodies, so that a model's value may have them: they are stored as a list of marks in postfix order.
+-- Codes of targets, expressions and bodies, so that a model's value may have them: trees are stored as a list of marks
+-- in postfix order.
 use Rattle.std.specs.Prelude.{◌≡◌, ℕ, ℤ, pos, List, [], ◌∷◌, ◌==◌, slice_index_or, if◌then◌else◌, refl}
 use Rattle.std.specs.Coded.{Coded, code_by, coded×, coded_ℕ, coded_ℤ, coded_list}
 use Rattle.std.proofs.Common.{◌∙◌, ap}
@@ -16,6 +17,7 @@ use Rattle.warp_body.specs.declared.operator.BinaryOperator.TheVariants.{Add, Su
 abbrev pub target_at : ℕ → ℕ → Target
 target_at kind n = if kind == 0 then Startup else (if kind == 1 then Timer n else (if kind == 2 then Action n else Port n))
 
+-- a target is the one with its own kind and number
 pub target_at-own : (target : Target) → target_at (kind_of target) (number_of target) ≡ target
 target_at-own Startup = refl
 target_at-own (Timer n) = refl
@@ -26,11 +28,12 @@ target_at-own (Port n) = refl
 abbrev pub target_code : Coded Target
 target_code = code_by (ℕ × ℕ) (coded× coded_ℕ coded_ℕ) (λ t. (kind_of t, number_of t)) (λ p. target_at p.0 p.1) target_at-own
 
--- the place of an operator among those of one operand, and of two
+-- the place of an operator among those of one operand
 abbrev pub unary_number : UnaryOperator → ℕ
 unary_number Negate = 0
 unary_number Not = 1
 
+-- the place of an operator among those of two operands
 abbrev pub binary_number : BinaryOperator → ℕ
 binary_number Add = 0
 binary_number Subtract = 1
@@ -42,18 +45,22 @@ binary_number Less = 6
 binary_number And = 7
 binary_number Or = 8
 
+-- the operator of one operand at this place
 abbrev pub unary_at : ℕ → UnaryOperator
 unary_at n = if n == 0 then Negate else Not
 
+-- the operator of two operands at this place
 abbrev pub binary_at : ℕ → BinaryOperator
 binary_at n =
     if n == 0 then Add else (if n == 1 then Subtract else (if n == 2 then Multiply else (if n == 3 then Divide else
     (if n == 4 then Remainder else (if n == 5 then Equal else (if n == 6 then Less else (if n == 7 then And else Or)))))))
 
+-- an operator is the one at its own place
 pub unary_at-own : (o : UnaryOperator) → unary_at (unary_number o) ≡ o
 unary_at-own Negate = refl
 unary_at-own Not = refl
 
+-- and so is one of two operands
 pub binary_at-own : (o : BinaryOperator) → binary_at (binary_number o) ≡ o
 binary_at-own Add = refl
 binary_at-own Subtract = refl
@@ -69,6 +76,7 @@ binary_at-own Or = refl
 abbrev pub Mark : Type 0
 Mark = ℕ × (ℕ × (ℕ × ℤ))
 
+-- a node without a number
 abbrev mark : ℕ → ℕ → ℕ → Mark
 mark kind a b = (kind, (a, (b, pos 0)))
 
@@ -99,23 +107,26 @@ pub record Stacks : Type 0 where
   pub terms : List Term
   pub bodies : List Body
 
--- with one more expression, and with one more body
+-- with one more expression
 abbrev pub with_term : Term → Stacks → Stacks
 with_term t now = record { terms = t ∷ now.terms; bodies = now.bodies }
 
+-- with one more body
 abbrev pub with_body : Body → Stacks → Stacks
 with_body b now = record { terms = now.terms; bodies = b ∷ now.bodies }
 
--- the newest expressions as operands of an operator, and as a choice
+-- the newest expression as the operand of an operator
 abbrev pub of_newest : UnaryOperator → List Term → List Term
 of_newest o [] = []
 of_newest o (a ∷ ts) = OfOne o a ∷ ts
 
+-- the two newest as the operands of an operator
 abbrev pub of_two_newest : BinaryOperator → List Term → List Term
 of_two_newest o [] = []
 of_two_newest o (b ∷ []) = []
 of_two_newest o (b ∷ (a ∷ ts)) = OfTwo o a b ∷ ts
 
+-- the three newest as a choice
 abbrev pub choice_of_newest : List Term → List Term
 choice_of_newest [] = []
 choice_of_newest (b ∷ []) = []
@@ -132,11 +143,12 @@ abbrev pub statement_at : Mark → Term → Statement
 statement_at m e =
     if m.0 == 8 then SetVariable m.1.0 e else (if m.0 == 9 then PutOutput m.1.0 e else ScheduleAction m.1.0 m.1.1.0 e)
 
--- the newest expression in a statement of this kind, and with the two newest bodies as a choice
+-- the newest expression in a statement of this kind, in front of the newest body
 abbrev pub with_statement : Mark → List Term → List Body → Stacks
 with_statement m [] bodies = record { terms = []; bodies = bodies }
 with_statement m (e ∷ ts) bodies = record { terms = ts; bodies = in_front (statement_at m e) bodies }
 
+-- the newest expression and the two newest bodies as a choice, in front of the body before them
 abbrev pub with_choice : List Term → List Body → Stacks
 with_choice [] bodies = record { terms = []; bodies = bodies }
 with_choice (e ∷ ts) [] = record { terms = ts; bodies = [] }
@@ -161,10 +173,11 @@ abbrev pub read : List Mark → Stacks → Stacks
 read [] now = now
 read (m ∷ ms) now = read ms (with_mark m now)
 
--- the newest expression, and the newest body
+-- the newest expression, 0 where there is none
 abbrev pub newest_term : Stacks → Term
 newest_term now = slice_index_or now.terms 0 (Constant (pos 0))
 
+-- the newest body, the empty one where there is none
 abbrev pub newest_body : Stacks → Body
 newest_body now = slice_index_or now.bodies 0 Done
 
@@ -206,14 +219,16 @@ mutual
   read-spelled_body (Then s ss) rest now =
       read-spelled_body ss (spelled_one s rest) now ∙ read-spelled_one s rest ss now
 
--- an expression, and a body, is stored as its nodes
+-- a list of nodes is stored as numbers
 abbrev pub marks_code : Coded (List Mark)
 marks_code = coded_list (coded× coded_ℕ (coded× coded_ℕ (coded× coded_ℕ coded_ℤ)))
 
+-- an expression is stored as its nodes
 abbrev pub term_code : Coded Term
 term_code =
     code_by (List Mark) marks_code (λ t. spelled t []) (λ ms. newest_term (read ms nothing_read)) (λ t. ap newest_term (read-spelled t [] nothing_read))
 
+-- a body is stored as its nodes
 abbrev pub body_code : Coded Body
 body_code =
     code_by (List Mark) marks_code (λ b. spelled_body b []) (λ ms. newest_body (read ms nothing_read)) (λ b. ap newest_body (read-spelled_body b [] nothing_read))

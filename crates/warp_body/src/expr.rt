@@ -61,9 +61,7 @@ impl Expr {
             Expr::Value(target) | Expr::Present(target) => target.fits(sizes.places),
             Expr::Unary(_, a) => a.fits(sizes),
             Expr::Binary(_, a, b) => a.fits(sizes) && b.fits(sizes),
-            Expr::If(condition, a, b) => {
-                condition.fits(sizes) && a.fits(sizes) && b.fits(sizes)
-            }
+            Expr::If(condition, a, b) => { condition.fits(sizes) && a.fits(sizes) && b.fits(sizes) }
         }
     }
 

@@ -2,13 +2,15 @@
 //!
 //! An expression has a value over variables and what is present; a statement list has an effect on them, and asks for
 //! schedulings of actions.
-//! Arithmetic wraps in 64 bits. Nothing here takes memory but `copy`.
+//! Arithmetic wraps in 64 bits. Nothing here takes memory but `Present::new` and the copies.
 #![tactic(auto)]
 
 mod expr;
 mod operator;
 mod place;
 mod stmt;
+#[cfg(test)]
+mod tests;
 
 pub use expr::{Expr, eval};
 pub use operator::{BinaryOperator, UnaryOperator};

@@ -1,4 +1,4 @@
-//! What a body reads and writes: the variables, and the ports that are present.
+//! What a body reads and writes: the variables, and what is present.
 ghost use Rattle.std.specs.Prelude.{◌≡◌, ℕ, ℤ, ◌<◌, List, length, slice_index_or, slice_set, Option, Some, None, pos, IfOk, ◌==◌, IsTrue, nat_lt};
 ghost use Rattle.std.specs.List.{list_all};
 ghost use Rattle.warp_body.specs.Presence.{Presence, places_of, target_fits, nothing_present, present_at, with_value, kind_of, number_of, target_before, is_target};

@@ -69,7 +69,7 @@ input_of d = do
   Some (record { origin = origin; port = port })
 
 -- a body under a key; empty where the key is not there
-unfoldable pub body_or_none : Option Data → Option NamedBody
+abbrev pub body_or_none : Option Data → Option NamedBody
 body_or_none None = Some NamedDone
 body_or_none (Some d) = body_of d
 

@@ -1,5 +1,5 @@
 -- Statements as they stand in a file.
-use Rattle.std.specs.Prelude.{ℕ, ℤ, List, Option, Some, None, codes, bytes_eq, if◌then◌else◌}
+use Rattle.std.specs.Prelude.{ℕ, List, Option, Some, None, codes, bytes_eq, if◌then◌else◌}
 use Rattle.serde_json.specs.Data.{Data, array, Items, no_items, item}
 use Rattle.serde_json.specs.Find.{as_str}
 use Rattle.warp_prog.specs.Chain.{◌>>=◌}
@@ -8,33 +8,41 @@ use Rattle.warp_prog.specs.Word.{name_at, integer_at}
 use Rattle.warp_prog.specs.Terms.{term_of}
 
 -- a statement of this word, a name and an expression
-unfoldable pub assignment : List ℕ → Word → NamedTerm → Option NamedStatement
+abbrev pub assignment : List ℕ → Word → NamedTerm → Option NamedStatement
 assignment w name e = if bytes_eq w (codes "set") then Some (SetNamed name e) else (if bytes_eq w (codes "put") then Some (PutNamed name e) else None)
 
--- a statement of this word, a name, a delay and an expression
-unfoldable pub scheduling : List ℕ → Word → ℤ → NamedTerm → Option NamedStatement
-scheduling w name delay e = if bytes_eq w (codes "schedule") then Some (ScheduleNamed name delay e) else None
+-- ["set", variable, expression] and ["put", output, expression]
+unfoldable pub assignment_of : List ℕ → Data → Data → Option NamedStatement
+assignment_of w x y = do
+  name ← name_at x
+  e ← term_of y
+  assignment w name e
 
-unfoldable mutual
+-- ["schedule", action, delay, expression]
+unfoldable pub scheduling_of : List ℕ → Data → Data → Data → Option NamedStatement
+scheduling_of w x y z = do
+  name ← name_at x
+  delay ← integer_at y
+  e ← term_of z
+  if bytes_eq w (codes "schedule") then Some (ScheduleNamed name delay e) else None
+
+-- ["if", expression, [..], [..]], of what the lists are
+unfoldable pub choice_of : Data → Option NamedBody → Option NamedBody → Option NamedStatement
+choice_of x a b = do
+  first ← a
+  second ← b
+  e ← term_of x
+  Some (ChooseNamed e first second)
+
+abbrev mutual
   -- a statement: a list of a word and its parts
   pub statement_of : Data → Option NamedStatement
   statement_of (array (item w (item x (item y no_items)))) = do
     word ← as_str w
-    name ← name_at x
-    e ← term_of y
-    assignment word name e
+    assignment_of word x y
   statement_of (array (item w (item x (item y (item z no_items))))) = do
     word ← as_str w
-    if bytes_eq word (codes "if") then (do
-      e ← term_of x
-      first ← body_of y
-      second ← body_of z
-      Some (ChooseNamed e first second))
-        else (do
-          name ← name_at x
-          delay ← integer_at y
-          e ← term_of z
-          scheduling word name delay e)
+    if bytes_eq word (codes "if") then choice_of x (body_of y) (body_of z) else scheduling_of word x y z
   statement_of _ = None
 
   -- a list of statements

@@ -32,7 +32,7 @@ one_value P records number v w has has' =
     same_Some v w (sym has.2 ∙ ap (λ rows. slice_get (state_at_end (start_state P) rows).vars number) one ∙ has'.2)
 
 -- it is the only refusal of an answer
-no_var : (P : Program) (records : List Record) (number : ℕ) (k : Refusal) → GivesQuery P records (Var number) (reply.Refused k) → (k ≡ NoVar) × (length P.starts ≤ number)
+no_var : (P : Program) (records : List Record) (number : ℕ) (k : Refusal) → GivesQuery P records (Var number) (reply.Refused k) → (k ≡ NoVar) × (length P.variables ≤ number)
 no_var P records number NoVar given = (refl, given)
 no_var P records number other given = absurd given
 

@@ -67,8 +67,8 @@ HasValue P records number value =
 -- what a query gives: how many records there are, and the variable's value, or refusal 6 where there is no such variable
 abbrev pub GivesQuery : Program → List Record → Query → Reply → Type 0
 GivesQuery P records (Var number) (reply.Var n value) =
-    (n ≡ length records) × (number < length P.starts) × HasValue P records number value
-GivesQuery P records (Var number) (reply.Refused NoVar) = length P.starts ≤ number
+    (n ≡ length records) × (number < length P.variables) × HasValue P records number value
+GivesQuery P records (Var number) (reply.Refused NoVar) = length P.variables ≤ number
 GivesQuery P records (Var number) other = ⊥
 
 -- On this log of this program the line may give this reply, and leave this log. Want of memory may stand before any query.

@@ -1,1 +1,10 @@
-pub mod EventLemmas
+pub mod ReactLemmas
+pub mod Sameness
+pub mod SourceLemmas
+pub mod TagsOfBox
+pub mod TagsOfRun
+pub mod TagsOfStep
+pub mod TraceExists
+pub mod TraceLemmas
+pub mod ValidLemmas
+pub mod VariablesOfRun

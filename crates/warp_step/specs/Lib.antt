@@ -8,3 +8,4 @@ pub mod Run
 pub mod Events
 pub mod Twice
 pub mod Counter
+pub mod inner

@@ -92,11 +92,9 @@ start_state P = with_timers P.stop 0 P.timers (with_startup P (record { vars = s
 abbrev pub entry_fits : Program → Waiting → Bool
 entry_fits P w = target_fits (program_places P) w.target && nat_le w.tag.time P.stop && nat_le w.tag.microstep P.top
 
--- a state of this program: it has its variables, and pending entries for its targets in order, no more than may be
+-- a state of this program: it has its variables, and what is pending is for its targets, at tags that it executes
 pub record IsStateOf (P : Program) (s : Snapshot) : Type 0 where
   pub vars : length s.vars ≡ length P.variables
-  pub ordered : AreInOrder s.pending
-  pub few : length s.pending ≤ most_pending
   pub entries : IsTrue (list_all (entry_fits P) s.pending)
 
 -- the earlier of a tag and one that may be missing

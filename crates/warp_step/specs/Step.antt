@@ -1,6 +1,8 @@
 -- One step of a program at a tag, in the order of its six parts.
-use Rattle.std.specs.Prelude.{◌≡◌, ℕ, ℤ, pos, ◌+◌, ◌≤◌, Bool, true, not, ◌&&◌, ◌||◌, ◌==◌, IsTrue, List, [], ◌∷◌, length, map, filter, replicate, slice_set, slice_get, slice_index, nat_lt, Option, Some, None, is_some, is_none, option_map_or, if◌then◌else◌}
+use Rattle.std.specs.Prelude.{◌≡◌, ℕ, ℤ, pos, ◌+◌, ◌≤◌, Bool, true, not, ◌&&◌, ◌||◌, ◌==◌, IsTrue, List, [], ◌∷◌, length, map, filter, replicate, slice_set, slice_get, slice_index, nat_lt, Option, Some, None, is_some, is_none, if◌then◌else◌}
+use Rattle.std.specs.Option.{option_map_or}
 use Rattle.std.specs.List.{list_any, list_all}
+use Rattle.arrayvec.specs.ArrayVec.{ArrayVec}
 use Rattle.warp_tag.specs.Moment.{Moment, is_before, is_same}
 use Rattle.warp_body.specs.Presence.{Presence, nothing_present, present_at, with_value}
 use Rattle.warp_body.specs.Effect.{Effect, effect_of}
@@ -102,7 +104,7 @@ abbrev pub order_of : Program → List ℕ
 order_of P = numbers 0 P.reactions
 
 -- lists of wishes, without the room that they have
-abbrev pub lists_of : List (ArrayVec Wish 16) → List (List Wish)
+abbrev pub lists_of : List (ArrayVec Wish) → List (List Wish)
 lists_of rooms = map (λ w. w.items) rooms
 
 -- no reaction has a wish

@@ -1,5 +1,6 @@
 -- What holds of every program.
-use Rattle.std.specs.Prelude.{ℕ, Bool, true, false, not, ◌&&◌, ◌||◌, ◌==◌, nat_lt, nat_le, List, [], ◌∷◌, ◌++◌, length, map, Option, Some, None, slice_get, option_map_or}
+use Rattle.std.specs.Prelude.{ℕ, Bool, true, false, not, ◌&&◌, ◌||◌, ◌==◌, nat_lt, nat_le, List, [], ◌∷◌, ◌++◌, length, map, Option, Some, None, slice_get}
+use Rattle.std.specs.Option.{option_map_or}
 use Rattle.std.specs.List.{list_all, list_any}
 use Rattle.warp_tag.specs.Limits.{longest_stop, longest_period, last_microstep, most_origins, most_reactors, most_variables, most_ports, most_actions, most_timers, most_reactions, most_links, most_inputs, most_outputs, most_wishes}
 use Rattle.warp_body.specs.Presence.{is_target}
@@ -73,7 +74,7 @@ abbrev mutual
   statement_may P r (SetVariable k e) = owns_variable P r.reactor k && term_may P r e
   statement_may P r (PutOutput port e) = names r.writes (to.Port port) && term_may P r e
   statement_may P r (ScheduleAction action delay e) = names r.writes (to.Action action) && nat_le delay longest_period && term_may P r e
-  statement_may P r (Choose e yes no) = term_may P r e && body_may P r yes && body_may P r no
+  statement_may P r (Choose e first second) = term_may P r e && body_may P r first && body_may P r second
 
   pub body_may : Program → Rule → Body → Bool
   body_may P r Done = true

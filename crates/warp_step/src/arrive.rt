@@ -2,10 +2,11 @@
 ghost use Rattle.std.specs.Prelude.{◌≡◌, ◌≤◌, IsTrue, not, length, take, drop, filter, List};
 ghost use Rattle.std.specs.List.{list_all};
 ghost use Rattle.warp_tag.specs.Moment.{is_before, is_same};
-ghost use Rattle.warp_body.specs.Presence.{places_of};
+ghost use Rattle.warp_body.specs.Presence.{places_of, target_fits};
 ghost use Rattle.warp_step.specs.Valid.{program_places};
 ghost use Rattle.warp_step.specs.Snapshot.{IsStateOf};
 ghost use Rattle.warp_step.specs.Step.{AreInputs, arrived, arrived_entries, without_entries};
+ghost use Rattle.warp_step.specs.inner.Front.{HasOtherHead};
 
 use crate::out::Given;
 use crate::pending::{Waiting, drop_front};

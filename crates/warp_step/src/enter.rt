@@ -8,7 +8,7 @@ ghost use Rattle.warp_step.specs.Step.{with_repeats, with_wishes, with_all_wishe
 
 use crate::program::Program;
 use crate::state::State;
-use warp_body::{Present, Target, Wishes};
+use warp_body::{Present, Target, Wish, Wishes};
 use warp_tag::Tag;
 
 impl State {

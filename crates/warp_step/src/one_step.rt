@@ -3,7 +3,7 @@ ghost use Rattle.std.specs.Prelude.{◌≡◌, ℕ, ◌+◌, ◌≤◌, ◌++◌
 ghost use Rattle.std.specs.List.{list_all};
 ghost use Rattle.warp_tag.specs.Moment.{is_before};
 ghost use Rattle.warp_step.specs.Snapshot.{Snapshot, IsStateOf};
-ghost use Rattle.warp_step.specs.Step.{CanStep, Step, Room, room_of, sources_of};
+ghost use Rattle.warp_step.specs.Step.{CanStep, Step, Room, room_of, source_of, sources_of};
 
 use crate::arrive::arrive;
 use crate::meter::Meter;
@@ -40,6 +40,7 @@ impl Scratch {
     pub fn new(alloc: Global, program: &Program) -> Result<Scratch, OutOfMemory>
         ensures { IfOk result (λ s. s ≡ room_of program.now) }
     {
+        program.valid();
         let places = Places {
             timers: program.timers().len(),
             actions: program.actions().len(),
@@ -56,6 +57,7 @@ impl Scratch {
 fn sources(alloc: Global, program: &Program) -> Result<Vec<u32>, OutOfMemory>
     ensures { IfOk result (λ sources. sources.items ≡ sources_of program.now) }
 {
+    program.valid();
     let ports = program.ports().len();
     let mut sources = Vec::with_capacity(alloc, ports)?;
     for port in 0..ports {

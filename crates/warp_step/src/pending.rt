@@ -66,11 +66,11 @@ pub(crate) fn enter(entries: &mut Entries, tag: Tag, target: Target, value: i64)
         entries[at].value = value;
         return true;
     }
-    if entries.is_full() {
-        return false;
+    let is_room = entries.len() < MOST_PENDING;
+    if is_room {
+        entries.insert(at, Waiting { tag, target, value });
     }
-    entries.insert(at, Waiting { tag, target, value });
-    true
+    is_room
 }
 
 /// Drops the first so many entries.

@@ -1,6 +1,7 @@
 //! Programs: how the code keeps one, what it tells, copies and comparison.
-ghost use Rattle.std.specs.Prelude.{◌≡◌, ◌↔◌, ℕ, ◌<◌, IsTrue, IfOk, length, map};
-ghost use Rattle.warp_step.specs.Program.{rule_of};
+ghost use Rattle.std.specs.Prelude.{◌≡◌, ◌↔◌, ℕ, ◌<◌, ◌≤◌, IsTrue, IfOk, length, map};
+ghost use Rattle.warp_tag.specs.Limits.{longest_period};
+ghost use Rattle.warp_step.specs.Program.{rule_of, delay_of};
 ghost use Rattle.warp_step.specs.View.{program_of};
 ghost use Rattle.warp_step.specs.Valid.{is_valid};
 
@@ -123,13 +124,21 @@ impl Program {
     }
 
     /// The port that a program input leads to.
-    #[tactic(auto, using(crate::proofs::ValidLemmas::input_port))]
     pub fn port(&self, input: u32) -> u32
         requires { input < length self.now.inputs }
         ensures port { result ≡ port_of self.now input }
         ensures range { result < length self.now.ports }
     {
         self.parts.inputs[input as usize].port
+    }
+
+    /// The minimum delay of an action, 0 to 1,000,000.
+    pub fn delay(&self, action: u32) -> u64
+        requires { action < length self.now.actions }
+        ensures delay { result ≡ delay_of self.now action }
+        ensures range { result ≤ longest_period }
+    {
+        self.parts.actions[action as usize].delay
     }
 
     /// The same program.

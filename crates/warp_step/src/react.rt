@@ -1,13 +1,14 @@
 //! The reactions of a step, and the outputs that it puts.
-ghost use Rattle.std.specs.Prelude.{◌≡◌, ℕ, ◌+◌, ◌≤◌, ◌<◌, ◌++◌, IsTrue, List, [], map, replicate, length, vec_len, vec_capacity};
+ghost use Rattle.std.specs.Prelude.{◌≡◌, ℕ, ◌+◌, ◌≤◌, ◌<◌, ◌++◌, IsTrue, List, [], map, replicate, length, slice_index_or, vec_len, vec_capacity};
 ghost use Rattle.std.specs.List.{list_all};
 ghost use Rattle.warp_tag.specs.Limits.{most_wishes};
-ghost use Rattle.warp_body.specs.Presence.{Presence, places_of, target_fits};
+ghost use Rattle.warp_body.specs.Presence.{Presence, places_of, present_at, target_fits};
+ghost use Rattle.warp_body.specs.declared.place.Target.TheVariants as to;
 ghost use Rattle.warp_body.specs.Effect.{body_fits, schedules_of, wish_fits};
 ghost use Rattle.warp_body.specs.Term.{sizes_of};
 ghost use Rattle.warp_step.specs.Program.{rule_of};
 ghost use Rattle.warp_step.specs.Valid.{program_places, program_sizes};
-ghost use Rattle.warp_step.specs.Step.{Reacting, after_reactions, is_triggered, lists_of, no_wishes, order_of, outputs_from, react};
+ghost use Rattle.warp_step.specs.Step.{Reacting, after_reactions, is_triggered, lists_of, no_wishes, order_of, outputs_from, react, with_output};
 
 use crate::out::Out;
 use crate::program::Program;
@@ -45,6 +46,7 @@ fn run_reaction(
         ≡ react number (rule_of reaction.now) (record { vars = vars.old; present = present.old; wishes = lists_of wishes.old }) }
     ensures vars { length vars.new ≡ length vars.old }
     ensures places { places_of present.new ≡ places_of present.old }
+    ensures sources { present.new.sources ≡ present.old.sources }
     ensures wishes { IsTrue (list_all (list_all (wish_fits (sizes_of vars.old present.old))) (lists_of wishes.old)) →
         IsTrue (list_all (list_all (wish_fits (sizes_of vars.old present.old))) (lists_of wishes.new)) }
 {
@@ -67,6 +69,7 @@ pub(crate) fn run_reactions(
         ≡ after_reactions program.now (order_of program.now) (record { vars = vars.old; present = present.old; wishes = no_wishes program.now }) }
     ensures vars { length vars.new ≡ length vars.old }
     ensures places { places_of present.new ≡ places_of present.old }
+    ensures sources { present.new.sources ≡ present.old.sources }
     ensures wishes { IsTrue (list_all (list_all (wish_fits (program_sizes program.now))) (lists_of wishes.new)) }
     ensures bodies { length wishes.new ≡ length wishes.old }
 {
@@ -94,9 +97,23 @@ pub(crate) fn put_outputs(program: &Program, tag: Tag, present: &Present, out: &
 {
     program.valid();
     for (number, port) in program.outputs().iter().enumerate() {
-        if let Some(value) = present.get(Target::Port(*port)) {
-            let port = number as u32;
-            out.push_reserved(Out { tag, port, value });
-        }
+        put_output(number as u32, *port, tag, present, out);
+    }
+}
+
+/// Appends the output with this number if its port is present.
+fn put_output(number: u32, port: u32, tag: Tag, present: &Present, out: &mut Vec<Out>)
+    requires port { port < length present.now.ports }
+    requires room { vec_len out.old < vec_capacity out.old }
+    ensures outputs { out.new.items ≡ out.old.items ++ with_output number tag (present_at present.now (to.Port port)) [] }
+    ensures len { vec_len out.new ≤ vec_len out.old + 1 }
+    ensures capacity { vec_capacity out.old ≤ vec_capacity out.new }
+{
+    if let Some(value) = present.get(Target::Port(port)) {
+        out.push_reserved(Out {
+            tag,
+            port: number,
+            value,
+        });
     }
 }

@@ -1,9 +1,11 @@
 //! The state of a program between two steps.
-ghost use Rattle.std.specs.Prelude.{◌≡◌, ◌≤◌, ◌+◌, ℕ, pos, length, map, IfOk, List, [], IsTrue};
+ghost use Rattle.std.specs.Prelude.{◌≡◌, ◌≤◌, ◌+◌, ℕ, pos, length, map, IfOk};
+ghost use Rattle.std.specs.List.{list_any};
 ghost use Rattle.warp_tag.specs.Limits.{longest_delay};
 ghost use Rattle.warp_step.specs.Program.{rule_of};
 ghost use Rattle.warp_step.specs.Valid.{names};
-ghost use Rattle.warp_step.specs.Snapshot.{Snapshot, begins, entered, landed, least_pending, start_state, with_timers};
+ghost use Rattle.warp_body.specs.declared.place.Target.TheVariants as to;
+ghost use Rattle.warp_step.specs.Snapshot.{IsStateOf, entered, landed, least_pending, start_state, with_timers};
 
 use crate::parts::Variable;
 use crate::pending::{Entries, Waiting, enter};
@@ -105,7 +107,7 @@ impl State {
         let values = self.vars.as_slice().to_vec(alloc)?;
         Ok(State {
             vars: Vars::from_vec(values),
-            pending: self.pending.clone(),
+            pending: self.pending.clone()?,
             lost: self.lost,
         })
     }

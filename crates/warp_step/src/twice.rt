@@ -1,5 +1,8 @@
 //! The program `twice`.
-ghost use Rattle.std.specs.Prelude.{◌≡◌, IfOk};
+ghost use Rattle.std.specs.Prelude.{◌≡◌, IfOk, ◌∷◌, []};
+ghost use Rattle.warp_body.specs.Term.{VariableAt, term_of};
+ghost use Rattle.warp_body.specs.Effect.{SetVariable, PutOutput, Done, Then};
+ghost use Rattle.warp_body.specs.declared.place.Target.TheVariants as to;
 ghost use Rattle.warp_step.specs.Program.{rule_of};
 ghost use Rattle.warp_step.specs.Twice.{twice, on_a, on_b};
 
@@ -24,7 +27,12 @@ impl Program {
             reactor: 0,
             is_input: false,
         };
-        let variables = vec![in alloc; Variable { reactor: 0, start: 0 }]?;
+        let variables = vec![in alloc;
+            Variable {
+                reactor: 0,
+                start: 0
+            },
+        ]?;
         let ports = vec![in alloc; input, input, output]?;
         let reactions = vec![in alloc; on_a(alloc)?, on_b(alloc)?]?;
         let a = ProgramInput { origin: 0, port: 0 };
@@ -72,11 +80,11 @@ fn on_b(alloc: Global) -> Result<Reaction, OutOfMemory>
 /// Of `twice`: at this trigger the total has this value, and is put.
 fn reaction_of(alloc: Global, trigger: Target, value: Expr) -> Result<Reaction, OutOfMemory>
     ensures { IfOk result (λ r. rule_of r ≡ record {
-        reactor = 0;
-        triggers = trigger ∷ [];
-        reads = [];
-        writes = to.Port 2 ∷ [];
-        body = Then (SetVariable 0 (term_of value)) (Then (PutOutput 2 (VariableAt 0)) Done);
+      reactor = 0;
+      triggers = trigger ∷ [];
+      reads = [];
+      writes = to.Port 2 ∷ [];
+      body = Then (SetVariable 0 (term_of value)) (Then (PutOutput 2 (VariableAt 0)) Done);
     }) }
 {
     let triggers = vec![in alloc; trigger]?;

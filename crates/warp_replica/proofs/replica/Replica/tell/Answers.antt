@@ -26,5 +26,5 @@ returns-in-None-clause-gives g c =
     let stood = c.state.ensures _ c.self.invariant.1 in
     let many = as_many r.program r.table c.self.invariant.0 _ _ stood.0 stood.1 c.vars-vars.ensures in
     let lacks = c.in-None.ensures.lookup.0 in
-    let past : length r.program.starts ≤ c.args.number = grind (arith, nat_tests) in
+    let past : length r.program.variables ≤ c.args.number = grind (arith, nat_tests) in
     subst (λ s. GivesQuery s.program s.records (Var c.args.number) (reply.Refused NoVar)) c.self.view_is past

@@ -1,0 +1,146 @@
+//! Statements and bodies of a file.
+ghost use Rattle.std.specs.Prelude.{◌≡◌, Some, None, IfOk, Err, option_map, map};
+ghost use Rattle.serde_json.specs.Data.{array};
+ghost use Rattle.serde_json.specs.View.{view, items_view};
+ghost use Rattle.warp_prog.specs.Statements.{assignment, assignment_of, scheduling_of, choice_of, statement_of, body_of, statements_of};
+ghost use Rattle.warp_prog.specs.View.{term_tree, statement_tree, body_tree};
+
+use crate::file::{Expression, Statement};
+use crate::misread::Misread;
+use crate::name::Name;
+use crate::shape::expression::expression;
+use crate::shape::word::{integer_at, name_at};
+use serde_json::Value;
+use std::alloc::Global;
+
+/// A statement of this word, a name and an expression.
+fn assignment(word: &str, name: Name, value: Expression) -> Option<Statement>
+    ensures { option_map statement_tree result ≡ assignment word.now name (term_tree value) }
+{
+    match word {
+        "set" => Some(Statement::Set(name, value)),
+        "put" => Some(Statement::Put(name, value)),
+        _ => None,
+    }
+}
+
+/// `["set", variable, expression]` and `["put", output, expression]`.
+#[tactic(auto, unfolding(crate::specs::Statements::assignment_of))]
+fn assign(alloc: Global, word: &str, name: &Value, value: &Value) -> Result<Statement, Misread>
+    ensures ok { IfOk result
+        (λ s. assignment_of word.now (view name.now) (view value.now) ≡ Some (statement_tree s)) }
+    ensures err { result ≡ Err Misread.Shape → assignment_of word.now (view name.now) (view value.now) ≡ None }
+{
+    let name = name_at(name).ok_or(Misread::Shape)?;
+    let value = expression(alloc, value)?;
+    assignment(word, name, value).ok_or(Misread::Shape)
+}
+
+/// `["schedule", action, delay, expression]`.
+#[tactic(auto, unfolding(crate::specs::Statements::scheduling_of))]
+fn schedule(
+    alloc: Global,
+    word: &str,
+    action: &Value,
+    delay: &Value,
+    value: &Value,
+) -> Result<Statement, Misread>
+    ensures ok { IfOk result
+        (λ s. scheduling_of word.now (view action.now) (view delay.now) (view value.now) ≡ Some (statement_tree s)) }
+    ensures err { result ≡ Err Misread.Shape
+        → scheduling_of word.now (view action.now) (view delay.now) (view value.now) ≡ None }
+{
+    let action = name_at(action).ok_or(Misread::Shape)?;
+    let delay = integer_at(delay).ok_or(Misread::Shape)?;
+    let value = expression(alloc, value)?;
+    if word != "schedule" {
+        return Err(Misread::Shape);
+    }
+    Ok(Statement::Schedule(action, delay, value))
+}
+
+/// `["if", expression, [..], [..]]`, of what the lists are.
+#[tactic(auto, unfolding(crate::specs::Statements::choice_of))]
+fn choose(
+    alloc: Global,
+    test: &Value,
+    first: Vec<Statement>,
+    second: Vec<Statement>,
+) -> Result<Statement, Misread>
+    ensures ok { IfOk result
+        (λ s. choice_of (view test.now) (Some (body_tree (map statement_tree first.items)))
+        (Some (body_tree (map statement_tree second.items))) ≡ Some (statement_tree s)) }
+    ensures err { result ≡ Err Misread.Shape
+        → choice_of (view test.now) (Some (body_tree (map statement_tree first.items)))
+        (Some (body_tree (map statement_tree second.items))) ≡ None }
+{
+    let test = expression(alloc, test)?;
+    Ok(Statement::If(test, first, second))
+}
+
+/// The statement of a word and its parts.
+#[cycle(statement)]
+#[tactic(auto, using(crate::proofs::ItemLemmas::no_statement_in_few, crate::proofs::ItemLemmas::no_statement_in_many), unfolding(crate::specs::Statements::choice_of))]
+fn parts(alloc: Global, items: &[Value]) -> Result<Statement, Misread>
+    ensures ok { IfOk result (λ s. statement_of (array (items_view items.now)) ≡ Some (statement_tree s)) }
+    ensures err { result ≡ Err Misread.Shape → statement_of (array (items_view items.now)) ≡ None }
+{
+    match items {
+        [] => Err(Misread::Shape),
+        [_] => Err(Misread::Shape),
+        [_, _] => Err(Misread::Shape),
+        [word, name, value] => {
+            let word = word.as_str().ok_or(Misread::Shape)?;
+            assign(alloc, word, name, value)
+        }
+        [word, x, y, z] => {
+            let word = word.as_str().ok_or(Misread::Shape)?;
+            if word != "if" {
+                return schedule(alloc, word, x, y, z);
+            }
+            let first = body(alloc, y)?;
+            let second = body(alloc, z)?;
+            choose(alloc, x, first, second)
+        }
+        [_, _, _, _, _, ..] => Err(Misread::Shape),
+    }
+}
+
+/// The statement that a value is.
+#[cycle(statement)]
+fn statement(alloc: Global, value: &Value) -> Result<Statement, Misread>
+    ensures ok { IfOk result (λ s. statement_of (view value.now) ≡ Some (statement_tree s)) }
+    ensures err { result ≡ Err Misread.Shape → statement_of (view value.now) ≡ None }
+{
+    match value {
+        Value::Array(items) => parts(alloc, items.as_slice()),
+        _ => Err(Misread::Shape),
+    }
+}
+
+/// Statements, one after another.
+#[cycle(statement)]
+fn statements(alloc: Global, items: &[Value]) -> Result<Vec<Statement>, Misread>
+    ensures ok { IfOk result
+        (λ ss. statements_of (items_view items.now) ≡ Some (body_tree (map statement_tree ss.items))) }
+    ensures err { result ≡ Err Misread.Shape → statements_of (items_view items.now) ≡ None }
+{
+    let mut found = Vec::with_capacity(alloc, items.len())?;
+    for item in items {
+        let next = statement(alloc, item)?;
+        found.push(next)?;
+    }
+    Ok(found)
+}
+
+/// The list of statements that a value is.
+#[cycle(statement)]
+pub(crate) fn body(alloc: Global, value: &Value) -> Result<Vec<Statement>, Misread>
+    ensures ok { IfOk result (λ ss. body_of (view value.now) ≡ Some (body_tree (map statement_tree ss.items))) }
+    ensures err { result ≡ Err Misread.Shape → body_of (view value.now) ≡ None }
+{
+    match value {
+        Value::Array(items) => statements(alloc, items.as_slice()),
+        _ => Err(Misread::Shape),
+    }
+}

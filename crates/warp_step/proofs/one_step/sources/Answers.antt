@@ -1,0 +1,21 @@
+-- one source more
+use Rattle.std.proofs.Common.{◌≡◌, ◌+◌, ◌<◌, ◌++◌, List, ℕ, map, drop, length, ap, ◌∙◌, [], ◌∷◌, true, arith}
+use Rattle.warp_step.specs.Step.{numbers, source_of}
+use Rattle.warp_step.specs.declared.parts.Link.{Link}
+use Rattle.warp_step.specs.declared.parts.Port.{Port}
+use Rattle.warp_step.proofs.SourceLemmas.{sources_one_more}
+use Rattle.warp_step.proofs.one_step.sources.Goals as goal
+
+pub loop-port-preserved : goal.loop-port-preserved
+loop-port-preserved c =
+    let P = c.args.program.now in
+    let n = c.loop-port.port in
+    let so_far = c.loop-port.sources.items in
+    let rest = map (source_of P.links) (numbers (n + 1) (drop (n + 1) P.ports)) in
+    let same : length c.ports-ports.result.now ≡ length P.ports = ap length c.ports-ports.ensures in
+    let lt : n < length P.ports = omega arith in
+    let own = c.source.ensures ∙ ap (λ (ls : List Link). source_of ls n) c.links.ensures in
+    let d : Port = record { reactor = 0; is_input = true } in
+    ap (λ (ns : List ℕ). ns ++ rest) c.in_ok-push.ensures.items
+    ∙ ap (λ (m : ℕ). (so_far ++ m ∷ []) ++ rest) own
+    ∙ sources_one_more so_far P n d lt ∙ c.loop-port.invariant

@@ -1,0 +1,53 @@
+-- what the body does is the reaction's effect, and the wishes of the others stay
+use Rattle.std.proofs.Common.{◌≡◌, List, [], IsTrue, ap, sym, ◌∙◌, subst, get_or, refl}
+use Rattle.std.specs.List.{list_all}
+use Rattle.std.specs.Prelude.{slice_set}
+use Rattle.std.proofs.lemmas.Bool.{cond-true}
+use Rattle.std.proofs.lemmas.List.{get_or-map, map-set}
+use Rattle.arrayvec.specs.ArrayVec.{ArrayVec}
+use Rattle.warp_body.specs.Effect.{Effect, effect_of, statements_of, wish_fits}
+use Rattle.warp_body.specs.Term.{sizes_of}
+use Rattle.warp_body.specs.declared.stmt.Wish.{Wish}
+use Rattle.warp_step.specs.Program.{rule_of}
+use Rattle.warp_step.specs.Step.{Reacting, effect_in, is_triggered, lists_of}
+use Rattle.warp_step.proofs.ReactLemmas.{list_all_set}
+use Rattle.warp_step.proofs.react.run_reaction.Goals as goal
+
+pub returns-then-triggered-clause-effect : goal.returns-then-triggered-clause-effect
+returns-then-triggered-clause-effect c =
+    let rule = rule_of c.args.reaction.now in
+    let W = c.args.wishes.now in
+    let n = c.args.number in
+    let room = c.index-wishes-number.result in
+    let vars = c.args.vars.now in
+    let present = c.args.present.now in
+    let now : Reacting = record { vars = vars; present = present; wishes = lists_of W } in
+    let none : (get_or W n room).items ≡ [] =
+    sym (get_or-map (λ (w : ArrayVec Wish). w.items) W n room [] c.requires.number) ∙ c.requires.none in
+    let effect =
+    c.run_body.ensures.effect
+    ∙ ap (λ ss. effect_of (statements_of ss) (record { vars = vars; present = present; wishes = (get_or W n room).items })) c.deref.ensures.value
+    ∙ ap (λ (ws : List Wish). effect_of rule.body (record { vars = vars; present = present; wishes = ws })) none in
+    let lists : lists_of (slice_set W n c.run_body.new.wishes) ≡ slice_set (lists_of W) n (effect_in rule now).wishes =
+    map-set (λ (w : ArrayVec Wish). w.items) W n c.run_body.new.wishes
+    ∙ ap (λ (e : Effect). slice_set (lists_of W) n e.wishes) effect in
+    let ran = cond-true (is_triggered rule present) (record {
+      vars = (effect_in rule now).vars;
+      present = (effect_in rule now).present;
+      wishes = slice_set (lists_of W) n (effect_in rule now).wishes;
+    }) now (sym c.triggered.ensures ∙ c.if-triggered.true) in
+    (λ i. record { vars = (effect i).vars; present = (effect i).present; wishes = lists i }) ∙ sym ran
+
+pub returns-then-triggered-clause-wishes : goal.returns-then-triggered-clause-wishes
+returns-then-triggered-clause-wishes c = λ all.
+    let W = c.args.wishes.now in
+    let n = c.args.number in
+    let room = c.index-wishes-number.result in
+    let fits = wish_fits (sizes_of c.args.vars.now c.args.present.now) in
+    let none : [] ≡ (get_or W n room).items =
+    sym (sym (get_or-map (λ (w : ArrayVec Wish). w.items) W n room [] c.requires.number) ∙ c.requires.none) in
+    let own : IsTrue (list_all fits c.run_body.new.wishes.items) =
+    c.run_body.ensures.wishes (subst (λ (ws : List Wish). IsTrue (list_all fits ws)) none refl) in
+    subst (λ (wss : List (List Wish)). IsTrue (list_all (list_all fits) wss))
+    (sym (map-set (λ (w : ArrayVec Wish). w.items) W n c.run_body.new.wishes))
+    (list_all_set (list_all fits) (lists_of W) n c.run_body.new.wishes.items all own)

@@ -1,0 +1,21 @@
+-- the reactions that are left go on from here as all do from the start, and have no wishes yet
+use Rattle.std.proofs.Common.{◌≡◌, ℕ, ◌≤◌, [], drop, get_or, length, IsTrue}
+use Rattle.std.specs.List.{list_all}
+use Rattle.warp_body.specs.Effect.{wish_fits}
+use Rattle.warp_body.specs.Presence.{places_of}
+use Rattle.warp_step.specs.Valid.{program_sizes}
+use Rattle.warp_step.specs.Step.{after_reactions, lists_of, no_wishes, numbers, order_of}
+use Rattle.warp_step.proofs.react.run_reactions.Given as goal
+
+abbrev pub invariant-loop-number : goal.invariant-loop-number
+invariant-loop-number l = record {
+  rest : after_reactions l.program (numbers l.number (drop l.number l.program.reactions))
+      (record { vars = l.vars; present = l.present; wishes = lists_of l.wishes })
+      ≡ after_reactions l.program (order_of l.program)
+      (record { vars = l.fn.vars; present = l.fn.present; wishes = no_wishes l.program });
+  vars : length l.vars ≡ length l.fn.vars;
+  places : places_of l.present ≡ places_of l.fn.present;
+  sources : l.present.sources ≡ l.fn.present.sources;
+  none : (k : ℕ) → l.number ≤ k → get_or (lists_of l.wishes) k [] ≡ [];
+  wishes : IsTrue (list_all (list_all (wish_fits (program_sizes l.program))) (lists_of l.wishes));
+}

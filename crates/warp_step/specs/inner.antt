@@ -1,0 +1,2 @@
+-- What follows a loop of the code and no public contract cites.
+pub mod Front
