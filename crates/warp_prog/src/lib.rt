@@ -2,6 +2,8 @@
 #![tactic(auto)]
 
 mod backward;
+#[cfg(test)]
+mod fault_tests;
 mod file;
 mod limits;
 mod misread;
