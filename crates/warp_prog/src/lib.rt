@@ -3,6 +3,8 @@
 
 mod backward;
 mod error;
+#[cfg(test)]
+mod fault_tests;
 mod file;
 mod law;
 mod limits;
