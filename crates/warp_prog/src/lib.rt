@@ -6,7 +6,6 @@ mod error;
 #[cfg(test)]
 mod fault_tests;
 mod file;
-mod law;
 mod limits;
 mod loading;
 mod misread;
@@ -14,8 +13,6 @@ mod name;
 mod named;
 mod names;
 mod numbered;
-#[cfg(test)]
-mod numbered_tests;
 mod reading;
 mod scope;
 mod shape;
