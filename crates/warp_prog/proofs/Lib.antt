@@ -18,3 +18,4 @@ pub mod Fits
 pub mod ReadingLemmas
 pub mod RoomLemmas
 pub mod LoadLemmas
+pub mod StatementLemmas

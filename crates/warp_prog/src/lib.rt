@@ -8,6 +8,8 @@ mod fault_tests;
 mod file;
 mod limits;
 mod loading;
+#[cfg(test)]
+mod loading_tests;
 mod misread;
 mod name;
 mod named;
@@ -16,6 +18,8 @@ mod numbered;
 mod reading;
 mod scope;
 mod shape;
+#[cfg(test)]
+mod tests;
 mod twice;
 mod undeclared;
 mod uses;
