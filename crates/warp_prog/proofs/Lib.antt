@@ -17,4 +17,5 @@ pub mod Links
 pub mod Fits
 pub mod ReadingLemmas
 pub mod RoomLemmas
-pub mod FaultLemmas
+pub mod LoadLemmas
+pub mod StatementLemmas

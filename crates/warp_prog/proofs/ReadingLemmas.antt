@@ -1,5 +1,5 @@
 -- The JSON value that bytes spell.
-use Rattle.std.proofs.Common.{◌≡◌, ℕ, List, Option, Some, None, true, false, IsUtf8, inl, inr, refl}
+use Rattle.std.proofs.Common.{◌≡◌, ℕ, List, Some, None, IsUtf8, inl, inr, refl}
 use Rattle.std.specs.Str.{is_utf8}
 use Rattle.std.proofs.lemmas.Bool.{cases_Bool}
 use Rattle.std.proofs.lemmas.Str.{IsUtf8-from_is_utf8, is_utf8-from_IsUtf8}

@@ -1,5 +1,5 @@
 -- What the bytes of a program file are read as, and the faults that reading finds.
-use Rattle.std.specs.Prelude.{ℕ, ◌*◌, List, length, nat_lt, Option, Some, None, Result, Ok, Err, if◌then◌else◌}
+use Rattle.std.specs.Prelude.{ℕ, List, length, nat_lt, Option, Some, None, Result, Ok, Err, if◌then◌else◌}
 use Rattle.std.specs.Str.{is_utf8}
 use Rattle.serde_json.specs.Data.{Data}
 use Rattle.serde_json.specs.Read.{read}

@@ -9,16 +9,15 @@ mod error;
 #[cfg(test)]
 mod fault_tests;
 mod file;
-mod law;
 mod limits;
 mod loading;
+#[cfg(test)]
+mod loading_tests;
 mod misread;
 mod name;
 mod named;
 mod names;
 mod numbered;
-#[cfg(test)]
-mod numbered_tests;
 mod reading;
 mod scope;
 mod shape;

@@ -1,7 +1,7 @@
 //! From the bytes of a program file to its tree.
-ghost use Rattle.std.specs.Prelude.{◌≡◌, Ok, Err, IfOk, IfErr, option_map};
+ghost use Rattle.std.specs.Prelude.{◌≡◌, ◌≤◌, length, Ok, Err, IfOk, IfErr, option_map};
 ghost use Rattle.serde_json.specs.View.{view};
-ghost use Rattle.warp_prog.specs.Reading.{json_of, reading_of};
+ghost use Rattle.warp_prog.specs.Reading.{longest_file, json_of, reading_of};
 ghost use Rattle.warp_prog.specs.View.{file_tree};
 
 use crate::error::LoadError;
@@ -34,6 +34,7 @@ fn json(alloc: Global, bytes: &[u8]) -> Result<Option<Value>, AllocError>
 pub(crate) fn reading(alloc: Global, bytes: &[u8]) -> Result<ProgramFile, LoadError>
     ensures ok { IfOk result (λ f. reading_of bytes.now ≡ Ok (file_tree f)) }
     ensures err { IfErr result (λ e. ¬ (e ≡ LoadError.Memory) → reading_of bytes.now ≡ Err e) }
+    ensures memory { IfErr result (λ e. e ≡ LoadError.Memory → length bytes.now ≤ longest_file) }
 {
     if bytes.len() > LONGEST_FILE {
         return Err(LoadError::Limit);
