@@ -3,3 +3,4 @@ pub mod ReplayLemmas
 pub mod RunLemmas
 pub mod ProgressLemmas
 pub mod PlainLemmas
+pub mod NextLemmas

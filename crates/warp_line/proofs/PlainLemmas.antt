@@ -1,16 +1,18 @@
 -- What an event does to what a `Plain` stands for.
-use Rattle.std.proofs.Common.{◌≡◌, ℕ, ℤ, ◌+◌, ◌≤◌, length, List, ◌∷◌, [], ap, sym, subst, ◌∙◌, refl, arith, IsTrue, Bool, true, false, Option, Some, None}
+use Rattle.std.proofs.Common.{◌≡◌, ℕ, ℤ, ◌+◌, ◌≤◌, length, List, [], ap, sym, subst, ◌∙◌, refl, arith, IsTrue, Bool, true, false, None}
 use Rattle.std.specs.Prelude.{MatchBool}
-use Rattle.std.specs.List.{list_all, cons_option}
+use Rattle.std.specs.List.{list_all}
 use Rattle.std.proofs.lemmas.List.Sums.{count_by-le-length}
 use Rattle.warp_tag.specs.Limits.{most_names}
 use Rattle.warp_tag.specs.Moment.{Moment, is_before}
-use Rattle.warp_tag.specs.Table.{Event, IsTable, changed, with_event, live, live_event}
+use Rattle.warp_tag.specs.Table.{Event, IsTable, changed, with_event, live}
 use Rattle.warp_tag.specs.declared.entry.Entry.{Entry}
 use Rattle.warp_step.specs.Program.{Program}
 use Rattle.warp_step.specs.Snapshot.{start_state}
 use Rattle.warp_step.specs.Run.{Row, Run}
-use Rattle.warp_step.proofs.TraceExists.{rows_left, left_few}
+use Rattle.warp_step.specs.Valid.{is_valid}
+use Rattle.warp_step.proofs.TagsOfRun.{few_rows}
+use Rattle.warp_step.proofs.ValidLemmas.{validity}
 use Rattle.warp_step.proofs.TraceLemmas.{one_rest}
 use Rattle.warp_line.specs.Timeline.{Standing, IsDone, NowStands, Settles, rows_before, lesser}
 use Rattle.warp_step.specs.Events.{IsEventOf, event_fits}
@@ -37,29 +39,13 @@ settled_stands p m settled h =
       r.done,
     )
 
-cons_few : (o : Option Event) (E : List Event) (n : ℕ) → length E ≤ n → length (cons_option o E) ≤ n + 1
-cons_few None E n h = omega arith
-cons_few (Some e) E n h = omega arith
-
-live_few : (es : List Entry) → length (live es) ≤ length es
-live_few [] = omega arith
-live_few (e ∷ es) =
-    let rest = cons_few (live_event e) (live es) (length es) (live_few es) in
-    omega arith
-
--- a run has no more rows than the table has names
-pub rows_few : (P : Program) (es : List Entry) (trace : List Row) → Run P (live es) trace → length trace ≤ length es
-rows_few P es trace run =
-    let a = rows_left P (live es) None (start_state P) trace refl run in
-    let b = left_few None (live es) in
-    let d = live_few es in
-    omega arith
-
--- with few names all rows together are within the slack
-few_before : (P : Program) (es : List Entry) (trace : List Row) (u : Moment) (n : ℕ) → length es ≤ most_names → Run P (live es) trace → rows_before u trace ≤ n + most_names
-few_before P es trace u n few run =
-    let a = rows_few P es trace run in
-    let b = count_by-le-length (λ (row : Row). is_before row.tag u) trace in
+-- a valid program has few rows before any tag
+few_before : (P : Program) (E : List Event) (trace : List Row) (u : Moment) (n : ℕ) → IsTrue (is_valid P) → IsTrue (list_all (event_fits P) E) → Run P E trace → rows_before u trace ≤ n + most_names
+few_before P E trace u n valid fits run =
+    let limits = (validity P valid).limits in
+    let top = limits.top in
+    let all : length trace ≤ most_names = few_rows P E trace limits.stop (omega arith) fits run in
+    let some = count_by-le-length (λ (row : Row). is_before row.tag u) trace in
     omega arith
 
 -- the table after an event
@@ -68,24 +54,26 @@ after_event origin tag input value es = changed (with_event input value) origin 
 
 -- where the live events changed, nothing is known to be done
 pub put_changed : (p q : Plain) (m : Standing) (origin : ℕ) (tag : Moment) (input : ℕ) (value : ℤ) → StandsFor p m → IsEventOf m.program origin tag input
-    → q.entries.items ≡ after_event origin tag input value p.entries.items → IsTable q.entries.items → length q.entries.items ≤ most_names
+    → q.entries.items ≡ after_event origin tag input value p.entries.items → IsTable q.entries.items
     → (live q.entries.items ≡ live p.entries.items → ⊥)
     → ((t : Event → Bool) → IsTrue (list_all t (live p.entries.items)) → IsTrue (t (record { origin = origin; tag = tag; input = input; value = value })) → IsTrue (list_all t (live q.entries.items)))
     → q.settled ≡ false → NowStands StandsFor most_names tag q m (after_event origin tag input value m.table)
-put_changed p q m origin tag input value h good is ordered few differs events unsettled =
+put_changed p q m origin tag input value h good is ordered differs events unsettled =
     let table : q.entries.items ≡ after_event origin tag input value m.table = is ∙ ap (after_event origin tag input value) h.table in
     let fits = events (event_fits m.program) (subst (λ (es : List Entry). IsTrue (list_all (event_fits m.program) (live es))) (sym h.table) h.events) good in
+    let fits_new = subst (λ (es : List Entry). IsTrue (list_all (event_fits m.program) (live es))) table fits in
     let new : Standing = record { program = m.program; table = after_event origin tag input value m.table; done = [] } in (
       [],
       record {
+        program = h.program;
         table = table;
         ordered = subst IsTable table ordered;
-        events = subst (λ (es : List Entry). IsTrue (list_all (event_fits m.program) (live es))) table fits;
+        events = fits_new;
         rows = subst (λ (b : Bool). MatchBool b (IsRun q new) (new.done ≡ [])) (sym unsettled) refl;
       },
       record {
         front = λ before after rb ra u enough.
-            few_before m.program (after_event origin tag input value m.table) after (lesser tag u) 0 (subst (λ (es : List Entry). length es ≤ most_names) table few) ra;
+            few_before m.program (live (after_event origin tag input value m.table)) after (lesser tag u) 0 h.program fits_new ra;
         unchanged = λ same. absurd (differs (ap live table ∙ same ∙ ap live (sym h.table)));
       },
     )
@@ -96,18 +84,20 @@ carried p q m n false h k = h
 
 -- where they stayed, what was done stays done
 pub put_same : (p q : Plain) (m : Standing) (origin : ℕ) (tag : Moment) (input : ℕ) (value : ℤ) → StandsFor p m → IsEventOf m.program origin tag input
-    → q.entries.items ≡ after_event origin tag input value p.entries.items → IsTable q.entries.items → length q.entries.items ≤ most_names
+    → q.entries.items ≡ after_event origin tag input value p.entries.items → IsTable q.entries.items
     → live q.entries.items ≡ live p.entries.items
     → q.settled ≡ p.settled → q.state ≡ p.state → q.outputs ≡ p.outputs → NowStands StandsFor most_names tag q m (after_event origin tag input value m.table)
-put_same p q m origin tag input value h good is ordered few same settled state outputs =
+put_same p q m origin tag input value h good is ordered same settled state outputs =
     let table : q.entries.items ≡ after_event origin tag input value m.table = is ∙ ap (after_event origin tag input value) h.table in
     let lives : live (after_event origin tag input value m.table) ≡ live m.table = ap live (sym table) ∙ same ∙ ap live h.table in
+    let fits = subst (λ (E : List Event). IsTrue (list_all (event_fits m.program) E)) (sym lives) h.events in
     let new : Standing = record { program = m.program; table = after_event origin tag input value m.table; done = m.done } in (
       m.done,
       record {
+        program = h.program;
         table = table;
         ordered = subst IsTable table ordered;
-        events = subst (λ (E : List Event). IsTrue (list_all (event_fits m.program) E)) (sym lives) h.events;
+        events = fits;
         rows = subst (λ (b : Bool). MatchBool b (IsRun q new) (m.done ≡ [])) (sym settled) (carried p q m new p.settled h.rows
             (λ r. record {
               done = subst (λ (E : List Event). Run m.program E m.done) (sym lives) r.done;
@@ -117,7 +107,7 @@ put_same p q m origin tag input value h good is ordered few same settled state o
       },
       record {
         front = λ before after rb ra u enough.
-            few_before m.program (after_event origin tag input value m.table) after (lesser tag u) (length m.done) (subst (λ (es : List Entry). length es ≤ most_names) table few) ra;
+            few_before m.program (live (after_event origin tag input value m.table)) after (lesser tag u) (length m.done) h.program fits ra;
         unchanged = λ kept. omega arith;
       },
     )

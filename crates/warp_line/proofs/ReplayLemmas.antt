@@ -1,5 +1,5 @@
--- The entries of the first tag of a table, and the step that they allow.
-use Rattle.std.proofs.Common.{◌≡◌, inl, inr, ℕ, ℤ, zero, suc, ◌<◌, ◌≤◌, length, List, ◌∷◌, [], take, drop, map, ap, sym, subst, ◌∙◌, refl, arith, IsTrue, Bool, true, false, nat_lt, Option, Some, None}
+-- The entries of one tag of a table, and the step that they allow.
+use Rattle.std.proofs.Common.{◌≡◌, inl, inr, ℕ, ℤ, zero, suc, ◌<◌, ◌≤◌, length, List, ◌∷◌, [], take, drop, map, ap, sym, subst, ◌∙◌, refl, arith, IsTrue, Bool, true, false, not, nat_lt, Option, Some, None}
 use Rattle.std.specs.Prelude.{◌==◌, slice_index, if◌then◌else◌}
 use Rattle.std.specs.Option.{option_map}
 use Rattle.std.specs.List.{cons_option, list_all, list_any, AllByRecursion}
@@ -15,20 +15,31 @@ use Rattle.warp_step.specs.Snapshot.{Snapshot, IsStateOf}
 use Rattle.warp_step.specs.Step.{CanStep}
 use Rattle.warp_step.specs.Run.{given_of}
 use Rattle.warp_step.specs.declared.out.Given.{Given}
-use Rattle.warp_step.specs.Events.{event_fits}
-use Rattle.warp_line.specs.inner.Replay.{head_tag, HasOtherHead, Passes}
-
--- what holds of all holds of a rest
-pub all_drop : {X : Type 0} (P : X → Type 0) (n : ℕ) (xs : List X) → AllByRecursion P xs → AllByRecursion P (drop n xs)
-all_drop P zero xs h = h
-all_drop P (suc n) [] h = h
-all_drop P (suc n) (x ∷ xs) h = all_drop P n xs h.1
+use Rattle.warp_step.specs.Events.{event_fits, is_in_time}
+use Rattle.warp_line.specs.inner.Replay.{HasOtherHead, Passes, is_waiting, none_before}
+use Rattle.warp_line.proofs.NextLemmas.{pending_in_time}
 
 -- a rest of a table is one
 pub table_drop : (n : ℕ) (es : List Entry) → IsTable es → IsTable (drop n es)
 table_drop zero es h = h
 table_drop (suc n) [] h = h
 table_drop (suc n) (e ∷ es) h = table_drop n es h.1
+
+-- what holds of the tags of all holds of those of a rest
+pub all_tags_drop : (p : Moment → Bool) (n : ℕ) (es : List Entry) → IsTrue (list_all (λ e. p e.tag) es) → IsTrue (list_all (λ e. p e.tag) (drop n es))
+all_tags_drop p zero es h = h
+all_tags_drop p (suc n) [] h = h
+all_tags_drop p (suc n) (e ∷ es) h =
+    let rest : IsTrue (list_all (λ d. p d.tag) es) = grind (arith, nat_tests) in
+    all_tags_drop p n es rest
+
+pub all_tags_take : (p : Moment → Bool) (n : ℕ) (es : List Entry) → IsTrue (list_all (λ e. p e.tag) es) → IsTrue (list_all (λ e. p e.tag) (take n es))
+all_tags_take p zero es h = refl
+all_tags_take p (suc n) [] h = h
+all_tags_take p (suc n) (e ∷ es) h =
+    let rest : IsTrue (list_all (λ d. p d.tag) es) = grind (arith, nat_tests) in
+    let taken = all_tags_take p n es rest in
+    grind (arith, nat_tests)
 
 -- all names behind another tag than the first are behind the first tag
 later_all : (t : Moment) (e : Entry) (ds : List Entry) → is_before t e.tag ≡ true → AllByRecursion (λ d. IsTrue (name_before e.origin e.tag d)) ds → IsTrue (list_all (λ d. is_before t d.tag) ds)
@@ -39,25 +50,20 @@ later_all t e (d ∷ ds) h a =
     let rest : IsTrue (list_all (λ d'. is_before t d'.tag) ds) = later_all t e ds h a.1 in
     grind (arith, nat_tests)
 
-later_rest : (e : Entry) (ds : List Entry) → AllByRecursion (λ d. IsTrue (name_before e.origin e.tag d)) ds → IsTable ds → HasOtherHead e.tag ds → IsTrue (list_all (λ d. is_before e.tag d.tag) ds)
-later_rest e [] a table other = refl
-later_rest e (d ∷ ds) a table other =
-    let first : IsTrue (name_before e.origin e.tag d) = a.0 in
-    let later : is_before e.tag d.tag ≡ true = grind (arith, nat_tests) in
-    let rest : IsTrue (list_all (λ d'. is_before e.tag d'.tag) ds) = later_all e.tag d ds later table.0 in
+later_rest : (t : Moment) (ds : List Entry) → IsTable ds → HasOtherHead t ds → IsTrue (list_all (λ d. not (is_before d.tag t)) ds) → IsTrue (list_all (λ d. is_before t d.tag) ds)
+later_rest t [] table other none = refl
+later_rest t (d ∷ ds) table other none =
+    let later : is_before t d.tag ≡ true = grind (arith, nat_tests) in
+    let rest : IsTrue (list_all (λ d'. is_before t d'.tag) ds) = later_all t d ds later table.0 in
     grind (arith, nat_tests)
 
-pub passes : (rest : List Entry) (n : ℕ) → 0 < length rest → IsTable rest → n ≤ length rest
-    → IsTrue (list_all (λ e. is_same (head_tag rest) e.tag) (take n rest)) → HasOtherHead (head_tag rest) (drop n rest) → Passes rest n
-passes [] n some table within here other = absurd (omega arith)
-passes (e ∷ es) zero some table within here other =
-    let same : is_same e.tag e.tag ≡ true = grind (arith, nat_tests) in
-    let no_way : false ≡ true = sym other ∙ same in cc
-passes (e ∷ es) (suc n) some table within here other = record {
-  some = omega arith;
+-- past the entries of a tag before which none stands
+pub passes : (t : Moment) (rest : List Entry) (n : ℕ) → IsTable rest → IsTrue (list_all (λ e. not (is_before e.tag t)) rest) → n ≤ length rest
+    → IsTrue (list_all (λ e. is_same t e.tag) (take n rest)) → HasOtherHead t (drop n rest) → Passes t rest n
+passes t rest n table none within here other = record {
   within = within;
   here = here;
-  later = later_rest e (drop n es) (all_drop (λ d. IsTrue (name_before e.origin e.tag d)) n es table.0) (table_drop n es table.1) other;
+  later = later_rest t (drop n rest) (table_drop n rest table) other (all_tags_drop (λ u. not (is_before u t)) n rest none);
 }
 
 -- the inputs of live events of one tag: the program's, none twice
@@ -151,38 +157,49 @@ once P t (e ∷ es) table same fits =
     other_input P e.origin e.tag v.input es (owned ∙ (live_name e v is).0) parts_of.1 table.0 rest_here)
     (once P t es table.1 rest parts_of.1)
 
--- a live event of the tag is not past the stop
-time_cons : (P : Program) (t : Moment) (o : Option Event) (E : List Event) → ((v : Event) → o ≡ Some v → t.time ≤ P.stop) → (0 < length (map given_of E) → t.time ≤ P.stop)
-    → 0 < length (map given_of (cons_option o E)) → t.time ≤ P.stop
+-- the program executes the tag of a live event
+time_cons : (P : Program) (t : Moment) (o : Option Event) (E : List Event) → ((v : Event) → o ≡ Some v → IsTrue (is_in_time P t)) → (0 < length (map given_of E) → IsTrue (is_in_time P t))
+    → 0 < length (map given_of (cons_option o E)) → IsTrue (is_in_time P t)
 time_cons P t None E h k some = k some
 time_cons P t (Some v) E h k some = h v refl
 
-in_time : (P : Program) (t : Moment) (es : List Entry) → IsTrue (list_all (λ e. is_same t e.tag) es) → IsTrue (list_all (event_fits P) (live es))
-    → 0 < length (map given_of (live es)) → t.time ≤ P.stop
-in_time P t [] same fits some = absurd (omega arith)
-in_time P t (e ∷ es) same fits some =
+given_in_time : (P : Program) (t : Moment) (es : List Entry) → IsTrue (list_all (λ e. is_same t e.tag) es) → IsTrue (list_all (event_fits P) (live es))
+    → 0 < length (map given_of (live es)) → IsTrue (is_in_time P t)
+given_in_time P t [] same fits some = absurd (omega arith)
+given_in_time P t (e ∷ es) same fits some =
     let parts_of = fits_cons (event_fits P) (live_event e) (live es) fits in
     let here : is_same t e.tag ≡ true = grind (arith, nat_tests) in
     let rest : IsTrue (list_all (λ d. is_same t d.tag) es) = grind (arith, nat_tests) in
     time_cons P t (live_event e) (live es)
     (λ v is.
     let good : IsTrue (event_fits P v) = parts_of.0 v is in
-    let tags : v.tag ≡ e.tag = (live_name e v is).1 in
-    let times : v.tag.time ≡ t.time = ap (λ (u : Moment). u.time) (tags ∙ sym (same_is t e.tag here)) in
-    let fits_v : v.tag.time ≤ P.stop = grind (arith, nat_tests) in
-    omega arith)
-    (in_time P t es rest parts_of.1) some
+    let fits_v : IsTrue (is_in_time P v.tag) = grind (arith, nat_tests) in
+    let tags : v.tag ≡ t = (live_name e v is).1 ∙ sym (same_is t e.tag here) in
+    subst (λ (u : Moment). IsTrue (is_in_time P u)) tags fits_v)
+    (given_in_time P t es rest parts_of.1) some
 
--- what the live entries of the first tag give may be stepped with
+-- what is given or pending at a tag shows that the program executes it
+waiting_in_time : (P : Program) (s : Snapshot) (t : Moment) (es : List Entry) → IsTrue (list_all (λ e. is_same t e.tag) es) → IsTrue (list_all (event_fits P) (live es))
+    → IsStateOf P s → IsTrue (is_waiting t (map given_of (live es)) s.pending) → IsTrue (is_in_time P t)
+waiting_in_time P s t es same fits state waiting = elim (cases_Bool (nat_lt 0 (length (map given_of (live es))))) [
+  | inl some ↦ let more : 0 < length (map given_of (live es)) = grind (arith, nat_tests) in given_in_time P t es same fits more
+  | inr none ↦
+      let there : list_any (λ w. is_same w.tag t) s.pending ≡ true = grind (arith, nat_tests) in
+      pending_in_time P t s.pending state.entries there
+]
+
+-- what the live entries of a tag give may be stepped with, where something is given or pending and nothing is pending before
 pub can_step : (P : Program) (s : Snapshot) (t : Moment) (es : List Entry) (X : List Given) → IsTable es → IsTrue (list_all (λ e. is_same t e.tag) es) → IsTrue (list_all (event_fits P) (live es))
-    → X ≡ map given_of (live es) → 0 < length X → IsStateOf P s → s.pending ≡ [] → CanStep P s t X
-can_step P s t es X table same fits is some state quiet =
-    let some_live : 0 < length (map given_of (live es)) = subst (λ (Y : List Given). 0 < length Y) is some in
+    → X ≡ map given_of (live es) → IsStateOf P s → IsTrue (none_before t s.pending) → IsTrue (is_waiting t X s.pending) → CanStep P s t X
+can_step P s t es X table same fits is state none waiting =
+    let there : IsTrue (is_waiting t (map given_of (live es)) s.pending) = subst (λ (Y : List Given). IsTrue (is_waiting t Y s.pending)) is waiting in
+    let in_time : IsTrue (is_in_time P t) = waiting_in_time P s t es same fits state there in
     subst (λ (Y : List Given). CanStep P s t Y) (sym is) (record {
       state = state;
-      time = in_time P t es same fits some_live;
-      none_before = (rw quiet refl);
-      some_given = some_live;
+      time = grind (arith, nat_tests);
+      microstep = grind (arith, nat_tests);
+      none_before = none;
+      some = there;
       inputs = record { known = known P (live es) fits; once = once P t es table same fits };
     })
 
@@ -226,10 +243,3 @@ live_tags p (e ∷ es) h =
     let here : IsTrue (p e.tag) = grind (arith, nat_tests) in
     let rest : IsTrue (list_all (λ d. p d.tag) es) = grind (arith, nat_tests) in
     tag_cons p (live_event e) (live es) (λ v is. subst (λ (t : Moment). IsTrue (p t)) (sym (live_name e v is).1) here) (live_tags p es rest)
-
-pub all_tags_drop : (p : Moment → Bool) (n : ℕ) (es : List Entry) → IsTrue (list_all (λ e. p e.tag) es) → IsTrue (list_all (λ e. p e.tag) (drop n es))
-all_tags_drop p zero es h = h
-all_tags_drop p (suc n) [] h = h
-all_tags_drop p (suc n) (e ∷ es) h =
-    let rest : IsTrue (list_all (λ d. p d.tag) es) = grind (arith, nat_tests) in
-    all_tags_drop p n es rest

@@ -1,6 +1,6 @@
 -- A front of a run, and how it grows by the entries of one tag.
 use Rattle.std.proofs.Common.{◌≡◌, inl, inr, ◌≤◌, length, List, ◌++◌, ◌∷◌, [], map, ap, sym, subst, ◌∙◌, refl, rules, arith, IsTrue, Bool, true, false, not, ◌||◌, Option, Some, filter}
-use Rattle.std.specs.List.{list_all}
+use Rattle.std.specs.List.{list_all, list_any}
 use Rattle.std.proofs.lemmas.Bool.{cases_Bool}
 use Rattle.std.proofs.lemmas.Bool.Decides.{nat_tests}
 use Rattle.std.proofs.lemmas.List.Elements.{filter-append}
@@ -11,8 +11,10 @@ use Rattle.warp_step.specs.Program.{Program}
 use Rattle.warp_step.specs.Snapshot.{Snapshot}
 use Rattle.warp_step.specs.Step.{Step}
 use Rattle.warp_step.specs.Run.{Row, RunFrom, IsNext, waits, is_after, given_of, given_at, state_at_end}
+use Rattle.warp_step.specs.declared.pending.Waiting.{Waiting}
 use Rattle.warp_step.proofs.TraceLemmas.{one_next, one_row}
-use Rattle.warp_step.proofs.TraceExists.{after_trans, stands, NoneLeft, next_quiet}
+use Rattle.warp_step.proofs.TagsOfRun.{after_trans}
+use Rattle.warp_line.specs.inner.Replay.{none_before}
 
 -- these rows begin the run from a last tag and a state, and lead to another
 abbrev pub RunsTo : Program → List Event → Option Moment → Snapshot → List Row → Option Moment → Snapshot → Type 0
@@ -49,6 +51,14 @@ runs_front P E last last' s s' (r ∷ rows) (q ∷ trace) h run =
 pub runs_state : (P : Program) (E : List Event) (last last' : Option Moment) (s s' : Snapshot) (rows : List Row) → RunsTo P E last s rows last' s' → state_at_end s rows ≡ s'
 runs_state P E last last' s s' [] h = h.1
 runs_state P E last last' s s' (r ∷ rows) h = runs_state P E (Some r.tag) last' r.state s' rows h.2
+
+-- an event stands at the tag
+abbrev pub stands : Moment → List Event → Bool
+stands t E = list_any (λ e. is_same t e.tag) E
+
+-- an entry is pending at the tag
+abbrev pub pends : Moment → List Waiting → Bool
+pends t ws = list_any (λ w. is_same t w.tag) ws
 
 -- events that are not after a last row
 abbrev pub past : Option Moment → List Event → Bool
@@ -97,22 +107,36 @@ stands-append : (u : Moment) (A B : List Event) → stands u (A ++ B) ≡ (stand
 stands-append u [] B = refl
 stands-append u (e ∷ es) B = let rest = stands-append u es B in grind (arith, nat_tests)
 
--- with these events before, at and behind a tag, that tag is the next
-pub next_at : (last : Option Moment) (t : Moment) (s : Snapshot) (A : List Event) (e : Event) (G B : List Event) → IsTrue (past last A) → IsTrue (all_at t (e ∷ G)) → IsTrue (behind t B)
-    → is_after last t ≡ true → s.pending ≡ [] → IsNext (A ++ ((e ∷ G) ++ B)) last s t
-next_at last t s A e G B a g b after quiet = next_quiet (A ++ ((e ∷ G) ++ B)) last s t quiet (record {
-  after = after;
-  stood = (let x = stands-append t A ((e ∷ G) ++ B) in let y = stands-append t (e ∷ G) B in grind (arith, nat_tests));
-  least = λ u is st. elim (cases_Bool (stands u (e ∷ G))) [
-    | inl here ↦ at_stands t u (e ∷ G) g here
-    | inr gone ↦
-        let x = stands-append u A ((e ∷ G) ++ B) in
-        let y = stands-append u (e ∷ G) B in
-        let z = past_stands last u A a is in
-        let there : stands u B ≡ true = grind (arith, nat_tests) in
-        behind_stands t u B b there
-  ];
-})
+none_pends : (t u : Moment) (ws : List Waiting) → IsTrue (none_before t ws) → pends u ws ≡ true → is_before u t ≡ false
+none_pends t u [] h s = let never : false ≡ true = s in cc
+none_pends t u (w ∷ ws) h s = elim (cases_Bool (is_same u w.tag)) [
+  | inl same ↦ grind (arith, nat_tests)
+  | inr other ↦
+      let rest : IsTrue (none_before t ws) = grind (arith, nat_tests) in
+      let there : pends u ws ≡ true = grind (arith, nat_tests) in
+      none_pends t u ws rest there
+]
+
+-- with these events before, at and behind a tag, and nothing pending before it, that tag is the next if something stands there
+pub next_at : (last : Option Moment) (t : Moment) (s : Snapshot) (A G B : List Event) → IsTrue (past last A) → IsTrue (all_at t G) → IsTrue (behind t B)
+    → is_after last t ≡ true → IsTrue (none_before t s.pending) → (stands t G || pends t s.pending) ≡ true → IsNext (A ++ (G ++ B)) last s t
+next_at last t s A G B a g b after none here = record {
+  waiting = (let x = stands-append t A (G ++ B) in let y = stands-append t G B in grind (arith, nat_tests));
+  least = λ u h.
+      let is : is_after last u ≡ true = grind (arith, nat_tests) in
+      elim (cases_Bool (pends u s.pending)) [
+        | inl pending ↦ none_pends t u s.pending none pending
+        | inr quiet ↦ elim (cases_Bool (stands u G)) [
+          | inl given ↦ at_stands t u G g given
+          | inr gone ↦
+              let x = stands-append u A (G ++ B) in
+              let y = stands-append u G B in
+              let z = past_stands last u A a is in
+              let there : stands u B ≡ true = grind (arith, nat_tests) in
+              behind_stands t u B b there
+        ]
+      ];
+}
 
 none_past : (last : Option Moment) (t : Moment) (A : List Event) → IsTrue (past last A) → is_after last t ≡ true → filter (λ e. is_same t e.tag) A ≡ []
 none_past last t [] h a = refl
@@ -168,6 +192,11 @@ past_at t (e ∷ es) h =
     let here : is_before t e.tag ≡ false = grind (arith, nat_tests) in
     grind (arith, nat_tests)
 
--- nothing waits where all events are past
-pub none_left : (last : Option Moment) (A : List Event) → IsTrue (past last A) → NoneLeft last A
-none_left last A h t a = past_stands last t A h a
+-- nothing waits where all events are past and nothing is pending
+pub none_waits : (last : Option Moment) (s : Snapshot) (A : List Event) → IsTrue (past last A) → s.pending ≡ [] → (t : Moment) → waits A last s t ≡ false
+none_waits last s A h quiet t =
+    let none : pends t s.pending ≡ false = rw quiet refl in
+    elim (cases_Bool (is_after last t)) [
+      | inl later ↦ let gone = past_stands last t A h later in grind (arith, nat_tests)
+      | inr earlier ↦ grind (arith, nat_tests)
+    ]

@@ -1,8 +1,8 @@
 -- What a `Plain` stands for.
 use Rattle.std.specs.Prelude.{◌≡◌, ◌<◌, IsTrue, MatchBool, [], vec_len, vec_capacity}
 use Rattle.std.specs.List.{list_all}
-use Rattle.warp_tag.specs.Limits.{most_names}
 use Rattle.warp_tag.specs.Table.{IsTable, live}
+use Rattle.warp_step.specs.Valid.{is_valid}
 use Rattle.warp_step.specs.Snapshot.{start_state}
 use Rattle.warp_step.specs.Events.{event_fits}
 use Rattle.warp_step.specs.Run.{state_at_end, outputs_of}
@@ -15,14 +15,14 @@ pub record IsRun (p : Plain) (m : Standing) : Type 0 where
   pub state : p.state ≡ state_at_end (start_state m.program) m.done
   pub outputs : p.outputs.items ≡ outputs_of m.done
 
--- it keeps the table, sorted, with events that the program takes; all rows are done, or none is known
+-- the program is valid; it keeps the table, sorted, with events that the program takes; all rows are done, or none is known
 pub record StandsFor (p : Plain) (m : Standing) : Type 0 where
+  pub program : IsTrue (is_valid m.program)
   pub table : p.entries.items ≡ m.table
   pub ordered : IsTable m.table
   pub events : IsTrue (list_all (event_fits m.program) (live m.table))
   pub rows : MatchBool p.settled (IsRun p m) (m.done ≡ [])
 
--- there is room for a name, and fewer names than a table can have are there
-pub record HasRoom (p : Plain) : Type 0 where
-  pub room : vec_len p.entries < vec_capacity p.entries
-  pub few : vec_len p.entries < most_names
+-- there is room for a name
+abbrev pub HasRoom : Plain → Type 0
+HasRoom p = vec_len p.entries < vec_capacity p.entries

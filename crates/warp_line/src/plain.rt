@@ -37,16 +37,17 @@ impl Timeline for Plain {
       | inr s ↦ none_front m.done trace (MatchBool-at_false _ _ s h.rows)
     ] };
 
-    /// No table has more names, and in this version no run has more rows than its table has names.
+    /// No run has more rows: each stands at a tag of its own, at a time of at most 1,000,000 and a microstep of at most 15.
     const SLACK: u64 = 4_000_000_000;
 
     fn start(alloc: Global, program: &Program) -> Result<Plain, OutOfMemory> {
+        program.valid();
         let state = State::start(alloc, program)?;
         Ok(Plain {
             entries: Vec::new(alloc),
             state,
             outputs: Vec::new(alloc),
-            settled: true,
+            settled: false,
         })
     }
 

@@ -1,12 +1,13 @@
 //! A run from the start, over a sorted table.
-ghost use Rattle.std.specs.Prelude.{◌≡◌, ℕ, ◌+◌, ◌<◌, ◌≤◌, IsTrue, List, [], length, map, take, drop, IfOk, OnOk, OnErr, ◌∷◌, ◌++◌, vec_len, vec_capacity};
-ghost use Rattle.std.specs.List.{list_all};
-ghost use Rattle.warp_tag.specs.Moment.{is_same};
+ghost use Rattle.std.specs.Prelude.{◌≡◌, ◌+◌, ◌≤◌, ◌++◌, ◌∷◌, IsTrue, List, [], length, map, take, drop, IfOk, OnOk, OnErr};
+ghost use Rattle.std.specs.List.{list_all, list_any};
+ghost use Rattle.warp_tag.specs.Moment.{is_before, is_same};
 ghost use Rattle.warp_tag.specs.Table.{IsTable, live};
-ghost use Rattle.warp_step.specs.Snapshot.{Snapshot, IsStateOf, start_state};
+ghost use Rattle.warp_step.specs.Snapshot.{IsStateOf, start_state};
+ghost use Rattle.warp_step.specs.Step.{CanStep, room_of};
 ghost use Rattle.warp_step.specs.Run.{Row, Run, given_of, state_at_end, outputs_of};
 ghost use Rattle.warp_step.specs.Events.{event_fits};
-ghost use Rattle.warp_line.specs.inner.Replay.{head_tag, HasOtherHead, GoesOn, Passes};
+ghost use Rattle.warp_line.specs.inner.Replay.{HasOtherHead, GoesOn, is_waiting, next_of, none_before};
 
 use std::alloc::Global;
 use warp_step::{Given, Meter, Out, Program, Scratch, State, step};
@@ -41,38 +42,56 @@ fn gather(rest: &[Entry], tag: Tag, given: &mut Vec<Given>) -> Result<usize, Out
     Ok(rest.len())
 }
 
-/// Goes past the entries of the first tag, with a step where one of them is live.
-#[tactic(auto, using(crate::proofs::ReplayLemmas::passes))]
+/// The earlier of the first entry's tag and the least pending one, if there is one.
+fn next_tag(rest: &[Entry], pending: Option<Tag>) -> Option<Tag>
+    ensures { result ≡ next_of rest.now pending }
+{
+    let Some(entry) = rest.first() else {
+        return pending;
+    };
+    match pending {
+        Some(tag) if tag.is_before(entry.tag) => Some(tag),
+        _ => Some(entry.tag),
+    }
+}
+
+/// Whether an entry is pending at the tag, before which none is.
+fn is_pending_at(state: &State, tag: Tag) -> bool
+    requires { IsTrue (none_before tag state.now.pending) }
+    ensures { result ≡ list_any (λ w. is_same w.tag tag) state.now.pending }
+{
+    match state.next() {
+        Some(next) => next.is_same(tag),
+        None => false,
+    }
+}
+
+/// A step at the tag, if something is given or pending there.
 fn advance<M: Meter>(
     program: &Program,
-    rest: &[Entry],
     state: &mut State,
     scratch: &mut Scratch,
-    given: &mut Vec<Given>,
+    tag: Tag,
+    given: &[Given],
     outputs: &mut Vec<Out>,
     meter: &mut M,
-) -> Result<usize, OutOfMemory>
-    requires some { 0 < length rest.now }
-    requires table { IsTable rest.now }
-    requires events { IsTrue (list_all (event_fits program.now) (live rest.now)) }
+) -> Result<(), OutOfMemory>
+    requires can { IsTrue (is_waiting tag given.now state.old.pending) → CanStep program.now state.old tag given.now }
+    requires none_before { IsTrue (none_before tag state.old.pending) }
     requires state { IsStateOf program.now state.old }
-    requires quiet { state.old.pending ≡ [] }
-    requires scratch { scratch.old ≡ program.now.ports }
-    ensures passes { IfOk result (Passes rest.now) }
-    ensures goes { IfOk result (λ n. GoesOn program.now (head_tag rest.now) (map given_of (live (take n rest.now)))
+    requires scratch { scratch.old ≡ room_of program.now }
+    ensures goes { OnOk result (GoesOn program.now tag given.now
         state.old state.new outputs.old.items outputs.new.items (M.ticks meter.old) (M.ticks meter.new)) }
-    ensures state { IsStateOf program.now state.new }
-    ensures quiet { state.new.pending ≡ [] }
-    ensures scratch { scratch.new ≡ scratch.old }
+    ensures state { OnOk result (IsStateOf program.now state.new) }
+    ensures later { OnOk result (IsTrue (list_all (λ w. is_before tag w.tag) state.new.pending)) }
+    ensures scratch { OnOk result (scratch.new ≡ scratch.old) }
     ensures err { OnErr result (M.ticks meter.new ≡ M.ticks meter.old) }
 {
-    let tag = rest[0].tag;
-    let count = gather(rest, tag, given)?;
-    if !given.is_empty() {
+    if !given.is_empty() || is_pending_at(state, tag) {
         outputs.try_reserve(program.outputs().len())?;
         step(program, state, scratch, tag, given, outputs, meter);
     }
-    Ok(count)
+    Ok(())
 }
 
 /// The entries behind the first so many.
@@ -83,7 +102,8 @@ fn skip(entries: &[Entry], count: usize) -> &[Entry]
     &entries[count..]
 }
 
-/// Runs a program from its start over the live events of a sorted table.
+/// Runs a program from its start over the live events of a sorted table: from tag to tag, while an entry is left or
+/// something is pending.
 pub(crate) fn replay<M: Meter>(
     alloc: Global,
     program: &Program,
@@ -102,13 +122,14 @@ pub(crate) fn replay<M: Meter>(
     let mut given = Vec::new(alloc);
     let mut outputs = Vec::new(alloc);
     let mut rest = entries;
-    'rows: while !rest.is_empty() {
-        let count = advance(
+    'rows: while let Some(tag) = next_tag(rest, state.next()) {
+        let count = gather(rest, tag, &mut given)?;
+        advance(
             program,
-            rest,
             &mut state,
             &mut scratch,
-            &mut given,
+            tag,
+            &given,
             &mut outputs,
             meter,
         )?;

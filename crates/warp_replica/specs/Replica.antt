@@ -1,7 +1,8 @@
 -- What a replica is, and what its timeline stands for.
 use Rattle.std.specs.Prelude.{List, refl}
 use Rattle.std.specs.Coded.{Coded, code_by, coded×, coded_list}
-use Rattle.warp_step.specs.Program.{Program, program_code}
+use Rattle.warp_step.specs.Codes.{program_code}
+use Rattle.warp_step.specs.Program.{Program}
 use Rattle.warp_step.specs.Run.{Row}
 use Rattle.warp_record.specs.declared.line.Record.{Record}
 use Rattle.warp_table.specs.Names.{table_of}

@@ -1,9 +1,13 @@
+pub mod FrontLemmas
+pub mod PendingLemmas
 pub mod ReactLemmas
 pub mod Sameness
 pub mod SourceLemmas
+pub mod StepLemmas
 pub mod TagsOfBox
 pub mod TagsOfRun
 pub mod TagsOfStep
+pub mod TargetsOfStep
 pub mod TraceExists
 pub mod TraceLemmas
 pub mod ValidLemmas

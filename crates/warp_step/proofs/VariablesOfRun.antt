@@ -72,11 +72,11 @@ where_vars (At tag) target value s = entered_vars tag target value s
 where_vars PastStop target value s = refl
 where_vars PastMicro target value s = refl
 
-landed_vars : (P : Program) (t : Moment) (delay : ℕ) (target : Target) (value : ℤ) (s : Snapshot) → (landed P t delay target value s).vars ≡ s.vars
+pub landed_vars : (P : Program) (t : Moment) (delay : ℕ) (target : Target) (value : ℤ) (s : Snapshot) → (landed P t delay target value s).vars ≡ s.vars
 landed_vars P t delay target value s = where_vars (landing P.stop P.top t delay) target value s
 
 -- a snapshot or the one that it becomes, with the same variables
-same_vars : (b : Bool) (x s : Snapshot) → x.vars ≡ s.vars → (if b then x else s).vars ≡ s.vars
+pub same_vars : (b : Bool) (x s : Snapshot) → x.vars ≡ s.vars → (if b then x else s).vars ≡ s.vars
 same_vars true x s h = h
 same_vars false x s h = refl
 

@@ -114,6 +114,28 @@ pub fn step<M: Meter>(
     ensures ticks { M.ticks meter.new ≡ M.ticks meter.old + 1 }
 {
     meter.tick();
+    advance(program, state, scratch, tag, given, out);
+}
+
+/// The step itself, which nobody counts.
+fn advance(
+    program: &Program,
+    state: &mut State,
+    scratch: &mut Scratch,
+    tag: Tag,
+    given: &[Given],
+    out: &mut Vec<Out>,
+)
+    requires can { CanStep program.now state.old tag given.now }
+    requires scratch { scratch.old ≡ room_of program.now }
+    requires room { vec_len out.old + length program.now.outputs ≤ vec_capacity out.old }
+    ensures step { (outs : List Out) × (out.new.items ≡ out.old.items ++ outs) × Step program.now state.old tag given.now state.new outs }
+    ensures of_program { IsStateOf program.now state.new }
+    ensures later { IsTrue (list_all (λ w. is_before tag w.tag) state.new.pending) }
+    ensures scratch { scratch.new ≡ scratch.old }
+    ensures capacity { vec_capacity out.old ≤ vec_capacity out.new }
+{
+    program.valid();
     let present = &mut scratch.present;
     present.clear();
     clear_wishes(&mut scratch.wishes);

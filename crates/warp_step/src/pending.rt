@@ -1,6 +1,6 @@
 //! The pending entries of a state: sorted by tag, then by target, each tag and target once.
-ghost use Rattle.std.specs.Prelude.{◌≡◌, ◌≤◌, ◌||◌, nat_lt, length, drop, if◌then◌else◌};
-ghost use Rattle.std.specs.List.{list_any, prefix_len};
+ghost use Rattle.std.specs.Prelude.{◌≡◌, ℤ, ◌<◌, ◌≤◌, ◌||◌, IsTrue, nat_lt, length, drop, slice_set, if◌then◌else◌};
+ghost use Rattle.std.specs.List.{list_any, insert, prefix_len};
 ghost use Rattle.arrayvec.specs.ArrayVec.{array_vec_len};
 ghost use Rattle.warp_tag.specs.Limits.{most_pending};
 ghost use Rattle.warp_tag.specs.Moment.{is_before, is_same};
@@ -53,22 +53,39 @@ fn place(entries: &[Waiting], tag: Tag, target: Target) -> usize
     entries.partition_point(|entry| entry.comes_before(tag, target))
 }
 
+/// Whether the entry at the place of this tag and target is of them.
+fn is_there(entries: &[Waiting], at: usize, tag: Tag, target: Target) -> bool
+    requires order { AreInOrder entries.now }
+    requires place { at ≡ prefix_len (λ w. key_before w.tag w.target (record { tag = tag; target = target; value = w.value })) entries.now }
+    ensures answer { result ≡ list_any (has_key tag target) entries.now }
+    ensures within { IsTrue result → at < length entries.now }
+    ensures entries { (value : ℤ) → with_entry tag target value entries.now ≡ (if result
+        then slice_set entries.now at (record { tag = tag; target = target; value = value })
+        else insert entries.now at (record { tag = tag; target = target; value = value })) }
+{
+    if at < entries.len() {
+        entries[at].is_at(tag, target)
+    } else {
+        false
+    }
+}
+
 /// Enters a value at a tag to a target: one that is there takes it, a new one comes in where there is room. Answers
 /// whether it is in.
 pub(crate) fn enter(entries: &mut Entries, tag: Tag, target: Target, value: i64) -> bool
     requires { AreInOrder entries.old.items }
     ensures answer { result ≡ (list_any (has_key tag target) entries.old.items || nat_lt (length entries.old.items) most_pending) }
     ensures entries { entries.new.items ≡ (if result then with_entry tag target value entries.old.items else entries.old.items) }
-    ensures order { AreInOrder entries.new.items }
 {
     let at = place(entries, tag, target);
-    if at < entries.len() && entries[at].is_at(tag, target) {
-        entries[at].value = value;
+    let entry = Waiting { tag, target, value };
+    if is_there(entries, at, tag, target) {
+        entries[at] = entry;
         return true;
     }
     let is_room = entries.len() < MOST_PENDING;
     if is_room {
-        entries.insert(at, Waiting { tag, target, value });
+        entries.insert(at, entry);
     }
     is_room
 }

@@ -6,7 +6,7 @@ use Rattle.warp_tag.specs.Moment.{Moment, IsInRange}
 use Rattle.warp_step.specs.Program.{Program}
 use Rattle.warp_step.specs.Valid.{is_valid}
 use Rattle.warp_step.specs.Events.{is_declared, is_in_time, has_input, owns_input, IsEventOf}
-use Rattle.warp_step.proofs.ValidLemmas.{parts}
+use Rattle.warp_step.proofs.ValidLemmas.{validity}
 use Rattle.warp_record.specs.declared.line.Record.TheVariants.{Event}
 use Rattle.warp_record.specs.declared.reply.Refusal.TheVariants.{NoOrigin, PastStop, NoInput, NotYours}
 use Rattle.warp_table.specs.Check.{refusal_of}
@@ -40,6 +40,6 @@ takes_allowed P origin tag input value h =
 -- a tag that is not past the stop is in time, since no tag is past the last microstep
 pub in_time : (P : Program) (tag : Moment) → IsTrue (is_valid P) → IsInRange tag → tag.time ≤ P.stop → is_in_time P tag ≡ true
 in_time P tag valid range below =
-    let top = (parts P valid).top in
+    let top = (validity P valid).limits.top in
     let microstep = range.microstep in
     grind (arith, nat_tests)
