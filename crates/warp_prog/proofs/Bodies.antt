@@ -40,8 +40,8 @@ module _ (P : Program) (b : Before) (r : ReactorPart) (n : ReactionPart) (rule :
       let right = (and_parts (is_right r n (Reads name)) true h).0 in
       let declared = (and_parts (is_known r (Reads name)) (is_declared r n (Reads name)) right).1 in
       cond_both (is_among (variable_names r) name) (VariableAt (variable_number b r name)) (ValueAt (readable b r name)) (λ t. term_may P rule t ≡ true)
-        (λ own. allows.own name own)
-        (λ other. allows.read name (sym (ap (λ o. o || may_read n name) other) ∙ declared))
+      (λ own. allows.own name own)
+      (λ other. allows.read name (sym (ap (λ o. o || may_read n name) other) ∙ declared))
   term-may (PresentNamed name) h =
       let right = (and_parts (is_right r n (Asks name)) true h).0 in
       allows.read name (and_parts (is_known r (Asks name)) (is_declared r n (Asks name)) right).1

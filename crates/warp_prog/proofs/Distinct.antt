@@ -36,10 +36,11 @@ module _ {X : Type 0} (same : X → X → Bool) where
   apart-first x xs own h =
       let parts = or_parts (stands_twice same (x ∷ xs) x) (list_any (stands_twice same (x ∷ xs)) xs) h in
       let once : how_often same (x ∷ xs) x ≤ 1 = ltb-false 1 (how_often same (x ∷ xs) x) parts.0 in
-      let e : how_often same (x ∷ xs) x ≡ 1 + how_often same xs x = ap (λ b. (if b then 1 else 0) + how_often same xs x) own in
-      (never x xs (omega arith),
-       any-less (stands_twice same (x ∷ xs)) (stands_twice same xs)
-         (λ y f. (let most = ltb-false 1 (how_often same (x ∷ xs) y) f in let least = at-least y x xs in le-ltb 1 (how_often same xs y) (omega arith))) xs parts.1)
+      let e : how_often same (x ∷ xs) x ≡ 1 + how_often same xs x = ap (λ b. (if b then 1 else 0) + how_often same xs x) own in (
+        never x xs (omega arith),
+        any-less (stands_twice same (x ∷ xs)) (stands_twice same xs)
+            (λ y f. (let most = ltb-false 1 (how_often same (x ∷ xs) y) f in let least = at-least y x xs in le-ltb 1 (how_often same xs y) (omega arith))) xs parts.1,
+      )
 
   -- of the end of a list
   pub apart-rest : ((x : X) → same x x ≡ true) → (xs ys : List X) → repeats same (xs ++ ys) ≡ false → repeats same ys ≡ false
@@ -63,8 +64,8 @@ module _ {X : Type 0} (same : X → X → Bool) where
           let fs = or_parts (same x y) (list_any (same x) ys) f in
           let okx = (and_parts (ok x) (list_all ok xs) a).0 in
           or_from (number y == number x) _
-            (false_from_ne_true (number y == number x) (λ e. true≢false (sym (one x y okx ays.0 (eqb-true (number y) (number x) e)) ∙ fs.0)))
-            (elsewhere ys ays.1 fs.1)
+          (false_from_ne_true (number y == number x) (λ e. true≢false (sym (one x y okx ays.0 (eqb-true (number y) (number x) e)) ∙ fs.0)))
+          (elsewhere ys ays.1 fs.1)
 
 -- a name that is among the first is not among the rest
 pub apart-names : (name : Word) (xs ys : List Word) → repeats bytes_eq (xs ++ ys) ≡ false → is_among xs name ≡ true → is_among ys name ≡ false
@@ -74,7 +75,7 @@ apart-names name (x ∷ xs) ys h a =
     elim (or_cases (bytes_eq name x) (is_among xs name) a) [
       | inl here ↦
           subst (λ n. is_among ys n ≡ false) (sym (same_name name x here))
-            (or_parts (is_among xs x) (is_among ys x) (sym (list_any-append (bytes_eq x) xs ys) ∙ parts.0)).1
+          (or_parts (is_among xs x) (is_among ys x) (sym (list_any-append (bytes_eq x) xs ys) ∙ parts.0)).1
       | inr there ↦ apart-names name xs ys parts.1 there
     ]
 
@@ -87,5 +88,5 @@ no-output r name h a =
     let h1 = apart-rest bytes_eq own_name (variable_names r) (r.inputs ++ (r.outputs ++ (action_names r ++ timer_names r))) h0 in
     let h2 = apart-rest bytes_eq own_name r.inputs (r.outputs ++ (action_names r ++ timer_names r)) h1 in
     false_from_ne_true (is_among r.outputs name) (λ o.
-      true≢false (sym a ∙ (or_parts (is_among (action_names r) name) (is_among (timer_names r) name)
-        (sym (list_any-append (bytes_eq name) (action_names r) (timer_names r)) ∙ apart-names name r.outputs (action_names r ++ timer_names r) h2 o)).0))
+    true≢false (sym a ∙ (or_parts (is_among (action_names r) name) (is_among (timer_names r) name)
+    (sym (list_any-append (bytes_eq name) (action_names r) (timer_names r)) ∙ apart-names name r.outputs (action_names r ++ timer_names r) h2 o)).0))

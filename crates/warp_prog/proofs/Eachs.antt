@@ -62,4 +62,4 @@ rising-each [] b = (refl, refl)
 rising-each (r ∷ rs) b =
     let rest : IsRisingFrom (b.reactors + 1) (map (λ n. n.reactor) (in_each its_reactions (past b r) rs)) = rising-each rs (past b r) in
     rising-front b r (in_each its_reactions (past b r) rs) r.reactions
-      (later b.reactors (b.reactors + 1) (omega arith) (map (λ n. n.reactor) (in_each its_reactions (past b r) rs)) rest.0, rest.1)
+    (later b.reactors (b.reactors + 1) (omega arith) (map (λ n. n.reactor) (in_each its_reactions (past b r) rs)) rest.0, rest.1)

@@ -64,15 +64,15 @@ module _ (f : File) (h : IsFaultless f) where
       let stop = in-range 0 longest_stop f.stop n1.1 in
       let origins = in-range 1 most_origins f.origins n2.1 in
       and_from _ _ (and_from _ _ (and_from _ _
-        (and_from _ _ (and_from _ _ (and_from _ _ stop.1 refl) origins.0) origins.1)
-        (and_from _ _ (and_from _ _ (few most_reactors f.reactors c1.0)
-          (few-each its_variables (λ r. length r.variables) (λ b r. length-map r.variables _) most_variables f.reactors t1.0))
-          (few-each its_ports (λ r. length r.inputs + length r.outputs) (λ b r. simp (length-append, length-map)) most_ports f.reactors t1.1)))
-        (and_from _ _ (and_from _ _ (few-each its_actions (λ r. length r.actions) (λ b r. length-map r.actions _) most_actions f.reactors t2.1)
-          (few-each its_timers (λ r. length r.timers) (λ b r. length-map r.timers _) most_timers f.reactors t3.1))
-          (few-each its_reactions (λ r. length r.reactions) (λ b r. length-map r.reactions _) most_reactions f.reactors t4.1)))
-        (and_from _ _ (and_from _ _ (few-mapped (numbered_link f.reactors) most_links f.links c1.1) (few-mapped (numbered_input f.reactors) most_inputs f.inputs c2.1))
-          (few-mapped (source_number f.reactors) most_outputs f.outputs c3.1))
+      (and_from _ _ (and_from _ _ (and_from _ _ stop.1 refl) origins.0) origins.1)
+      (and_from _ _ (and_from _ _ (few most_reactors f.reactors c1.0)
+      (few-each its_variables (λ r. length r.variables) (λ b r. length-map r.variables _) most_variables f.reactors t1.0))
+      (few-each its_ports (λ r. length r.inputs + length r.outputs) (λ b r. simp (length-append, length-map)) most_ports f.reactors t1.1)))
+      (and_from _ _ (and_from _ _ (few-each its_actions (λ r. length r.actions) (λ b r. length-map r.actions _) most_actions f.reactors t2.1)
+      (few-each its_timers (λ r. length r.timers) (λ b r. length-map r.timers _) most_timers f.reactors t3.1))
+      (few-each its_reactions (λ r. length r.reactions) (λ b r. length-map r.reactions _) most_reactions f.reactors t4.1)))
+      (and_from _ _ (and_from _ _ (few-mapped (numbered_link f.reactors) most_links f.links c1.1) (few-mapped (numbered_input f.reactors) most_inputs f.inputs c2.1))
+      (few-mapped (source_number f.reactors) most_outputs f.outputs c3.1))
 
   reactors-right : list_all (λ r. not (reactor_exceeds r)) f.reactors ≡ true
   reactors-right =
@@ -92,35 +92,35 @@ module _ (f : File) (h : IsFaultless f) where
   of-reactors =
       let P : Program = numbered f in
       let variables =
-        all-each P its_variables (λ (v : Variable). nat_lt v.reactor P.reactors) (λ r. true)
-          (λ b r rs s e. all-map (λ (v : VariablePart). record { reactor = b.reactors; start = v.start }) (λ (v : Variable). nat_lt v.reactor P.reactors) (λ x. true)
-            (λ x e. reactor-there P b r rs s) r.variables (all-true r.variables))
-          f.reactors nothing_before (stand_all f) (all-true f.reactors) in
+      all-each P its_variables (λ (v : Variable). nat_lt v.reactor P.reactors) (λ r. true)
+      (λ b r rs s e. all-map (λ (v : VariablePart). record { reactor = b.reactors; start = v.start }) (λ (v : Variable). nat_lt v.reactor P.reactors) (λ x. true)
+      (λ x e. reactor-there P b r rs s) r.variables (all-true r.variables))
+      f.reactors nothing_before (stand_all f) (all-true f.reactors) in
       let ports =
-        all-each P its_ports (λ (p : Port). nat_lt p.reactor P.reactors) (λ r. true)
-          (λ b r rs s e. all-joined (λ (p : Port). nat_lt p.reactor P.reactors) (map (λ (n : Word). record { reactor = b.reactors; is_input = true }) r.inputs)
-            (map (λ (n : Word). record { reactor = b.reactors; is_input = false }) r.outputs)
-            (all-map (λ (n : Word). record { reactor = b.reactors; is_input = true }) (λ (p : Port). nat_lt p.reactor P.reactors) (λ x. true)
-              (λ x e. reactor-there P b r rs s) r.inputs (all-true r.inputs))
-            (all-map (λ (n : Word). record { reactor = b.reactors; is_input = false }) (λ (p : Port). nat_lt p.reactor P.reactors) (λ x. true)
-              (λ x e. reactor-there P b r rs s) r.outputs (all-true r.outputs)))
-          f.reactors nothing_before (stand_all f) (all-true f.reactors) in
+      all-each P its_ports (λ (p : Port). nat_lt p.reactor P.reactors) (λ r. true)
+      (λ b r rs s e. all-joined (λ (p : Port). nat_lt p.reactor P.reactors) (map (λ (n : Word). record { reactor = b.reactors; is_input = true }) r.inputs)
+      (map (λ (n : Word). record { reactor = b.reactors; is_input = false }) r.outputs)
+      (all-map (λ (n : Word). record { reactor = b.reactors; is_input = true }) (λ (p : Port). nat_lt p.reactor P.reactors) (λ x. true)
+      (λ x e. reactor-there P b r rs s) r.inputs (all-true r.inputs))
+      (all-map (λ (n : Word). record { reactor = b.reactors; is_input = false }) (λ (p : Port). nat_lt p.reactor P.reactors) (λ x. true)
+      (λ x e. reactor-there P b r rs s) r.outputs (all-true r.outputs)))
+      f.reactors nothing_before (stand_all f) (all-true f.reactors) in
       let actions =
-        all-each P its_actions (λ (a : Action). nat_lt a.reactor P.reactors && nat_le a.delay longest_period) (λ r. not (reactor_exceeds r))
-          (λ b r rs s e. all-map (λ (a : ActionPart). record { reactor = b.reactors; delay = unsigned_abs a.delay })
-            (λ (a : Action). nat_lt a.reactor P.reactors && nat_le a.delay longest_period) (λ (a : ActionPart). not (period_exceeds a.delay))
-            (λ a e. and_from _ _ (reactor-there P b r rs s) (in-range 0 longest_period a.delay (not-true (period_exceeds a.delay) e)).1)
-            r.actions (all-fail (λ (a : ActionPart). period_exceeds a.delay) r.actions (actions-right r e).0))
-          f.reactors nothing_before (stand_all f) reactors-right in
+      all-each P its_actions (λ (a : Action). nat_lt a.reactor P.reactors && nat_le a.delay longest_period) (λ r. not (reactor_exceeds r))
+      (λ b r rs s e. all-map (λ (a : ActionPart). record { reactor = b.reactors; delay = unsigned_abs a.delay })
+      (λ (a : Action). nat_lt a.reactor P.reactors && nat_le a.delay longest_period) (λ (a : ActionPart). not (period_exceeds a.delay))
+      (λ a e. and_from _ _ (reactor-there P b r rs s) (in-range 0 longest_period a.delay (not-true (period_exceeds a.delay) e)).1)
+      r.actions (all-fail (λ (a : ActionPart). period_exceeds a.delay) r.actions (actions-right r e).0))
+      f.reactors nothing_before (stand_all f) reactors-right in
       let timers =
-        all-each P its_timers (λ (t : Timer). nat_lt t.reactor P.reactors && nat_le t.offset longest_period && nat_le t.period longest_period) (λ r. not (reactor_exceeds r))
-          (λ b r rs s e. all-map (λ (t : TimerPart). record { reactor = b.reactors; offset = unsigned_abs t.offset; period = unsigned_abs t.period })
-            (λ (t : Timer). nat_lt t.reactor P.reactors && nat_le t.offset longest_period && nat_le t.period longest_period)
-            (λ (t : TimerPart). not (period_exceeds t.offset || period_exceeds t.period))
-            (λ t e. (let ps = or_parts (period_exceeds t.offset) (period_exceeds t.period) (not-true (period_exceeds t.offset || period_exceeds t.period) e) in
-              and_from _ _ (and_from _ _ (reactor-there P b r rs s) (in-range 0 longest_period t.offset ps.0).1) (in-range 0 longest_period t.period ps.1).1))
-            r.timers (all-fail (λ (t : TimerPart). period_exceeds t.offset || period_exceeds t.period) r.timers (actions-right r e).1))
-          f.reactors nothing_before (stand_all f) reactors-right in
+      all-each P its_timers (λ (t : Timer). nat_lt t.reactor P.reactors && nat_le t.offset longest_period && nat_le t.period longest_period) (λ r. not (reactor_exceeds r))
+      (λ b r rs s e. all-map (λ (t : TimerPart). record { reactor = b.reactors; offset = unsigned_abs t.offset; period = unsigned_abs t.period })
+      (λ (t : Timer). nat_lt t.reactor P.reactors && nat_le t.offset longest_period && nat_le t.period longest_period)
+      (λ (t : TimerPart). not (period_exceeds t.offset || period_exceeds t.period))
+      (λ t e. (let ps = or_parts (period_exceeds t.offset) (period_exceeds t.period) (not-true (period_exceeds t.offset || period_exceeds t.period) e) in
+      and_from _ _ (and_from _ _ (reactor-there P b r rs s) (in-range 0 longest_period t.offset ps.0).1) (in-range 0 longest_period t.period ps.1).1))
+      r.timers (all-fail (λ (t : TimerPart). period_exceeds t.offset || period_exceeds t.period) r.timers (actions-right r e).1))
+      f.reactors nothing_before (stand_all f) reactors-right in
       and_from _ _ (and_from _ _ (and_from _ _ variables ports) actions) timers
 
   -- what is right of a reactor whose reactions fit
@@ -138,32 +138,32 @@ module _ (f : File) (h : IsFaultless f) where
       let once = all-fail (λ r. repeats bytes_eq (all_names r)) f.reactors twice.1 in
       let declared = all-fail (λ r. list_any (reaction_undeclared r) r.reactions) f.reactors h.declared in
       all-each P its_reactions (rule_fits P) is_sound
-        (λ b r rs s e.
-          (let e3 = and_parts (not (reactor_exceeds r) && not (repeats bytes_eq (all_names r)) && not (list_any (reaction_unknown r) r.reactions))
-            (not (list_any (reaction_undeclared r) r.reactions)) e in
-          let e2 = and_parts (not (reactor_exceeds r) && not (repeats bytes_eq (all_names r))) (not (list_any (reaction_unknown r) r.reactions)) e3.0 in
-          let e1 = and_parts (not (reactor_exceeds r)) (not (repeats bytes_eq (all_names r))) e2.0 in
-          all-map (numbered_reaction b r) (rule_fits P) (λ n. (not (body_exceeds n.body) && not (reaction_unknown r n)) && not (reaction_undeclared r n))
-            (λ n ok.
-              (let o2 = and_parts (not (body_exceeds n.body) && not (reaction_unknown r n)) (not (reaction_undeclared r n)) ok in
-              let o1 = and_parts (not (body_exceeds n.body)) (not (reaction_unknown r n)) o2.0 in
-              reaction-fits P b r rs s (not-true (repeats bytes_eq (all_names r)) e1.1) n (record {
-                within = not-true (body_exceeds n.body) o1.0;
-                known = not-true (reaction_unknown r n) o1.1;
-                declared = not-true (reaction_undeclared r n) o2.1;
-              })))
-            r.reactions
-            (all-both (λ n. not (body_exceeds n.body) && not (reaction_unknown r n)) (λ n. not (reaction_undeclared r n)) r.reactions
-              (all-both (λ n. not (body_exceeds n.body)) (λ n. not (reaction_unknown r n)) r.reactions
-                (all-fail (λ (n : ReactionPart). body_exceeds n.body) r.reactions (actions-right r e1.0).2)
-                (all-fail (reaction_unknown r) r.reactions (not-true (list_any (reaction_unknown r) r.reactions) e2.1)))
-              (all-fail (reaction_undeclared r) r.reactions (not-true (list_any (reaction_undeclared r) r.reactions) e3.1)))))
-        f.reactors nothing_before (stand_all f)
-        (all-both (λ r. not (reactor_exceeds r) && not (repeats bytes_eq (all_names r)) && not (list_any (reaction_unknown r) r.reactions))
-          (λ r. not (list_any (reaction_undeclared r) r.reactions)) f.reactors
-          (all-both (λ r. not (reactor_exceeds r) && not (repeats bytes_eq (all_names r))) (λ r. not (list_any (reaction_unknown r) r.reactions)) f.reactors
-            (all-both (λ r. not (reactor_exceeds r)) (λ r. not (repeats bytes_eq (all_names r))) f.reactors reactors-right once) names)
-          declared)
+      (λ b r rs s e.
+      (let e3 = and_parts (not (reactor_exceeds r) && not (repeats bytes_eq (all_names r)) && not (list_any (reaction_unknown r) r.reactions))
+      (not (list_any (reaction_undeclared r) r.reactions)) e in
+      let e2 = and_parts (not (reactor_exceeds r) && not (repeats bytes_eq (all_names r))) (not (list_any (reaction_unknown r) r.reactions)) e3.0 in
+      let e1 = and_parts (not (reactor_exceeds r)) (not (repeats bytes_eq (all_names r))) e2.0 in
+      all-map (numbered_reaction b r) (rule_fits P) (λ n. (not (body_exceeds n.body) && not (reaction_unknown r n)) && not (reaction_undeclared r n))
+      (λ n ok.
+      (let o2 = and_parts (not (body_exceeds n.body) && not (reaction_unknown r n)) (not (reaction_undeclared r n)) ok in
+      let o1 = and_parts (not (body_exceeds n.body)) (not (reaction_unknown r n)) o2.0 in
+      reaction-fits P b r rs s (not-true (repeats bytes_eq (all_names r)) e1.1) n (record {
+        within = not-true (body_exceeds n.body) o1.0;
+        known = not-true (reaction_unknown r n) o1.1;
+        declared = not-true (reaction_undeclared r n) o2.1;
+      })))
+      r.reactions
+      (all-both (λ n. not (body_exceeds n.body) && not (reaction_unknown r n)) (λ n. not (reaction_undeclared r n)) r.reactions
+      (all-both (λ n. not (body_exceeds n.body)) (λ n. not (reaction_unknown r n)) r.reactions
+      (all-fail (λ (n : ReactionPart). body_exceeds n.body) r.reactions (actions-right r e1.0).2)
+      (all-fail (reaction_unknown r) r.reactions (not-true (list_any (reaction_unknown r) r.reactions) e2.1)))
+      (all-fail (reaction_undeclared r) r.reactions (not-true (list_any (reaction_undeclared r) r.reactions) e3.1)))))
+      f.reactors nothing_before (stand_all f)
+      (all-both (λ r. not (reactor_exceeds r) && not (repeats bytes_eq (all_names r)) && not (list_any (reaction_unknown r) r.reactions))
+      (λ r. not (list_any (reaction_undeclared r) r.reactions)) f.reactors
+      (all-both (λ r. not (reactor_exceeds r) && not (repeats bytes_eq (all_names r))) (λ r. not (list_any (reaction_unknown r) r.reactions)) f.reactors
+      (all-both (λ r. not (reactor_exceeds r)) (λ r. not (repeats bytes_eq (all_names r))) f.reactors reactors-right once) names)
+      declared)
 
   links : (list_all (link_fits (numbered f)) (numbered f).links && list_all (input_fits (numbered f)) (numbered f).inputs && is_distinct (fed (numbered f))) ≡ true
   links =
@@ -179,26 +179,26 @@ module _ (f : File) (h : IsFaultless f) where
       let inputs = all-pass (λ (i : InputPart). is_input f.reactors i.port) f.inputs u2.1 in
       let ok : LinkPart → Bool = λ (l : LinkPart). (not (link_exceeds l) && not (is_backward f.reactors l)) && (is_output f.reactors l.source && is_input f.reactors l.target) in
       let lead = all-map (numbered_link f.reactors) (link_fits (numbered f)) ok
-        (λ l e.
-          (let e2 = and_parts (not (link_exceeds l) && not (is_backward f.reactors l)) (is_output f.reactors l.source && is_input f.reactors l.target) e in
-          let e1 = and_parts (not (link_exceeds l)) (not (is_backward f.reactors l)) e2.0 in
-          link-fits f t1.0 l (not-true (link_exceeds l) e1.0) (not-true (is_backward f.reactors l) e1.1) e2.1))
-        f.links
-        (all-both (λ (l : LinkPart). not (link_exceeds l) && not (is_backward f.reactors l)) (λ (l : LinkPart). is_output f.reactors l.source && is_input f.reactors l.target) f.links
-          (all-both (λ (l : LinkPart). not (link_exceeds l)) (λ (l : LinkPart). not (is_backward f.reactors l)) f.links
-            (all-fail (λ (l : LinkPart). link_exceeds l) f.links delays) (all-fail (is_backward f.reactors) f.links h.order))
-          known) in
+      (λ l e.
+      (let e2 = and_parts (not (link_exceeds l) && not (is_backward f.reactors l)) (is_output f.reactors l.source && is_input f.reactors l.target) e in
+      let e1 = and_parts (not (link_exceeds l)) (not (is_backward f.reactors l)) e2.0 in
+      link-fits f t1.0 l (not-true (link_exceeds l) e1.0) (not-true (is_backward f.reactors l) e1.1) e2.1))
+      f.links
+      (all-both (λ (l : LinkPart). not (link_exceeds l) && not (is_backward f.reactors l)) (λ (l : LinkPart). is_output f.reactors l.source && is_input f.reactors l.target) f.links
+      (all-both (λ (l : LinkPart). not (link_exceeds l)) (λ (l : LinkPart). not (is_backward f.reactors l)) f.links
+      (all-fail (λ (l : LinkPart). link_exceeds l) f.links delays) (all-fail (is_backward f.reactors) f.links h.order))
+      known) in
       let given = all-map (numbered_input f.reactors) (input_fits (numbered f)) (λ (i : InputPart). not (origin_exceeds f.origins i.origin) && is_input f.reactors i.port)
-        (λ i e.
-          (let e1 = and_parts (not (origin_exceeds f.origins i.origin)) (is_input f.reactors i.port) e in
-          input-fits f t1.0 i (not-true (origin_exceeds f.origins i.origin) e1.0) e1.1))
-        f.inputs
-        (all-both (λ (i : InputPart). not (origin_exceeds f.origins i.origin)) (λ (i : InputPart). is_input f.reactors i.port) f.inputs
-          (all-fail (λ (i : InputPart). origin_exceeds f.origins i.origin) f.inputs parts.1) inputs) in
+      (λ i e.
+      (let e1 = and_parts (not (origin_exceeds f.origins i.origin)) (is_input f.reactors i.port) e in
+      input-fits f t1.0 i (not-true (origin_exceeds f.origins i.origin) e1.0) e1.1))
+      f.inputs
+      (all-both (λ (i : InputPart). not (origin_exceeds f.origins i.origin)) (λ (i : InputPart). is_input f.reactors i.port) f.inputs
+      (all-fail (λ (i : InputPart). origin_exceeds f.origins i.origin) f.inputs parts.1) inputs) in
       let reached = all-joined (is_input f.reactors) (map (λ (l : LinkPart). l.target) f.links) (map (λ (i : InputPart). i.port) f.inputs)
-        (all-map (λ (l : LinkPart). l.target) (is_input f.reactors) (λ (l : LinkPart). is_output f.reactors l.source && is_input f.reactors l.target)
-          (λ l e. (and_parts (is_output f.reactors l.source) (is_input f.reactors l.target) e).1) f.links known)
-        (all-map (λ (i : InputPart). i.port) (is_input f.reactors) (λ (i : InputPart). is_input f.reactors i.port) (λ i e. e) f.inputs inputs) in
+      (all-map (λ (l : LinkPart). l.target) (is_input f.reactors) (λ (l : LinkPart). is_output f.reactors l.source && is_input f.reactors l.target)
+      (λ l e. (and_parts (is_output f.reactors l.source) (is_input f.reactors l.target) e).1) f.links known)
+      (all-map (λ (i : InputPart). i.port) (is_input f.reactors) (λ (i : InputPart). is_input f.reactors i.port) (λ i e. e) f.inputs inputs) in
       and_from _ _ (and_from _ _ lead given) (fed-distinct f t1.0 reached t2.1)
 
   outputs : (list_all (λ n. has (numbered f).ports n (λ p. not p.is_input)) (numbered f).outputs && is_distinct (numbered f).outputs) ≡ true
@@ -207,8 +207,8 @@ module _ (f : File) (h : IsFaultless f) where
       let t1 = or_parts _ _ (or_parts _ _ t3.0).0 in
       let known = all-pass (is_output f.reactors) f.outputs (or_parts _ _ h.names).1 in
       and_from _ _
-        (all-map (source_number f.reactors) (λ n. has (numbered f).ports n (λ p. not p.is_input)) (is_output f.reactors) (λ p e. output-fits f t1.0 p e) f.outputs known)
-        (outputs-distinct f t1.0 known t3.1)
+      (all-map (source_number f.reactors) (λ n. has (numbered f).ports n (λ p. not p.is_input)) (is_output f.reactors) (λ p e. output-fits f t1.0 p e) f.outputs known)
+      (outputs-distinct f t1.0 known t3.1)
 
   -- the program is valid
   pub fits-together : is_valid (numbered f) ≡ true

@@ -64,7 +64,7 @@ has-found called f q name good (x ∷ xs) ys h =
       | inl here ↦ subst (λ n. has (f x ∷ (map f xs ++ ys)) n q ≡ true) (sym (place-here name (called x) (map called xs) here)) (good x here)
       | inr past ↦
           subst (λ n. has (f x ∷ (map f xs ++ ys)) n q ≡ true) (sym (place-past name (called x) (map called xs) past))
-            (has-found called f q name good xs ys (sym (ap (λ b. b || is_among (map called xs) name) past) ∙ h))
+          (has-found called f q name good xs ys (sym (ap (λ b. b || is_among (map called xs) name) past) ∙ h))
     ]
 
 -- the picture of a name that is found, in the first of two lists and in the second
@@ -73,14 +73,14 @@ module _ {Y : Type 0} (f g : Word → Y) (q : Y → Bool) (ins outs : List Word)
       has ((map f ins ++ map g outs) ++ rest) (place_among ins name) q ≡ true
   has-first good h =
       subst (λ ps. has ps (place_among ins name) q ≡ true) (sym (append_assoc (map f ins) (map g outs) rest))
-        (subst (λ ns. has (map f ins ++ (map g outs ++ rest)) (place_among ns name) q ≡ true) (map-id ins)
-          (has-found (λ (n : Word). n) f q name good ins (map g outs ++ rest) (subst (λ ns. is_among ns name ≡ true) (sym (map-id ins)) h)))
+      (subst (λ ns. has (map f ins ++ (map g outs ++ rest)) (place_among ns name) q ≡ true) (map-id ins)
+      (has-found (λ (n : Word). n) f q name good ins (map g outs ++ rest) (subst (λ ns. is_among ns name ≡ true) (sym (map-id ins)) h)))
 
   pub has-second : ((n : Word) → bytes_eq name n ≡ true → q (g n) ≡ true) → is_among outs name ≡ true →
       has ((map f ins ++ map g outs) ++ rest) (length ins + place_among outs name) q ≡ true
   has-second good h =
       subst (λ ps. has ps (length ins + place_among outs name) q ≡ true) (sym (append_assoc (map f ins) (map g outs) rest))
-        (subst (λ k. has (map f ins ++ (map g outs ++ rest)) (k + place_among outs name) q ≡ true) (length-map ins f)
-          (has-after (map f ins) (map g outs ++ rest) (place_among outs name) q
-            ∙ subst (λ ns. has (map g outs ++ rest) (place_among ns name) q ≡ true) (map-id outs)
-              (has-found (λ (n : Word). n) g q name good outs rest (subst (λ ns. is_among ns name ≡ true) (sym (map-id outs)) h))))
+      (subst (λ k. has (map f ins ++ (map g outs ++ rest)) (k + place_among outs name) q ≡ true) (length-map ins f)
+      (has-after (map f ins) (map g outs ++ rest) (place_among outs name) q
+      ∙ subst (λ ns. has (map g outs ++ rest) (place_among ns name) q ≡ true) (map-id outs)
+      (has-found (λ (n : Word). n) g q name good outs rest (subst (λ ns. is_among ns name ≡ true) (sym (map-id outs)) h))))

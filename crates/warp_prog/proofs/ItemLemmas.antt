@@ -1,14 +1,8 @@
--- Items of a list: each read, and two or three of them.
-use Rattle.std.proofs.Common.{◌≡◌, List, ◌∷◌, [], ◌++◌, ◌<◌, ◌≤◌, arith, length, Option, None, option_map, map, drop, ◌+◌, Some, true, false, not, true≢false, Bool, Bor, ℕ, get_or, codes, bytes_eq, sym, ◌∙◌, refl, ap}
-use Rattle.std.proofs.lemmas.List.{map-append, at_drop_more, drop_all}
-use Rattle.serde_json.specs.View.{view, items_view}
-use Rattle.serde_json.specs.Find.{as_str}
+-- Items of a list: each read, and how many make a pair, a triple and an expression.
+use Rattle.std.proofs.Common.{◌≡◌, List, ◌∷◌, [], ◌++◌, ◌<◌, ◌≤◌, arith, length, Option, None, option_map, refl}
+use Rattle.serde_json.specs.View.{items_view}
 use Rattle.serde_json.specs.declared.value.Value.{Value}
-use Rattle.serde_json.specs.Data.{Data, array, Items, item}
-use Rattle.warp_prog.specs.File.{NamedStatement, NamedBody, NamedDone, NamedThen}
-use Rattle.warp_prog.specs.Statements.{statement_of, statements_of, body_of, choice_of}
-use Rattle.warp_prog.specs.View.{body_tree, statement_tree}
-use Rattle.warp_prog.specs.declared.file.Statement.{Statement}
+use Rattle.serde_json.specs.Data.{array}
 use Rattle.warp_prog.specs.Terms.{term_of}
 use Rattle.warp_prog.specs.Json.{two_items, three_items}
 
@@ -41,83 +35,3 @@ too_many (a ∷ (b ∷ [])) h = absurd (omega (arith, h))
 too_many (a ∷ (b ∷ (c ∷ []))) h = absurd (omega (arith, h))
 too_many (a ∷ (b ∷ (c ∷ (d ∷ [])))) h = absurd (omega (arith, h))
 too_many (a ∷ (b ∷ (c ∷ (d ∷ (e ∷ vs))))) h = refl
-
-pub no_statement_in_few : (vs : List Value) → length vs < 3 → statement_of (array (items_view vs)) ≡ None
-no_statement_in_few [] h = refl
-no_statement_in_few (a ∷ []) h = refl
-no_statement_in_few (a ∷ (b ∷ [])) h = refl
-no_statement_in_few (a ∷ (b ∷ (c ∷ vs))) h = absurd (omega (arith, h))
-
-pub no_statement_in_many : (vs : List Value) → 5 ≤ length vs → statement_of (array (items_view vs)) ≡ None
-no_statement_in_many [] h = refl
-no_statement_in_many (a ∷ []) h = refl
-no_statement_in_many (a ∷ (b ∷ [])) h = refl
-no_statement_in_many (a ∷ (b ∷ (c ∷ []))) h = absurd (omega (arith, h))
-no_statement_in_many (a ∷ (b ∷ (c ∷ (d ∷ [])))) h = absurd (omega (arith, h))
-no_statement_in_many (a ∷ (b ∷ (c ∷ (d ∷ (e ∷ vs))))) h = refl
-
--- these statements, and then a body
-abbrev pub joined : List NamedStatement → NamedBody → NamedBody
-joined [] b = b
-joined (s ∷ ss) b = NamedThen s (joined ss b)
-
--- what was read so far, and then the rest
-abbrev pub and_then : List NamedStatement → Option NamedBody → Option NamedBody
-and_then done rest = option_map (joined done) rest
-
-pub joined_last : (done : List NamedStatement) (s : NamedStatement) (b : NamedBody) → joined (done ++ s ∷ []) b ≡ joined done (NamedThen s b)
-joined_last [] s b = refl
-joined_last (x ∷ done) s b = ap (NamedThen x) (joined_last done s b)
-
-pub joined_whole : (done : List NamedStatement) → joined done NamedDone ≡ body_tree done
-joined_whole [] = refl
-joined_whole (x ∷ done) = ap (NamedThen x) (joined_whole done)
-
-pub one_more : (done : List Statement) (s : Statement) (d : Data) (ds : Items) → statement_of d ≡ Some (statement_tree s)
-    → and_then (map statement_tree (done ++ s ∷ [])) (statements_of ds) ≡ and_then (map statement_tree done) (statements_of (item d ds))
-one_more done s d ds e = rw (e, map-append statement_tree done (s ∷ [])) (go (statements_of ds))
-  where
-    go : (o : Option NamedBody) → and_then (map statement_tree done ++ statement_tree s ∷ []) o ≡ and_then (map statement_tree done) (option_map (NamedThen (statement_tree s)) o)
-    go None = refl
-    go (Some b) = ap Some (joined_last (map statement_tree done) (statement_tree s) b)
-
--- one statement more was read, of the item at this place
-pub one_more_at : (done : List Statement) (s : Statement) (vs : List Value) (i : ℕ) (v : Value) → i < length vs → v ≡ get_or vs i v
-    → statement_of (view v) ≡ Some (statement_tree s)
-    → and_then (map statement_tree (done ++ s ∷ [])) (statements_of (items_view (drop (i + 1) vs))) ≡ and_then (map statement_tree done) (statements_of (items_view (drop i vs)))
-one_more_at done s vs i v within here e =
-    one_more done s (view (get_or vs i v)) (items_view (drop (i + 1) vs)) (ap (λ x. statement_of (view x)) (sym here) ∙ e)
-    ∙ sym (at_drop_more (λ xs. and_then (map statement_tree done) (statements_of (items_view xs))) vs i v within)
-
--- all were read
-pub all_read : (done : List Statement) (vs : List Value) (i : ℕ) → length vs ≤ i
-    → and_then (map statement_tree done) (statements_of (items_view (drop i vs))) ≡ Some (body_tree (map statement_tree done))
-all_read done vs i past = rw (drop_all i vs past) (ap Some (joined_whole (map statement_tree done)))
-
-was_true : (b : Bool) → false ≡ not b → b ≡ true
-was_true true e = refl
-was_true false e = absurd (true≢false (sym e))
-
--- the row of `if`, of what a match on four items knows
-pub choice_row : (vs : List Value) (w x y z : Value) → 4 ≤ length vs → length vs < 5
-    → w ≡ get_or vs 0 w → x ≡ get_or vs 1 x → y ≡ get_or vs 2 y → z ≡ get_or vs 3 z
-    → (o : Option (Bor (List ℕ))) (word : Bor (List ℕ)) → option_map (λ s. s.now) o ≡ as_str (view w) → o ≡ Some word → false ≡ not (bytes_eq word.now (codes "if"))
-    → statement_of (array (items_view vs)) ≡ choice_of (view x) (body_of (view y)) (body_of (view z))
-choice_row [] w x y z few many at_w at_x at_y at_z o word text is_word is_if = absurd (omega (arith, few))
-choice_row (a ∷ []) w x y z few many at_w at_x at_y at_z o word text is_word is_if = absurd (omega (arith, few))
-choice_row (a ∷ (b ∷ [])) w x y z few many at_w at_x at_y at_z o word text is_word is_if = absurd (omega (arith, few))
-choice_row (a ∷ (b ∷ (c ∷ []))) w x y z few many at_w at_x at_y at_z o word text is_word is_if = absurd (omega (arith, few))
-choice_row (a ∷ (b ∷ (c ∷ (d ∷ [])))) w x y z few many at_w at_x at_y at_z o word text is_word is_if =
-    let found : as_str (view a) ≡ Some word.now = ap (λ v. as_str (view v)) (sym at_w) ∙ sym text ∙ ap (option_map (λ s. s.now)) is_word in
-    rw (at_x, at_y, at_z, found, was_true _ is_if) refl
-choice_row (a ∷ (b ∷ (c ∷ (d ∷ (e ∷ vs))))) w x y z few many at_w at_x at_y at_z o word text is_word is_if = absurd (omega (arith, many))
-
--- a choice whose first list, or whose second, is no body
-pub no_first : (x : Data) (a b : Option NamedBody) → a ≡ None → choice_of x a b ≡ None
-unfolding choice_of
-no_first x a b e = rw e refl
-
-pub no_second : (x : Data) (a b : Option NamedBody) → b ≡ None → choice_of x a b ≡ None
-unfolding choice_of
-no_second x None b e = refl
-no_second x (Some a) b e = rw e refl

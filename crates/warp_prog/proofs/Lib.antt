@@ -15,4 +15,7 @@ pub mod Eachs
 pub mod Ports
 pub mod Links
 pub mod Fits
+pub mod ReadingLemmas
 pub mod RoomLemmas
+pub mod LoadLemmas
+pub mod StatementLemmas

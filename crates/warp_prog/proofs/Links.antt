@@ -32,14 +32,14 @@ module _ (f : File) (d : repeats bytes_eq (map (λ (r : ReactorPart). r.name) f.
       has (in_each its_named nothing_before f.reactors) (port_number number nothing_before f.reactors p) (is_named kind p (place f.reactors p.reactor)) ≡ true
   found number its kind finds p h =
       subst (λ k. has (in_each its_named nothing_before f.reactors) (port_number number nothing_before f.reactors p) (is_named kind p k) ≡ true) (zero-add (place f.reactors p.reactor))
-        (finds-each number its kind finds p (in_each its_named nothing_before f.reactors) f.reactors nothing_before refl
-          (the-first (λ r. is_among (its r) p.port) f.reactors p.reactor d h))
+      (finds-each number its kind finds p (in_each its_named nothing_before f.reactors) f.reactors nothing_before refl
+      (the-first (λ r. is_among (its r) p.port) f.reactors p.reactor d h))
 
   -- a test of the port in the program, from one of the named port
   in-program : (n : ℕ) (q : Port → Bool) → has (in_each its_named nothing_before f.reactors) n (λ e. q e.port) ≡ true → has (numbered f).ports n q ≡ true
   in-program n q h =
       subst (λ ps. has ps n q ≡ true) (ports-named nothing_before f.reactors)
-        (has-map (λ (e : NamedPort). e.port) (in_each its_named nothing_before f.reactors) n q ∙ h)
+      (has-map (λ (e : NamedPort). e.port) (in_each its_named nothing_before f.reactors) n q ∙ h)
 
   module _ (number : _) (its : ReactorPart → List Word) (kind : Bool → Bool) (finds : Finds number its kind) (p : PortName)
       (h : list_any (λ r. bytes_eq p.reactor r.name && is_among (its r) p.port) f.reactors ≡ true) where
@@ -47,25 +47,25 @@ module _ (f : File) (d : repeats bytes_eq (map (λ (r : ReactorPart). r.name) f.
     pub of-kind : has (numbered f).ports (port_number number nothing_before f.reactors p) (λ e. kind e.is_input) ≡ true
     of-kind =
         in-program (port_number number nothing_before f.reactors p) (λ e. kind e.is_input)
-          (has-less (is_named kind p (place f.reactors p.reactor)) (λ e. kind e.port.is_input)
-            (λ e a. (and_parts (kind e.port.is_input) (e.port.reactor == place f.reactors p.reactor)
-              (and_parts (same_port p e.at) (kind e.port.is_input && e.port.reactor == place f.reactors p.reactor) a).1).0)
-            (in_each its_named nothing_before f.reactors) (port_number number nothing_before f.reactors p) (found number its kind finds p h))
+        (has-less (is_named kind p (place f.reactors p.reactor)) (λ e. kind e.port.is_input)
+        (λ e a. (and_parts (kind e.port.is_input) (e.port.reactor == place f.reactors p.reactor)
+        (and_parts (same_port p e.at) (kind e.port.is_input && e.port.reactor == place f.reactors p.reactor) a).1).0)
+        (in_each its_named nothing_before f.reactors) (port_number number nothing_before f.reactors p) (found number its kind finds p h))
 
     pub of-reactor : reactor_of (numbered f) (port_number number nothing_before f.reactors p) ≡ place f.reactors p.reactor
     of-reactor =
         reactor-is (numbered f) (port_number number nothing_before f.reactors p) (place f.reactors p.reactor)
-          (in-program (port_number number nothing_before f.reactors p) (λ e. e.reactor == place f.reactors p.reactor)
-            (has-less (is_named kind p (place f.reactors p.reactor)) (λ e. e.port.reactor == place f.reactors p.reactor)
-              (λ e a. (and_parts (kind e.port.is_input) (e.port.reactor == place f.reactors p.reactor)
-                (and_parts (same_port p e.at) (kind e.port.is_input && e.port.reactor == place f.reactors p.reactor) a).1).1)
-              (in_each its_named nothing_before f.reactors) (port_number number nothing_before f.reactors p) (found number its kind finds p h)))
+        (in-program (port_number number nothing_before f.reactors p) (λ e. e.reactor == place f.reactors p.reactor)
+        (has-less (is_named kind p (place f.reactors p.reactor)) (λ e. e.port.reactor == place f.reactors p.reactor)
+        (λ e a. (and_parts (kind e.port.is_input) (e.port.reactor == place f.reactors p.reactor)
+        (and_parts (same_port p e.at) (kind e.port.is_input && e.port.reactor == place f.reactors p.reactor) a).1).1)
+        (in_each its_named nothing_before f.reactors) (port_number number nothing_before f.reactors p) (found number its kind finds p h)))
 
     pub by-name : has (in_each its_named nothing_before f.reactors) (port_number number nothing_before f.reactors p) (λ e. same_port p e.at) ≡ true
     by-name =
         has-less (is_named kind p (place f.reactors p.reactor)) (λ e. same_port p e.at)
-          (λ e a. (and_parts (same_port p e.at) (kind e.port.is_input && e.port.reactor == place f.reactors p.reactor) a).0)
-          (in_each its_named nothing_before f.reactors) (port_number number nothing_before f.reactors p) (found number its kind finds p h)
+        (λ e a. (and_parts (same_port p e.at) (kind e.port.is_input && e.port.reactor == place f.reactors p.reactor) a).0)
+        (in_each its_named nothing_before f.reactors) (port_number number nothing_before f.reactors p) (found number its kind finds p h)
 
   -- two references with one number are to the same port
   pub one-number : (number : _) (its : ReactorPart → List Word) (kind : Bool → Bool) → Finds number its kind → (p q : PortName) →
@@ -74,7 +74,7 @@ module _ (f : File) (d : repeats bytes_eq (map (λ (r : ReactorPart). r.name) f.
       port_number number nothing_before f.reactors q ≡ port_number number nothing_before f.reactors p → same_port p q ≡ true
   one-number number its kind finds p q h k e =
       one-name p q (in_each its_named nothing_before f.reactors) (port_number number nothing_before f.reactors p) (by-name number its kind finds p h)
-        (subst (λ n. has (in_each its_named nothing_before f.reactors) n (λ e. same_port q e.at) ≡ true) e (by-name number its kind finds q k))
+      (subst (λ n. has (in_each its_named nothing_before f.reactors) n (λ e. same_port q e.at) ≡ true) e (by-name number its kind finds q k))
 
   -- a link
   leads : (l : LinkPart) (delay : Option ℤ) → delay_exceeds delay ≡ false →
@@ -85,14 +85,14 @@ module _ (f : File) (d : repeats bytes_eq (map (λ (r : ReactorPart). r.name) f.
   leads l None limit back o i =
       ap₂ nat_lt (of-reactor output_number (λ r. r.outputs) (λ k. not k) finds-output l.source o) (of-reactor input_number (λ r. r.inputs) (λ k. k) finds-input l.target i)
       ∙ lt-ltb (place f.reactors l.source.reactor) (place f.reactors l.target.reactor)
-        (leb-false (place f.reactors l.target.reactor) (place f.reactors l.source.reactor) back)
+      (leb-false (place f.reactors l.target.reactor) (place f.reactors l.source.reactor) back)
 
   pub link-fits : (l : LinkPart) → link_exceeds l ≡ false → is_backward f.reactors l ≡ false →
       (is_output f.reactors l.source && is_input f.reactors l.target) ≡ true → link_fits (numbered f) (numbered_link f.reactors l) ≡ true
   link-fits l limit back known =
       let ports = and_parts (is_output f.reactors l.source) (is_input f.reactors l.target) known in
       and_from _ _ (and_from _ _ (of-kind output_number (λ r. r.outputs) (λ k. not k) finds-output l.source ports.0)
-        (of-kind input_number (λ r. r.inputs) (λ k. k) finds-input l.target ports.1)) (leads l l.delay limit back ports.0 ports.1)
+      (of-kind input_number (λ r. r.inputs) (λ k. k) finds-input l.target ports.1)) (leads l l.delay limit back ports.0 ports.1)
 
   -- a program input
   pub input-fits : (i : InputPart) → origin_exceeds f.origins i.origin ≡ false → is_input f.reactors i.port ≡ true →
@@ -109,18 +109,18 @@ module _ (f : File) (d : repeats bytes_eq (map (λ (r : ReactorPart). r.name) f.
       is_distinct (map (source_number f.reactors) f.outputs) ≡ true
   outputs-distinct known once =
       distinct-numbers same_port own_port (source_number f.reactors) (is_output f.reactors)
-        (λ p q h k e. one-number output_number (λ r. r.outputs) (λ k. not k) finds-output p q h k e) f.outputs known once
+      (λ p q h k e. one-number output_number (λ r. r.outputs) (λ k. not k) finds-output p q h k e) f.outputs known once
 
   -- no input has two sources
   fed-targets : fed (numbered f) ≡ map (target_number f.reactors) (targets f.links f.inputs)
   fed-targets =
       ap₂ (λ xs ys. xs ++ ys)
-        (map-map (λ l. l.target) (numbered_link f.reactors) f.links ∙ sym (map-map (target_number f.reactors) (λ (l : LinkPart). l.target) f.links))
-        (map-map (λ i. i.port) (numbered_input f.reactors) f.inputs ∙ sym (map-map (target_number f.reactors) (λ (i : InputPart). i.port) f.inputs))
+      (map-map (λ l. l.target) (numbered_link f.reactors) f.links ∙ sym (map-map (target_number f.reactors) (λ (l : LinkPart). l.target) f.links))
+      (map-map (λ i. i.port) (numbered_input f.reactors) f.inputs ∙ sym (map-map (target_number f.reactors) (λ (i : InputPart). i.port) f.inputs))
       ∙ sym (map-append (target_number f.reactors) (map (λ (l : LinkPart). l.target) f.links) (map (λ (i : InputPart). i.port) f.inputs))
 
   pub fed-distinct : list_all (is_input f.reactors) (targets f.links f.inputs) ≡ true → repeats same_port (targets f.links f.inputs) ≡ false → is_distinct (fed (numbered f)) ≡ true
   fed-distinct known once =
       ap is_distinct fed-targets
       ∙ distinct-numbers same_port own_port (target_number f.reactors) (is_input f.reactors)
-        (λ p q h k e. one-number input_number (λ r. r.inputs) (λ k. k) finds-input p q h k e) (targets f.links f.inputs) known once
+      (λ p q h k e. one-number input_number (λ r. r.inputs) (λ k. k) finds-input p q h k e) (targets f.links f.inputs) known once

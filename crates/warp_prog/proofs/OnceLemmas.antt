@@ -34,17 +34,17 @@ once-all q [] seen a h = a
 once-all q (t ∷ ts) seen a h =
     let parts = and_parts (q t) (list_all q ts) h in
     once-all q ts _
-      (cond_both (names seen t) seen (seen ++ t ∷ []) (λ xs. list_all q xs ≡ true) (λ e. a)
-        (λ e. list_all-append q seen (t ∷ []) ∙ and_from (list_all q seen) (q t && true) a (and_from (q t) true parts.0 refl)))
-      parts.1
+    (cond_both (names seen t) seen (seen ++ t ∷ []) (λ xs. list_all q xs ≡ true) (λ e. a)
+    (λ e. list_all-append q seen (t ∷ []) ∙ and_from (list_all q seen) (q t && true) a (and_from (q t) true parts.0 refl)))
+    parts.1
 
 -- a target that was seen stays
 pub once-seen : (s : Target) (ts seen : List Target) → names seen s ≡ true → names (once_after seen ts) s ≡ true
 once-seen s [] seen h = h
 once-seen s (t ∷ ts) seen h =
     once-seen s ts _
-      (cond_both (names seen t) seen (seen ++ t ∷ []) (λ xs. names xs s ≡ true) (λ e. h)
-        (λ e. list_any-append (is_target s) seen (t ∷ []) ∙ or_left (names seen s) (names (t ∷ []) s) h))
+    (cond_both (names seen t) seen (seen ++ t ∷ []) (λ xs. names xs s ≡ true) (λ e. h)
+    (λ e. list_any-append (is_target s) seen (t ∷ []) ∙ or_left (names seen s) (names (t ∷ []) s) h))
 
 -- a target that is listed is there
 pub once-listed : (s : Target) (ts seen : List Target) → names ts s ≡ true → names (once_after seen ts) s ≡ true
@@ -53,9 +53,9 @@ once-listed s (t ∷ ts) seen h =
     elim (or_cases (is_target s t) (names ts s) h) [
       | inl first ↦
           once-seen s ts _
-            (cond_both (names seen t) seen (seen ++ t ∷ []) (λ xs. names xs s ≡ true)
-              (λ e. subst (λ u. names seen u ≡ true) (sym (same_target s t first)) e)
-              (λ e. list_any-append (is_target s) seen (t ∷ []) ∙ or_right (names seen s) (names (t ∷ []) s) (or_left (is_target s t) false first)))
+          (cond_both (names seen t) seen (seen ++ t ∷ []) (λ xs. names xs s ≡ true)
+          (λ e. subst (λ u. names seen u ≡ true) (sym (same_target s t first)) e)
+          (λ e. list_any-append (is_target s) seen (t ∷ []) ∙ or_right (names seen s) (names (t ∷ []) s) (or_left (is_target s t) false first)))
       | inr later ↦ once-listed s ts _ later
     ]
 

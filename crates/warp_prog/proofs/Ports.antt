@@ -93,21 +93,21 @@ finds-each number its kind here p all (r ∷ rs) b e h =
     elim (cases_Bool (bytes_eq p.reactor r.name)) [
       | inl so ↦
           (let found : has all (number b r p.port) (is_named kind p b.reactors) ≡ true =
-            here all b r (in_each its_named (past b r) rs) p e so
-              (sym (cond-true (bytes_eq p.reactor r.name) (is_among (its r) p.port) (at-first (λ r. is_among (its r) p.port) rs p.reactor) so) ∙ h) in
+          here all b r (in_each its_named (past b r) rs) p e so
+          (sym (cond-true (bytes_eq p.reactor r.name) (is_among (its r) p.port) (at-first (λ r. is_among (its r) p.port) rs p.reactor) so) ∙ h) in
           subst₂ (λ n k. has all n (is_named kind p k) ≡ true)
-            (sym (cond-true (bytes_eq p.reactor r.name) (number b r p.port) (port_number number (past b r) rs p) so))
-            (sym (ap (λ k. b.reactors + k) (cond-true (bytes_eq p.reactor r.name) 0 (1 + place rs p.reactor) so) ∙ add-zero b.reactors))
-            found)
+          (sym (cond-true (bytes_eq p.reactor r.name) (number b r p.port) (port_number number (past b r) rs p) so))
+          (sym (ap (λ k. b.reactors + k) (cond-true (bytes_eq p.reactor r.name) 0 (1 + place rs p.reactor) so) ∙ add-zero b.reactors))
+          found)
       | inr not_so ↦
           (let found : has all (port_number number (past b r) rs p) (is_named kind p ((b.reactors + 1) + place rs p.reactor)) ≡ true =
-            finds-each number its kind here p all rs (past b r)
-              (drop-past all (its_named b r) (in_each its_named (past b r) rs) b.ports (length r.inputs + length r.outputs) e (length-named b r))
-              (sym (cond-false (bytes_eq p.reactor r.name) (is_among (its r) p.port) (at-first (λ r. is_among (its r) p.port) rs p.reactor) not_so) ∙ h) in
+          finds-each number its kind here p all rs (past b r)
+          (drop-past all (its_named b r) (in_each its_named (past b r) rs) b.ports (length r.inputs + length r.outputs) e (length-named b r))
+          (sym (cond-false (bytes_eq p.reactor r.name) (is_among (its r) p.port) (at-first (λ r. is_among (its r) p.port) rs p.reactor) not_so) ∙ h) in
           subst₂ (λ n k. has all n (is_named kind p k) ≡ true)
-            (sym (cond-false (bytes_eq p.reactor r.name) (number b r p.port) (port_number number (past b r) rs p) not_so))
-            (add_assoc b.reactors 1 (place rs p.reactor) ∙ sym (ap (λ k. b.reactors + k) (cond-false (bytes_eq p.reactor r.name) 0 (1 + place rs p.reactor) not_so)))
-            found)
+          (sym (cond-false (bytes_eq p.reactor r.name) (number b r p.port) (port_number number (past b r) rs p) not_so))
+          (add_assoc b.reactors 1 (place rs p.reactor) ∙ sym (ap (λ k. b.reactors + k) (cond-false (bytes_eq p.reactor r.name) 0 (1 + place rs p.reactor) not_so)))
+          found)
     ]
 
 same : (n : ℕ) → (n == n) ≡ true
@@ -117,27 +117,27 @@ same n = eq-eqb n n refl
 pub finds-input : Finds input_number (λ r. r.inputs) (λ k. k)
 finds-input all b r rest p e so h =
     has-left all (its_named b r ++ rest) b.ports (place_among r.inputs p.port) (is_named (λ k. k) p b.reactors) e
-      (has-first (named b r true) (named b r false) (is_named (λ k. k) p b.reactors) r.inputs r.outputs rest p.port
-        (λ n o. and_from _ _ (and_from _ _ so o) (same b.reactors)) h)
+    (has-first (named b r true) (named b r false) (is_named (λ k. k) p b.reactors) r.inputs r.outputs rest p.port
+    (λ n o. and_from _ _ (and_from _ _ so o) (same b.reactors)) h)
 
 pub finds-output : Finds output_number (λ r. r.outputs) (λ k. not k)
 finds-output all b r rest p e so h =
     has-left all (its_named b r ++ rest) b.ports (length r.inputs + place_among r.outputs p.port) (is_named (λ k. not k) p b.reactors) e
-      (has-second (named b r true) (named b r false) (is_named (λ k. not k) p b.reactors) r.inputs r.outputs rest p.port
-        (λ n o. and_from _ _ (and_from _ _ so o) (same b.reactors)) h)
+    (has-second (named b r true) (named b r false) (is_named (λ k. not k) p b.reactors) r.inputs r.outputs rest p.port
+    (λ n o. and_from _ _ (and_from _ _ so o) (same b.reactors)) h)
 
 -- two references to one named port are to the same port
 pub one-name : (p q : PortName) (all : List NamedPort) (n : ℕ) → has all n (λ e. same_port p e.at) ≡ true → has all n (λ e. same_port q e.at) ≡ true → same_port p q ≡ true
 one-name p q all n h k =
     has-fact (same_port p q) all n
-      (has-less (λ e. same_port p e.at && same_port q e.at) (λ e. same_port p q)
-        (λ e both. (let ps = and_parts (same_port p e.at) (same_port q e.at) both in
-          let first = and_parts (bytes_eq p.reactor e.at.reactor) (bytes_eq p.port e.at.port) ps.0 in
-          let second = and_parts (bytes_eq q.reactor e.at.reactor) (bytes_eq q.port e.at.port) ps.1 in
-          and_from _ _
-            (subst (λ w. bytes_eq p.reactor w ≡ true) (sym (same_name q.reactor e.at.reactor second.0)) first.0)
-            (subst (λ w. bytes_eq p.port w ≡ true) (sym (same_name q.port e.at.port second.1)) first.1)))
-        all n (has-both (λ e. same_port p e.at) (λ e. same_port q e.at) all n h k))
+    (has-less (λ e. same_port p e.at && same_port q e.at) (λ e. same_port p q)
+    (λ e both. (let ps = and_parts (same_port p e.at) (same_port q e.at) both in
+    let first = and_parts (bytes_eq p.reactor e.at.reactor) (bytes_eq p.port e.at.port) ps.0 in
+    let second = and_parts (bytes_eq q.reactor e.at.reactor) (bytes_eq q.port e.at.port) ps.1 in
+    and_from _ _
+    (subst (λ w. bytes_eq p.reactor w ≡ true) (sym (same_name q.reactor e.at.reactor second.0)) first.0)
+    (subst (λ w. bytes_eq p.port w ≡ true) (sym (same_name q.port e.at.port second.1)) first.1)))
+    all n (has-both (λ e. same_port p e.at) (λ e. same_port q e.at) all n h k))
 
 -- the reactor of a port that is there
 pub reactor-is : (P : Program) (n k : ℕ) → has P.ports n (λ p. p.reactor == k) ≡ true → reactor_of P n ≡ k

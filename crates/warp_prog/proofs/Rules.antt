@@ -33,19 +33,19 @@ module _ (P : Program) (b : Before) (r : ReactorPart) (rs : List ReactorPart) (s
   allows n = record {
     own = λ name h. has_variable P b r rs s name h;
     read = λ name h.
-      (let target : Target = readable b r name in
-      let on : List Target = once (map (readable b r) n.triggers) in
-      let reads : List Target = once (map (readable b r) n.reads) in
-      list_any-append (is_target target) on reads
-      ∙ elim (or_cases (is_among n.triggers name) (is_among n.reads name) h) [
-        | inl listed ↦ or_left (names on target) (names reads target) (once-among (readable b r) name n.triggers listed)
-        | inr listed ↦ or_right (names on target) (names reads target) (once-among (readable b r) name n.reads listed)
-      ]);
+        (let target : Target = readable b r name in
+        let on : List Target = once (map (readable b r) n.triggers) in
+        let reads : List Target = once (map (readable b r) n.reads) in
+        list_any-append (is_target target) on reads
+        ∙ elim (or_cases (is_among n.triggers name) (is_among n.reads name) h) [
+          | inl listed ↦ or_left (names on target) (names reads target) (once-among (readable b r) name n.triggers listed)
+          | inr listed ↦ or_right (names on target) (names reads target) (once-among (readable b r) name n.reads listed)
+        ]);
     put = λ name o w.
-      subst (λ t. names (once (map (writable b r) n.writes)) t ≡ true) (cond-true (is_among r.outputs name) (to.Port (output_number b r name)) (to.Action (action_number b r name)) o)
+        subst (λ t. names (once (map (writable b r) n.writes)) t ≡ true) (cond-true (is_among r.outputs name) (to.Port (output_number b r name)) (to.Action (action_number b r name)) o)
         (once-among (writable b r) name n.writes w);
     schedule = λ name a w.
-      subst (λ t. names (once (map (writable b r) n.writes)) t ≡ true)
+        subst (λ t. names (once (map (writable b r) n.writes)) t ≡ true)
         (cond-false (is_among r.outputs name) (to.Port (output_number b r name)) (to.Action (action_number b r name)) (no-output r name d a))
         (once-among (writable b r) name n.writes w);
   }
@@ -62,7 +62,7 @@ module _ (P : Program) (b : Before) (r : ReactorPart) (rs : List ReactorPart) (s
       let ok : Word → Bool = λ name. is_among r.outputs name || is_among (action_names r) name in
       let written = once-every (is_writable P b.reactors) (writable b r) ok (λ name e. is_written P b r rs s name e) n.writes (all-pass ok n.writes writes.1) in
       let uses = all-both (is_known r) (is_declared r n) (body_uses n.body) (all-pass (is_known r) (body_uses n.body) body.1)
-        (all-pass (is_declared r n) (body_uses n.body) sound.declared) in
+      (all-pass (is_declared r n) (body_uses n.body) sound.declared) in
       let periods = all-since period_exceeds is_period (λ x e. (in-range 0 longest_period x e).1) (body_delays n.body) delays.1 in
       let may = body-may P b r n (numbered_reaction b r n) (allows n) n.body uses periods in
       let few = subst (λ k. nat_le k most_wishes ≡ true) (sym (schedules-body b r n.body)) (le-leb (length (body_delays n.body)) most_wishes (ltb-false most_wishes (length (body_delays n.body)) wishes.1)) in

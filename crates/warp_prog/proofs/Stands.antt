@@ -76,27 +76,27 @@ module _ (P : Program) (b : Before) (r : ReactorPart) (rs : List ReactorPart) (s
   pub has_variable : (name : Word) → is_among (variable_names r) name ≡ true → owns_variable P b.reactors (variable_number b r name) ≡ true
   has_variable name h =
       has-left P.variables (its_variables b r ++ in_each its_variables (past b r) rs) b.variables (place_among (variable_names r) name)
-        (λ (v : Variable). v.reactor == b.reactors) s.variables
-        (has-found (λ (v : VariablePart). v.name) (λ (v : VariablePart). record { reactor = b.reactors; start = v.start })
-          (λ (v : Variable). v.reactor == b.reactors) name (λ x e. same b.reactors) r.variables (in_each its_variables (past b r) rs) h)
+      (λ (v : Variable). v.reactor == b.reactors) s.variables
+      (has-found (λ (v : VariablePart). v.name) (λ (v : VariablePart). record { reactor = b.reactors; start = v.start })
+      (λ (v : Variable). v.reactor == b.reactors) name (λ x e. same b.reactors) r.variables (in_each its_variables (past b r) rs) h)
 
   -- that of an action's name is one of its actions, and of a timer's one of its timers
   pub has_action : (name : Word) → is_among (action_names r) name ≡ true →
       has P.actions (action_number b r name) (λ a. a.reactor == b.reactors) ≡ true
   has_action name h =
       has-left P.actions (its_actions b r ++ in_each its_actions (past b r) rs) b.actions (place_among (action_names r) name)
-        (λ (a : Action). a.reactor == b.reactors) s.actions
-        (has-found (λ (a : ActionPart). a.name) (λ (a : ActionPart). record { reactor = b.reactors; delay = unsigned_abs a.delay })
-          (λ (a : Action). a.reactor == b.reactors) name (λ x e. same b.reactors) r.actions (in_each its_actions (past b r) rs) h)
+      (λ (a : Action). a.reactor == b.reactors) s.actions
+      (has-found (λ (a : ActionPart). a.name) (λ (a : ActionPart). record { reactor = b.reactors; delay = unsigned_abs a.delay })
+      (λ (a : Action). a.reactor == b.reactors) name (λ x e. same b.reactors) r.actions (in_each its_actions (past b r) rs) h)
 
   pub has_timer : (name : Word) → is_among (timer_names r) name ≡ true →
       has P.timers (timer_number b r name) (λ t. t.reactor == b.reactors) ≡ true
   has_timer name h =
       has-left P.timers (its_timers b r ++ in_each its_timers (past b r) rs) b.timers (place_among (timer_names r) name)
-        (λ (t : Timer). t.reactor == b.reactors) s.timers
-        (has-found (λ (t : TimerPart). t.name)
-          (λ (t : TimerPart). record { reactor = b.reactors; offset = unsigned_abs t.offset; period = unsigned_abs t.period })
-          (λ (t : Timer). t.reactor == b.reactors) name (λ x e. same b.reactors) r.timers (in_each its_timers (past b r) rs) h)
+      (λ (t : Timer). t.reactor == b.reactors) s.timers
+      (has-found (λ (t : TimerPart). t.name)
+      (λ (t : TimerPart). record { reactor = b.reactors; offset = unsigned_abs t.offset; period = unsigned_abs t.period })
+      (λ (t : Timer). t.reactor == b.reactors) name (λ x e. same b.reactors) r.timers (in_each its_timers (past b r) rs) h)
 
   has_port : (n : ℕ) (q : Port → Bool) → has (its_ports b r ++ in_each its_ports (past b r) rs) n q ≡ true → has P.ports (b.ports + n) q ≡ true
   has_port n q h = has-left P.ports (its_ports b r ++ in_each its_ports (past b r) rs) b.ports n q s.ports h
@@ -106,26 +106,26 @@ module _ (P : Program) (b : Before) (r : ReactorPart) (rs : List ReactorPart) (s
       has P.ports (input_number b r name) (λ p. p.is_input && p.reactor == b.reactors) ≡ true
   has_input name h =
       has_port (place_among r.inputs name) (λ p. p.is_input && p.reactor == b.reactors)
-        (has-first (λ (n : Word). record { reactor = b.reactors; is_input = true }) (λ (n : Word). record { reactor = b.reactors; is_input = false })
-          (λ (p : Port). p.is_input && p.reactor == b.reactors) r.inputs r.outputs (in_each its_ports (past b r) rs) name (λ n e. same b.reactors) h)
+      (has-first (λ (n : Word). record { reactor = b.reactors; is_input = true }) (λ (n : Word). record { reactor = b.reactors; is_input = false })
+      (λ (p : Port). p.is_input && p.reactor == b.reactors) r.inputs r.outputs (in_each its_ports (past b r) rs) name (λ n e. same b.reactors) h)
 
   pub has_output : (name : Word) → is_among r.outputs name ≡ true →
       has P.ports (output_number b r name) (λ p. not p.is_input && p.reactor == b.reactors) ≡ true
   has_output name h =
       has_port (length r.inputs + place_among r.outputs name) (λ p. not p.is_input && p.reactor == b.reactors)
-        (has-second (λ (n : Word). record { reactor = b.reactors; is_input = true }) (λ (n : Word). record { reactor = b.reactors; is_input = false })
-          (λ (p : Port). not p.is_input && p.reactor == b.reactors) r.inputs r.outputs (in_each its_ports (past b r) rs) name (λ n e. same b.reactors) h)
+      (has-second (λ (n : Word). record { reactor = b.reactors; is_input = true }) (λ (n : Word). record { reactor = b.reactors; is_input = false })
+      (λ (p : Port). not p.is_input && p.reactor == b.reactors) r.inputs r.outputs (in_each its_ports (past b r) rs) name (λ n e. same b.reactors) h)
 
   -- what a name stands for may be read by the reactor
   pub is_read : (name : Word) → is_readable P b.reactors (readable b r name) ≡ true
   is_read name =
       cond_both (is_among r.inputs name) (to.Port (input_number b r name)) _ (λ t. is_readable P b.reactors t ≡ true) (λ h. has_input name h)
-        (λ e. cond_both (is_among (action_names r) name) (to.Action (action_number b r name)) _ (λ t. is_readable P b.reactors t ≡ true) (λ h. has_action name h)
-          (λ e. cond_both (is_among (timer_names r) name) (to.Timer (timer_number b r name)) to.Startup (λ t. is_readable P b.reactors t ≡ true) (λ h. has_timer name h)
-            (λ e. refl)))
+      (λ e. cond_both (is_among (action_names r) name) (to.Action (action_number b r name)) _ (λ t. is_readable P b.reactors t ≡ true) (λ h. has_action name h)
+      (λ e. cond_both (is_among (timer_names r) name) (to.Timer (timer_number b r name)) to.Startup (λ t. is_readable P b.reactors t ≡ true) (λ h. has_timer name h)
+      (λ e. refl)))
 
   -- and written, if it is the name of an output or an action
   pub is_written : (name : Word) → (is_among r.outputs name || is_among (action_names r) name) ≡ true → is_writable P b.reactors (writable b r name) ≡ true
   is_written name h =
       cond_both (is_among r.outputs name) (to.Port (output_number b r name)) (to.Action (action_number b r name)) (λ t. is_writable P b.reactors t ≡ true)
-        (λ so. has_output name so) (λ not_so. has_action name (sym (ap (λ o. o || is_among (action_names r) name) not_so) ∙ h))
+      (λ so. has_output name so) (λ not_so. has_action name (sym (ap (λ o. o || is_among (action_names r) name) not_so) ∙ h))

@@ -1,8 +1,8 @@
 -- A program file as a tree: all that stands in it, with names in the place of numbers, and numbers of any size.
 -- The parts that hold no list are the declared types: PortName, VariablePart, ActionPart, TimerPart, LinkPart, InputPart.
 use Rattle.std.specs.Prelude.{ℕ, ℤ, List}
-use Rattle.warp_prog.specs.declared.operator.UnaryOperator.{UnaryOperator}
-use Rattle.warp_prog.specs.declared.operator.BinaryOperator.{BinaryOperator}
+use Rattle.warp_body.specs.declared.operator.UnaryOperator.{UnaryOperator}
+use Rattle.warp_body.specs.declared.operator.BinaryOperator.{BinaryOperator}
 use Rattle.warp_prog.specs.declared.file.PortName.{PortName}
 use Rattle.warp_prog.specs.declared.file.VariablePart.{VariablePart}
 use Rattle.warp_prog.specs.declared.file.ActionPart.{ActionPart}

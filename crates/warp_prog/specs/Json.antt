@@ -1,5 +1,5 @@
 -- Objects and lists of a file.
-use Rattle.std.specs.Prelude.{ℕ, Bool, true, false, ◌&&◌, ◌||◌, List, [], ◌∷◌, Option, Some, None, bytes_eq}
+use Rattle.std.specs.Prelude.{ℕ, Bool, true, false, ◌&&◌, ◌||◌, List, [], ◌∷◌, Option, Some, None, bytes_eq, if◌then◌else◌}
 use Rattle.serde_json.specs.Data.{Data, object, Items, no_items, item, Members, no_members, member}
 use Rattle.serde_json.specs.Find.{get, as_array}
 use Rattle.warp_prog.specs.Chain.{◌>>=◌}
@@ -19,11 +19,16 @@ abbrev pub has_only : List (List ℕ) → Data → Bool
 has_only keys (object ms) = are_keys keys ms
 has_only keys _ = false
 
--- the items of a list under a key; none where the key is not there
+-- this object, if its keys are all among these
+abbrev pub with_keys : List (List ℕ) → Data → Option Data
+with_keys keys d = if has_only keys d then Some d else None
+
+-- the items of a list that may be there; none where the key is not there
 abbrev pub items_or_none : Option Data → Option Items
 items_or_none None = Some no_items
 items_or_none (Some d) = as_array d
 
+-- the items of the list under a key
 abbrev pub items_at : List ℕ → Data → Option Items
 items_at key d = items_or_none (get key d)
 

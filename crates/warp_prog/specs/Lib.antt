@@ -15,3 +15,5 @@ pub mod Undeclared
 pub mod Numbered
 pub mod Load
 pub mod inner
+pub mod Reading
+pub mod Refusal

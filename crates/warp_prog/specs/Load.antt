@@ -1,15 +1,19 @@
 -- What a program file is refused for, and which program it spells.
-use Rattle.std.specs.Prelude.{◌≡◌, ℕ, ◌<◌, ◌==◌, Bool, true, false, ◌&&◌, ◌||◌, Option, Some, None}
+use Rattle.std.specs.Prelude.{◌≡◌, ◌⊎◌, ℕ, ◌<◌, ◌≤◌, ◌==◌, Bool, true, false, ◌&&◌, ◌||◌, List, length, Option, Some, None}
 use Rattle.serde_json.specs.Data.{Data}
 use Rattle.warp_step.specs.Program.{Program}
 use Rattle.warp_prog.specs.File.{File}
 use Rattle.warp_prog.specs.Shape.{file_of}
+use Rattle.warp_prog.specs.Reading.{longest_file, json_of}
+use Rattle.warp_prog.specs.Refusal.{number_of}
 use Rattle.warp_prog.specs.Limits.{exceeds_limits}
 use Rattle.warp_prog.specs.Names.{names_unknown}
 use Rattle.warp_prog.specs.Twice.{names_twice}
 use Rattle.warp_prog.specs.Backward.{leads_back}
 use Rattle.warp_prog.specs.Undeclared.{is_undeclared}
 use Rattle.warp_prog.specs.Numbered.{numbered}
+use Rattle.warp_prog.specs.declared.error.LoadError.{LoadError}
+use Rattle.warp_prog.specs.declared.error.LoadError.TheVariants.{Json, Limit, Memory}
 
 -- whether the fault of this number stands in what was read: 2 if it is no file; in a file 3, a limit; 4, a name; 5, something twice;
 -- 6, a link that leads back; 7, a use that is not declared
@@ -19,13 +23,17 @@ is_at_fault k (Some f) =
     (k == 3 && exceeds_limits f) || (k == 4 && names_unknown f) || (k == 5 && names_twice f) || (k == 6 && leads_back f)
     || (k == 7 && is_undeclared f)
 
+-- the fault of this number stands in what was read, and none of a lower number
+abbrev pub IsFirst : Option File → ℕ → Type 0
+IsFirst o k = (is_at_fault k o ≡ true) × ((j : ℕ) → j < k → is_at_fault j o ≡ false)
+
 -- a JSON value has the fault of this number, 2 to 7
 abbrev pub HasFault : Data → ℕ → Type 0
 HasFault v k = is_at_fault k (file_of v) ≡ true
 
 -- and none of a lower number
-abbrev pub IsFirstFault : Data → ℕ → Type 0
-IsFirstFault v k = HasFault v k × ((j : ℕ) → j < k → is_at_fault j (file_of v) ≡ false)
+abbrev pub HasFirstFault : Data → ℕ → Type 0
+HasFirstFault v k = IsFirst (file_of v) k
 
 -- a file without fault
 pub record IsFaultless (f : File) : Type 0 where
@@ -38,3 +46,19 @@ pub record IsFaultless (f : File) : Type 0 where
 -- a JSON value spells a program: it is a file without fault, whose numbered parts are the program's
 abbrev pub SpellsProgram : Data → Program → Type 0
 SpellsProgram v P = (f : File) × (file_of v ≡ Some f) × IsFaultless f × (P ≡ numbered f)
+
+-- bytes that are not too many spell a program: the JSON value that they spell does
+abbrev pub IsLoaded : List ℕ → Program → Type 0
+IsLoaded bytes P = (length bytes ≤ longest_file) × (v : Data) × (json_of bytes ≡ Some v) × SpellsProgram v P
+
+-- bytes that are not too many spell a JSON value whose first fault has this number
+abbrev pub IsFaulty : List ℕ → ℕ → Type 0
+IsFaulty bytes k = (length bytes ≤ longest_file) × (v : Data) × (json_of bytes ≡ Some v) × HasFirstFault v k
+
+-- why bytes are refused: too many are past a limit, whatever they are; of the others, those that spell no JSON value are no JSON,
+-- and a JSON value is refused for its first fault; memory may be wanting for any that are not too many
+abbrev pub IsRefused : List ℕ → LoadError → Type 0
+IsRefused bytes Json = (length bytes ≤ longest_file) × (json_of bytes ≡ None)
+IsRefused bytes Limit = (longest_file < length bytes) ⊎ IsFaulty bytes (number_of Limit)
+IsRefused bytes Memory = length bytes ≤ longest_file
+IsRefused bytes e = IsFaulty bytes (number_of e)

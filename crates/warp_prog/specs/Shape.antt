@@ -1,11 +1,11 @@
 -- The tables of a program file: which values each key of each object may have, and the tree that they make.
-use Rattle.std.specs.Prelude.{ℕ, List, [], ◌∷◌, Option, Some, None, codes, if◌then◌else◌}
+use Rattle.std.specs.Prelude.{ℕ, List, [], ◌∷◌, Option, Some, None, codes}
 use Rattle.std.specs.Option.{option_or}
 use Rattle.serde_json.specs.Data.{Data}
 use Rattle.serde_json.specs.Find.{get}
 use Rattle.warp_prog.specs.Chain.{◌>>=◌}
 use Rattle.warp_prog.specs.File.{NamedBody, NamedDone, File, ReactorPart, ReactionPart}
-use Rattle.warp_prog.specs.Json.{pair_of, triple_of, has_only, list_at, unless_empty}
+use Rattle.warp_prog.specs.Json.{pair_of, triple_of, with_keys, list_at, unless_empty}
 use Rattle.warp_prog.specs.Word.{name_at, port_at, integer_at}
 use Rattle.warp_prog.specs.Statements.{body_of}
 use Rattle.warp_prog.specs.declared.file.VariablePart.{VariablePart}
@@ -79,13 +79,13 @@ reaction_keys = codes "on" ∷ codes "reads" ∷ codes "writes" ∷ codes "body"
 
 -- a reaction: `on`, which is there and not empty; `reads`, `writes`, `body`
 unfoldable pub reaction_of : Data → Option ReactionPart
-reaction_of d = if has_only reaction_keys d then (do
+reaction_of v = do
+  d ← with_keys reaction_keys v
   triggers ← list_at name_at (codes "on") d >>= unless_empty
   reads ← list_at name_at (codes "reads") d
   writes ← list_at name_at (codes "writes") d
   body ← body_or_none (get (codes "body") d)
-  Some (record { triggers = triggers; reads = reads; writes = writes; body = body }))
-    else None
+  Some (record { triggers = triggers; reads = reads; writes = writes; body = body })
 
 -- the keys of a reactor
 abbrev pub reactor_keys : List (List ℕ)
@@ -94,7 +94,8 @@ reactor_keys =
 
 -- a reactor: `name`, which is there; `vars`, `inputs`, `outputs`, `actions`, `timers`, `reactions`
 unfoldable pub reactor_of : Data → Option ReactorPart
-reactor_of d = if has_only reactor_keys d then (do
+reactor_of v = do
+  d ← with_keys reactor_keys v
   name ← get (codes "name") d >>= name_at
   variables ← list_at variable_of (codes "vars") d
   inputs ← list_at name_at (codes "inputs") d
@@ -110,8 +111,7 @@ reactor_of d = if has_only reactor_keys d then (do
     actions = actions;
     timers = timers;
     reactions = reactions;
-  }))
-    else None
+  })
 
 -- the keys of the top object
 abbrev pub file_keys : List (List ℕ)
@@ -120,7 +120,8 @@ file_keys =
 
 -- a file: `version`, `stop`, `origins` and `reactors`, which are there, the last not empty; `links`, `inputs`, `outputs`
 unfoldable pub file_of : Data → Option File
-file_of d = if has_only file_keys d then (do
+file_of v = do
+  d ← with_keys file_keys v
   version ← get (codes "version") d >>= integer_at
   stop ← get (codes "stop") d >>= integer_at
   origins ← get (codes "origins") d >>= integer_at
@@ -136,5 +137,4 @@ file_of d = if has_only file_keys d then (do
     links = links;
     inputs = inputs;
     outputs = outputs;
-  }))
-    else None
+  })

@@ -5,10 +5,10 @@ use Rattle.serde_json.specs.Find.{as_i64, as_str}
 use Rattle.warp_prog.specs.Chain.{◌>>=◌}
 use Rattle.warp_prog.specs.File.{NamedTerm, Literal, Named, PresentNamed, OneNamed, TwoNamed, ChoiceNamed}
 use Rattle.warp_prog.specs.Word.{name_of, name_at}
-use Rattle.warp_prog.specs.declared.operator.UnaryOperator.{UnaryOperator}
-use Rattle.warp_prog.specs.declared.operator.UnaryOperator.TheVariants.{Negate, Not}
-use Rattle.warp_prog.specs.declared.operator.BinaryOperator.{BinaryOperator}
-use Rattle.warp_prog.specs.declared.operator.BinaryOperator.TheVariants.{Add, Subtract, Multiply, Divide, Remainder, Equal, Less, And, Or}
+use Rattle.warp_body.specs.declared.operator.UnaryOperator.{UnaryOperator}
+use Rattle.warp_body.specs.declared.operator.UnaryOperator.TheVariants.{Negate, Not}
+use Rattle.warp_body.specs.declared.operator.BinaryOperator.{BinaryOperator}
+use Rattle.warp_body.specs.declared.operator.BinaryOperator.TheVariants.{Add, Subtract, Multiply, Divide, Remainder, Equal, Less, And, Or}
 
 -- the operator over one part with this word
 abbrev pub unary_of : List ℕ → Option UnaryOperator

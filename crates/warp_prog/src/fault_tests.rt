@@ -4,7 +4,7 @@ use crate::backward::leads_back;
 use crate::file::ProgramFile;
 use crate::limits::exceeds_limits;
 use crate::names::names_unknown;
-use crate::shape::file::file;
+use crate::shape::file;
 use crate::twice::names_twice;
 use crate::undeclared::is_undeclared;
 use serde_json::Value;
@@ -86,11 +86,17 @@ fn numbers(rt: HostRuntime) -> Result<(), Fail> {
 #[test]
 fn reactors(rt: HostRuntime) -> Result<(), Fail> {
     let rows = [
-        (r#"{"name":"r","vars":[["v",-9223372036854775808],["w",9223372036854775807]]}"#, 0),
+        (
+            r#"{"name":"r","vars":[["v",-9223372036854775808],["w",9223372036854775807]]}"#,
+            0,
+        ),
         (r#"{"name":"r","actions":[["a",0],["b",1000000]]}"#, 0),
         (r#"{"name":"r","actions":[["a",1000001]]}"#, 3),
         (r#"{"name":"r","actions":[["a",0],["b",-1]]}"#, 3),
-        (r#"{"name":"r","timers":[["t",0,1000000],["u",1000000,0]]}"#, 0),
+        (
+            r#"{"name":"r","timers":[["t",0,1000000],["u",1000000,0]]}"#,
+            0,
+        ),
         (r#"{"name":"r","timers":[["t",1000001,0]]}"#, 3),
         (r#"{"name":"r","timers":[["t",0,1000001]]}"#, 3),
         (r#"{"name":"r","timers":[["t",0,0],["u",-1,0]]}"#, 3),
@@ -98,7 +104,10 @@ fn reactors(rt: HostRuntime) -> Result<(), Fail> {
         (r#"{"name":"r"},{"name":"s"},{"name":"t"}"#, 0),
         (r#"{"name":"r"},{"name":"s"},{"name":"r"}"#, 5),
         (r#"{"name":"startup","inputs":["startup_"]}"#, 0),
-        (r#"{"name":"r","inputs":["r"],"outputs":["s"]},{"name":"s","inputs":["r"],"outputs":["s"]}"#, 0),
+        (
+            r#"{"name":"r","inputs":["r"],"outputs":["s"]},{"name":"s","inputs":["r"],"outputs":["s"]}"#,
+            0,
+        ),
         (r#"{"name":"r","vars":[["a",0],["b",0],["a",1]]}"#, 5),
         (r#"{"name":"r","inputs":["a","a"]}"#, 5),
         (r#"{"name":"r","outputs":["a","b","b"]}"#, 5),
@@ -108,7 +117,10 @@ fn reactors(rt: HostRuntime) -> Result<(), Fail> {
         (r#"{"name":"r","vars":[["a",0]],"timers":[["a",0,0]]}"#, 5),
         (r#"{"name":"r","inputs":["a"],"outputs":["a"]}"#, 5),
         (r#"{"name":"r","outputs":["a"],"actions":[["a",0]]}"#, 5),
-        (r#"{"name":"r","actions":[["a",0]],"timers":[["a",0,0]]}"#, 5),
+        (
+            r#"{"name":"r","actions":[["a",0]],"timers":[["a",0,0]]}"#,
+            5,
+        ),
         (r#"{"name":"r","vars":[["startup",0]]}"#, 5),
         (r#"{"name":"r","inputs":["startup"]}"#, 5),
         (r#"{"name":"r","outputs":["startup"]}"#, 5),
@@ -130,7 +142,10 @@ fn reactors(rt: HostRuntime) -> Result<(), Fail> {
 #[test]
 fn ports(rt: HostRuntime) -> Result<(), Fail> {
     let rows = [
-        (r#""links":[["r.o","s.i"],["r.o","s.j"],["s.o","r.i",0],["r.p","r.j",1000000]]"#, 0),
+        (
+            r#""links":[["r.o","s.i"],["r.o","s.j"],["s.o","r.i",0],["r.p","r.j",1000000]]"#,
+            0,
+        ),
         (r#""links":[["r.o","s.i"],["r.o","s.j",-1]]"#, 3),
         (r#""links":[["r.o","s.j",1000001]]"#, 3),
         (r#""links":[["r.i","s.i"]]"#, 4),
@@ -144,13 +159,19 @@ fn ports(rt: HostRuntime) -> Result<(), Fail> {
         (r#""links":[["r.o","s.i"],["r.o","r.i"]]"#, 6),
         (r#""links":[["s.o","r.i"]]"#, 6),
         (r#""links":[["r.o","s.i"],["s.o","s.j"]]"#, 6),
-        (r#""links":[["r.o","s.j"]],"inputs":[[0,"r.i"],[1,"r.j"],[0,"s.i"]]"#, 0),
+        (
+            r#""links":[["r.o","s.j"]],"inputs":[[0,"r.i"],[1,"r.j"],[0,"s.i"]]"#,
+            0,
+        ),
         (r#""inputs":[[0,"r.i"],[2,"r.j"]]"#, 3),
         (r#""inputs":[[-1,"r.i"]]"#, 3),
         (r#""inputs":[[0,"r.i"],[0,"r.o"]]"#, 4),
         (r#""inputs":[[0,"q.i"]]"#, 4),
         (r#""inputs":[[0,"r.i"],[1,"r.i"]]"#, 5),
-        (r#""links":[["r.o","s.i"]],"inputs":[[0,"r.i"],[0,"s.i"]]"#, 5),
+        (
+            r#""links":[["r.o","s.i"]],"inputs":[[0,"r.i"],[0,"s.i"]]"#,
+            5,
+        ),
         (r#""outputs":["r.o","r.p","s.o"]"#, 0),
         (r#""outputs":["r.o","s.p"]"#, 4),
         (r#""outputs":["r.i"]"#, 4),
@@ -171,12 +192,30 @@ fn ports(rt: HostRuntime) -> Result<(), Fail> {
 #[test]
 fn shared_names(rt: HostRuntime) -> Result<(), Fail> {
     let rows = [
-        (r#"{"name":"r","vars":[["a",0]],"inputs":["a"],"reactions":[{"on":["a"],"body":[["set","a","a"]]}]}"#, 5),
-        (r#"{"name":"r","inputs":["a"],"outputs":["a"],"reactions":[{"on":["a"],"writes":["a"],"body":[["put","a","a"]]}]}"#, 5),
-        (r#"{"name":"r","vars":[["a",0]],"outputs":["a"],"reactions":[{"on":["a"]}]}"#, 4),
-        (r#"{"name":"r"},{"name":"r","inputs":["a"],"reactions":[{"on":["a"]}]}"#, 5),
-        (r#"{"name":"r"},{"name":"s","inputs":["a"]},{"name":"t","reactions":[{"on":["a"]}]}"#, 4),
-        (r#"{"name":"r","vars":[["a",0]]},{"name":"s","reactions":[{"on":["startup"],"body":[["set","a",1]]}]}"#, 4),
+        (
+            r#"{"name":"r","vars":[["a",0]],"inputs":["a"],"reactions":[{"on":["a"],"body":[["set","a","a"]]}]}"#,
+            5,
+        ),
+        (
+            r#"{"name":"r","inputs":["a"],"outputs":["a"],"reactions":[{"on":["a"],"writes":["a"],"body":[["put","a","a"]]}]}"#,
+            5,
+        ),
+        (
+            r#"{"name":"r","vars":[["a",0]],"outputs":["a"],"reactions":[{"on":["a"]}]}"#,
+            4,
+        ),
+        (
+            r#"{"name":"r"},{"name":"r","inputs":["a"],"reactions":[{"on":["a"]}]}"#,
+            5,
+        ),
+        (
+            r#"{"name":"r"},{"name":"s","inputs":["a"]},{"name":"t","reactions":[{"on":["a"]}]}"#,
+            4,
+        ),
+        (
+            r#"{"name":"r","vars":[["a",0]]},{"name":"s","reactions":[{"on":["startup"],"body":[["set","a",1]]}]}"#,
+            4,
+        ),
     ];
     for (part, wanted) in rows {
         let found = fault_of(
@@ -200,7 +239,10 @@ fn shared_names(rt: HostRuntime) -> Result<(), Fail> {
 #[test]
 fn reactions(rt: HostRuntime) -> Result<(), Fail> {
     let rows = [
-        (r#""on":["i","a","t","startup","i"],"reads":["i","a","t","startup"],"writes":["o","a","o"]"#, 0),
+        (
+            r#""on":["i","a","t","startup","i"],"reads":["i","a","t","startup"],"writes":["o","a","o"]"#,
+            0,
+        ),
         (r#""on":["v"]"#, 4),
         (r#""on":["i","o"]"#, 4),
         (r#""on":["x"]"#, 4),
@@ -210,33 +252,75 @@ fn reactions(rt: HostRuntime) -> Result<(), Fail> {
         (r#""on":["i"],"writes":["v"]"#, 4),
         (r#""on":["i"],"writes":["t"]"#, 4),
         (r#""on":["i"],"writes":["startup"]"#, 4),
-        (r#""on":["i"],"body":[["set","v",["+","v",["if","i",-1,["neg","v"]]]]]"#, 0),
+        (
+            r#""on":["i"],"body":[["set","v",["+","v",["if","i",-1,["neg","v"]]]]]"#,
+            0,
+        ),
         (r#""on":["i"],"body":[["set","i",1]]"#, 4),
         (r#""on":["i"],"writes":["o"],"body":[["set","o",1]]"#, 4),
-        (r#""on":["t"],"writes":["o"],"body":[["if",["present","t"],[["put","o",1]],[["put","o","v"]]]]"#, 0),
+        (
+            r#""on":["t"],"writes":["o"],"body":[["if",["present","t"],[["put","o",1]],[["put","o","v"]]]]"#,
+            0,
+        ),
         (r#""on":["t"],"body":[["put","i",1]]"#, 4),
         (r#""on":["t"],"writes":["a"],"body":[["put","a",1]]"#, 4),
-        (r#""on":["t"],"writes":["a"],"body":[["schedule","a",0,1],["schedule","a",1000000,1]]"#, 0),
-        (r#""on":["t"],"writes":["a"],"body":[["schedule","a",1000001,1]]"#, 3),
-        (r#""on":["t"],"writes":["a"],"body":[["if",1,[],[["schedule","a",-1,1]]]]"#, 3),
+        (
+            r#""on":["t"],"writes":["a"],"body":[["schedule","a",0,1],["schedule","a",1000000,1]]"#,
+            0,
+        ),
+        (
+            r#""on":["t"],"writes":["a"],"body":[["schedule","a",1000001,1]]"#,
+            3,
+        ),
+        (
+            r#""on":["t"],"writes":["a"],"body":[["if",1,[],[["schedule","a",-1,1]]]]"#,
+            3,
+        ),
         (r#""on":["t"],"body":[["schedule","t",0,1]]"#, 4),
-        (r#""on":["t"],"writes":["o"],"body":[["schedule","o",0,1]]"#, 4),
+        (
+            r#""on":["t"],"writes":["o"],"body":[["schedule","o",0,1]]"#,
+            4,
+        ),
         (r#""on":["t"],"body":[["set","v",["+",1,"t"]]]"#, 4),
         (r#""on":["startup"],"body":[["set","v","startup"]]"#, 4),
-        (r#""on":["i"],"writes":["o"],"body":[["set","v",["not","o"]]]"#, 4),
+        (
+            r#""on":["i"],"writes":["o"],"body":[["set","v",["not","o"]]]"#,
+            4,
+        ),
         (r#""on":["i"],"body":[["if",["<","i","x"],[],[]]]"#, 4),
-        (r#""on":["i"],"reads":["t","startup","a"],"body":[["set","v",["and",["present","i"],["and",["present","t"],["and",["present","startup"],["present","a"]]]]]]"#, 0),
+        (
+            r#""on":["i"],"reads":["t","startup","a"],"body":[["set","v",["and",["present","i"],["and",["present","t"],["and",["present","startup"],["present","a"]]]]]]"#,
+            0,
+        ),
         (r#""on":["i"],"body":[["set","v",["present","v"]]]"#, 4),
-        (r#""on":["i"],"writes":["o"],"body":[["set","v",["present","o"]]]"#, 4),
-        (r#""on":["t"],"reads":["i"],"body":[["set","v",["=",["-","i",1],["*","i",["/","i",["%","i",["or",1,"i"]]]]]]]"#, 0),
+        (
+            r#""on":["i"],"writes":["o"],"body":[["set","v",["present","o"]]]"#,
+            4,
+        ),
+        (
+            r#""on":["t"],"reads":["i"],"body":[["set","v",["=",["-","i",1],["*","i",["/","i",["%","i",["or",1,"i"]]]]]]]"#,
+            0,
+        ),
         (r#""on":["t"],"body":[["set","v","i"]]"#, 7),
         (r#""on":["i"],"writes":["a"],"body":[["set","v","a"]]"#, 7),
-        (r#""on":["i"],"body":[["if",1,[["set","v",1]],[["if",["neg","a"],[],[]]]]]"#, 7),
+        (
+            r#""on":["i"],"body":[["if",1,[["set","v",1]],[["if",["neg","a"],[],[]]]]]"#,
+            7,
+        ),
         (r#""on":["i"],"body":[["set","v",["present","t"]]]"#, 7),
-        (r#""on":["i"],"body":[["set","v",["if",1,2,["present","startup"]]]]"#, 7),
+        (
+            r#""on":["i"],"body":[["set","v",["if",1,2,["present","startup"]]]]"#,
+            7,
+        ),
         (r#""on":["i"],"writes":["a"],"body":[["put","o",1]]"#, 7),
-        (r#""on":["i","a"],"reads":["a"],"writes":["o"],"body":[["if",0,[["schedule","a",0,1]],[]]]"#, 7),
-        (r#""on":["i"]},{"on":["startup"],"body":[["set","v","i"]]"#, 7),
+        (
+            r#""on":["i","a"],"reads":["a"],"writes":["o"],"body":[["if",0,[["schedule","a",0,1]],[]]]"#,
+            7,
+        ),
+        (
+            r#""on":["i"]},{"on":["startup"],"body":[["set","v","i"]]"#,
+            7,
+        ),
     ];
     for (part, wanted) in rows {
         let found = fault_of(
@@ -255,31 +339,91 @@ fn reactions(rt: HostRuntime) -> Result<(), Fail> {
 fn counts(rt: HostRuntime) -> Result<(), Fail> {
     let alloc = rt.alloc();
     let rows = [
-        ("", r#"{"name":"r"}"#, "]", 64, 5),
+        ("", r#"{"name":"r"}"#, "]", 64_u16, 5),
         (r#"{"name":"r","vars":["#, r#"["v",0]"#, "]}]", 256, 5),
-        (r#"{"name":"r","vars":[["v",0]]},{"name":"s","vars":["#, r#"["v",0]"#, "]}]", 255, 5),
+        (
+            r#"{"name":"r","vars":[["v",0]]},{"name":"s","vars":["#,
+            r#"["v",0]"#,
+            "]}]",
+            255,
+            5,
+        ),
         (r#"{"name":"r","inputs":["#, r#""i""#, "]}]", 256, 5),
         (r#"{"name":"r","outputs":["#, r#""o""#, "]}]", 256, 5),
-        (r#"{"name":"r","inputs":["i"]},{"name":"s","inputs":["i"],"outputs":["#, r#""o""#, "]}]", 254, 5),
+        (
+            r#"{"name":"r","inputs":["i"]},{"name":"s","inputs":["i"],"outputs":["#,
+            r#""o""#,
+            "]}]",
+            254,
+            5,
+        ),
         (r#"{"name":"r","actions":["#, r#"["a",0]"#, "]}]", 64, 5),
-        (r#"{"name":"r","actions":[["a",0]]},{"name":"s","actions":["#, r#"["a",0]"#, "]}]", 63, 5),
+        (
+            r#"{"name":"r","actions":[["a",0]]},{"name":"s","actions":["#,
+            r#"["a",0]"#,
+            "]}]",
+            63,
+            5,
+        ),
         (r#"{"name":"r","timers":["#, r#"["t",0,0]"#, "]}]", 16, 5),
-        (r#"{"name":"r","timers":[["t",0,0]]},{"name":"s","timers":["#, r#"["t",0,0]"#, "]}]", 15, 5),
-        (r#"{"name":"r","reactions":["#, r#"{"on":["startup"]}"#, "]}]", 256, 0),
-        (r#"{"name":"r","reactions":[{"on":["startup"]}]},{"name":"s","reactions":["#, r#"{"on":["startup"]}"#, "]}]", 255, 0),
-        (r#"{"name":"r"}],"links":["#, r#"["r.o","r.i"]"#, "]", 256, 4),
+        (
+            r#"{"name":"r","timers":[["t",0,0]]},{"name":"s","timers":["#,
+            r#"["t",0,0]"#,
+            "]}]",
+            15,
+            5,
+        ),
+        (
+            r#"{"name":"r","reactions":["#,
+            r#"{"on":["startup"]}"#,
+            "]}]",
+            256,
+            0,
+        ),
+        (
+            r#"{"name":"r","reactions":[{"on":["startup"]}]},{"name":"s","reactions":["#,
+            r#"{"on":["startup"]}"#,
+            "]}]",
+            255,
+            0,
+        ),
+        (
+            r#"{"name":"r"}],"links":["#,
+            r#"["r.o","r.i"]"#,
+            "]",
+            256,
+            4,
+        ),
         (r#"{"name":"r"}],"inputs":["#, r#"[0,"r.i"]"#, "]", 64, 4),
         (r#"{"name":"r"}],"outputs":["#, r#""r.o""#, "]", 64, 4),
-        (r#"{"name":"r","actions":[["a",0]],"reactions":[{"on":["a"],"writes":["a"],"body":["#, r#"["schedule","a",0,1]"#, "]}]}]", 16, 0),
-        (r#"{"name":"r","actions":[["a",0]],"reactions":[{"on":["a"],"writes":["a"],"body":["#, r#"["if",1,[["schedule","a",0,1]],[["schedule","a",0,1]]]"#, "]}]}]", 8, 0),
+        (
+            r#"{"name":"r","actions":[["a",0]],"reactions":[{"on":["a"],"writes":["a"],"body":["#,
+            r#"["schedule","a",0,1]"#,
+            "]}]}]",
+            16,
+            0,
+        ),
+        (
+            r#"{"name":"r","actions":[["a",0]],"reactions":[{"on":["a"],"writes":["a"],"body":["#,
+            r#"["if",1,[["schedule","a",0,1]],[["schedule","a",0,1]]]"#,
+            "]}]}]",
+            8,
+            0,
+        ),
     ];
     for (before, piece, after, most, wanted) in rows {
+        let most = usize::from(most);
         for (times, wanted) in [(most, wanted), (most + 1, 3)] {
             let mut part = String::new(alloc);
             part.push_str(before)?;
             part.push_str(row_of(alloc, piece, times)?.as_str())?;
             part.push_str(after)?;
-            let found = fault_of(alloc, r#"{"version":1,"stop":1,"origins":1,"reactors":["#, part.as_str(), "}")?;
+            let found = fault_of(
+                alloc,
+                r#"{"version":1,"stop":1,"origins":1,"reactors":["#,
+                part.as_str(),
+                "}",
+            )?;
             assert_eq!(rt; found, wanted, "{before} {times} {piece}");
         }
     }
@@ -290,20 +434,42 @@ fn counts(rt: HostRuntime) -> Result<(), Fail> {
 fn depths(rt: HostRuntime) -> Result<(), Fail> {
     let alloc = rt.alloc();
     let rows = [
-        (r#"["set","v","#, r#"["neg","#, "1", "]", "]", 23),
+        (r#"["set","v","#, r#"["neg","#, "1", "]", "]", 23_u16),
         (r#"["put","o","#, r#"["+",1,"#, r#""v""#, "]", "]", 23),
-        (r#"["schedule","a",0,"#, r#"["<","#, r#"["present","startup"]"#, ",1]", "]", 23),
+        (
+            r#"["schedule","a",0,"#,
+            r#"["<","#,
+            r#"["present","startup"]"#,
+            ",1]",
+            "]",
+            23,
+        ),
         (r#"["set","v","#, r#"["if","#, "1", ",2,3]", "]", 23),
         (r#"["set","v","#, r#"["if",1,"#, "2", ",3]", "]", 23),
         (r#"["set","v","#, r#"["if",1,2,"#, "3", "]", "]", 23),
         (r#"["if","#, r#"["not","#, "1", "]", ",[],[]]", 23),
-        (r#"["if",1,[["if",1,[],[["set","v","#, r#"["neg","#, "1", "]", "]]]],[]]", 23),
+        (
+            r#"["if",1,[["if",1,[],[["set","v","#,
+            r#"["neg","#,
+            "1",
+            "]",
+            "]]]],[]]",
+            23,
+        ),
         ("", r#"["if",1,["#, "", "],[]]", "", 24),
         ("", r#"["if",1,[],["#, "", "]]", "", 24),
         ("", r#"["if",1,[],["#, r#"["set","v",1]"#, "]]", "", 23),
-        (r#"["set","v",1],["if",1,["#, r#"["if",1,["#, r#"["put","o",1],["set","v",1]"#, "],[]]", "],[]]", 22),
+        (
+            r#"["set","v",1],["if",1,["#,
+            r#"["if",1,["#,
+            r#"["put","o",1],["set","v",1]"#,
+            "],[]]",
+            "],[]]",
+            22,
+        ),
     ];
     for (before, open, middle, close, after, most) in rows {
+        let most = usize::from(most);
         for (times, wanted) in [(most, 0), (most + 1, 3)] {
             let mut part = String::new(alloc);
             part.push_str(before)?;

@@ -1,7 +1,7 @@
 //! A program file as a tree: all that stands in it, with names, and before any limit is looked at.
 
 use crate::name::Name;
-use crate::operator::{BinaryOperator, UnaryOperator};
+use warp_body::{BinaryOperator, UnaryOperator};
 
 /// A reference to a port, `REACTOR.PORT` in the file.
 #[derive(Debug, Drop)]

@@ -36,13 +36,7 @@ pub(crate) fn file(alloc: Global, value: &Value) -> Result<ProgramFile, Misread>
     ensures err { result ≡ Err Misread.Shape → file_of (view value.now) ≡ None }
 {
     let keys = [
-        "version",
-        "stop",
-        "origins",
-        "reactors",
-        "links",
-        "inputs",
-        "outputs",
+        "version", "stop", "origins", "reactors", "links", "inputs", "outputs",
     ];
     if !has_only(value, &keys) {
         return Err(Misread::Shape);

@@ -8,10 +8,10 @@ ghost use Rattle.warp_prog.specs.View.{term_tree};
 use crate::file::Expression;
 use crate::misread::Misread;
 use crate::name::Name;
-use crate::operator::{BinaryOperator, UnaryOperator};
 use crate::shape::word::name_at;
 use serde_json::Value;
 use std::alloc::Global;
+use warp_body::{BinaryOperator, UnaryOperator};
 
 fn unary_operator(word: &str) -> Option<UnaryOperator>
     ensures { result ≡ unary_of word.now }

@@ -80,7 +80,7 @@ fn choose(
 
 /// The statement of a word and its parts.
 #[cycle(statement)]
-#[tactic(auto, using(crate::proofs::ItemLemmas::no_statement_in_few, crate::proofs::ItemLemmas::no_statement_in_many), unfolding(crate::specs::Statements::choice_of))]
+#[tactic(auto, using(crate::proofs::StatementLemmas::no_statement_in_few, crate::proofs::StatementLemmas::no_statement_in_many))]
 fn parts(alloc: Global, items: &[Value]) -> Result<Statement, Misread>
     ensures ok { IfOk result (λ s. statement_of (array (items_view items.now)) ≡ Some (statement_tree s)) }
     ensures err { result ≡ Err Misread.Shape → statement_of (array (items_view items.now)) ≡ None }

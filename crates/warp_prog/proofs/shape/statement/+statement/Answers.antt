@@ -1,7 +1,7 @@
 use Rattle.std.proofs.Common.{◌≡◌, rules, sym, ◌∙◌, None}
 use Rattle.serde_json.specs.View.{view}
 use Rattle.warp_prog.specs.Statements.{body_of}
-use Rattle.warp_prog.proofs.ItemLemmas.{choice_row, no_first, no_second, one_more_at, all_read}
+use Rattle.warp_prog.proofs.StatementLemmas.{choice_row, no_first, no_second, one_more_at, all_read}
 use Rattle.warp_prog.proofs.shape.statement.+statement.Goals as goal
 
 pub statements-loop-item-preserved : goal.statements-loop-item-preserved
