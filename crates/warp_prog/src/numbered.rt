@@ -26,7 +26,7 @@ use warp_step::{Action, Link, Parts, Port, ProgramInput, Reaction, Timer, Variab
 use warp_tag::OutOfMemory;
 
 /// What stands in reactors, of each kind in file order.
-#[derive(Debug, Drop)]
+#[derive(Drop)]
 struct Contents {
     variables: Vec<Variable>,
     ports: Vec<Port>,
