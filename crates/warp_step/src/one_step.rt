@@ -116,7 +116,14 @@ pub fn step<M: Meter>(
     ensures ticks { M.ticks meter.new ≡ M.ticks meter.old + 1 }
 {
     meter.tick();
-    advance(program, state, &mut scratch.present, &mut scratch.wishes, tag, given);
+    advance(
+        program,
+        state,
+        &mut scratch.present,
+        &mut scratch.wishes,
+        tag,
+        given,
+    );
     put_outputs(program, tag, &scratch.present, out);
 }
 
@@ -148,6 +155,5 @@ fn advance(
     arrive(program, given, present);
     state.repeat_timers(program, tag, present);
     run_reactions(program, &mut state.vars, present, wishes);
-    state.enter_wishes(program, tag, wishes);
-    state.deliver(program, tag, present);
+    state.enter_later(program, tag, present, wishes);
 }

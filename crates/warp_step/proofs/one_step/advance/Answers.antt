@@ -11,21 +11,21 @@ pub run_reactions-requires-clause-vars : goal.run_reactions-requires-clause-vars
 run_reactions-requires-clause-vars c =
     let view : c.state.inside.vars ≡ c.repeat_timers.new.self.vars = ap (λ (s : Snapshot). s.vars) c.state.view_is in
     let timers : c.repeat_timers.new.self.vars ≡ c.take_entries.new.self.vars =
-        ap (λ (s : Snapshot). s.vars) c.repeat_timers.ensures
-        ∙ repeats_vars c.args.program.now c.args.tag c.arrive.new.present 0 c.args.program.now.timers c.take_entries.new.self in
+    ap (λ (s : Snapshot). s.vars) c.repeat_timers.ensures
+    ∙ repeats_vars c.args.program.now c.args.tag c.arrive.new.present 0 c.args.program.now.timers c.take_entries.new.self in
     let taken : c.take_entries.new.self.vars ≡ c.args.state.now.vars = ap (λ (s : Snapshot). s.vars) c.take_entries.ensures.state in
     ap (λ (vs : _). length vs) (view ∙ timers ∙ taken) ∙ c.requires.can.state.vars
 
 -- what the reactions make
-abbrev reacting : goal.After-deliver → Reacting
+abbrev reacting : goal.After-enter_later → Reacting
 reacting c = record { vars = c.run_reactions.new.vars; present = c.run_reactions.new.present; wishes = lists_of c.run_reactions.new.wishes }
 
-made : (c : goal.After-deliver) → Made c.args.program.now c.args.state.now c.args.tag c.args.given.now c.arrive.new.present c.repeat_timers.new.self (reacting c) c.deliver.new.self
+made : (c : goal.After-enter_later) → Made c.args.program.now c.args.state.now c.args.tag c.args.given.now c.arrive.new.present c.repeat_timers.new.self (reacting c) c.enter_later.new.self
 made c =
     let P = c.args.program.now in
     let t = c.args.tag in
     let clear : c.clear.new.self ≡ absent P =
-        c.clear.ensures ∙ cleared P (places_of c.args.present.now) c.args.present.now.sources c.requires.places c.requires.sources in
+    c.clear.ensures ∙ cleared P (places_of c.args.present.now) c.args.present.now.sources c.requires.places c.requires.sources in
     record {
       first =
           c.arrive.ensures.present ∙ ap (arrived P c.args.given.now) (c.take_entries.ensures.present
@@ -35,25 +35,24 @@ made c =
           c.run_reactions.ensures.effect
           ∙ ap (λ (s : Snapshot). after_reactions P (order_of P) (record { vars = s.vars; present = c.arrive.new.present; wishes = no_wishes P })) c.state.view_is;
       enters =
-          c.deliver.ensures ∙ ap (with_links P t c.run_reactions.new.present P.links)
-          (c.enter_wishes.ensures
-          ∙ ap (λ (s : Snapshot). with_all_wishes P t (lists_of c.run_reactions.new.wishes) (record s { vars = c.run_reactions.new.vars })) c.state.view_is);
+          c.enter_later.ensures
+          ∙ ap (λ (s : Snapshot). with_links P t c.run_reactions.new.present P.links (with_all_wishes P t (lists_of c.run_reactions.new.wishes) (record s { vars = c.run_reactions.new.vars }))) c.state.view_is;
     }
 
 pub returns-clause-state : goal.returns-clause-state
-returns-clause-state c = state_is c.args.program.now c.args.state.now c.args.tag c.args.given.now c.arrive.new.present c.repeat_timers.new.self (reacting c) c.deliver.new.self (made c)
+returns-clause-state c = state_is c.args.program.now c.args.state.now c.args.tag c.args.given.now c.arrive.new.present c.repeat_timers.new.self (reacting c) c.enter_later.new.self (made c)
 
 pub returns-clause-present : goal.returns-clause-present
 returns-clause-present c =
     ap (λ (r : Reacting). r.present)
-    (reacts_are c.args.program.now c.args.state.now c.args.tag c.args.given.now c.arrive.new.present c.repeat_timers.new.self (reacting c) c.deliver.new.self (made c))
+    (reacts_are c.args.program.now c.args.state.now c.args.tag c.args.given.now c.arrive.new.present c.repeat_timers.new.self (reacting c) c.enter_later.new.self (made c))
 
 pub returns-clause-of_program : goal.returns-clause-of_program
 returns-clause-of_program c =
-    made_of c.args.program.now c.args.state.now c.args.tag c.args.given.now c.arrive.new.present c.repeat_timers.new.self (reacting c) c.deliver.new.self (made c)
+    made_of c.args.program.now c.args.state.now c.args.tag c.args.given.now c.arrive.new.present c.repeat_timers.new.self (reacting c) c.enter_later.new.self (made c)
     c.valid.ensures c.run_reactions.ensures.wishes c.requires.can
 
 pub returns-clause-later : goal.returns-clause-later
 returns-clause-later c =
-    made_later c.args.program.now c.args.state.now c.args.tag c.args.given.now c.arrive.new.present c.repeat_timers.new.self (reacting c) c.deliver.new.self (made c)
+    made_later c.args.program.now c.args.state.now c.args.tag c.args.given.now c.arrive.new.present c.repeat_timers.new.self (reacting c) c.enter_later.new.self (made c)
     c.requires.can
