@@ -61,7 +61,8 @@ impl State {
         requires time { tag.time ≤ program.now.stop }
         requires places { places_of present.now ≡ program_places program.now }
         requires wishes { IsTrue (list_all (list_all (wish_fits (program_sizes program.now))) (lists_of wishes.now)) }
-        ensures { self.new ≡ with_links program.now tag present.now program.now.links (with_all_wishes program.now tag (lists_of wishes.now) self.old) }
+        ensures { self.new ≡ with_links program.now tag present.now program.now.links
+            (with_all_wishes program.now tag (lists_of wishes.now) self.old) }
     {
         self.enter_wishes(program, tag, wishes);
         self.deliver(program, tag, present);
