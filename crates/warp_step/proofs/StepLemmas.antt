@@ -42,7 +42,7 @@ module _ (P : Program) (s : Snapshot) (t : Moment) (X : List Given) (present : P
   vars_are : repeated.vars ≡ s.vars
   vars_are = ap (λ (u : Snapshot). u.vars) made.repeated_is ∙ repeats_vars P t present 0 P.timers (without_entries t s)
 
-  reacts_are : r ≡ reacted P s t X
+  pub reacts_are : r ≡ reacted P s t X
   reacts_are =
       made.reacts ∙ ap (λ (vs : List ℤ). after_reactions P (order_of P) (record { vars = vs; present = present; wishes = no_wishes P })) vars_are
       ∙ ap (λ (p : Presence). after_reactions P (order_of P) (record { vars = s.vars; present = p; wishes = no_wishes P })) made.first
@@ -53,9 +53,6 @@ module _ (P : Program) (s : Snapshot) (t : Moment) (X : List Given) (present : P
       ∙ ap (λ (u : Snapshot). with_links P t r.present P.links (with_all_wishes P t r.wishes (record u { vars = r.vars }))) made.repeated_is
       ∙ ap (λ (p : Presence). with_links P t r.present P.links (with_all_wishes P t r.wishes (record (with_repeats P t p 0 P.timers (without_entries t s)) { vars = r.vars }))) made.first
       ∙ ap (λ (q : Reacting). with_links P t q.present P.links (with_all_wishes P t q.wishes (record (with_repeats P t (present_first P s t X) 0 P.timers (without_entries t s)) { vars = q.vars }))) reacts_are
-
-  pub made_step : Step P s t X new (outputs_from 0 t r.present P.outputs)
-  made_step = record { state = state_is; outputs = ap (λ (q : Reacting). outputs_from 0 t q.present P.outputs) reacts_are }
 
   pub made_later : CanStep P s t X → IsTrue (list_all (λ w. is_before t w.tag) new.pending)
   made_later can = subst (λ (u : Snapshot). IsTrue (list_all (λ w. is_before t w.tag) u.pending)) (sym state_is) (later P s t X can.none_before)

@@ -50,8 +50,26 @@ impl State {
         }
     }
 
+    /// Enters the wishes of the reactions, then what links with a delay deliver.
+    pub(crate) fn enter_later(
+        &mut self,
+        program: &Program,
+        tag: Tag,
+        present: &Present,
+        wishes: &[Wishes],
+    )
+        requires time { tag.time ≤ program.now.stop }
+        requires places { places_of present.now ≡ program_places program.now }
+        requires wishes { IsTrue (list_all (list_all (wish_fits (program_sizes program.now))) (lists_of wishes.now)) }
+        ensures { self.new ≡ with_links program.now tag present.now program.now.links
+            (with_all_wishes program.now tag (lists_of wishes.now) self.old) }
+    {
+        self.enter_wishes(program, tag, wishes);
+        self.deliver(program, tag, present);
+    }
+
     /// Enters the wishes of each reaction, in the order of the file.
-    pub(crate) fn enter_wishes(&mut self, program: &Program, tag: Tag, wishes: &[Wishes])
+    fn enter_wishes(&mut self, program: &Program, tag: Tag, wishes: &[Wishes])
         requires time { tag.time ≤ program.now.stop }
         requires wishes { IsTrue (list_all (list_all (wish_fits (program_sizes program.now))) (lists_of wishes.now)) }
         ensures { self.new ≡ with_all_wishes program.now tag (lists_of wishes.now) self.old }

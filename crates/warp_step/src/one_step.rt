@@ -2,8 +2,10 @@
 ghost use Rattle.std.specs.Prelude.{◌≡◌, ℕ, ◌+◌, ◌≤◌, ◌++◌, IfOk, IsTrue, List, length, vec_len, vec_capacity};
 ghost use Rattle.std.specs.List.{list_all};
 ghost use Rattle.warp_tag.specs.Moment.{is_before};
+ghost use Rattle.warp_body.specs.Presence.{places_of};
+ghost use Rattle.warp_step.specs.Valid.{program_places};
 ghost use Rattle.warp_step.specs.Snapshot.{Snapshot, IsStateOf};
-ghost use Rattle.warp_step.specs.Step.{CanStep, Step, Room, room_of, source_of, sources_of};
+ghost use Rattle.warp_step.specs.Step.{CanStep, Step, Room, reacted, room_of, source_of, sources_of, state_after};
 
 use crate::arrive::arrive;
 use crate::meter::Meter;
@@ -114,36 +116,44 @@ pub fn step<M: Meter>(
     ensures ticks { M.ticks meter.new ≡ M.ticks meter.old + 1 }
 {
     meter.tick();
-    advance(program, state, scratch, tag, given, out);
+    advance(
+        program,
+        state,
+        &mut scratch.present,
+        &mut scratch.wishes,
+        tag,
+        given,
+    );
+    put_outputs(program, tag, &scratch.present, out);
 }
 
-/// The step itself, which nobody counts.
+/// Takes the state through the step, and leaves what is present after the reactions.
 fn advance(
     program: &Program,
     state: &mut State,
-    scratch: &mut Scratch,
+    present: &mut Present,
+    wishes: &mut [Wishes],
     tag: Tag,
     given: &[Given],
-    out: &mut Vec<Out>,
 )
     requires can { CanStep program.now state.old tag given.now }
-    requires scratch { scratch.old ≡ room_of program.now }
-    requires room { vec_len out.old + length program.now.outputs ≤ vec_capacity out.old }
-    ensures step { (outs : List Out) × (out.new.items ≡ out.old.items ++ outs) × Step program.now state.old tag given.now state.new outs }
+    requires places { places_of present.old ≡ program_places program.now }
+    requires sources { present.old.sources ≡ sources_of program.now }
+    requires bodies { length wishes.old ≡ length program.now.reactions }
+    ensures state { state.new ≡ state_after program.now state.old tag given.now }
+    ensures present { present.new ≡ (reacted program.now state.old tag given.now).present }
     ensures of_program { IsStateOf program.now state.new }
     ensures later { IsTrue (list_all (λ w. is_before tag w.tag) state.new.pending) }
-    ensures scratch { scratch.new ≡ scratch.old }
-    ensures capacity { vec_capacity out.old ≤ vec_capacity out.new }
+    ensures places { places_of present.new ≡ places_of present.old }
+    ensures sources { present.new.sources ≡ present.old.sources }
+    ensures bodies { length wishes.new ≡ length wishes.old }
 {
     program.valid();
-    let present = &mut scratch.present;
     present.clear();
-    clear_wishes(&mut scratch.wishes);
+    clear_wishes(wishes);
     state.take_entries(program, tag, present);
     arrive(program, given, present);
     state.repeat_timers(program, tag, present);
-    run_reactions(program, &mut state.vars, present, &mut scratch.wishes);
-    state.enter_wishes(program, tag, &scratch.wishes);
-    state.deliver(program, tag, present);
-    put_outputs(program, tag, present, out);
+    run_reactions(program, &mut state.vars, present, wishes);
+    state.enter_later(program, tag, present, wishes);
 }
