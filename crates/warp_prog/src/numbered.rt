@@ -2,12 +2,12 @@
 //!
 //! Numbers are given in file order over all reactors. What stands before a reactor is counted on the way, so a name's
 //! number is that count and its place among the names of its kind in its reactor.
-ghost use Rattle.std.specs.Prelude.{◌≡◌, ◌≤◌, ◌<◌, ◌^◌, ◌++◌, IfOk, OnOk, IsTrue, List, map, length, nat_lt, unsigned_abs};
+ghost use Rattle.std.specs.Prelude.{◌≡◌, ◌<◌, ◌^◌, ◌++◌, IfOk, OnOk, IsTrue, map, nat_lt, unsigned_abs};
 ghost use Rattle.std.specs.List.{list_all};
 ghost use Rattle.warp_step.specs.Program.{rule_of};
 ghost use Rattle.warp_step.specs.View.{program_of};
 ghost use Rattle.warp_prog.specs.Load.{IsFaultless};
-ghost use Rattle.warp_prog.specs.Numbered.{nothing_before, past, its_variables, its_ports, its_actions, its_timers, its_reactions, in_each, numbered, numbered_link, numbered_input, source_number};
+ghost use Rattle.warp_prog.specs.Numbered.{nothing_before, its_variables, its_ports, its_actions, its_timers, its_reactions, in_each, numbered, numbered_link, numbered_input, source_number};
 ghost use Rattle.warp_prog.specs.inner.Room.{HasRoom, HaveRoom};
 ghost use Rattle.warp_prog.specs.View.{file_tree, reactor_tree};
 ghost use Rattle.warp_prog.specs.declared.file.InputPart.{InputPart};
@@ -26,7 +26,7 @@ use warp_step::{Action, Link, Parts, Port, ProgramInput, Reaction, Timer, Variab
 use warp_tag::OutOfMemory;
 
 /// What stands in reactors, of each kind in file order.
-#[derive(Debug, Drop)]
+#[derive(Drop)]
 struct Contents {
     variables: Vec<Variable>,
     ports: Vec<Port>,
@@ -76,11 +76,16 @@ fn origins_of(file: &ProgramFile) -> u32
 /// What stands in these reactors.
 fn contents_of(alloc: Global, reactors: &[Reactor]) -> Result<Contents, OutOfMemory>
     requires { HaveRoom nothing_before (map reactor_tree reactors.now) }
-    ensures variables { IfOk result (λ c. c.variables.items ≡ in_each its_variables nothing_before (map reactor_tree reactors.now)) }
-    ensures ports { IfOk result (λ c. c.ports.items ≡ in_each its_ports nothing_before (map reactor_tree reactors.now)) }
-    ensures actions { IfOk result (λ c. c.actions.items ≡ in_each its_actions nothing_before (map reactor_tree reactors.now)) }
-    ensures timers { IfOk result (λ c. c.timers.items ≡ in_each its_timers nothing_before (map reactor_tree reactors.now)) }
-    ensures reactions { IfOk result (λ c. map rule_of c.reactions.items ≡ in_each its_reactions nothing_before (map reactor_tree reactors.now)) }
+    ensures variables { let rs = map reactor_tree reactors.now in
+        IfOk result (λ c. c.variables.items ≡ in_each its_variables nothing_before rs) }
+    ensures ports { let rs = map reactor_tree reactors.now in
+        IfOk result (λ c. c.ports.items ≡ in_each its_ports nothing_before rs) }
+    ensures actions { let rs = map reactor_tree reactors.now in
+        IfOk result (λ c. c.actions.items ≡ in_each its_actions nothing_before rs) }
+    ensures timers { let rs = map reactor_tree reactors.now in
+        IfOk result (λ c. c.timers.items ≡ in_each its_timers nothing_before rs) }
+    ensures reactions { let rs = map reactor_tree reactors.now in
+        IfOk result (λ c. map rule_of c.reactions.items ≡ in_each its_reactions nothing_before rs) }
 {
     let mut contents = Contents {
         variables: Vec::new(alloc),
@@ -101,11 +106,16 @@ impl Contents {
     /// Adds what stands in a reactor.
     fn add(&mut self, alloc: Global, before: &Before, reactor: &Reactor) -> Result<(), OutOfMemory>
         requires { HasRoom before.now (reactor_tree reactor.now) }
-        ensures variables { OnOk result (self.new.variables.items ≡ self.old.variables.items ++ its_variables before.now (reactor_tree reactor.now)) }
-        ensures ports { OnOk result (self.new.ports.items ≡ self.old.ports.items ++ its_ports before.now (reactor_tree reactor.now)) }
-        ensures actions { OnOk result (self.new.actions.items ≡ self.old.actions.items ++ its_actions before.now (reactor_tree reactor.now)) }
-        ensures timers { OnOk result (self.new.timers.items ≡ self.old.timers.items ++ its_timers before.now (reactor_tree reactor.now)) }
-        ensures reactions { OnOk result (map rule_of self.new.reactions.items ≡ map rule_of self.old.reactions.items ++ its_reactions before.now (reactor_tree reactor.now)) }
+        ensures variables { let its = its_variables before.now (reactor_tree reactor.now) in
+            OnOk result (self.new.variables.items ≡ self.old.variables.items ++ its) }
+        ensures ports { let its = its_ports before.now (reactor_tree reactor.now) in
+            OnOk result (self.new.ports.items ≡ self.old.ports.items ++ its) }
+        ensures actions { let its = its_actions before.now (reactor_tree reactor.now) in
+            OnOk result (self.new.actions.items ≡ self.old.actions.items ++ its) }
+        ensures timers { let its = its_timers before.now (reactor_tree reactor.now) in
+            OnOk result (self.new.timers.items ≡ self.old.timers.items ++ its) }
+        ensures reactions { let its = its_reactions before.now (reactor_tree reactor.now) in
+            OnOk result (map rule_of self.new.reactions.items ≡ map rule_of self.old.reactions.items ++ its) }
     {
         add_variables(&mut self.variables, before, reactor)?;
         add_ports(&mut self.ports, before, reactor)?;

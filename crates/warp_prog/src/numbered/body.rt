@@ -67,7 +67,8 @@ fn numbered_statement(
     statement: &Statement,
 ) -> Result<Stmt, OutOfMemory>
     requires { HasRoom before.now (reactor_tree reactor.now) }
-    ensures { IfOk result (λ s. statement_of s ≡ numbered_statement before.now (reactor_tree reactor.now) (statement_tree statement.now)) }
+    ensures { let r = reactor_tree reactor.now in
+        IfOk result (λ s. statement_of s ≡ numbered_statement before.now r (statement_tree statement.now)) }
 {
     match statement {
         Statement::Set(name, term) => {
@@ -104,7 +105,8 @@ pub(crate) fn numbered_body(
     body: &[Statement],
 ) -> Result<Vec<Stmt>, OutOfMemory>
     requires { HasRoom before.now (reactor_tree reactor.now) }
-    ensures { IfOk result (λ ss. statements_of ss.items ≡ numbered_body before.now (reactor_tree reactor.now) (body_tree (map statement_tree body.now))) }
+    ensures { let r = reactor_tree reactor.now in
+        IfOk result (λ ss. statements_of ss.items ≡ numbered_body before.now r (body_tree (map statement_tree body.now))) }
 {
     let mut numbered = Vec::with_capacity(alloc, body.len())?;
     for statement in body {

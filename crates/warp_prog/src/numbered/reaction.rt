@@ -29,7 +29,8 @@ fn names(targets: &[Target], target: Target) -> bool
 
 /// Adds a target to these, if it is none of them.
 fn add_once(targets: &mut Vec<Target>, target: Target) -> Result<(), OutOfMemory>
-    ensures { OnOk result (targets.new.items ≡ (if names targets.old.items target then targets.old.items else targets.old.items ++ target ∷ [])) }
+    ensures { let old = targets.old.items in
+        OnOk result (targets.new.items ≡ (if names old target then old else old ++ target ∷ [])) }
 {
     if !names(targets, target) {
         targets.push(target)?;
@@ -79,7 +80,8 @@ pub(crate) fn numbered_reaction(
     reaction: &Reaction,
 ) -> Result<warp_step::Reaction, OutOfMemory>
     requires { HasRoom before.now (reactor_tree reactor.now) }
-    ensures { IfOk result (λ n. rule_of n ≡ numbered_reaction before.now (reactor_tree reactor.now) (reaction_tree reaction.now)) }
+    ensures { let r = reactor_tree reactor.now in
+        IfOk result (λ n. rule_of n ≡ numbered_reaction before.now r (reaction_tree reaction.now)) }
 {
     let triggers = all_readable(alloc, before, reactor, &reaction.triggers)?;
     let reads = all_readable(alloc, before, reactor, &reaction.reads)?;

@@ -21,7 +21,8 @@ pub(crate) fn add_variables(
     reactor: &Reactor,
 ) -> Result<(), OutOfMemory>
     requires { HasRoom before.now (reactor_tree reactor.now) }
-    ensures { OnOk result (variables.new.items ≡ variables.old.items ++ its_variables before.now (reactor_tree reactor.now)) }
+    ensures { let its = its_variables before.now (reactor_tree reactor.now) in
+        OnOk result (variables.new.items ≡ variables.old.items ++ its) }
 {
     for variable in &reactor.variables {
         variables.push(Variable {
@@ -39,7 +40,8 @@ pub(crate) fn add_ports(
     reactor: &Reactor,
 ) -> Result<(), OutOfMemory>
     requires { HasRoom before.now (reactor_tree reactor.now) }
-    ensures { OnOk result (ports.new.items ≡ ports.old.items ++ its_ports before.now (reactor_tree reactor.now)) }
+    ensures { let its = its_ports before.now (reactor_tree reactor.now) in
+        OnOk result (ports.new.items ≡ ports.old.items ++ its) }
 {
     let number = before.reactors as u32;
     add_each(ports, &reactor.inputs, number, true)?;
@@ -54,7 +56,8 @@ fn add_each(
     reactor: u32,
     is_input: bool,
 ) -> Result<(), OutOfMemory>
-    ensures { OnOk result (ports.new.items ≡ ports.old.items ++ map (λ (name : Word). record { reactor = reactor; is_input = is_input }) names.now) }
+    ensures { let its = map (λ (name : Word). record { reactor = reactor; is_input = is_input }) names.now in
+        OnOk result (ports.new.items ≡ ports.old.items ++ its) }
 {
     for _name in names {
         ports.push(Port { reactor, is_input })?;
@@ -69,7 +72,8 @@ pub(crate) fn add_actions(
     reactor: &Reactor,
 ) -> Result<(), OutOfMemory>
     requires { HasRoom before.now (reactor_tree reactor.now) }
-    ensures { OnOk result (actions.new.items ≡ actions.old.items ++ its_actions before.now (reactor_tree reactor.now)) }
+    ensures { let its = its_actions before.now (reactor_tree reactor.now) in
+        OnOk result (actions.new.items ≡ actions.old.items ++ its) }
 {
     for action in &reactor.actions {
         actions.push(Action {
@@ -87,7 +91,8 @@ pub(crate) fn add_timers(
     reactor: &Reactor,
 ) -> Result<(), OutOfMemory>
     requires { HasRoom before.now (reactor_tree reactor.now) }
-    ensures { OnOk result (timers.new.items ≡ timers.old.items ++ its_timers before.now (reactor_tree reactor.now)) }
+    ensures { let its = its_timers before.now (reactor_tree reactor.now) in
+        OnOk result (timers.new.items ≡ timers.old.items ++ its) }
 {
     for timer in &reactor.timers {
         timers.push(Timer {
@@ -107,7 +112,8 @@ pub(crate) fn add_reactions(
     reactor: &Reactor,
 ) -> Result<(), OutOfMemory>
     requires { HasRoom before.now (reactor_tree reactor.now) }
-    ensures { OnOk result (map rule_of reactions.new.items ≡ map rule_of reactions.old.items ++ its_reactions before.now (reactor_tree reactor.now)) }
+    ensures { let its = its_reactions before.now (reactor_tree reactor.now) in
+        OnOk result (map rule_of reactions.new.items ≡ map rule_of reactions.old.items ++ its) }
 {
     for reaction in &reactor.reactions {
         let next = numbered_reaction(alloc, before, reactor, reaction)?;
