@@ -227,7 +227,7 @@ impl Present {
         }
     }
 
-    /// Makes a target present with a value. Of several values at one tag the last counts.
+    /// Makes a target present with a value: a port by a value of its own. Of several values at one tag the last counts.
     pub fn put(&mut self, target: Target, value: i64)
         requires { IsTrue (target_fits (places_of self.old) target) }
         ensures value { self.new ≡ with_value target value self.old }

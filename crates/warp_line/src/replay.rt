@@ -102,7 +102,8 @@ fn skip(entries: &[Entry], count: usize) -> &[Entry]
     &entries[count..]
 }
 
-/// Runs a program from its start over the live events of a sorted table.
+/// Runs a program from its start over the live events of a sorted table: from tag to tag, while an entry is left or
+/// something is pending.
 pub(crate) fn replay<M: Meter>(
     alloc: Global,
     program: &Program,

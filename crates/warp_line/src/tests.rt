@@ -19,7 +19,9 @@ use std::process::Abort;
 use std::sync::ledger::{Blank, Ledger};
 use std::test::Fail;
 use warp_body::{BinaryOperator, Expr, Stmt, Target};
-use warp_step::{Counter, Meter, Out, Parts, Port, Program, ProgramInput, Reaction, Timer, Variable};
+use warp_step::{
+    Counter, Meter, Out, Parts, Port, Program, ProgramInput, Reaction, Timer, Variable,
+};
 use warp_tag::{OutOfMemory, Tag};
 
 /// A meter whose count can be read.
@@ -335,10 +337,26 @@ fn run_beat<T: Timeline + Drop, L: Ledger, R: Abort>(
         value: 1,
     };
     let at_timer = Tag::beginning_of(5);
-    let one = take(rt, alloc, &program, &mut timeline, at_timer, event, &mut tally)?;
+    let one = take(
+        rt,
+        alloc,
+        &program,
+        &mut timeline,
+        at_timer,
+        event,
+        &mut tally,
+    )?;
     let one_ticks = tally.count;
     let between = Tag::beginning_of(7);
-    let two = take(rt, alloc, &program, &mut timeline, between, event, &mut tally)?;
+    let two = take(
+        rt,
+        alloc,
+        &program,
+        &mut timeline,
+        between,
+        event,
+        &mut tally,
+    )?;
     let last = timeline.outputs().to_vec(alloc)?;
     Ok(Beats {
         counts: (none, one, two),

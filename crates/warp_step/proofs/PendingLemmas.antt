@@ -10,7 +10,6 @@ use Rattle.warp_tag.specs.Moment.{Moment, is_before, is_same}
 use Rattle.warp_tag.proofs.Tags.{before_trans, before_same, same_before, same_trans, same_is}
 use Rattle.warp_body.specs.Presence.{target_before, is_target}
 use Rattle.warp_body.specs.declared.place.Target.{Target}
-use Rattle.warp_body.specs.declared.place.Target.TheVariants as to
 use Rattle.warp_step.specs.Snapshot.{key_before, has_key, AreInOrder, with_entry, earlier, least_pending}
 use Rattle.warp_step.specs.declared.pending.Waiting.{Waiting}
 use Rattle.warp_step.proofs.ValidLemmas.{same_target}
@@ -196,9 +195,11 @@ order_with t k v (w ∷ ws) ordered = elim (cases_Bool (key_before t k w)) [
   ]
 ]
 
--- what is an order with an entry in it
-pub order_as : (t : Moment) (k : Target) (v : ℤ) (ws xs : List Waiting) → AreInOrder ws → xs ≡ with_entry t k v ws → AreInOrder xs
-order_as t k v ws xs ordered e = subst AreInOrder (sym e) (order_with t k v ws ordered)
+-- what is as it was, or has the entry in it, is an order
+pub order_as : (t : Moment) (k : Target) (v : ℤ) (ws xs : List Waiting) (is_in : Bool) → AreInOrder ws
+    → xs ≡ (if is_in then with_entry t k v ws else ws) → AreInOrder xs
+order_as t k v ws xs true ordered e = subst AreInOrder (sym e) (order_with t k v ws ordered)
+order_as t k v ws xs false ordered e = subst AreInOrder (sym e) ordered
 
 -- what is read at an index does not hang on the default
 read_as : (ws : List Waiting) (n : ℕ) (x d : Waiting) → n < length ws → x ≡ get_or ws n x → get_or ws n d ≡ x

@@ -3,14 +3,14 @@ use Rattle.std.proofs.Common.{◌≡◌, ℕ, ℤ, ◌+◌, List, [], ◌∷◌,
 use Rattle.std.specs.Prelude.{pos, if◌then◌else◌}
 use Rattle.std.specs.List.{list_all}
 use Rattle.warp_tag.specs.Moment.{Moment, is_before}
-use Rattle.warp_body.specs.Presence.{Presence, places_of, nothing_present}
+use Rattle.warp_body.specs.Presence.{Presence, nothing_present}
 use Rattle.warp_body.specs.Effect.{wish_fits}
 use Rattle.warp_body.specs.declared.place.Places.{Places}
 use Rattle.warp_body.specs.declared.place.Target.TheVariants as to
 use Rattle.warp_step.specs.Program.{Program}
 use Rattle.warp_step.specs.Valid.{is_valid, program_places, program_sizes}
 use Rattle.warp_step.specs.Snapshot.{Snapshot, IsStateOf, landed}
-use Rattle.warp_step.specs.Step.{CanStep, Reacting, Step, absent, sources_of, present_first, without_entries, repeats, with_repeats, after_reactions, order_of, no_wishes, reacted, with_all_wishes, with_links, state_after, outputs_from, outputs_after}
+use Rattle.warp_step.specs.Step.{CanStep, Reacting, Step, absent, sources_of, present_first, without_entries, repeats, with_repeats, after_reactions, order_of, no_wishes, reacted, with_all_wishes, with_links, state_after, outputs_from}
 use Rattle.warp_step.specs.declared.out.Given.{Given}
 use Rattle.warp_step.specs.declared.parts.Timer.{Timer}
 use Rattle.warp_step.proofs.VariablesOfRun.{landed_vars, same_vars}
@@ -63,5 +63,5 @@ module _ (P : Program) (s : Snapshot) (t : Moment) (X : List Given) (present : P
   pub made_of : IsTrue (is_valid P) → IsTrue (list_all (list_all (wish_fits (program_sizes P))) r.wishes) → CanStep P s t X → IsStateOf P new
   made_of valid wishes can =
       let fits : IsTrue (list_all (list_all (wish_fits (program_sizes P))) (reacted P s t X).wishes) =
-          subst (λ (q : Reacting). IsTrue (list_all (list_all (wish_fits (program_sizes P))) q.wishes)) reacts_are wishes in
+      subst (λ (q : Reacting). IsTrue (list_all (list_all (wish_fits (program_sizes P))) q.wishes)) reacts_are wishes in
       subst (IsStateOf P) (sym state_is) (step_is P s t X valid fits can)

@@ -1,5 +1,5 @@
 -- What is pending at the start and after a step is for targets of the program, so these states are the program's.
-use Rattle.std.proofs.Common.{◌≡◌, inl, inr, ℕ, ℤ, zero, suc, ◌+◌, ◌<◌, ◌≤◌, Bool, true, false, not, ◌&&◌, ◌||◌, nat_lt, nat_le, IsTrue, List, [], ◌∷◌, length, filter, Option, Some, None, refl, arith, ap, sym, ◌∙◌}
+use Rattle.std.proofs.Common.{◌≡◌, inl, inr, ℕ, ℤ, suc, ◌+◌, ◌<◌, Bool, true, false, not, ◌&&◌, ◌||◌, nat_lt, nat_le, IsTrue, List, [], ◌∷◌, length, filter, Option, Some, None, refl, arith, ◌∙◌}
 use Rattle.std.specs.Prelude.{pos, if◌then◌else◌}
 use Rattle.std.specs.List.{list_all, list_any}
 use Rattle.std.proofs.lemmas.Bool.{cases_Bool, and_parts, and_from, lt-ltb, le-leb}
@@ -147,7 +147,7 @@ module _ (P : Program) where
       let r = reacted P s t X in
       let first : Snapshot = with_repeats P t (present_first P s t X) 0 P.timers (without_entries t s) in
       let one : all_to fits first ≡ true =
-          repeats_to t (present_first P s t X) 0 P.timers (without_entries t s) (omega arith) (kept_to fits t s.pending h) in
+      repeats_to t (present_first P s t X) 0 P.timers (without_entries t s) (omega arith) (kept_to fits t s.pending h) in
       let second : Snapshot = record first { vars = r.vars } in
       let two : all_to fits (with_all_wishes P t r.wishes second) ≡ true = all_wishes_to t r.wishes second wishes one in
       links_to t r.present P.links (with_all_wishes P t r.wishes second) (validity P valid).links two

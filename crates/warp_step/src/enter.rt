@@ -1,13 +1,15 @@
 //! What a step enters into the pending entries: timers that repeat, wishes, and what links with a delay deliver.
-ghost use Rattle.std.specs.Prelude.{◌≡◌, ◌≤◌, IsTrue, map, List};
+ghost use Rattle.std.specs.Prelude.{◌≡◌, ◌<◌, ◌≤◌, IsTrue, length, map, pos, List, if◌then◌else◌};
 ghost use Rattle.std.specs.List.{list_all};
+ghost use Rattle.warp_tag.specs.Limits.{longest_period};
 ghost use Rattle.warp_body.specs.Presence.{places_of, present_at};
 ghost use Rattle.warp_body.specs.declared.place.Target.TheVariants as to;
 ghost use Rattle.warp_body.specs.Effect.{wish_fits};
 ghost use Rattle.warp_step.specs.Valid.{link_fits, program_places, program_sizes};
-ghost use Rattle.warp_step.specs.Step.{with_repeats, with_wishes, with_all_wishes, with_links, delivered, lists_of};
+ghost use Rattle.warp_step.specs.Snapshot.{landed};
+ghost use Rattle.warp_step.specs.Step.{repeats, with_repeats, with_wishes, with_all_wishes, with_links, delivered, lists_of};
 
-use crate::parts::Link;
+use crate::parts::{Link, Timer};
 use crate::program::Program;
 use crate::state::State;
 use warp_body::{Present, Target, Wish, Wishes};
@@ -22,10 +24,29 @@ impl State {
     {
         program.valid();
         for (number, timer) in program.timers().iter().enumerate() {
-            let target = Target::Timer(number as u32);
-            if timer.period > 0 && present.get(target).is_some() {
-                self.land(program, tag, timer.period, target, 0);
-            }
+            self.repeat_timer(program, tag, present, number as u32, timer);
+        }
+    }
+
+    /// Makes the timer with this number pending again if it is present and has a period.
+    fn repeat_timer(
+        &mut self,
+        program: &Program,
+        tag: Tag,
+        present: &Present,
+        number: u32,
+        timer: &Timer,
+    )
+        requires time { tag.time ≤ program.now.stop }
+        requires number { number < length present.now.timers }
+        requires period { timer.now.period ≤ longest_period }
+        ensures { self.new ≡ (if repeats present.now number timer.now
+            then landed program.now tag timer.now.period (to.Timer number) (pos 0) self.old
+            else self.old) }
+    {
+        let target = Target::Timer(number);
+        if timer.period > 0 && present.get(target).is_some() {
+            self.land(program, tag, timer.period, target, 0);
         }
     }
 

@@ -19,6 +19,8 @@ mod program;
 mod react;
 mod reaction;
 mod state;
+#[cfg(test)]
+mod tests;
 mod twice;
 
 pub use counter::Counter;
@@ -26,8 +28,8 @@ pub use law::one_trace;
 pub use meter::Meter;
 pub use one_step::{Scratch, step};
 pub use out::{Given, Out};
-pub use program::Program;
 pub use parts::{Action, Link, Parts, Port, ProgramInput, Timer, Variable};
 pub use pending::Waiting;
+pub use program::Program;
 pub use reaction::Reaction;
 pub use state::State;

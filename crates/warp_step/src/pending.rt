@@ -76,7 +76,6 @@ pub(crate) fn enter(entries: &mut Entries, tag: Tag, target: Target, value: i64)
     requires { AreInOrder entries.old.items }
     ensures answer { result ≡ (list_any (has_key tag target) entries.old.items || nat_lt (length entries.old.items) most_pending) }
     ensures entries { entries.new.items ≡ (if result then with_entry tag target value entries.old.items else entries.old.items) }
-    ensures order { AreInOrder entries.new.items }
 {
     let at = place(entries, tag, target);
     let entry = Waiting { tag, target, value };

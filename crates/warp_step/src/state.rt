@@ -5,7 +5,7 @@ ghost use Rattle.warp_tag.specs.Limits.{longest_delay};
 ghost use Rattle.warp_step.specs.Program.{rule_of};
 ghost use Rattle.warp_step.specs.Valid.{names};
 ghost use Rattle.warp_body.specs.declared.place.Target.TheVariants as to;
-ghost use Rattle.warp_step.specs.Snapshot.{IsStateOf, entered, landed, least_pending, start_state, with_timers};
+ghost use Rattle.warp_step.specs.Snapshot.{IsStateOf, entered, landed, least_pending, start_state, with_loss, with_timers};
 
 use crate::parts::Variable;
 use crate::pending::{Entries, Waiting, enter};
@@ -74,8 +74,15 @@ impl State {
         ensures { self.new ≡ entered tag target value self.old }
     {
         if !enter(&mut self.pending, tag, target, value) {
-            self.lost = self.lost.saturating_add(1);
+            self.lose();
         }
+    }
+
+    /// Counts one more entry that is lost. The count stays at the greatest number of 64 bits.
+    fn lose(&mut self)
+        ensures { self.new ≡ with_loss self.old }
+    {
+        self.lost = self.lost.saturating_add(1);
     }
 
     /// Enters a value for a target where a delay lands: past the stop nothing is added, past the last microstep it is lost.
@@ -95,7 +102,7 @@ impl State {
         match tag.after(delay, program.stop()) {
             Landing::At(tag) => self.enter(tag, target, value),
             Landing::PastStop => {}
-            Landing::PastMicro => self.lost = self.lost.saturating_add(1),
+            Landing::PastMicro => self.lose(),
         }
     }
 

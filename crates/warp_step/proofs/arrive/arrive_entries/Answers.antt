@@ -1,5 +1,5 @@
 -- one more entry is at the tag, and arrives
-use Rattle.std.proofs.Common.{◌≡◌, ◌+◌, ◌<◌, take, length, get_or, ap, sym, ◌∙◌, rules, arith}
+use Rattle.std.proofs.Common.{◌≡◌, ◌+◌, ◌<◌, take, length, ap, sym, ◌∙◌, rules, arith}
 use Rattle.std.proofs.lemmas.Grind.{common_steps}
 use Rattle.warp_body.specs.Presence.{Presence, with_value}
 use Rattle.warp_step.specs.Step.{arrived_entries}
@@ -15,11 +15,11 @@ loop-count-preserved c =
     let puts : c.put.new.self ≡ with_value w.target w.value c.loop-count.present = search rules in
     let more = arrived_more entries c.loop-count.count w c.args.present.now lt in
     let arrives : c.put.new.self ≡ arrived_entries (take (c.loop-count.count + 1) entries) c.args.present.now =
-        puts ∙ ap (with_value w.target w.value) c.loop-count.invariant.present
-        ∙ ap (λ (v : Waiting). with_value v.target v.value (arrived_entries (take c.loop-count.count entries) c.args.present.now)) c.index-entries-count.is
-        ∙ sym more in
+    puts ∙ ap (with_value w.target w.value) c.loop-count.invariant.present
+    ∙ ap (λ (v : Waiting). with_value v.target v.value (arrived_entries (take c.loop-count.count entries) c.args.present.now)) c.index-entries-count.is
+    ∙ sym more in
     let sources : c.put.new.self.sources ≡ c.loop-count.present.sources =
-        ap (λ (p : Presence). p.sources) puts ∙ with_value_sources w.target w.value c.loop-count.present in
+    ap (λ (p : Presence). p.sources) puts ∙ with_value_sources w.target w.value c.loop-count.present in
     record {
       here = grind (arith, common_steps);
       present = arrives;

@@ -1,11 +1,11 @@
 -- the parts make the step
-use Rattle.std.proofs.Common.{◌≡◌, length, rules, arith, ap, ◌∙◌, sym, refl, filter}
+use Rattle.std.proofs.Common.{◌≡◌, length, arith, ap, ◌∙◌, filter}
 use Rattle.std.proofs.lemmas.Grind.{common_steps}
 use Rattle.warp_tag.specs.Moment.{is_same}
 use Rattle.warp_body.specs.Presence.{places_of}
 use Rattle.warp_step.specs.Snapshot.{Snapshot}
 use Rattle.warp_step.specs.Valid.{program_places}
-use Rattle.warp_step.specs.Step.{Reacting, Room, absent, sources_of, lists_of, present_first, with_repeats, without_entries, with_all_wishes, with_links, after_reactions, order_of, no_wishes, arrived, arrived_entries, outputs_from}
+use Rattle.warp_step.specs.Step.{Reacting, Room, absent, sources_of, lists_of, with_repeats, with_all_wishes, with_links, after_reactions, order_of, no_wishes, arrived, arrived_entries, outputs_from}
 use Rattle.warp_step.proofs.StepLemmas.{cleared, repeats_vars, Made, made_step, made_later, made_of}
 use Rattle.warp_step.proofs.one_step.advance.Goals as goal
 
@@ -13,8 +13,8 @@ pub run_reactions-requires-clause-vars : goal.run_reactions-requires-clause-vars
 run_reactions-requires-clause-vars c =
     let view : c.state.inside.vars ≡ c.repeat_timers.new.self.vars = ap (λ (s : Snapshot). s.vars) c.state.view_is in
     let timers : c.repeat_timers.new.self.vars ≡ c.take_entries.new.self.vars =
-        ap (λ (s : Snapshot). s.vars) c.repeat_timers.ensures
-        ∙ repeats_vars c.args.program.now c.args.tag c.arrive.new.present 0 c.args.program.now.timers c.take_entries.new.self in
+    ap (λ (s : Snapshot). s.vars) c.repeat_timers.ensures
+    ∙ repeats_vars c.args.program.now c.args.tag c.arrive.new.present 0 c.args.program.now.timers c.take_entries.new.self in
     let taken : c.take_entries.new.self.vars ≡ c.args.state.now.vars = ap (λ (s : Snapshot). s.vars) c.take_entries.ensures.state in
     ap (λ (vs : _). length vs) (view ∙ timers ∙ taken) ∙ c.requires.can.state.vars
 
@@ -29,7 +29,7 @@ made c =
     let places : places_of c.scratch.inside.present ≡ program_places P = ap (λ (r : Room). r.places) (c.scratch.view_is ∙ c.requires.scratch) in
     let sources : c.scratch.inside.present.sources ≡ sources_of P = ap (λ (r : Room). r.sources) (c.scratch.view_is ∙ c.requires.scratch) in
     let clear : c.clear.new.self ≡ absent P =
-        c.clear.ensures ∙ cleared P (places_of c.scratch.inside.present) c.scratch.inside.present.sources places sources in
+    c.clear.ensures ∙ cleared P (places_of c.scratch.inside.present) c.scratch.inside.present.sources places sources in
     let lists : c.deref.result.now ≡ c.run_reactions.new.wishes = grind (arith, common_steps) in
     let here : Snapshot = record { vars = c.run_reactions.new.vars; pending = c.state.inside.pending.items; lost = c.state.inside.lost } in
     record {

@@ -1,6 +1,5 @@
 -- the start state is the program's
 use Rattle.std.proofs.Common.{◌≡◌, rules, subst, sym}
-use Rattle.std.proofs.lemmas.Grind.{common_steps}
 use Rattle.warp_step.specs.Snapshot.{Snapshot, IsStateOf, start_state}
 use Rattle.warp_step.proofs.TargetsOfStep.{start_is}
 use Rattle.warp_step.proofs.state.State.start.Goals as goal

@@ -1,8 +1,6 @@
 -- the entries at the tag are the front that is dropped
-use Rattle.std.proofs.Common.{◌≡◌, List, IsTrue, drop, take, rules, arith, sym, ap, subst}
+use Rattle.std.proofs.Common.{◌≡◌, List, IsTrue, drop, take, rules, sym, subst}
 use Rattle.std.specs.List.{list_all}
-use Rattle.warp_body.specs.Presence.{places_of, target_fits}
-use Rattle.warp_body.specs.declared.place.Places.{Places}
 use Rattle.warp_tag.specs.Moment.{is_same}
 use Rattle.warp_step.specs.Snapshot.{AreInOrder}
 use Rattle.warp_step.specs.Step.{arrived_entries}
@@ -32,7 +30,7 @@ all c =
     let here : IsTrue (list_all (λ w. is_same w.tag c.args.tag) (take n ws)) = subst (λ (xs : List Waiting). IsTrue (list_all (λ w. is_same w.tag c.args.tag) (take n xs))) slice c.arrive_entries-count.ensures.here in
     let other : HasOtherHead c.args.tag (drop n ws) = subst (λ (xs : List Waiting). HasOtherHead c.args.tag (drop n xs)) slice c.arrive_entries-count.ensures.other in
     let arrives : c.arrive_entries-count.new.present ≡ arrived_entries (take n ws) c.args.present.now =
-        subst (λ (xs : List Waiting). c.arrive_entries-count.new.present ≡ arrived_entries (take n xs) c.args.present.now) slice c.arrive_entries-count.ensures.present in
+    subst (λ (xs : List Waiting). c.arrive_entries-count.new.present ≡ arrived_entries (take n xs) c.args.present.now) slice c.arrive_entries-count.ensures.present in
     taken c.args.tag c.args.self.now ws c.drop_front.new.entries.items n c.args.present.now c.arrive_entries-count.new.present same c.self.invariant c.requires.none_before here other c.drop_front.ensures arrives
 
 pub returns-clause-state : goal.returns-clause-state
