@@ -15,8 +15,8 @@ use Rattle.warp_prog.specs.Numbered.{numbered}
 use Rattle.warp_prog.specs.declared.error.LoadError.{LoadError}
 use Rattle.warp_prog.specs.declared.error.LoadError.TheVariants.{Json, Limit, Memory}
 
--- whether the fault of this number stands in what was read: 2 if it is no file; in a file 3, a limit; 4, a name; 5, something twice;
--- 6, a link that leads back; 7, a use that is not declared
+-- whether the fault of this number stands in what was read: 2 if it is no file; in a file 3, a limit; 4, a name;
+-- 5, something twice; 6, a link that leads back; 7, a use that is not declared
 abbrev pub is_at_fault : ℕ → Option File → Bool
 is_at_fault k None = k == 2
 is_at_fault k (Some f) =
@@ -55,8 +55,8 @@ IsLoaded bytes P = (length bytes ≤ longest_file) × (v : Data) × (json_of byt
 abbrev pub IsFaulty : List ℕ → ℕ → Type 0
 IsFaulty bytes k = (length bytes ≤ longest_file) × (v : Data) × (json_of bytes ≡ Some v) × HasFirstFault v k
 
--- why bytes are refused: too many are past a limit, whatever they are; of the others, those that spell no JSON value are no JSON,
--- and a JSON value is refused for its first fault; memory may be wanting for any that are not too many
+-- why bytes are refused: too many are past a limit, whatever they are; of the others, those that spell no JSON value are
+-- no JSON, and a JSON value is refused for its first fault; memory may be wanting for any that are not too many
 abbrev pub IsRefused : List ℕ → LoadError → Type 0
 IsRefused bytes Json = (length bytes ≤ longest_file) × (json_of bytes ≡ None)
 IsRefused bytes Limit = (longest_file < length bytes) ⊎ IsFaulty bytes (number_of Limit)

@@ -1,5 +1,5 @@
 -- The program that a file stands for: its parts in file order, with numbers in the place of names.
--- A name's number counts what stands before it in the file: all of its kind in the reactors before, and in its own reactor.
+-- A name's number counts what stands before it in the file: all of its kind in the reactors before, and in its own.
 use Rattle.std.specs.Prelude.{ℕ, ◌+◌, unsigned_abs, true, false, List, [], ◌∷◌, ◌++◌, length, map, option_map, bytes_eq, if◌then◌else◌}
 use Rattle.std.specs.List.{position_or_len}
 use Rattle.warp_tag.specs.Limits.{last_microstep}
@@ -69,12 +69,14 @@ readable b r name =
 
 -- what a name stands for where something is written: an output, else an action
 abbrev pub writable : Before → ReactorPart → Word → Target
-writable b r name = if is_among r.outputs name then to.Port (output_number b r name) else to.Action (action_number b r name)
+writable b r name =
+    if is_among r.outputs name then to.Port (output_number b r name) else to.Action (action_number b r name)
 
 -- an expression: a name is a variable if the reactor has one, else what is read by that name
 abbrev pub numbered_term : Before → ReactorPart → NamedTerm → Term
 numbered_term b r (Literal n) = Constant n
-numbered_term b r (Named name) = if is_among (variable_names r) name then VariableAt (variable_number b r name) else ValueAt (readable b r name)
+numbered_term b r (Named name) =
+    if is_among (variable_names r) name then VariableAt (variable_number b r name) else ValueAt (readable b r name)
 numbered_term b r (PresentNamed name) = PresentAt (readable b r name)
 numbered_term b r (OneNamed op e) = OfOne op (numbered_term b r e)
 numbered_term b r (TwoNamed op e f) = OfTwo op (numbered_term b r e) (numbered_term b r f)
@@ -85,8 +87,10 @@ abbrev mutual
   pub numbered_statement : Before → ReactorPart → NamedStatement → Statement
   numbered_statement b r (SetNamed name e) = SetVariable (variable_number b r name) (numbered_term b r e)
   numbered_statement b r (PutNamed name e) = PutOutput (output_number b r name) (numbered_term b r e)
-  numbered_statement b r (ScheduleNamed name delay e) = ScheduleAction (action_number b r name) (unsigned_abs delay) (numbered_term b r e)
-  numbered_statement b r (ChooseNamed e first second) = Choose (numbered_term b r e) (numbered_body b r first) (numbered_body b r second)
+  numbered_statement b r (ScheduleNamed name delay e) =
+      ScheduleAction (action_number b r name) (unsigned_abs delay) (numbered_term b r e)
+  numbered_statement b r (ChooseNamed e first second) =
+      Choose (numbered_term b r e) (numbered_body b r first) (numbered_body b r second)
 
   -- a list of statements
   pub numbered_body : Before → ReactorPart → NamedBody → Body
@@ -126,7 +130,8 @@ its_actions b r = map (λ (a : ActionPart). record { reactor = b.reactors; delay
 
 abbrev pub its_timers : Before → ReactorPart → List Timer
 its_timers b r =
-    map (λ (t : TimerPart). record { reactor = b.reactors; offset = unsigned_abs t.offset; period = unsigned_abs t.period }) r.timers
+    map (λ (t : TimerPart).
+    record { reactor = b.reactors; offset = unsigned_abs t.offset; period = unsigned_abs t.period }) r.timers
 
 abbrev pub its_reactions : Before → ReactorPart → List Rule
 its_reactions b r = map (numbered_reaction b r) r.reactions
@@ -136,10 +141,11 @@ abbrev pub in_each : {A : Type 0} → (Before → ReactorPart → List A) → Be
 in_each its b [] = []
 in_each its b (r ∷ rs) = its b r ++ in_each its (past b r) rs
 
--- the number of the port that a reference names, in the first of these reactors that has its name; any number where none has
+-- the number of the port that a reference names, in the first of these reactors that has its name; any where none has
 abbrev pub port_number : (Before → ReactorPart → Word → ℕ) → Before → List ReactorPart → PortName → ℕ
 port_number number b [] p = 0
-port_number number b (r ∷ rs) p = if bytes_eq p.reactor r.name then number b r p.port else port_number number (past b r) rs p
+port_number number b (r ∷ rs) p =
+    if bytes_eq p.reactor r.name then number b r p.port else port_number number (past b r) rs p
 
 -- the number of an output, and of an input, of a file
 abbrev pub source_number : List ReactorPart → PortName → ℕ
@@ -150,7 +156,11 @@ target_number rs p = port_number input_number nothing_before rs p
 
 -- a link, and a program input
 abbrev pub numbered_link : List ReactorPart → LinkPart → Link
-numbered_link rs l = record { source = source_number rs l.source; target = target_number rs l.target; delay = option_map unsigned_abs l.delay }
+numbered_link rs l = record {
+  source = source_number rs l.source;
+  target = target_number rs l.target;
+  delay = option_map unsigned_abs l.delay;
+}
 
 abbrev pub numbered_input : List ReactorPart → InputPart → ProgramInput
 numbered_input rs i = record { origin = unsigned_abs i.origin; port = target_number rs i.port }

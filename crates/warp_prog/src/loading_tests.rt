@@ -6,7 +6,8 @@ use std::test::Fail;
 use warp_body::Target;
 use warp_step::{Link, Port, Program, ProgramInput, Timer, Variable};
 
-const TWICE: &str = r#"{"version":1,"stop":100,"origins":2,"reactors":[{"name":"r","vars":[["total",0]],
+const TWICE: &str =
+    r#"{"version":1,"stop":100,"origins":2,"reactors":[{"name":"r","vars":[["total",0]],
 "inputs":["a","b"],"outputs":["y"],"reactions":[
 {"on":["a"],"writes":["y"],"body":[["set","total",["+",["*",2,"total"],"a"]],["put","y","total"]]},
 {"on":["b"],"writes":["y"],"body":[["set","total",["-","total","b"]],["put","y","total"]]}]}],
@@ -138,9 +139,11 @@ fn inputs_come_before_outputs(rt: HostRuntime) -> Result<(), Fail> {
 
 #[test]
 fn names_count_once(rt: HostRuntime) -> Result<(), Fail> {
-    let once = r#"{"version":1,"stop":9,"origins":1,"reactors":[{"name":"r","inputs":["a","b"],"actions":[["c",1]],
+    let once =
+        r#"{"version":1,"stop":9,"origins":1,"reactors":[{"name":"r","inputs":["a","b"],"actions":[["c",1]],
 "reactions":[{"on":["b","a"],"reads":["c"],"writes":["c"]}]}]}"#;
-    let often = r#"{"version":1,"stop":9,"origins":1,"reactors":[{"name":"r","inputs":["a","b"],"actions":[["c",1]],
+    let often =
+        r#"{"version":1,"stop":9,"origins":1,"reactors":[{"name":"r","inputs":["a","b"],"actions":[["c",1]],
 "reactions":[{"on":["b","a","b","a"],"reads":["c","c"],"writes":["c","c","c"]}]}]}"#;
     let first = loaded(rt.alloc(), once)?;
     let second = loaded(rt.alloc(), often)?;
