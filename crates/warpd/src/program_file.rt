@@ -61,7 +61,8 @@ fn first_bytes<R: Read + Drop>(alloc: Global, reader: R) -> Result<Vec<u8>, Outc
     ensures err { IfErr result (λ outcome. (outcome ≡ Outcome.NoProgram) ⊎ (outcome ≡ Outcome.Memory)) }
 {
     let mut bytes = Vec::new(alloc);
-    match reader.take(ENOUGH).read_to_end(&mut bytes) {
+    let mut front = reader.take(ENOUGH);
+    match front.read_to_end(&mut bytes) {
         Ok(_) => Ok(bytes),
         Err(error) => Err(lost(&error)),
     }
