@@ -46,8 +46,8 @@ impl<L: Ledger> Meter for Tally<L> {
     }
 }
 
-/// A step: its time and microstep, what is given there by input and value, and what is wanted after it: the values of the
-/// variables, the outputs by number and value, and how many entries are pending and were lost.
+/// A step: its time and microstep, what is given there by input and value, and what is wanted after it: the values of
+/// the variables, the outputs by number and value, and how many entries are pending and were lost.
 #[derive(Clone, Copy)]
 struct Row<'a> {
     at: (u64, u32),
@@ -153,7 +153,8 @@ fn next_step<M: Meter>(
     assert!(rt; is_executed, "past the stop: {tag:?}");
     assert!(rt; are_known(program, given), "{given:?}");
     assert!(rt; are_distinct(given), "{given:?}");
-    out.try_reserve(program.outputs().len()).expect(rt, "memory");
+    out.try_reserve(program.outputs().len())
+        .expect(rt, "memory");
     step(program, state, scratch, tag, given, out, meter);
 }
 
@@ -397,14 +398,22 @@ fn pending_entries_are_full(rt: HostRuntime) -> Result<(), Fail> {
         let want = if entry.tag == new_value { 7 } else { 5 };
         assert_eq!(rt; entry.value, want, "{entry:?}");
     }
+    let copy = state.copy(rt.alloc())?;
+    assert_eq!(rt; copy.vars(), state.vars());
+    assert_eq!(rt; copy.pending(), state.pending());
+    assert_eq!(rt; copy.lost(), 1);
     Ok(())
 }
 
 #[test]
 fn a_copy_is_the_same_program(rt: HostRuntime) -> Result<(), Fail> {
     let alloc = rt.alloc();
+    let twice = Program::twice(alloc)?;
+    let copy = twice.copy(alloc)?;
+    assert_eq!(rt; copy.reactions().len(), 2);
+    assert_eq!(rt; copy.port(1), 1);
     let programs = [
-        Program::twice(alloc)?,
+        twice,
         pulse(&rt, alloc),
         pair(&rt, alloc),
         crowd(&rt, alloc),

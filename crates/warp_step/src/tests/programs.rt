@@ -216,7 +216,7 @@ pub fn pair(rt: &impl Abort, alloc: Global) -> Program {
     })
 }
 
-/// Sixteen schedulings of action 0 with the value of port 0, after this delay, and each a hundred later than the one before.
+/// Sixteen schedulings of action 0 with the value of port 0: the first after this delay, each a hundred after the last.
 fn sixteen(rt: &impl Abort, alloc: Global, first: u64) -> Vec<Stmt>
     requires { first ≤ 1000 }
     ensures may { (P : Program) (r : Rule) → IsTrue (names r.writes (to.Action 0)) →

@@ -1,10 +1,10 @@
 -- a further scheduling at the end
-use Rattle.std.proofs.Common.{◌≡◌, ◌≤◌, ◌∷◌, ◌++◌, [], IsTrue, ℕ, ◌+◌, ◌*◌, List, arith, refl, sym, ap, ◌∙◌, subst, nat_le, leb, true}
+use Rattle.std.proofs.Common.{◌≡◌, ◌≤◌, ◌∷◌, ◌++◌, [], IsTrue, ℕ, ◌+◌, ◌*◌, List, arith, refl, sym, ap, ◌∙◌, subst}
 use Rattle.std.specs.Bool.{if◌then◌else◌}
 use Rattle.std.specs.Result.{is_ok}
 use Rattle.std.proofs.lemmas.Bool.{and_parts, and_from, le-leb}
 use Rattle.warp_tag.specs.Limits.{longest_period}
-use Rattle.warp_body.specs.Term.{term_of, ValueAt}
+use Rattle.warp_body.specs.Term.{term_of}
 use Rattle.warp_body.specs.Effect.{Statement, ScheduleAction, schedules_of, schedules_of_one, statement_of, statements_of, statement_step}
 use Rattle.warp_body.specs.declared.expr.Expr.{Expr, Value}
 use Rattle.warp_body.specs.declared.place.Target.TheVariants as to
@@ -46,7 +46,7 @@ loop-i-preserved g c =
     let count : schedules_of (statements_of (before ++ s ∷ [])) ≡ c.loop-i.i + 1 =
     let e = count_at_end before s in omega (arith, e, one, c.loop-i.invariant.0) in
     let may : (P : Program) (r : Rule) → IsTrue (names r.writes (to.Action 0)) → IsTrue (names (r.triggers ++ r.reads) (to.Port 0)) →
-      IsTrue (body_may P r (statements_of c.push.new.self.items)) =
+    IsTrue (body_may P r (statements_of c.push.new.self.items)) =
     λ P r writes reads. subst (λ (ss : List Stmt). IsTrue (body_may P r (statements_of ss))) (sym items)
     (may_at_end P r before s (c.loop-i.invariant.1 P r writes reads) (may_schedule P r delay fits writes reads)) in
     (ap (λ (ss : List Stmt). schedules_of (statements_of ss)) items ∙ count, may)

@@ -1,5 +1,5 @@
 -- so many schedulings, each of which the program may do
-use Rattle.std.proofs.Common.{◌≡◌, ◌≤◌, ◌++◌, IsTrue}
+use Rattle.std.proofs.Common.{◌≡◌, ◌++◌, IsTrue}
 use Rattle.warp_body.specs.Effect.{schedules_of, statements_of}
 use Rattle.warp_body.specs.declared.place.Target.TheVariants as to
 use Rattle.warp_step.specs.Program.{Program, Rule}
