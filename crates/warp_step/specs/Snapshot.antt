@@ -40,8 +40,8 @@ with_entry tag target value (w ∷ ws) =
     if key_before tag target w
     then (record { tag = tag; target = target; value = value }) ∷ w ∷ ws
     else (if has_key tag target w
-      then (record { tag = tag; target = target; value = value }) ∷ ws
-      else w ∷ with_entry tag target value ws)
+    then (record { tag = tag; target = target; value = value }) ∷ ws
+    else w ∷ with_entry tag target value ws)
 
 -- one more is lost; the count stays at the greatest
 abbrev pub with_loss : Snapshot → Snapshot

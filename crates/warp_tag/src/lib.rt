@@ -12,4 +12,6 @@ mod tests;
 
 pub use entry::Entry;
 pub use std::alloc::AllocError as OutOfMemory;
-pub use tag::{LAST_MICROSTEP, Landing, MAX_DELAY, MAX_PERIOD, MAX_STOP, MAX_TIME, Tag, tag_limits};
+pub use tag::{
+    LAST_MICROSTEP, Landing, MAX_DELAY, MAX_PERIOD, MAX_STOP, MAX_TIME, Tag, tag_limits,
+};

@@ -18,7 +18,11 @@ use warp_step::Program;
 const ENOUGH: u64 = 1_048_577;
 
 /// The program of this name: `builtin:twice`, or that of the file at this path.
-pub(crate) fn program_named<F: Files>(files: &F, alloc: Global, name: &str) -> Result<Program, Outcome>
+pub(crate) fn program_named<F: Files>(
+    files: &F,
+    alloc: Global,
+    name: &str,
+) -> Result<Program, Outcome>
     ensures ok { IfOk result (IsNamed name.now) }
     ensures err { IfErr result (IsNone name.now) }
 {
