@@ -1,9 +1,7 @@
 -- A program as definitions see it: its parts in file order, without where they lie in memory.
-use Rattle.std.specs.Prelude.{ℕ, ℤ, List, map, Option, slice_get, refl}
+use Rattle.std.specs.Prelude.{ℕ, ℤ, List, map, slice_get}
 use Rattle.std.specs.Option.{option_map_or}
-use Rattle.std.specs.Coded.{Coded, code_by, coded×, coded_ℕ, coded_list, coded_option}
 use Rattle.warp_body.specs.Effect.{Body, statements_of}
-use Rattle.warp_body.specs.Codes.{body_code, target_code}
 use Rattle.warp_body.specs.declared.place.Target.{Target}
 use Rattle.warp_step.specs.declared.parts.Variable.{Variable}
 use Rattle.warp_step.specs.declared.parts.Port.{Port}

@@ -1,5 +1,5 @@
 -- The state of a program between two steps.
-use Rattle.std.specs.Prelude.{◌≡◌, ℕ, ℤ, pos, ◌+◌, ◌≤◌, Bool, true, false, ◌&&◌, ◌||◌, ◌==◌, nat_lt, nat_le, IsTrue, List, [], ◌∷◌, length, Option, Some, None, if◌then◌else◌}
+use Rattle.std.specs.Prelude.{◌≡◌, ℕ, ℤ, pos, ◌+◌, Bool, ◌&&◌, ◌||◌, nat_lt, nat_le, IsTrue, List, [], ◌∷◌, length, Option, Some, None, if◌then◌else◌}
 use Rattle.std.specs.List.{list_all, list_any, AllByRecursion}
 use Rattle.warp_tag.specs.Limits.{most_pending, greatest_count}
 use Rattle.warp_tag.specs.Moment.{Moment, is_before, is_same}
@@ -9,7 +9,7 @@ use Rattle.warp_tag.specs.declared.tag.Landing.TheVariants.{At, PastStop, PastMi
 use Rattle.warp_body.specs.Presence.{target_fits, target_before, is_target}
 use Rattle.warp_body.specs.declared.place.Target.{Target}
 use Rattle.warp_body.specs.declared.place.Target.TheVariants as to
-use Rattle.warp_step.specs.Program.{Program, Rule, starts_of}
+use Rattle.warp_step.specs.Program.{Program, starts_of}
 use Rattle.warp_step.specs.Valid.{program_places, names}
 use Rattle.warp_step.specs.declared.parts.Timer.{Timer}
 use Rattle.warp_step.specs.declared.pending.Waiting.{Waiting}

@@ -1,5 +1,5 @@
 -- One step of a program at a tag, in the order of its six parts.
-use Rattle.std.specs.Prelude.{◌≡◌, ℕ, ℤ, pos, ◌+◌, ◌≤◌, Bool, true, not, ◌&&◌, ◌||◌, ◌==◌, IsTrue, List, [], ◌∷◌, length, map, filter, replicate, slice_set, slice_get, slice_index, nat_lt, Option, Some, None, is_some, is_none, if◌then◌else◌}
+use Rattle.std.specs.Prelude.{◌≡◌, ℕ, ℤ, pos, ◌+◌, ◌≤◌, Bool, not, ◌&&◌, ◌||◌, ◌==◌, IsTrue, List, [], ◌∷◌, length, map, filter, replicate, slice_set, slice_get, slice_index, nat_lt, Option, Some, None, is_some, is_none, if◌then◌else◌}
 use Rattle.std.specs.Option.{option_map_or}
 use Rattle.std.specs.List.{list_any, list_all}
 use Rattle.arrayvec.specs.ArrayVec.{ArrayVec}
@@ -7,7 +7,6 @@ use Rattle.warp_tag.specs.Moment.{Moment, is_before, is_same}
 use Rattle.warp_body.specs.Presence.{Presence, nothing_present, present_at, with_value}
 use Rattle.warp_body.specs.Effect.{Effect, effect_of}
 use Rattle.warp_body.specs.declared.place.Places.{Places}
-use Rattle.warp_body.specs.declared.place.Target.{Target}
 use Rattle.warp_body.specs.declared.place.Target.TheVariants as to
 use Rattle.warp_body.specs.declared.stmt.Wish.{Wish}
 use Rattle.warp_step.specs.Program.{Rule, Program, delay_of}

@@ -1,5 +1,4 @@
 -- an entry that comes in keeps the order
-use Rattle.std.proofs.Common.{◌≡◌}
 use Rattle.warp_step.proofs.PendingLemmas.{order_as}
 use Rattle.warp_step.proofs.state.State.enter.Goals as goal
 
