@@ -188,15 +188,24 @@ fn files_are_refused_for_their_first_fault(rt: HostRuntime) {
     }
 }
 
-#[test]
-fn bytes_that_are_too_many_or_no_text(rt: HostRuntime) -> Result<(), Fail> {
-    assert!(rt; fault(rt.alloc(), &[123, 255, 125]) == 1);
-    let mut bytes = Vec::new(rt.alloc());
-    for _ in 0..1_048_576 {
+/// The text of `twice` with spaces behind it, so many bytes in all.
+fn padded(alloc: Global, count: usize) -> Result<Vec<u8>, Fail> {
+    let mut bytes = TWICE.as_bytes().to_vec(alloc)?;
+    for _ in bytes.len()..count {
         bytes.push(b' ')?;
     }
-    assert!(rt; fault(rt.alloc(), &bytes) == 1);
-    bytes.push(b' ')?;
-    assert!(rt; fault(rt.alloc(), &bytes) == LoadError::Limit.number());
+    Ok(bytes)
+}
+
+#[test]
+fn bytes_that_are_too_many_or_no_text(rt: HostRuntime) -> Result<(), Fail> {
+    assert!(rt; fault(rt.alloc(), &[]) == 1);
+    assert!(rt; fault(rt.alloc(), &[123, 255, 125]) == 1);
+    let deep = [b'['; 10_000];
+    assert!(rt; fault(rt.alloc(), &deep) == 1);
+    let longest = padded(rt.alloc(), 1_048_576)?;
+    assert!(rt; fault(rt.alloc(), &longest) == 0);
+    let longer = padded(rt.alloc(), 1_048_577)?;
+    assert!(rt; fault(rt.alloc(), &longer) == LoadError::Limit.number());
     Ok(())
 }
