@@ -3,10 +3,6 @@ use Rattle.std.specs.Prelude.{ℕ, ◌-◌, ◌/◌, Bool, List}
 use Rattle.atomic_table.specs.Seated.{TableId}
 use Rattle.warp_step.specs.declared.out.Out.{Out}
 
--- the most rows for which a board can have room
-abbrev pub most_rows : ℕ
-most_rows = 4096
-
 -- for how many rows a board has room: two words each, behind the count and the flag
 abbrev pub room_of : TableId → ℕ
 room_of board = (board.words - 2) / 2

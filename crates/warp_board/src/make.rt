@@ -1,6 +1,7 @@
 //! A board, made with its writer and a first reader.
 ghost use Rattle.std.specs.Prelude.{◌≡◌, ◌≤◌, [], false, IfOk};
-ghost use Rattle.warp_board.specs.Board.{most_rows, room_of};
+ghost use Rattle.warp_tag.specs.Limits.{most_rows};
+ghost use Rattle.warp_board.specs.Board.{room_of};
 
 use crate::reader::Reader;
 use crate::rule::Copies;

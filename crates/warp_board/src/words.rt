@@ -1,6 +1,7 @@
 //! The words that the seats of one board share.
 ghost use Rattle.std.specs.Prelude.{◌≡◌, ◌≤◌};
-ghost use Rattle.warp_board.specs.Board.{most_rows, room_of};
+ghost use Rattle.warp_tag.specs.Limits.{most_rows};
+ghost use Rattle.warp_board.specs.Board.{room_of};
 
 use crate::notes::Notes;
 use crate::rule::BoardRule;
@@ -23,7 +24,7 @@ pub struct Board {
 impl Model for Board {
     ghost use Rattle.std.specs.Prelude.{◌≡◌, ◌≤◌, ◌+◌, ◌*◌};
     ghost use Rattle.atomic_table.specs.Seated.{TableId, table_id_coded};
-    ghost use Rattle.warp_board.specs.Board.{most_rows};
+    ghost use Rattle.warp_tag.specs.Limits.{most_rows};
 
     ghost Value = { TableId };
 

@@ -4,3 +4,4 @@ pub mod RunLemmas
 pub mod ProgressLemmas
 pub mod PlainLemmas
 pub mod NextLemmas
+pub mod TableLemmas

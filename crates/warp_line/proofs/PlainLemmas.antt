@@ -1,11 +1,12 @@
--- What an event does to what a `Plain` stands for.
-use Rattle.std.proofs.Common.{◌≡◌, ℕ, ℤ, ◌+◌, ◌≤◌, length, List, [], ap, sym, subst, ◌∙◌, refl, arith, IsTrue, Bool, true, false, None}
+-- What a change of its table does to what a `Plain` stands for.
+use Rattle.std.proofs.Common.{◌≡◌, ℕ, ◌+◌, ◌≤◌, length, List, [], ap, sym, subst, ◌∙◌, refl, arith, IsTrue, Bool, true, false, not, ◌&&◌, None}
 use Rattle.std.specs.Prelude.{MatchBool}
 use Rattle.std.specs.List.{list_all}
+use Rattle.std.proofs.Math.Bool.{and-true, and-false}
 use Rattle.std.proofs.lemmas.List.Sums.{count_by-le-length}
 use Rattle.warp_tag.specs.Limits.{most_names}
 use Rattle.warp_tag.specs.Moment.{Moment, is_before}
-use Rattle.warp_tag.specs.Table.{Event, IsTable, changed, with_event, live}
+use Rattle.warp_tag.specs.Table.{Event, IsTable, changed, live}
 use Rattle.warp_tag.specs.declared.entry.Entry.{Entry}
 use Rattle.warp_step.specs.Program.{Program}
 use Rattle.warp_step.specs.Snapshot.{start_state}
@@ -15,7 +16,7 @@ use Rattle.warp_step.proofs.TagsOfRun.{few_rows}
 use Rattle.warp_step.proofs.ValidLemmas.{validity}
 use Rattle.warp_step.proofs.TraceLemmas.{one_rest}
 use Rattle.warp_line.specs.Timeline.{Standing, IsDone, NowStands, Settles, rows_before, lesser}
-use Rattle.warp_step.specs.Events.{IsEventOf, event_fits}
+use Rattle.warp_step.specs.Events.{event_fits}
 use Rattle.warp_line.specs.Plain.{StandsFor, IsRun}
 use Rattle.warp_line.specs.declared.plain.Plain.{Plain}
 
@@ -48,32 +49,25 @@ few_before P E trace u n valid fits run =
     let some = count_by-le-length (λ (row : Row). is_before row.tag u) trace in
     omega arith
 
--- the table after an event
-abbrev after_event : ℕ → Moment → ℕ → ℤ → List Entry → List Entry
-after_event origin tag input value es = changed (with_event input value) origin tag es
-
 -- where the live events changed, nothing is known to be done
-pub put_changed : (p q : Plain) (m : Standing) (origin : ℕ) (tag : Moment) (input : ℕ) (value : ℤ) → StandsFor p m → IsEventOf m.program origin tag input
-    → q.entries.items ≡ after_event origin tag input value p.entries.items → IsTable q.entries.items
-    → (live q.entries.items ≡ live p.entries.items → ⊥)
-    → ((t : Event → Bool) → IsTrue (list_all t (live p.entries.items)) → IsTrue (t (record { origin = origin; tag = tag; input = input; value = value })) → IsTrue (list_all t (live q.entries.items)))
-    → q.settled ≡ false → NowStands StandsFor most_names tag q m (after_event origin tag input value m.table)
-put_changed p q m origin tag input value h good is ordered differs events unsettled =
-    let table : q.entries.items ≡ after_event origin tag input value m.table = is ∙ ap (after_event origin tag input value) h.table in
-    let fits = events (event_fits m.program) (subst (λ (es : List Entry). IsTrue (list_all (event_fits m.program) (live es))) (sym h.table) h.events) good in
-    let fits_new = subst (λ (es : List Entry). IsTrue (list_all (event_fits m.program) (live es))) table fits in
-    let new : Standing = record { program = m.program; table = after_event origin tag input value m.table; done = [] } in (
+changed_stands : (p q : Plain) (m : Standing) (f : Entry → Entry) (origin : ℕ) (tag : Moment) → StandsFor p m
+    → q.entries.items ≡ changed f origin tag p.entries.items → IsTable q.entries.items
+    → (live q.entries.items ≡ live p.entries.items → ⊥) → IsTrue (list_all (event_fits m.program) (live (changed f origin tag m.table)))
+    → q.settled ≡ false → NowStands StandsFor most_names tag q m (changed f origin tag m.table)
+changed_stands p q m f origin tag h is ordered differs fits unsettled =
+    let table : q.entries.items ≡ changed f origin tag m.table = is ∙ ap (changed f origin tag) h.table in
+    let new : Standing = record { program = m.program; table = changed f origin tag m.table; done = [] } in (
       [],
       record {
         program = h.program;
         table = table;
         ordered = subst IsTable table ordered;
-        events = fits_new;
+        events = fits;
         rows = subst (λ (b : Bool). MatchBool b (IsRun q new) (new.done ≡ [])) (sym unsettled) refl;
       },
       record {
         front = λ before after rb ra u enough.
-            few_before m.program (live (after_event origin tag input value m.table)) after (lesser tag u) 0 h.program fits_new ra;
+            few_before m.program (live (changed f origin tag m.table)) after (lesser tag u) 0 h.program fits ra;
         unchanged = λ same. absurd (differs (ap live table ∙ same ∙ ap live (sym h.table)));
       },
     )
@@ -83,15 +77,15 @@ carried p q m n true h k = k h
 carried p q m n false h k = h
 
 -- where they stayed, what was done stays done
-pub put_same : (p q : Plain) (m : Standing) (origin : ℕ) (tag : Moment) (input : ℕ) (value : ℤ) → StandsFor p m → IsEventOf m.program origin tag input
-    → q.entries.items ≡ after_event origin tag input value p.entries.items → IsTable q.entries.items
+same_stands : (p q : Plain) (m : Standing) (f : Entry → Entry) (origin : ℕ) (tag : Moment) → StandsFor p m
+    → q.entries.items ≡ changed f origin tag p.entries.items → IsTable q.entries.items
     → live q.entries.items ≡ live p.entries.items
-    → q.settled ≡ p.settled → q.state ≡ p.state → q.outputs ≡ p.outputs → NowStands StandsFor most_names tag q m (after_event origin tag input value m.table)
-put_same p q m origin tag input value h good is ordered same settled state outputs =
-    let table : q.entries.items ≡ after_event origin tag input value m.table = is ∙ ap (after_event origin tag input value) h.table in
-    let lives : live (after_event origin tag input value m.table) ≡ live m.table = ap live (sym table) ∙ same ∙ ap live h.table in
+    → q.settled ≡ p.settled → q.state ≡ p.state → q.outputs ≡ p.outputs → NowStands StandsFor most_names tag q m (changed f origin tag m.table)
+same_stands p q m f origin tag h is ordered same settled state outputs =
+    let table : q.entries.items ≡ changed f origin tag m.table = is ∙ ap (changed f origin tag) h.table in
+    let lives : live (changed f origin tag m.table) ≡ live m.table = ap live (sym table) ∙ same ∙ ap live h.table in
     let fits = subst (λ (E : List Event). IsTrue (list_all (event_fits m.program) E)) (sym lives) h.events in
-    let new : Standing = record { program = m.program; table = after_event origin tag input value m.table; done = m.done } in (
+    let new : Standing = record { program = m.program; table = changed f origin tag m.table; done = m.done } in (
       m.done,
       record {
         program = h.program;
@@ -107,7 +101,19 @@ put_same p q m origin tag input value h good is ordered same settled state outpu
       },
       record {
         front = λ before after rb ra u enough.
-            few_before m.program (live (after_event origin tag input value m.table)) after (lesser tag u) (length m.done) h.program fits ra;
+            few_before m.program (live (changed f origin tag m.table)) after (lesser tag u) (length m.done) h.program fits ra;
         unchanged = λ kept. omega arith;
       },
     )
+
+-- after a change that tells whether the live events changed, and unsettles where they did
+pub note_stands : (p q : Plain) (m : Standing) (f : Entry → Entry) (origin : ℕ) (tag : Moment) (changes : Bool) → StandsFor p m
+    → q.entries.items ≡ changed f origin tag p.entries.items → IsTable q.entries.items
+    → (changes ≡ false → live q.entries.items ≡ live p.entries.items)
+    → (changes ≡ true → live q.entries.items ≡ live p.entries.items → ⊥)
+    → IsTrue (list_all (event_fits m.program) (live (changed f origin tag m.table)))
+    → q.settled ≡ (p.settled && not changes) → q.state ≡ p.state → q.outputs ≡ p.outputs → NowStands StandsFor most_names tag q m (changed f origin tag m.table)
+note_stands p q m f origin tag true h is ordered same differs fits settled state outputs =
+    changed_stands p q m f origin tag h is ordered (differs refl) fits (settled ∙ and-false p.settled)
+note_stands p q m f origin tag false h is ordered same differs fits settled state outputs =
+    same_stands p q m f origin tag h is ordered (same refl) (settled ∙ and-true p.settled) state outputs

@@ -1,6 +1,6 @@
 //! The slow twin: a sorted table, and a run from the start after each change.
 use crate::replay::replay;
-use crate::table::note_event;
+use crate::table::{note_event, note_withdrawal};
 use crate::timeline::Timeline;
 use std::alloc::Global;
 use warp_step::{Meter, Out, Program, State};
@@ -56,9 +56,11 @@ impl Timeline for Plain {
     }
 
     fn put(&mut self, origin: u32, tag: Tag, input: u32, value: i64) {
-        if note_event(&mut self.entries, origin, tag, input, value) {
-            self.settled = false;
-        }
+        self.settled &= !note_event(&mut self.entries, origin, tag, input, value);
+    }
+
+    fn withdraw(&mut self, origin: u32, tag: Tag) {
+        self.settled &= !note_withdrawal(&mut self.entries, origin, tag);
     }
 
     fn settle<M: Meter>(

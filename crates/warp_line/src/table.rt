@@ -1,7 +1,8 @@
 //! A sorted table of names in a `Vec`.
-ghost use Rattle.std.specs.Prelude.{◌≡◌, ◌+◌, ◌<◌, ◌≤◌, Bool, false, IsTrue, ℕ, length, vec_len, vec_capacity};
-ghost use Rattle.std.specs.List.{list_all, prefix_len};
-ghost use Rattle.warp_tag.specs.Table.{IsTable, Event, name_before, fresh, changed, with_event, live};
+ghost use Rattle.std.specs.Prelude.{◌≡◌, ◌<◌, ◌≤◌, false, IsTrue, length, slice_get, slice_set, unwrap_or, vec_len, vec_capacity};
+ghost use Rattle.std.specs.List.{prefix_len};
+ghost use Rattle.warp_tag.specs.declared.entry.Entry.{Entry};
+ghost use Rattle.warp_tag.specs.Table.{IsTable, name_before, fresh, known, changed, with_event, with_withdrawal, live};
 
 use warp_tag::{Entry, Tag};
 
@@ -14,6 +15,22 @@ fn place(entries: &[Entry], origin: u32, tag: Tag) -> usize
     let mut at = entries.len();
     while at > 0 && !entries[at - 1].comes_before(origin, tag) {
         at -= 1;
+    }
+    at
+}
+
+/// The place of the name in a sorted table, for which there is room: a name of which nothing is known comes in there.
+fn enter(entries: &mut Vec<Entry>, origin: u32, tag: Tag) -> usize
+    requires room { vec_len entries.old < vec_capacity entries.old }
+    requires table { IsTable entries.old.items }
+    ensures within { result < vec_len entries.new }
+    ensures entry { slice_get entries.new.items result ≡ Some (unwrap_or (known origin tag entries.old.items) (fresh origin tag)) }
+    ensures change { (change : Entry → Entry) →
+        slice_set entries.new.items result (change (unwrap_or (known origin tag entries.old.items) (fresh origin tag))) ≡ changed change origin tag entries.old.items }
+{
+    let at = place(entries, origin, tag);
+    if at == entries.len() || !entries[at].is_of(origin, tag) {
+        let _ = entries.insert(at, Entry::fresh(origin, tag));
     }
     at
 }
@@ -32,74 +49,79 @@ pub(crate) fn note_event(
     requires table { IsTable entries.old.items }
     ensures table { entries.new.items ≡ changed (with_event input value) origin tag entries.old.items }
     ensures ordered { IsTable entries.new.items }
-    ensures len { vec_len entries.new ≤ vec_len entries.old + 1 }
     ensures same { result ≡ false → live entries.new.items ≡ live entries.old.items }
     ensures changes { IsTrue result → live entries.new.items ≡ live entries.old.items → ⊥ }
-    ensures events { (p : Event → Bool) → IsTrue (list_all p (live entries.old.items)) →
-        IsTrue (p (record { origin = origin; tag = tag; input = input; value = value })) →
-        IsTrue (list_all p (live entries.new.items)) }
 {
-    let at = place(entries, origin, tag);
-    if at < entries.len() && entries[at].is_of(origin, tag) {
-        let entry = &mut entries[at];
-        entry.note_event(input, value)
-    } else {
-        let mut entry = Entry::fresh(origin, tag);
-        let changes = entry.note_event(input, value);
-        let _ = entries.insert(at, entry);
-        changes
-    }
+    let at = enter(entries, origin, tag);
+    entries[at].note_event(input, value)
+}
+
+/// Notes a withdrawal in a sorted table, for which there is room; answers whether the live events changed.
+pub(crate) fn note_withdrawal(entries: &mut Vec<Entry>, origin: u32, tag: Tag) -> bool
+    requires room { vec_len entries.old < vec_capacity entries.old }
+    requires table { IsTable entries.old.items }
+    ensures table { entries.new.items ≡ changed with_withdrawal origin tag entries.old.items }
+    ensures ordered { IsTable entries.new.items }
+    ensures same { result ≡ false → live entries.new.items ≡ live entries.old.items }
+    ensures changes { IsTrue result → live entries.new.items ≡ live entries.old.items → ⊥ }
+{
+    let at = enter(entries, origin, tag);
+    entries[at].withdraw()
 }
 
 #[cfg(test)]
 mod tests {
-    use super::note_event;
+    use super::{note_event, note_withdrawal};
     use std::test::Fail;
-    use warp_tag::{Entry, Tag};
+    use warp_tag::Tag;
 
     #[test]
-    fn notes_each_event(rt: HostRuntime) -> Result<(), Fail> {
-        let tag = Tag::new(4, 0).expect(&rt, "a tag");
-        let withdrawn = Entry {
-            origin: 9,
-            tag,
-            event: None,
-            withdrawn: true,
-        };
+    fn notes_events_and_withdrawals(rt: HostRuntime) -> Result<(), Fail> {
         let mut entries = Vec::new(rt.alloc());
-        entries.push(withdrawn)?;
-        for (origin, time, micro, input, value, changes) in [
-            (1, 7, 0, 0, 5, true),
-            (1, 3, 2, 0, 5, true),
-            (0, 7, 0, 0, 5, true),
-            (2, 3, 1, 0, 5, true),
-            (1, 7, 0, 0, 5, false),
-            (1, 7, 0, 0, 6, true),
-            (1, 7, 0, 0, -6, false),
-            (1, 7, 0, 1, -6, true),
-            (1, 7, 0, 0, 9, false),
-            (9, 4, 0, 0, 5, false),
-            (8, 4, 0, 0, 5, true),
+        for (origin, time, micro, payload, changes) in [
+            (9, 4, 0, None, false),
+            (1, 7, 0, Some((0, 5)), true),
+            (1, 3, 2, Some((0, 5)), true),
+            (0, 7, 0, Some((0, 5)), true),
+            (2, 3, 1, Some((0, 5)), true),
+            (1, 7, 0, Some((0, 5)), false),
+            (1, 7, 0, Some((0, 6)), true),
+            (1, 7, 0, Some((0, -6)), false),
+            (1, 7, 0, Some((1, -6)), true),
+            (1, 7, 0, Some((0, 9)), false),
+            (9, 4, 0, Some((0, 5)), false),
+            (9, 4, 0, None, false),
+            (8, 4, 0, Some((0, 5)), true),
+            (0, 7, 0, None, true),
+            (0, 7, 0, None, false),
+            (0, 7, 0, Some((1, 1)), false),
+            (3, 5, 1, None, false),
+            (3, 5, 1, None, false),
         ] {
             let tag = Tag::new(time, micro).expect(&rt, "a tag");
             entries.reserve(1)?;
-            let answer = note_event(&mut entries, origin, tag, input, value);
-            assert_eq!(rt; answer, changes, "{origin} {time} {micro} {input} {value}");
+            let answer = match payload {
+                Some((input, value)) => note_event(&mut entries, origin, tag, input, value),
+                None => note_withdrawal(&mut entries, origin, tag),
+            };
+            assert_eq!(rt; answer, changes, "{origin} {time} {micro} {payload:?}");
         }
         let wanted = [
-            (2, 3, 1, 0, 5),
-            (1, 3, 2, 0, 5),
-            (8, 4, 0, 0, 5),
-            (9, 4, 0, 0, 5),
-            (0, 7, 0, 0, 5),
-            (1, 7, 0, 1, -6),
+            (2, 3, 1, Some((0, 5)), false),
+            (1, 3, 2, Some((0, 5)), false),
+            (8, 4, 0, Some((0, 5)), false),
+            (9, 4, 0, Some((0, 5)), true),
+            (3, 5, 1, None, true),
+            (0, 7, 0, Some((1, 1)), true),
+            (1, 7, 0, Some((1, -6)), false),
         ];
-        assert_eq!(rt; entries.len(), 6);
-        for (entry, (origin, time, micro, input, value)) in entries.iter().zip(wanted) {
+        assert_eq!(rt; entries.len(), wanted.len());
+        for (entry, (origin, time, micro, event, withdrawn)) in entries.iter().zip(wanted) {
             assert_eq!(rt; entry.origin, origin);
             assert_eq!(rt; entry.tag.time(), time);
             assert_eq!(rt; entry.tag.micro(), micro);
-            assert_eq!(rt; entry.event, Some((input, value)));
+            assert_eq!(rt; entry.event, event);
+            assert_eq!(rt; entry.withdrawn, withdrawn);
         }
         Ok(())
     }

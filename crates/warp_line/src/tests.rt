@@ -1,14 +1,12 @@
 //! What no clause says: that the calls succeed, and the values of the program `twice`, and of one that beats, through the
 //! bound.
-ghost use Rattle.std.specs.Prelude.{◌≡◌, ◌<◌, ◌∷◌, [], pos, IfOk, IsTrue, List, OnOk, length};
-ghost use Rattle.warp_tag.specs.Table.{changed, with_event};
+ghost use Rattle.std.specs.Prelude.{◌≡◌, ◌<◌, ◌≤◌, ◌+◌, ◌∷◌, [], pos, IfOk, IsTrue, OnOk, length};
 ghost use Rattle.warp_body.specs.Term.{Constant, OfTwo, VariableAt, term_of};
 ghost use Rattle.warp_body.specs.Effect.{SetVariable, PutOutput, Done, Then};
 ghost use Rattle.warp_body.specs.declared.operator.BinaryOperator.TheVariants.{Add};
 ghost use Rattle.warp_body.specs.declared.place.Target.TheVariants as to;
 ghost use Rattle.warp_step.specs.Program.{rule_of};
-ghost use Rattle.warp_step.specs.Run.{Row};
-ghost use Rattle.warp_step.specs.Events.{IsEventOf};
+ghost use Rattle.warp_step.specs.Events.{IsEventOf, IsNameOf};
 ghost use Rattle.warp_step.specs.Counter.{IsUnused};
 ghost use Rattle.warp_line.specs.Timeline.{Standing};
 
@@ -51,21 +49,28 @@ impl<L: Ledger> Meter for Tally<L> {
     }
 }
 
-/// An event, at microstep 0.
+/// An event, or where it has no payload the withdrawal of its name, at microstep 0.
 #[derive(Clone, Copy)]
-struct Event {
+struct Change {
     origin: u32,
     time: u64,
-    input: u32,
-    value: i64,
+    payload: Option<(u32, i64)>,
 }
 
-/// What was seen of two events: the total after each, the ticks up to there, and the outputs in the end.
+/// What was seen of some changes: the total after each, the ticks up to there, and the outputs in the end.
 #[derive(Drop)]
 struct Seen {
-    totals: (i64, i64),
-    ticks: (u64, u64),
+    totals: Vec<i64>,
+    ticks: Vec<u64>,
     outputs: Vec<Out>,
+}
+
+/// Whether the program takes a withdrawal of such a name.
+fn is_name(program: &Program, origin: u32, tag: Tag) -> bool
+    ensures { IsTrue result → IsNameOf program.now origin tag }
+{
+    program.valid();
+    origin < program.origins() && tag.time() <= program.stop()
 }
 
 /// Whether the program takes such an event.
@@ -81,24 +86,43 @@ fn is_taken(program: &Program, origin: u32, tag: Tag, input: u32) -> bool
     inputs[number].origin == origin
 }
 
-/// Takes an event, settles, and gives the value of the first variable.
+/// Takes a change, for which there is room.
+fn enter<T: Timeline, R: Abort>(rt: &R, program: &Program, timeline: &mut T, change: Change)
+    requires prepared { T.is_prepared timeline.old }
+    requires stands { (m : Standing) × T.stands_for timeline.old m × (m.program ≡ program.now) }
+    ensures { (m : Standing) → T.stands_for timeline.old m → m.program ≡ program.now →
+        (n : Standing) × T.stands_for timeline.new n × (n.program ≡ program.now) × (length n.table ≤ length m.table + 1) }
+{
+    let origin = change.origin;
+    let tag = Tag::new(change.time, 0).expect(rt, "a tag");
+    match change.payload {
+        Some((input, value)) => {
+            assert!(rt; is_taken(program, origin, tag, input));
+            timeline.put(origin, tag, input, value);
+        }
+        None => {
+            assert!(rt; is_name(program, origin, tag));
+            timeline.withdraw(origin, tag);
+        }
+    }
+}
+
+/// Takes a change, settles, and gives the value of the first variable.
 fn take<T: Timeline, M: Meter, R: Abort>(
     rt: &R,
     alloc: Global,
     program: &Program,
     timeline: &mut T,
-    tag: Tag,
-    event: Event,
+    change: Change,
     meter: &mut M,
 ) -> Result<i64, Fail>
     requires { (m : Standing) × T.stands_for timeline.old m × (m.program ≡ program.now) × (length m.table < 1000) }
     ensures stands { OnOk result ((m : Standing) → T.stands_for timeline.old m → m.program ≡ program.now →
-        (done : List Row) × T.stands_for timeline.new (record m { table = changed (with_event event.input event.value) event.origin tag m.table; done = done })) }
+        (n : Standing) × T.stands_for timeline.new n × (n.program ≡ program.now) × (length n.table ≤ length m.table + 1)) }
     ensures settled { OnOk result (IsTrue (T.settled timeline.new)) }
 {
-    assert!(rt; is_taken(program, event.origin, tag, event.input));
     timeline.prepare(alloc)?;
-    timeline.put(event.origin, tag, event.input, event.value);
+    enter(rt, program, timeline, change);
     timeline.settle(alloc, program, meter)?;
     assert!(rt; timeline.is_settled());
     let vars = timeline.state().vars();
@@ -106,120 +130,113 @@ fn take<T: Timeline, M: Meter, R: Abort>(
     Ok(vars[0])
 }
 
-/// Takes two events of `twice`, and settles once more.
+/// Takes changes in turn, and settles once more.
 fn run<T: Timeline + Drop, L: Ledger, R: Abort>(
     rt: &R,
     alloc: Global,
     blank: Blank,
-    first: Event,
-    second: Event,
+    program: &Program,
+    changes: &[Change],
 ) -> Result<Seen, Fail>
-    requires { IsUnused blank L.name L.parts }
+    requires unused { IsUnused blank L.name L.parts }
+    requires few { length changes.now < 1000 }
 {
-    let program = Program::twice(alloc)?;
     let mut tally = Tally::<L>::new(blank);
-    let mut timeline = T::start(alloc, &program)?;
-    let tag = Tag::new(first.time, 0).expect(rt, "a tag");
-    let total = take(rt, alloc, &program, &mut timeline, tag, first, &mut tally)?;
-    let ticks = tally.count;
-    let next_tag = Tag::new(second.time, 0).expect(rt, "a tag");
-    let next_total = take(
-        rt,
-        alloc,
-        &program,
-        &mut timeline,
-        next_tag,
-        second,
-        &mut tally,
-    )?;
-    let next_ticks = tally.count;
-    timeline.settle(alloc, &program, &mut tally)?;
-    assert_eq!(rt; tally.count, next_ticks, "settled anew");
+    let mut timeline = T::start(alloc, program)?;
+    let mut totals = Vec::new(alloc);
+    let mut ticks = Vec::new(alloc);
+    for change in changes {
+        totals.push(take(rt, alloc, program, &mut timeline, *change, &mut tally)?)?;
+        ticks.push(tally.count)?;
+    }
+    let count = tally.count;
+    timeline.settle(alloc, program, &mut tally)?;
+    assert!(rt; timeline.is_settled());
+    assert_eq!(rt; tally.count, count, "settled anew");
     let outputs = timeline.outputs().to_vec(alloc)?;
     Ok(Seen {
-        totals: (total, next_total),
-        ticks: (ticks, next_ticks),
+        totals,
+        ticks,
         outputs,
     })
 }
 
+/// An event at this time.
+fn event(origin: u32, time: u64, input: u32, value: i64) -> Change {
+    Change {
+        origin,
+        time,
+        payload: Some((input, value)),
+    }
+}
+
+/// The withdrawal of the name at this time.
+fn withdrawal(origin: u32, time: u64) -> Change {
+    Change {
+        origin,
+        time,
+        payload: None,
+    }
+}
+
 #[test]
-fn two_events_of_twice(rt: HostRuntime) -> Result<(), Fail> {
-    let three = Event {
-        origin: 0,
-        time: 5,
-        input: 0,
-        value: 3,
-    };
-    let seven = Event {
-        origin: 0,
-        time: 5,
-        input: 0,
-        value: 7,
-    };
-    let tardy = Event {
-        origin: 1,
-        time: 2,
-        input: 1,
-        value: 4,
-    };
-    let most = Event {
-        origin: 0,
-        time: 1,
-        input: 0,
-        value: i64::MAX,
-    };
-    let one = Event {
-        origin: 0,
-        time: 2,
-        input: 0,
-        value: 1,
-    };
-    for (name, first, second, totals, ticks, outputs) in [
+fn changes_of_twice(rt: HostRuntime) -> Result<(), Fail> {
+    let program = Program::twice(rt.alloc())?;
+    let three = event(0, 5, 0, 3);
+    let seven = event(0, 5, 0, 7);
+    let tardy = event(1, 2, 1, 4);
+    let withdrawn = withdrawal(1, 2);
+    let most = event(0, 1, 0, i64::MAX);
+    let one = event(0, 2, 0, 1);
+    for (name, changes, totals, ticks, outputs) in [
         (
             "a tardy event",
-            three,
-            tardy,
-            (3, -5),
-            (1, 3),
+            [three, tardy].as_slice(),
+            [3, -5].as_slice(),
+            [1, 3].as_slice(),
             [(2, -4), (5, -5)].as_slice(),
         ),
         (
             "two payloads",
-            seven,
-            three,
-            (7, 7),
-            (1, 1),
+            [seven, three].as_slice(),
+            [7, 7].as_slice(),
+            [1, 1].as_slice(),
             [(5, 7)].as_slice(),
         ),
         (
             "two payloads, exchanged",
-            three,
-            seven,
-            (3, 7),
-            (1, 2),
+            [three, seven].as_slice(),
+            [3, 7].as_slice(),
+            [1, 2].as_slice(),
             [(5, 7)].as_slice(),
         ),
         (
             "arithmetic wraps",
-            most,
-            one,
-            (i64::MAX, -1),
-            (1, 3),
+            [most, one].as_slice(),
+            [i64::MAX, -1].as_slice(),
+            [1, 3].as_slice(),
             [(1, i64::MAX), (2, -1)].as_slice(),
         ),
+        (
+            "a withdrawal after its event, and the event once more",
+            [three, tardy, withdrawn, tardy].as_slice(),
+            [3, -5, 3, 3].as_slice(),
+            [1, 3, 4, 4].as_slice(),
+            [(5, 3)].as_slice(),
+        ),
+        (
+            "a withdrawal before its event",
+            [withdrawn, tardy, three].as_slice(),
+            [0, 0, 3].as_slice(),
+            [0, 0, 1].as_slice(),
+            [(5, 3)].as_slice(),
+        ),
     ] {
-        let seen = run::<Plain, Brand, HostRuntime>(&rt, rt.alloc(), Blank::new(1), first, second)?;
-        assert_eq!(rt; seen.totals, totals, "{name}");
-        assert_eq!(rt; seen.ticks, ticks, "{name}");
-        assert_eq!(rt; seen.outputs.len(), outputs.len(), "{name}");
-        for (out, (time, value)) in seen.outputs.iter().zip(outputs) {
-            assert_eq!(rt;
-                (out.tag.time(), out.tag.micro(), out.port, out.value),
-                (*time, 0, 0, *value),
-                "{name}"
-            );
-        }
+        let blank = Blank::new(1);
+        let seen = run::<Plain, Brand, HostRuntime>(&rt, rt.alloc(), blank, &program, changes)?;
+        assert_eq!(rt; seen.totals.as_slice(), totals, "{name}");
+        assert_eq!(rt; seen.ticks.as_slice(), ticks, "{name}");
+        are_outputs(&rt, &seen.outputs, outputs, name);
     }
     Ok(())
 }
@@ -330,33 +347,11 @@ fn run_beat<T: Timeline + Drop, L: Ledger, R: Abort>(
     let none = vars[0];
     let none_ticks = tally.count;
     let first = timeline.outputs().to_vec(alloc)?;
-    let event = Event {
-        origin: 0,
-        time: 5,
-        input: 0,
-        value: 1,
-    };
-    let at_timer = Tag::beginning_of(5);
-    let one = take(
-        rt,
-        alloc,
-        &program,
-        &mut timeline,
-        at_timer,
-        event,
-        &mut tally,
-    )?;
+    let at_timer = event(0, 5, 0, 1);
+    let one = take(rt, alloc, &program, &mut timeline, at_timer, &mut tally)?;
     let one_ticks = tally.count;
-    let between = Tag::beginning_of(7);
-    let two = take(
-        rt,
-        alloc,
-        &program,
-        &mut timeline,
-        between,
-        event,
-        &mut tally,
-    )?;
+    let between = event(0, 7, 0, 1);
+    let two = take(rt, alloc, &program, &mut timeline, between, &mut tally)?;
     let last = timeline.outputs().to_vec(alloc)?;
     Ok(Beats {
         counts: (none, one, two),
@@ -366,13 +361,14 @@ fn run_beat<T: Timeline + Drop, L: Ledger, R: Abort>(
     })
 }
 
-/// Whether the outputs are these times and counts, at microstep 0.
-fn are_beats<R: Abort>(rt: &R, outputs: &[Out], wanted: &[(u64, i64)]) {
-    assert_eq!(rt; outputs.len(), wanted.len());
+/// Whether the outputs are at these times, at microstep 0, with these values.
+fn are_outputs<R: Abort>(rt: &R, outputs: &[Out], wanted: &[(u64, i64)], name: &str) {
+    assert_eq!(rt; outputs.len(), wanted.len(), "{name}");
     for (out, (time, value)) in outputs.iter().zip(wanted) {
         assert_eq!(rt;
             (out.tag.time(), out.tag.micro(), out.port, out.value),
-            (*time, 0, 0, *value)
+            (*time, 0, 0, *value),
+            "{name}"
         );
     }
 }
@@ -382,7 +378,9 @@ fn pending_entries_alone(rt: HostRuntime) -> Result<(), Fail> {
     let seen = run_beat::<Plain, Brand, HostRuntime>(&rt, rt.alloc(), Blank::new(1))?;
     assert_eq!(rt; seen.counts, (4, 4, 5));
     assert_eq!(rt; seen.ticks, (4, 8, 13));
-    are_beats(&rt, &seen.first, &[(0, 1), (2, 2), (5, 3), (8, 4)]);
-    are_beats(&rt, &seen.last, &[(0, 1), (2, 2), (5, 3), (7, 4), (8, 5)]);
+    let first = [(0, 1), (2, 2), (5, 3), (8, 4)];
+    let last = [(0, 1), (2, 2), (5, 3), (7, 4), (8, 5)];
+    are_outputs(&rt, &seen.first, &first, "over no events");
+    are_outputs(&rt, &seen.last, &last, "in the end");
     Ok(())
 }

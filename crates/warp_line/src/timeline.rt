@@ -10,10 +10,10 @@ use warp_tag::{OutOfMemory, Tag};
 pub trait Timeline: Sized {
     ghost use Rattle.std.specs.Prelude.{◌≡◌, ◌<◌, ◌≤◌, ◌+◌, ◌-◌, ℕ, ℤ, Bool, false, IsTrue, List, [], length, IfOk, OnOk, OnErr, IsOk};
     ghost use Rattle.warp_tag.specs.Limits.{most_names};
-    ghost use Rattle.warp_tag.specs.Table.{changed, with_event, live};
+    ghost use Rattle.warp_tag.specs.Table.{changed, with_event, with_withdrawal, live};
     ghost use Rattle.warp_step.specs.Run.{Row, state_at_end, outputs_of};
     ghost use Rattle.warp_step.specs.Snapshot.{start_state};
-    ghost use Rattle.warp_step.specs.Events.{IsEventOf};
+    ghost use Rattle.warp_step.specs.Events.{IsEventOf, IsNameOf};
     ghost use Rattle.warp_line.specs.Timeline.{Standing, IsDone, IsFront, NowStands, Settles};
 
     /// Whether a value stands for this program, table and done rows.
@@ -49,6 +49,13 @@ pub trait Timeline: Sized {
         requires event { (m : Standing) × stands_for self.old m × IsEventOf m.program origin tag input }
         ensures { (m : Standing) → stands_for self.old m → IsEventOf m.program origin tag input →
             NowStands stands_for SLACK tag self.new m (changed (with_event input value) origin tag m.table) };
+
+    /// Takes a withdrawal: no event of the name counts, whether it came before or comes later. It takes no memory.
+    fn withdraw(&mut self, origin: u32, tag: Tag)
+        requires prepared { is_prepared self.old }
+        requires name { (m : Standing) × stands_for self.old m × IsNameOf m.program origin tag }
+        ensures { (m : Standing) → stands_for self.old m → IsNameOf m.program origin tag →
+            NowStands stands_for SLACK tag self.new m (changed with_withdrawal origin tag m.table) };
 
     /// Executes what is not done. At an `Err` it stands done through some tag, whole, says that it is not settled, and
     /// may be settled later.

@@ -1,4 +1,7 @@
 pub mod LineCuts
+pub mod LineWords
 pub mod Numerals
-pub mod Spellings
-pub mod SpacedWords
+pub mod PlainWords
+pub mod ReplyLemmas
+pub mod WordCuts
+pub mod WordReadings

@@ -74,3 +74,13 @@ lines_of-piece line piece more one some =
     let front : IsOneLine (line ++ before) =
     All-append (λ (byte : ℕ). is_end byte ≡ false) line before one (one_line_before piece) in
     ap lines_of regrouped ∙ lines_of-ended (line ++ before) (after ++ more) front
+
+-- a line with its line feed that begins another with its line feed is that line
+pub same_front : (line other rest : List ℕ) → IsOneLine line → IsOneLine other → other ++ 10 ∷ [] ≡ line ++ 10 ∷ [] ++ rest → line ≡ other
+same_front line other rest one_line one_other same =
+    let parts_other : slice_split is_end (other ++ 10 ∷ []) ≡ other ∷ slice_split is_end [] = slice_split_at is_end other 10 [] one_other refl in
+    let parts_line : slice_split is_end (line ++ 10 ∷ rest) ≡ line ∷ slice_split is_end rest = slice_split_at is_end line 10 rest one_line refl in
+    let regrouped : other ++ 10 ∷ [] ≡ line ++ 10 ∷ rest = same ∙ append_assoc line (10 ∷ []) rest in
+    let split : slice_split is_end (other ++ 10 ∷ []) ≡ slice_split is_end (line ++ 10 ∷ rest) = ap (slice_split is_end) regrouped in
+    let first : line ∷ slice_split is_end rest ≡ other ∷ slice_split is_end [] = sym parts_line ∙ sym split ∙ parts_other in
+    cc

@@ -1,24 +1,35 @@
 -- Codes of records, so that a model's value may have them.
-use Rattle.std.specs.Prelude.{◌≡◌, ℕ, ℤ, refl}
-use Rattle.std.specs.Coded.{Coded, code_by, coded×, coded_ℕ, coded_ℤ}
+use Rattle.std.specs.Prelude.{◌≡◌, ◌⊎◌, ℕ, ℤ, refl}
+use Rattle.std.proofs.Common.{inl, inr}
+use Rattle.std.specs.Coded.{Coded, code_by, coded×, coded⊎, coded_ℕ, coded_ℤ}
 use Rattle.warp_tag.specs.Codes.{moment_code}
 use Rattle.warp_tag.specs.Moment.{Moment}
-use Rattle.warp_record.specs.declared.line.Record.{Record}
-use Rattle.warp_record.specs.declared.line.Record.TheVariants.{Event}
+use Rattle.warp_record.specs.declared.record.Record.{Record}
+use Rattle.warp_record.specs.declared.record.Record.TheVariants.{Event, Withdraw, Announce}
 
--- what an event says: origin, tag, input and value
-abbrev pub EventParts : Type 0
-EventParts = ℕ × (Moment × (ℕ × ℤ))
+-- what an event, a withdrawal and an announcement say
+abbrev pub Parts : Type 0
+Parts = (ℕ × (Moment × (ℕ × ℤ))) ⊎ ((ℕ × Moment) ⊎ (ℕ × (Moment × (ℕ × ℕ))))
 
-abbrev pub event_parts : Record → EventParts
-event_parts (Event origin tag input value) = (origin, (tag, (input, value)))
+abbrev pub parts : Record → Parts
+parts (Event origin tag input value) = inl (origin, (tag, (input, value)))
+parts (Withdraw origin tag) = inr (inl (origin, tag))
+parts (Announce origin tag events withdrawn) = inr (inr (origin, (tag, (events, withdrawn))))
 
-abbrev pub event_of : EventParts → Record
-event_of p = Event p.0 p.1.0 p.1.1.0 p.1.1.1
+abbrev pub of_parts : Parts → Record
+of_parts (inl p) = Event p.0 p.1.0 p.1.1.0 p.1.1.1
+of_parts (inr (inl p)) = Withdraw p.0 p.1
+of_parts (inr (inr p)) = Announce p.0 p.1.0 p.1.1.0 p.1.1.1
 
-pub event_of-event_parts : (said : Record) → event_of (event_parts said) ≡ said
-event_of-event_parts (Event origin tag input value) = refl
+abbrev pub of_parts-parts : (said : Record) → of_parts (parts said) ≡ said
+of_parts-parts (Event origin tag input value) = refl
+of_parts-parts (Withdraw origin tag) = refl
+of_parts-parts (Announce origin tag events withdrawn) = refl
 
 -- a record is stored as what it says
 abbrev pub record_code : Coded Record
-record_code = code_by EventParts (coded× coded_ℕ (coded× moment_code (coded× coded_ℕ coded_ℤ))) event_parts event_of event_of-event_parts
+record_code =
+    code_by Parts
+    (coded⊎ (coded× coded_ℕ (coded× moment_code (coded× coded_ℕ coded_ℤ)))
+    (coded⊎ (coded× coded_ℕ moment_code) (coded× coded_ℕ (coded× moment_code (coded× coded_ℕ coded_ℕ)))))
+    parts of_parts of_parts-parts

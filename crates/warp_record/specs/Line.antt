@@ -1,51 +1,53 @@
 -- The lines that come in, their ranges, and the one spelling of each.
-use Rattle.std.specs.Prelude.{ℕ, ℤ, ◌<◌, ◌≤◌, List, [], ◌∷◌, codes, decimal, FitsSigned}
-use Rattle.std.specs.Int.{w64}
-use Rattle.std.specs.Fmt.{signed_decimal}
+use Rattle.std.specs.Prelude.{ℕ, ◌≤◌, List, [], ◌∷◌, codes, decimal}
 use Rattle.std.specs.List.{join_with_byte}
-use Rattle.warp_tag.specs.Moment.{Moment, IsInRange}
-use Rattle.warp_tag.specs.Limits.{most_origins, most_inputs, last_number}
-use Rattle.warp_record.specs.declared.line.Record.{Record}
-use Rattle.warp_record.specs.declared.line.Record.TheVariants.{Event}
+use Rattle.warp_tag.specs.Limits.{last_number}
+use Rattle.warp_record.specs.Record.{IsRecord, record_words}
 use Rattle.warp_record.specs.declared.line.Query.{Query}
-use Rattle.warp_record.specs.declared.line.Query.TheVariants.{Var}
+use Rattle.warp_record.specs.declared.line.Query.TheVariants.{Var, Outputs, Output, Lost, Log}
+use Rattle.warp_record.specs.declared.line.Look.{Look}
+use Rattle.warp_record.specs.declared.line.Look.TheVariants.{Board, Row}
 use Rattle.warp_record.specs.declared.line.Line.{Line}
-use Rattle.warp_record.specs.declared.line.Line.TheVariants.{Put, Ask}
-
--- the ranges of an event
-pub record IsEvent (origin : ℕ) (tag : Moment) (input : ℕ) (value : ℤ) : Type 0 where
-  pub origin_fits : origin < most_origins
-  pub tag_fits : IsInRange tag
-  pub input_fits : input < most_inputs
-  pub value_fits : FitsSigned w64 value
-
--- the ranges of a record
-abbrev pub IsRecord : Record → Type 0
-IsRecord (Event origin tag input value) = IsEvent origin tag input value
+use Rattle.warp_record.specs.declared.line.Line.TheVariants as line
 
 -- the ranges of a query
 abbrev pub IsQuery : Query → Type 0
 IsQuery (Var number) = number ≤ last_number
+IsQuery Outputs = Unit {0}
+IsQuery (Output number) = number ≤ last_number
+IsQuery Lost = Unit {0}
+IsQuery (Log place) = place ≤ last_number
+
+-- the ranges of a look at the board
+abbrev pub IsLook : Look → Type 0
+IsLook Board = Unit {0}
+IsLook (Row number) = number ≤ last_number
 
 -- the ranges of a line
 abbrev pub IsLine : Line → Type 0
-IsLine (Put record_line) = IsRecord record_line
-IsLine (Ask query) = IsQuery query
-
--- the words of a record
-abbrev pub record_words : Record → List (List ℕ)
-record_words (Event origin tag input value) =
-    codes "event" ∷ decimal origin ∷ decimal tag.time ∷ decimal tag.microstep ∷ decimal input ∷ signed_decimal value ∷ []
+IsLine (line.Put said) = IsRecord said
+IsLine (line.Ask query) = IsQuery query
+IsLine (line.Look look) = IsLook look
 
 -- the words of a query
 abbrev pub query_words : Query → List (List ℕ)
 query_words (Var number) = codes "var" ∷ decimal number ∷ []
+query_words Outputs = codes "outputs" ∷ []
+query_words (Output number) = codes "output" ∷ decimal number ∷ []
+query_words Lost = codes "lost" ∷ []
+query_words (Log place) = codes "log" ∷ decimal place ∷ []
+
+-- the words of a look at the board
+abbrev pub look_words : Look → List (List ℕ)
+look_words Board = codes "board" ∷ []
+look_words (Row number) = codes "row" ∷ decimal number ∷ []
 
 -- the words of a line
 abbrev pub line_words : Line → List (List ℕ)
-line_words (Put record_line) = record_words record_line
-line_words (Ask query) = query_words query
+line_words (line.Put said) = record_words said
+line_words (line.Ask query) = query_words query
+line_words (line.Look look) = look_words look
 
 -- a line's text, without its line feed: its words, with one space between two
 abbrev pub spelling : Line → List ℕ
-spelling line = join_with_byte 32 (line_words line)
+spelling said = join_with_byte 32 (line_words said)

@@ -1,13 +1,16 @@
 -- The replies, their ranges, and the one spelling of each.
-use Rattle.std.specs.Prelude.{ℕ, ◌≤◌, List, [], ◌∷◌, codes, decimal, FitsSigned}
+use Rattle.std.specs.Prelude.{ℕ, Bool, true, false, ◌<◌, ◌≤◌, List, [], ◌∷◌, ◌++◌, codes, decimal, FitsSigned}
 use Rattle.std.specs.Int.{w64}
 use Rattle.std.specs.Fmt.{signed_decimal}
 use Rattle.std.specs.List.{join_with_byte}
-use Rattle.warp_tag.specs.Limits.{most_records}
+use Rattle.warp_tag.specs.Moment.{IsInRange}
+use Rattle.warp_tag.specs.Limits.{most_records, most_outputs, most_rows, greatest_count}
+use Rattle.warp_step.specs.declared.out.Out.{Out}
+use Rattle.warp_record.specs.Record.{IsRecord, record_words, tag_words}
 use Rattle.warp_record.specs.declared.reply.Refusal.{Refusal}
 use Rattle.warp_record.specs.declared.reply.Refusal.TheVariants.{Syntax, NoOrigin, PastStop, NoInput, NotYours, NoVar, LogFull, NoMemory, TooLong, Busy, NoBoard}
 use Rattle.warp_record.specs.declared.reply.Reply.{Reply}
-use Rattle.warp_record.specs.declared.reply.Reply.TheVariants.{Taken, Known, Refused, Var}
+use Rattle.warp_record.specs.declared.reply.Reply.TheVariants.{Taken, Known, Refused, Var, Outputs, Output, Nothing, Horizon, Released, Lost, Breach, Log, Collected, Board, Row, NoRow}
 
 -- the number of a refusal
 abbrev pub refusal_number : Refusal → ℕ
@@ -23,12 +26,47 @@ refusal_number TooLong = 9
 refusal_number Busy = 10
 refusal_number NoBoard = 11
 
--- the ranges of a reply: places from 1, and lengths of the log
+-- a place of the log
+abbrev pub IsPlace : ℕ → Type 0
+IsPlace place = (1 ≤ place) × (place ≤ most_records)
+
+-- the length of a log
+abbrev pub IsLength : ℕ → Type 0
+IsLength log = log ≤ most_records
+
+-- the ranges of an output
+pub record IsOut (out : Out) : Type 0 where
+  pub tag_fits : IsInRange out.tag
+  pub port_fits : out.port < most_outputs
+  pub value_fits : FitsSigned w64 out.value
+
+-- the ranges of a reply
 abbrev pub IsReply : Reply → Type 0
-IsReply (Taken place) = (1 ≤ place) × (place ≤ most_records)
-IsReply (Known place) = (1 ≤ place) × (place ≤ most_records)
+IsReply (Taken place) = IsPlace place
+IsReply (Known place) = IsPlace place
 IsReply (Refused refusal) = Unit {0}
-IsReply (Var log value) = (log ≤ most_records) × FitsSigned w64 value
+IsReply (Var log value) = IsLength log × FitsSigned w64 value
+IsReply (Outputs log count) = IsLength log × (count ≤ greatest_count)
+IsReply (Output log out) = IsLength log × IsOut out
+IsReply (Nothing log) = IsLength log
+IsReply (Horizon log tag) = IsLength log × IsInRange tag
+IsReply (Released log count) = IsLength log × (count ≤ greatest_count)
+IsReply (Lost log count) = IsLength log × (count ≤ greatest_count)
+IsReply (Breach log broken) = IsLength log
+IsReply (Log log said) = IsLength log × IsRecord said
+IsReply (Collected log) = IsLength log
+IsReply (Board count frozen) = count ≤ most_rows
+IsReply (Row out) = IsOut out
+IsReply NoRow = Unit {0}
+
+-- the words of an output
+abbrev pub out_words : Out → List (List ℕ)
+out_words out = tag_words out.tag ++ decimal out.port ∷ signed_decimal out.value ∷ []
+
+-- the word of a flag
+abbrev pub flag_word : Bool → List ℕ
+flag_word true = codes "1"
+flag_word false = codes "0"
 
 -- the words of a reply
 abbrev pub reply_words : Reply → List (List ℕ)
@@ -36,6 +74,18 @@ reply_words (Taken place) = codes "taken" ∷ decimal place ∷ []
 reply_words (Known place) = codes "known" ∷ decimal place ∷ []
 reply_words (Refused refusal) = codes "refused" ∷ decimal (refusal_number refusal) ∷ []
 reply_words (Var log value) = codes "var" ∷ decimal log ∷ signed_decimal value ∷ []
+reply_words (Outputs log count) = codes "outputs" ∷ decimal log ∷ decimal count ∷ []
+reply_words (Output log out) = codes "output" ∷ decimal log ∷ out_words out
+reply_words (Nothing log) = codes "none" ∷ decimal log ∷ []
+reply_words (Horizon log tag) = codes "horizon" ∷ decimal log ∷ tag_words tag
+reply_words (Released log count) = codes "released" ∷ decimal log ∷ decimal count ∷ []
+reply_words (Lost log count) = codes "lost" ∷ decimal log ∷ decimal count ∷ []
+reply_words (Breach log broken) = codes "breach" ∷ decimal log ∷ flag_word broken ∷ []
+reply_words (Log log said) = codes "log" ∷ decimal log ∷ record_words said
+reply_words (Collected log) = codes "collected" ∷ decimal log ∷ []
+reply_words (Board count frozen) = codes "board" ∷ decimal count ∷ flag_word frozen ∷ []
+reply_words (Row out) = codes "row" ∷ out_words out
+reply_words NoRow = codes "none" ∷ []
 
 -- a reply's text, without its line feed: its words, with one space between two
 abbrev pub reply_spelling : Reply → List ℕ

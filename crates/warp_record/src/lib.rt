@@ -3,11 +3,20 @@
 //! A line that comes in and a reply that goes out each have one spelling in bytes. Nothing here takes memory.
 #![tactic(auto)]
 
+mod count;
 mod feed;
+mod law;
 mod line;
 mod number;
+mod record;
 mod reply;
+mod room;
+mod words;
 
+pub use count::{Count, MAX_COUNT};
 pub use feed::{Fed, Feed, MAX_LINE};
-pub use line::{LAST_INPUT, LAST_ORIGIN, Line, Query, Record, one_spelling, read_line};
-pub use reply::{REPLY_ROOM, Refusal, Reply, write_reply};
+pub use law::{no_front, no_line_feed, one_reply_spelling, one_spelling};
+pub use line::{Line, Look, Query, read_line};
+pub use record::{LAST_INPUT, LAST_ORIGIN, Record, write_record};
+pub use reply::{Refusal, Reply, read_reply, write_reply};
+pub use room::REPLY_ROOM;

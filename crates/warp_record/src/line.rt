@@ -1,40 +1,58 @@
 //! The lines that come in: their type, and reading them. Each has one spelling.
-ghost use Rattle.std.specs.Prelude.{◌≡◌, ℕ, ◌++◌, IfSome, IfNone, codes};
+ghost use Rattle.std.specs.Prelude.{◌≡◌, ℕ, ◌≤◌, IfSome, IfNone, decimal, map};
+ghost use Rattle.warp_tag.specs.Limits.{last_number};
 ghost use Rattle.warp_record.specs.declared.line.Line.{Line};
+ghost use Rattle.warp_record.specs.declared.line.Look.{Look};
 ghost use Rattle.warp_record.specs.declared.line.Query.{Query};
-ghost use Rattle.warp_record.specs.declared.line.Record.{Record};
-ghost use Rattle.warp_record.specs.Line.{IsLine, IsQuery, IsRecord, spelling};
+ghost use Rattle.warp_record.specs.Line.{IsLine, IsLook, IsQuery, line_words, look_words, query_words, spelling};
 
-use crate::number::{read_field, read_int, read_number, split_word};
-use warp_tag::{LAST_MICROSTEP, MAX_TIME, Tag};
+use crate::number::read_u32;
+use crate::record::{Record, read_record};
+use crate::words::{is_keyword, split_words};
 
-/// The last origin that a line can name.
-pub const LAST_ORIGIN: u32 = 31;
+/// The first word of a query for a variable.
+pub(crate) const VAR: &[u8] = b"var";
 
-/// The last program input that a line can name.
-pub const LAST_INPUT: u32 = 63;
+/// The word of a query for the number of outputs.
+pub(crate) const OUTPUTS: &[u8] = b"outputs";
 
-/// What an origin has to say.
-#[derive(Clone, Copy, Debug, PartialEq, Eq, Hash)]
-pub enum Record {
-    /// An event `event O T M I V`: at its tag a program input has a value.
-    Event {
-        /// Who says so, 0 to `LAST_ORIGIN`.
-        origin: u32,
-        /// When.
-        tag: Tag,
-        /// The number of the program input, 0 to `LAST_INPUT`.
-        input: u32,
-        /// The input's value.
-        value: i64,
-    },
-}
+/// The first word of a query for an output.
+pub(crate) const OUTPUT: &[u8] = b"output";
 
-/// A question about the state.
+/// The word of a query for what was lost.
+pub(crate) const LOST: &[u8] = b"lost";
+
+/// The first word of a query for a place of the log.
+pub(crate) const LOG: &[u8] = b"log";
+
+/// A question about the state. Each reply tells the length of the log.
 #[derive(Clone, Copy, Debug, PartialEq, Eq)]
 pub enum Query {
-    /// `var K`: the value of the variable with this number.
+    /// `var K`: the value of the variable with this number, after the last row.
     Var(u32),
+    /// `outputs`: how many outputs there are.
+    Outputs,
+    /// `output I`: the output with this number, from 0.
+    Output(u32),
+    /// `lost`: how much was lost, past the last microstep or the most pending entries.
+    Lost,
+    /// `log I`: the record at this place of the log, from 1.
+    Log(u32),
+}
+
+/// The word of a look at the board's size.
+pub(crate) const BOARD: &[u8] = b"board";
+
+/// The first word of a look at a row.
+pub(crate) const ROW: &[u8] = b"row";
+
+/// A look at the board, where there is one.
+#[derive(Clone, Copy, Debug, PartialEq, Eq)]
+pub enum Look {
+    /// `board`: how many rows are released, and whether the board is frozen.
+    Board,
+    /// `row I`: the row with this number, from 0.
+    Row(u32),
 }
 
 /// A line that came in.
@@ -44,34 +62,57 @@ pub enum Line {
     Put(Record),
     /// A query to answer.
     Ask(Query),
+    /// A look at the board.
+    Look(Look),
 }
 
-/// The event whose words behind `event ` these are.
-fn read_event(bytes: &[u8]) -> Option<Record>
-    ensures found { IfSome result (λ event. IsRecord event × (codes "event " ++ bytes.now ≡ spelling (Line.Put event))) }
-    ensures none { IfNone result ((event : Record) → IsRecord event → codes "event " ++ bytes.now ≡ spelling (Line.Put event) → ⊥) }
+/// The number of a variable, an output, a place or a row, which the word spells.
+fn read_index(word: &[u8]) -> Option<u32>
+    ensures found { IfSome result (λ number. (number ≤ last_number) × (word.now ≡ decimal number)) }
+    ensures none { IfNone result ((number : ℕ) → number ≤ last_number → word.now ≡ decimal number → ⊥) }
 {
-    let (origin, rest) = read_field(bytes, u64::from(LAST_ORIGIN))?;
-    let (time, rest) = read_field(rest, MAX_TIME)?;
-    let (micro, rest) = read_field(rest, u64::from(LAST_MICROSTEP))?;
-    let (input, rest) = read_field(rest, u64::from(LAST_INPUT))?;
-    let value = read_int(rest)?;
-    let tag = Tag::new(time, micro as u32)?;
-    Some(Record::Event {
-        origin: origin as u32,
-        tag,
-        input: input as u32,
-        value,
-    })
+    read_u32(word, u32::MAX)
 }
 
-/// The query whose words behind `var ` these are.
-fn read_var(bytes: &[u8]) -> Option<Query>
-    ensures found { IfSome result (λ query. IsQuery query × (codes "var " ++ bytes.now ≡ spelling (Line.Ask query))) }
-    ensures none { IfNone result ((number : ℕ) → IsQuery (Query.Var number) → codes "var " ++ bytes.now ≡ spelling (Line.Ask (Query.Var number)) → ⊥) }
+/// The query in range whose words these are; `None` where there is none.
+fn read_query(words: &[&[u8]]) -> Option<Query>
+    ensures found { IfSome result (λ query. IsQuery query × (map (λ word. word.now) words.now ≡ query_words query)) }
+    ensures none { IfNone result ((query : Query) → IsQuery query → map (λ word. word.now) words.now ≡ query_words query → ⊥) }
 {
-    let number = read_number(bytes, u64::from(u32::MAX))?;
-    Some(Query::Var(number as u32))
+    match words {
+        [word] if is_keyword(word, OUTPUTS) => Some(Query::Outputs),
+        [word] if is_keyword(word, LOST) => Some(Query::Lost),
+        [word, number] if is_keyword(word, VAR) => Some(Query::Var(read_index(number)?)),
+        [word, number] if is_keyword(word, OUTPUT) => Some(Query::Output(read_index(number)?)),
+        [word, place] if is_keyword(word, LOG) => Some(Query::Log(read_index(place)?)),
+        _ => None,
+    }
+}
+
+/// The look in range whose words these are; `None` where there is none.
+fn read_look(words: &[&[u8]]) -> Option<Look>
+    ensures found { IfSome result (λ look. IsLook look × (map (λ word. word.now) words.now ≡ look_words look)) }
+    ensures none { IfNone result ((look : Look) → IsLook look → map (λ word. word.now) words.now ≡ look_words look → ⊥) }
+{
+    match words {
+        [word] if is_keyword(word, BOARD) => Some(Look::Board),
+        [word, number] if is_keyword(word, ROW) => Some(Look::Row(read_index(number)?)),
+        _ => None,
+    }
+}
+
+/// The line in range whose words these are; `None` where there is none.
+fn line_of(words: &[&[u8]]) -> Option<Line>
+    ensures found { IfSome result (λ line. IsLine line × (map (λ word. word.now) words.now ≡ line_words line)) }
+    ensures none { IfNone result ((line : Line) → IsLine line → map (λ word. word.now) words.now ≡ line_words line → ⊥) }
+{
+    if let Some(record) = read_record(words) {
+        return Some(Line::Put(record));
+    }
+    if let Some(query) = read_query(words) {
+        return Some(Line::Ask(query));
+    }
+    Some(Line::Look(read_look(words)?))
 }
 
 /// The line in range with this spelling; `None` where there is none.
@@ -79,28 +120,18 @@ pub fn read_line(bytes: &[u8]) -> Option<Line>
     ensures found { IfSome result (λ line. IsLine line × (bytes.now ≡ spelling line)) }
     ensures none { IfNone result ((line : Line) → IsLine line → bytes.now ≡ spelling line → ⊥) }
 {
-    let (word, rest) = split_word(bytes)?;
-    if word == b"event".as_slice() {
-        Some(Line::Put(read_event(rest)?))
-    } else if word == b"var".as_slice() {
-        Some(Line::Ask(read_var(rest)?))
-    } else {
-        None
-    }
+    let words = split_words(bytes)?;
+    line_of(&words)
 }
-
-/// A law: two lines in range with one spelling are one line.
-pub fn one_spelling()
-    ensures { (a b : Line) → IsLine a → IsLine b → spelling a ≡ spelling b → a ≡ b }
-{}
 
 #[cfg(test)]
 mod tests {
     use super::*;
+    use crate::count::Count;
+    use warp_tag::Tag;
 
-    /// The line of an event with microstep 0.
-    fn event(origin: u32, time: u64, input: u32, value: i64) -> Option<Line> {
-        let tag = Tag::new(time, 0)?;
+    fn event(origin: u32, time: u64, micro: u32, input: u32, value: i64) -> Option<Line> {
+        let tag = Tag::new(time, micro)?;
         Some(Line::Put(Record::Event {
             origin,
             tag,
@@ -109,48 +140,123 @@ mod tests {
         }))
     }
 
+    fn withdrawal(origin: u32, time: u64, micro: u32) -> Option<Line> {
+        let tag = Tag::new(time, micro)?;
+        Some(Line::Put(Record::Withdraw { origin, tag }))
+    }
+
+    fn announcement(
+        origin: u32,
+        time: u64,
+        micro: u32,
+        events: u32,
+        withdrawn: u32,
+    ) -> Option<Line> {
+        let tag = Tag::new(time, micro)?;
+        let events = Count::new(events)?;
+        let withdrawn = Count::new(withdrawn)?;
+        Some(Line::Put(Record::Announce {
+            origin,
+            tag,
+            events,
+            withdrawn,
+        }))
+    }
+
     #[test]
-    fn lines(rt: HostRuntime) {
-        let rows: [(&[u8], Option<Line>); 10] = [
-            (b"event 0 5 0 1 3", event(0, 5, 1, 3)),
-            (b"event 2 5 0 0 3", event(2, 5, 0, 3)),
+    fn records(rt: HostRuntime) {
+        let rows: [(&[u8], Option<Line>); 8] = [
             (
-                b"event 0 1 0 0 -9223372036854775808",
-                event(0, 1, 0, i64::MIN),
+                b"event 0 0 0 0 -9223372036854775808",
+                event(0, 0, 0, 0, i64::MIN),
             ),
             (
-                b"event 31 1000001 0 63 9223372036854775807",
-                event(31, 1_000_001, 63, i64::MAX),
+                b"event 31 1000001 15 63 9223372036854775807",
+                event(31, 1_000_001, 15, 63, i64::MAX),
             ),
-            (b"var 0", Some(Line::Ask(Query::Var(0)))),
+            (b"event 2 5 1 3 0", event(2, 5, 1, 3, 0)),
+            (b"withdraw 0 0 0", withdrawal(0, 0, 0)),
+            (b"withdraw 31 1000001 15", withdrawal(31, 1_000_001, 15)),
+            (b"announce 0 0 0 0 0", announcement(0, 0, 0, 0, 0)),
             (
-                b"var 4294967295",
-                Some(Line::Ask(Query::Var(4_294_967_295))),
+                b"announce 31 1000001 15 100000 100000",
+                announcement(31, 1_000_001, 15, 100_000, 100_000),
             ),
-            (b"event 00 5 0 0 3", None),
-            (b"event 0 1 0 0 -0", None),
-            (b"event 0 1 16 0 1", None),
-            (b"var", None),
+            (b"announce 1 2 3 4 5", announcement(1, 2, 3, 4, 5)),
         ];
         for (text, line) in rows {
+            assert!(rt; line.is_some());
             assert_eq!(rt; read_line(text), line);
         }
     }
 
     #[test]
+    fn queries_and_looks(rt: HostRuntime) {
+        let rows: [(&[u8], Line); 11] = [
+            (b"var 0", Line::Ask(Query::Var(0))),
+            (b"var 4294967295", Line::Ask(Query::Var(u32::MAX))),
+            (b"outputs", Line::Ask(Query::Outputs)),
+            (b"output 0", Line::Ask(Query::Output(0))),
+            (b"output 4294967295", Line::Ask(Query::Output(u32::MAX))),
+            (b"lost", Line::Ask(Query::Lost)),
+            (b"log 0", Line::Ask(Query::Log(0))),
+            (b"log 4294967295", Line::Ask(Query::Log(u32::MAX))),
+            (b"board", Line::Look(Look::Board)),
+            (b"row 0", Line::Look(Look::Row(0))),
+            (b"row 4294967295", Line::Look(Look::Row(u32::MAX))),
+        ];
+        for (text, line) in rows {
+            assert_eq!(rt; read_line(text), Some(line));
+        }
+    }
+
+    #[test]
     fn no_lines(rt: HostRuntime) {
-        let rows: [&[u8]; 11] = [
+        let rows: [&[u8]; 44] = [
             b"",
+            b" ",
+            b"var",
             b"var  0",
             b" var 0",
             b"var 0 ",
             b"var 0\r",
             b"var +1",
+            b"var 00",
             b"var 4294967296",
+            b"var 0 0",
+            b"Var 0",
+            b"outputs 0",
+            b"output",
+            b"output 4294967296",
+            b"lost 0",
+            b"log",
+            b"log 4294967296",
+            b"board 1",
+            b"row",
+            b"row -1",
+            b"event 00 5 0 0 3",
+            b"event 0 5 0 0",
+            b"event 0 5 0 0 3 4",
+            b"event 0 5 0 0 3 4 5 6 7",
             b"event 32 1 0 0 1",
             b"event 0 1000002 0 0 1",
+            b"event 0 1 16 0 1",
             b"event 0 1 0 64 1",
+            b"event 0 1 0 0 -0",
             b"event 0 1 0 0 9223372036854775808",
+            b"event 0 1 0 0 -9223372036854775809",
+            b"withdraw 0 5",
+            b"withdraw 0 5 0 0",
+            b"withdraw 32 5 0",
+            b"withdraw 0 1000002 0",
+            b"announce 0 5 0 1",
+            b"announce 0 5 0 100001 0",
+            b"announce 0 5 0 0 100001",
+            b"announce 0 5 0 0 0 0",
+            b"horizon",
+            b"released",
+            b"breach 0",
+            b"collect",
         ];
         for text in rows {
             assert_eq!(rt; read_line(text), None);

@@ -1,10 +1,11 @@
-//! Reading of words that are numbers. Each number has one spelling: no leading zero, no `+`, no `-0`.
-ghost use Rattle.std.specs.Prelude.{◌≡◌, ℕ, ℤ, ◌+◌, ◌*◌, ◌<◌, ◌≤◌, ◌^◌, List, ◌∷◌, ◌++◌, IfSome, IfNone, SomeIff, IsTrue, ◌↔◌, length, slice_index, FitsSigned, decimal};
+//! Words that are numbers, read and written. Each number has one spelling: no leading zero, no `+`, no `-0`.
+ghost use Rattle.std.specs.Prelude.{◌≡◌, ℕ, ℤ, ◌+◌, ◌*◌, ◌<◌, ◌≤◌, ◌^◌, ◌∷◌, ◌++◌, IfSome, IfNone, SomeIff, IsTrue, ◌↔◌, length, slice_index, FitsSigned, decimal, vec_len, vec_capacity};
 ghost use Rattle.std.specs.Char.{digit_value};
 ghost use Rattle.std.specs.Fmt.{signed_decimal};
 ghost use Rattle.std.specs.Int.{w64};
 ghost use Rattle.std.specs.Str.Parse.{AllDigits, digits_value};
-ghost use Rattle.warp_record.specs.Number.{IsOneWord};
+
+use itoa::{Buffer, Integer};
 
 /// The number with one more digit, where the byte is a digit and it fits.
 fn with_digit(number: u64, byte: u8) -> Option<u64>
@@ -49,6 +50,14 @@ pub fn read_number(word: &[u8], max: u64) -> Option<u64>
     if number <= max { Some(number) } else { None }
 }
 
+/// The number up to `max` that the word spells, which fits 32 bits.
+pub(crate) fn read_u32(word: &[u8], max: u32) -> Option<u32>
+    ensures found { IfSome result (λ number. (number ≤ max) × (word.now ≡ decimal number)) }
+    ensures none { IfNone result ((number : ℕ) → number ≤ max → word.now ≡ decimal number → ⊥) }
+{
+    Some(read_number(word, u64::from(max))? as u32)
+}
+
 /// The signed number that the word spells.
 pub fn read_int(word: &[u8]) -> Option<i64>
     ensures found { IfSome result (λ number. word.now ≡ signed_decimal number) }
@@ -63,21 +72,25 @@ pub fn read_int(word: &[u8]) -> Option<i64>
     }
 }
 
-/// The first word and what stands after the space behind it; `None` where there is no space.
-pub fn split_word(bytes: &[u8]) -> Option<(&[u8], &[u8])>
-    ensures found { IfSome result (λ parts. (bytes.now ≡ parts.0.now ++ 32 ∷ parts.1.now) × IsOneWord parts.0.now) }
-    ensures none { IfNone result (IsOneWord bytes.now) }
+/// Appends the text, for which there is room.
+pub fn append(out: &mut Vec<u8>, text: &[u8])
+    requires { vec_len out.old + length text.now ≤ vec_capacity out.old }
+    ensures items { out.new.items ≡ out.old.items ++ text.now }
+    ensures len { vec_len out.new ≡ vec_len out.old + length text.now }
+    ensures capacity { vec_capacity out.old ≤ vec_capacity out.new }
 {
-    let end = bytes.iter().position(|byte| *byte == b' ')?;
-    Some((&bytes[..end], &bytes[end + 1..]))
+    // There is room, so nothing can be refused.
+    let _ = out.extend_from_slice(text);
 }
 
-/// The number up to `max` that the first word spells, and what stands after the space behind it.
-pub fn read_field(bytes: &[u8], max: u64) -> Option<(u64, &[u8])>
-    ensures found { IfSome result (λ field. (field.0 ≤ max) × (bytes.now ≡ decimal field.0 ++ 32 ∷ field.1.now)) }
-    ensures none { IfNone result ((number : ℕ) (rest : List ℕ) → number ≤ max → bytes.now ≡ decimal number ++ 32 ∷ rest → ⊥) }
+/// Appends a space and the number, for which there is room.
+pub fn append_number<I: Integer>(out: &mut Vec<u8>, number: I)
+    requires { vec_len out.old + (I.MAX_STR_LEN + 1) ≤ vec_capacity out.old }
+    ensures items { out.new.items ≡ out.old.items ++ 32 ∷ I.text number }
+    ensures len { vec_len out.new ≤ vec_len out.old + (I.MAX_STR_LEN + 1) }
+    ensures capacity { vec_capacity out.old ≤ vec_capacity out.new }
 {
-    let (word, rest) = split_word(bytes)?;
-    let number = read_number(word, max)?;
-    Some((number, rest))
+    out.push_reserved(b' ');
+    let mut buffer = Buffer::new();
+    append(out, buffer.format(number).as_bytes());
 }

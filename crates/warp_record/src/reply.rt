@@ -1,12 +1,59 @@
-//! The replies, and writing them.
-ghost use Rattle.std.specs.Prelude.{◌≡◌, ℕ, ◌+◌, ◌<◌, ◌≤◌, ◌∷◌, ◌++◌, length, codes, vec_len, vec_capacity};
+//! The replies, and the one spelling of each, read and written.
+ghost use Rattle.std.specs.Prelude.{◌≡◌, ◌≢◌, ℕ, Bool, codes, map, ◌+◌, ◌<◌, ◌≤◌, [], ◌∷◌, ◌++◌, IfSome, IfNone, decimal, length, vec_len, vec_capacity};
+ghost use Rattle.std.specs.List.{join_with_byte};
+ghost use Rattle.warp_tag.specs.Limits.{greatest_count, most_records};
+ghost use Rattle.warp_tag.specs.Moment.{Moment, IsInRange};
+ghost use Rattle.warp_step.specs.declared.out.Out.{Out};
+ghost use Rattle.warp_record.specs.declared.record.Record.{Record};
+ghost use Rattle.warp_record.specs.declared.reply.Refusal.{Refusal};
 ghost use Rattle.warp_record.specs.declared.reply.Reply.{Reply};
-ghost use Rattle.warp_record.specs.Reply.{refusal_number, reply_spelling};
+ghost use Rattle.warp_record.specs.Record.{IsRecord, record_words, tag_words};
+ghost use Rattle.warp_record.specs.Reply.{IsOut, IsReply, flag_word, out_words, refusal_number, reply_spelling, reply_words};
 
-use itoa::{Buffer, Integer};
+use crate::count::MAX_COUNT;
+use crate::number::{append, append_number, read_int, read_number, read_u32};
+use crate::record::{Record, append_record, append_tag, read_record, read_tag};
+use crate::room::REPLY_ROOM;
+use crate::words::{is_keyword, split_words};
+use warp_step::Out;
+use warp_tag::Tag;
 
-/// The room that writing one reply asks for, in bytes; a line feed behind it has room too.
-pub const REPLY_ROOM: usize = 128;
+// The first word of each reply. That of `none` stands alone or before a length.
+const TAKEN: &[u8] = b"taken";
+
+const KNOWN: &[u8] = b"known";
+
+const REFUSED: &[u8] = b"refused";
+
+const VAR: &[u8] = b"var";
+
+const OUTPUTS: &[u8] = b"outputs";
+
+const OUTPUT: &[u8] = b"output";
+
+const NONE: &[u8] = b"none";
+
+const HORIZON: &[u8] = b"horizon";
+
+const RELEASED: &[u8] = b"released";
+
+const LOST: &[u8] = b"lost";
+
+const BREACH: &[u8] = b"breach";
+
+const LOG: &[u8] = b"log";
+
+const COLLECTED: &[u8] = b"collected";
+
+const BOARD: &[u8] = b"board";
+
+const ROW: &[u8] = b"row";
+
+/// The last program output that a reply can name.
+const LAST_PORT: u32 = 63;
+
+/// The most rows of a board.
+const MAX_ROWS: u32 = 4096;
 
 /// Why a line was refused. The numbers 1 to 11 stand in this order.
 #[derive(Clone, Copy, Debug, PartialEq, Eq)]
@@ -35,22 +82,92 @@ pub enum Refusal {
     NoBoard,
 }
 
-/// The answer to a line.
+/// The answer to a line. Lengths of a log and places in it are up to 100,000.
 #[derive(Clone, Copy, Debug, PartialEq, Eq)]
 pub enum Reply {
-    /// `taken P`: the record is new, and stands at this place of the log, 1 to 100,000.
+    /// `taken P`: the record is new, and stands at this place of the log, from 1.
     Taken(u32),
-    /// `known P`: the record was there before, at this place of the log, 1 to 100,000.
+    /// `known P`: the record was there before, at this place of the log, from 1.
     Known(u32),
     /// `refused K`.
     Refused(Refusal),
     /// `var N V`: the value of a variable.
     Var {
-        /// The length of the log at which the answer was given, 0 to 100,000.
+        /// The length of the log at which the answer was given.
         log: u32,
         /// The variable's value.
         value: i64,
     },
+    /// `outputs N C`: how many outputs there are.
+    Outputs {
+        /// The length of the log at which the answer was given.
+        log: u32,
+        /// How many.
+        count: u64,
+    },
+    /// `output N T M P V`: an output.
+    Output {
+        /// The length of the log at which the answer was given.
+        log: u32,
+        /// The output.
+        output: Out,
+    },
+    /// `none N`: there is no such output, or no such place in the log.
+    Nothing {
+        /// The length of the log at which the answer was given.
+        log: u32,
+    },
+    /// `horizon N T M`: the tag before which outputs are released.
+    Horizon {
+        /// The length of the log at which the answer was given.
+        log: u32,
+        /// The horizon.
+        tag: Tag,
+    },
+    /// `released N C`: how many outputs are released.
+    Released {
+        /// The length of the log at which the answer was given.
+        log: u32,
+        /// How many.
+        count: u64,
+    },
+    /// `lost N C`: how much was lost.
+    Lost {
+        /// The length of the log at which the answer was given.
+        log: u32,
+        /// How much.
+        count: u64,
+    },
+    /// `breach N B`: whether an origin said too little in an announcement, 0 or 1.
+    Breach {
+        /// The length of the log at which the answer was given.
+        log: u32,
+        /// Whether it did.
+        broken: bool,
+    },
+    /// `log N` and a record's line: a record of the log.
+    Log {
+        /// The length of the log at which the answer was given.
+        log: u32,
+        /// The record.
+        record: Record,
+    },
+    /// `collected N`: what no later record can change was given up.
+    Collected {
+        /// The length of the log at which the answer was given.
+        log: u32,
+    },
+    /// `board C F`: what a board has.
+    Board {
+        /// How many rows, up to 4,096.
+        count: u32,
+        /// Whether it is frozen, 0 or 1.
+        frozen: bool,
+    },
+    /// `row T M P V`: a row of a board, which is an output.
+    Row(Out),
+    /// `none`: the board has no such row.
+    NoRow,
 }
 
 impl Refusal {
@@ -72,85 +189,501 @@ impl Refusal {
             Refusal::NoBoard => 11,
         }
     }
+
+    /// The refusal with this number; `None` where there is none.
+    fn from_number(number: u32) -> Option<Refusal>
+        ensures found { IfSome result (λ refusal. refusal_number refusal ≡ number) }
+        ensures none { IfNone result ((refusal : Refusal) → refusal_number refusal ≡ number → ⊥) }
+    {
+        match number {
+            1 => Some(Refusal::Syntax),
+            2 => Some(Refusal::NoOrigin),
+            3 => Some(Refusal::PastStop),
+            4 => Some(Refusal::NoInput),
+            5 => Some(Refusal::NotYours),
+            6 => Some(Refusal::NoVar),
+            7 => Some(Refusal::LogFull),
+            8 => Some(Refusal::NoMemory),
+            9 => Some(Refusal::TooLong),
+            10 => Some(Refusal::Busy),
+            11 => Some(Refusal::NoBoard),
+            _ => None,
+        }
+    }
 }
 
-/// Appends the text, for which there is room.
-fn append(out: &mut Vec<u8>, text: &[u8])
-    requires { vec_len out.old + length text.now ≤ vec_capacity out.old }
-    ensures items { out.new.items ≡ out.old.items ++ text.now }
-    ensures len { vec_len out.new ≡ vec_len out.old + length text.now }
-    ensures capacity { vec_capacity out.old ≤ vec_capacity out.new }
+/// The count that the word spells.
+fn read_count(word: &[u8]) -> Option<u64>
+    ensures found { IfSome result (λ count. (count ≤ greatest_count) × (word.now ≡ decimal count)) }
+    ensures none { IfNone result ((count : ℕ) → count ≤ greatest_count → word.now ≡ decimal count → ⊥) }
 {
-    // There is room, so nothing can be refused.
-    let _ = out.extend_from_slice(text);
+    read_number(word, u64::MAX)
 }
 
-/// Appends a space and the number, for which there is room.
-fn append_number<I: Integer>(out: &mut Vec<u8>, number: I)
-    requires { vec_len out.old + 41 ≤ vec_capacity out.old }
-    ensures items { out.new.items ≡ out.old.items ++ 32 ∷ I.text number }
-    ensures len { vec_len out.new ≤ vec_len out.old + 41 }
+/// The flag that the word spells.
+fn read_flag(word: &[u8]) -> Option<bool>
+    ensures found { IfSome result (λ flag. word.now ≡ flag_word flag) }
+    ensures none { IfNone result ((flag : Bool) → word.now ≡ flag_word flag → ⊥) }
+{
+    match word {
+        b"0" => Some(false),
+        b"1" => Some(true),
+        _ => None,
+    }
+}
+
+/// The output that the words spell.
+fn read_output(words: &[&[u8]]) -> Option<Out>
+    ensures found { IfSome result (λ output. IsOut output × (map (λ word. word.now) words.now ≡ out_words output)) }
+    ensures none { IfNone result ((output : Out) → IsOut output →
+        map (λ word. word.now) words.now ≡ out_words output → ⊥) }
+{
+    let [time, micro, port, value] = words else {
+        return None;
+    };
+    let tag = read_tag(time, micro)?;
+    let port = read_u32(port, LAST_PORT)?;
+    let value = read_int(value)?;
+    Some(Out { tag, port, value })
+}
+
+/// The reply in range whose words are this keyword and this number alone; `None` where there is none.
+#[tactic(auto, using(crate::proofs::ReplyLemmas::same_number))]
+fn read_short(word: &[u8], number: u32) -> Option<Reply>
+    requires { number ≤ most_records }
+    ensures found { IfSome result (λ reply. IsReply reply × (word.now ∷ decimal number ∷ [] ≡ reply_words reply)) }
+    ensures none { IfNone result ((reply : Reply) → IsReply reply →
+        word.now ∷ decimal number ∷ [] ≡ reply_words reply → ⊥) }
+{
+    if is_keyword(word, TAKEN) && number > 0 {
+        Some(Reply::Taken(number))
+    } else if is_keyword(word, KNOWN) && number > 0 {
+        Some(Reply::Known(number))
+    } else if is_keyword(word, REFUSED) {
+        Refusal::from_number(number).map(Reply::Refused)
+    } else if is_keyword(word, NONE) {
+        Some(Reply::Nothing { log: number })
+    } else if is_keyword(word, COLLECTED) {
+        Some(Reply::Collected { log: number })
+    } else {
+        None
+    }
+}
+
+/// The reply in range whose words are this keyword, this number and one word more; `None` where there is none.
+#[tactic(auto, using(crate::proofs::ReplyLemmas::same_number))]
+fn read_middle(word: &[u8], number: u32, field: &[u8]) -> Option<Reply>
+    requires { number ≤ most_records }
+    ensures found { IfSome result (λ reply. IsReply reply ×
+        (word.now ∷ decimal number ∷ field.now ∷ [] ≡ reply_words reply)) }
+    ensures none { IfNone result ((reply : Reply) → IsReply reply →
+        word.now ∷ decimal number ∷ field.now ∷ [] ≡ reply_words reply → ⊥) }
+{
+    let log = number;
+    if is_keyword(word, VAR) {
+        read_int(field).map(|value| Reply::Var { log, value })
+    } else if is_keyword(word, OUTPUTS) {
+        read_count(field).map(|count| Reply::Outputs { log, count })
+    } else if is_keyword(word, RELEASED) {
+        read_count(field).map(|count| Reply::Released { log, count })
+    } else if is_keyword(word, LOST) {
+        read_count(field).map(|count| Reply::Lost { log, count })
+    } else if is_keyword(word, BREACH) {
+        read_flag(field).map(|broken| Reply::Breach { log, broken })
+    } else if is_keyword(word, BOARD) && number <= MAX_ROWS {
+        let count = number;
+        read_flag(field).map(|frozen| Reply::Board { count, frozen })
+    } else {
+        None
+    }
+}
+
+/// The reply in range whose words are this keyword, which is not a row's, this number and two words more or longer; `None`
+/// where there is none.
+#[tactic(auto, using(crate::proofs::ReplyLemmas::not_one_word))]
+fn read_long(word: &[u8], number: u32, fields: &[&[u8]]) -> Option<Reply>
+    requires range { number ≤ most_records }
+    requires fields { 1 < length fields.now }
+    requires no_row { word.now ≢ codes "row" }
+    ensures found { IfSome result (λ reply. IsReply reply ×
+        (word.now ∷ decimal number ∷ map (λ word. word.now) fields.now ≡ reply_words reply)) }
+    ensures none { IfNone result ((reply : Reply) → IsReply reply →
+        word.now ∷ decimal number ∷ map (λ word. word.now) fields.now ≡ reply_words reply → ⊥) }
+{
+    let log = number;
+    if is_keyword(word, HORIZON) {
+        let [time, micro] = fields else {
+            return None;
+        };
+        read_tag(time, micro).map(|tag| Reply::Horizon { log, tag })
+    } else if is_keyword(word, OUTPUT) {
+        read_output(fields).map(|output| Reply::Output { log, output })
+    } else if is_keyword(word, LOG) {
+        read_record(fields).map(|record| Reply::Log { log, record })
+    } else {
+        None
+    }
+}
+
+/// The reply in range with these words; `None` where there is none.
+fn read_words(words: &[&[u8]]) -> Option<Reply>
+    ensures found { IfSome result (λ reply. IsReply reply × (map (λ word. word.now) words.now ≡ reply_words reply)) }
+    ensures none { IfNone result ((reply : Reply) → IsReply reply →
+        map (λ word. word.now) words.now ≡ reply_words reply → ⊥) }
+{
+    match words {
+        [word] if is_keyword(word, NONE) => Some(Reply::NoRow),
+        [word, output @ ..] if is_keyword(word, ROW) => read_output(output).map(Reply::Row),
+        [word, number] => read_short(word, read_u32(number, MAX_COUNT)?),
+        [word, number, field] => read_middle(word, read_u32(number, MAX_COUNT)?, field),
+        [word, number, fields @ ..] => read_long(word, read_u32(number, MAX_COUNT)?, fields),
+        _ => None,
+    }
+}
+
+/// The reply in range with this spelling; `None` where there is none.
+pub fn read_reply(bytes: &[u8]) -> Option<Reply>
+    ensures found { IfSome result (λ reply. IsReply reply × (bytes.now ≡ reply_spelling reply)) }
+    ensures none { IfNone result ((reply : Reply) → IsReply reply → bytes.now ≡ reply_spelling reply → ⊥) }
+{
+    let words = split_words(bytes)?;
+    read_words(&words)
+}
+
+/// Appends the word and a number, for which there is room.
+fn append_numbered(out: &mut Vec<u8>, word: &[u8], number: u32)
+    requires { vec_len out.old + (length word.now + 11) ≤ vec_capacity out.old }
+    ensures items { out.new.items ≡ out.old.items ++ join_with_byte 32 (word.now ∷ decimal number ∷ []) }
+    ensures len { vec_len out.new ≤ vec_len out.old + (length word.now + 11) }
     ensures capacity { vec_capacity out.old ≤ vec_capacity out.new }
 {
-    out.push_reserved(b' ');
-    let mut buffer = Buffer::new();
-    append(out, buffer.format(number).as_bytes());
+    append(out, word);
+    append_number(out, number);
+}
+
+/// Appends the word, a number and a count, for which there is room.
+fn append_count(out: &mut Vec<u8>, word: &[u8], number: u32, count: u64)
+    requires { vec_len out.old + (length word.now + 32) ≤ vec_capacity out.old }
+    ensures items { out.new.items ≡ out.old.items ++ join_with_byte 32 (word.now ∷ decimal number ∷ decimal count ∷ []) }
+    ensures len { vec_len out.new ≤ vec_len out.old + (length word.now + 32) }
+    ensures capacity { vec_capacity out.old ≤ vec_capacity out.new }
+{
+    append_numbered(out, word, number);
+    append_number(out, count);
+}
+
+/// Appends the word, a number and a flag, for which there is room.
+fn append_flagged(out: &mut Vec<u8>, word: &[u8], number: u32, flag: bool)
+    requires { vec_len out.old + (length word.now + 13) ≤ vec_capacity out.old }
+    ensures items { out.new.items ≡ out.old.items ++ join_with_byte 32 (word.now ∷ decimal number ∷ flag_word flag ∷ []) }
+    ensures len { vec_len out.new ≤ vec_len out.old + (length word.now + 13) }
+    ensures capacity { vec_capacity out.old ≤ vec_capacity out.new }
+{
+    append_numbered(out, word, number);
+    append(out, if flag { b" 1" } else { b" 0" });
+}
+
+/// Appends a space and the output's words, for which there is room.
+fn append_output(out: &mut Vec<u8>, output: Out)
+    requires { vec_len out.old + 64 ≤ vec_capacity out.old }
+    ensures items { out.new.items ≡ out.old.items ++ 32 ∷ join_with_byte 32 (out_words output) }
+    ensures len { vec_len out.new ≤ vec_len out.old + 64 }
+    ensures capacity { vec_capacity out.old ≤ vec_capacity out.new }
+{
+    append_tag(out, output.tag);
+    append_number(out, output.port);
+    append_number(out, output.value);
 }
 
 /// Appends the reply's spelling, for which there is room, and leaves room for a line feed. It takes no memory.
-pub fn write_reply(out: &mut Vec<u8>, reply: Reply)
+pub fn write_reply(out: &mut Vec<u8>, reply: &Reply)
     requires { vec_len out.old + REPLY_ROOM ≤ vec_capacity out.old }
-    ensures items { out.new.items ≡ out.old.items ++ reply_spelling reply }
+    ensures items { out.new.items ≡ out.old.items ++ reply_spelling reply.now }
     ensures len { vec_len out.new < vec_len out.old + REPLY_ROOM }
     ensures capacity { vec_capacity out.old ≤ vec_capacity out.new }
 {
-    match reply {
-        Reply::Taken(place) => {
-            append(out, b"taken");
-            append_number(out, place);
-        }
-        Reply::Known(place) => {
-            append(out, b"known");
-            append_number(out, place);
-        }
-        Reply::Refused(refusal) => {
-            append(out, b"refused");
-            append_number(out, refusal.number());
-        }
+    match *reply {
+        Reply::Taken(place) => append_numbered(out, TAKEN, place),
+        Reply::Known(place) => append_numbered(out, KNOWN, place),
+        Reply::Refused(refusal) => append_numbered(out, REFUSED, refusal.number()),
         Reply::Var { log, value } => {
-            append(out, b"var");
-            append_number(out, log);
+            append_numbered(out, VAR, log);
             append_number(out, value);
         }
+        Reply::Outputs { log, count } => append_count(out, OUTPUTS, log, count),
+        Reply::Output { log, output } => {
+            append_numbered(out, OUTPUT, log);
+            append_output(out, output);
+        }
+        Reply::Nothing { log } => append_numbered(out, NONE, log),
+        Reply::Horizon { log, tag } => {
+            append_numbered(out, HORIZON, log);
+            append_tag(out, tag);
+        }
+        Reply::Released { log, count } => append_count(out, RELEASED, log, count),
+        Reply::Lost { log, count } => append_count(out, LOST, log, count),
+        Reply::Breach { log, broken } => append_flagged(out, BREACH, log, broken),
+        Reply::Log { log, record } => {
+            append_numbered(out, LOG, log);
+            out.push_reserved(b' ');
+            append_record(out, &record);
+        }
+        Reply::Collected { log } => append_numbered(out, COLLECTED, log),
+        Reply::Board { count, frozen } => append_flagged(out, BOARD, count, frozen),
+        Reply::Row(output) => {
+            append(out, ROW);
+            append_output(out, output);
+        }
+        Reply::NoRow => append(out, NONE),
     }
 }
 
 #[cfg(test)]
 mod tests {
     use super::*;
+    use crate::count::Count;
+    use crate::line::{Line, read_line};
+    use crate::record::write_record;
+    use std::alloc::Global;
+    use std::process::Abort;
     use std::test::Fail;
 
-    #[test]
-    fn replies(rt: HostRuntime) -> Result<(), Fail> {
-        let rows: [(Reply, &[u8]); 6] = [
-            (Reply::Taken(1), b"taken 1"),
-            (Reply::Known(100_000), b"known 100000"),
-            (Reply::Refused(Refusal::Syntax), b"refused 1"),
-            (Reply::Refused(Refusal::NoBoard), b"refused 11"),
-            (Reply::Var { log: 2, value: -5 }, b"var 2 -5"),
+    /// The records at both ends of their ranges, and their lines.
+    fn records(rt: &impl Abort) -> [(Record, &'static [u8]); 6] {
+        let first = Tag::new(0, 0).expect(rt, "a tag");
+        let last = Tag::new(1_000_001, 15).expect(rt, "a tag");
+        let none = Count::new(0).expect(rt, "a count");
+        let all = Count::new(100_000).expect(rt, "a count");
+        [
             (
-                Reply::Var {
-                    log: 1,
+                Record::Event {
+                    origin: 0,
+                    tag: first,
+                    input: 0,
                     value: i64::MIN,
                 },
-                b"var 1 -9223372036854775808",
+                b"event 0 0 0 0 -9223372036854775808",
             ),
-        ];
-        for (reply, text) in rows {
+            (
+                Record::Event {
+                    origin: 31,
+                    tag: last,
+                    input: 63,
+                    value: i64::MAX,
+                },
+                b"event 31 1000001 15 63 9223372036854775807",
+            ),
+            (
+                Record::Withdraw {
+                    origin: 0,
+                    tag: first,
+                },
+                b"withdraw 0 0 0",
+            ),
+            (
+                Record::Withdraw {
+                    origin: 31,
+                    tag: last,
+                },
+                b"withdraw 31 1000001 15",
+            ),
+            (
+                Record::Announce {
+                    origin: 0,
+                    tag: first,
+                    events: none,
+                    withdrawn: all,
+                },
+                b"announce 0 0 0 0 100000",
+            ),
+            (
+                Record::Announce {
+                    origin: 31,
+                    tag: last,
+                    events: all,
+                    withdrawn: none,
+                },
+                b"announce 31 1000001 15 100000 0",
+            ),
+        ]
+    }
+
+    #[test]
+    fn records_come_back(rt: HostRuntime) -> Result<(), Fail> {
+        for (record, text) in records(&rt) {
             let mut out = Vec::with_capacity(rt.alloc(), 128)?;
-            write_reply(&mut out, reply);
+            write_record(&mut out, &record);
             assert_eq!(rt; out.as_slice(), text);
+            assert_eq!(rt; read_line(text), Some(Line::Put(record)));
         }
         Ok(())
+    }
+
+    #[test]
+    fn logged_records_come_back(rt: HostRuntime) -> Result<(), Fail> {
+        for (record, text) in records(&rt) {
+            let mut line = Vec::from_slice(rt.alloc(), b"log 100000 ")?;
+            line.extend_from_slice(text)?;
+            let reply = Reply::Log {
+                log: 100_000,
+                record,
+            };
+            comes_back(&rt, rt.alloc(), reply, line.as_slice())?;
+        }
+        Ok(())
+    }
+
+    /// An output.
+    fn output(tag: Tag, port: u32, value: i64) -> Out {
+        Out { tag, port, value }
+    }
+
+    /// The replies without a record at the lower ends of their ranges.
+    fn low(rt: &impl Abort) -> [(Reply, &'static [u8]); 15] {
+        let log = 0;
+        let count = 0;
+        let tag = Tag::new(0, 0).expect(rt, "a tag");
+        [
+            (Reply::Taken(1), b"taken 1"),
+            (Reply::Known(1), b"known 1"),
+            (Reply::Refused(Refusal::Syntax), b"refused 1"),
+            (
+                Reply::Var {
+                    log,
+                    value: i64::MIN,
+                },
+                b"var 0 -9223372036854775808",
+            ),
+            (Reply::Outputs { log, count }, b"outputs 0 0"),
+            (
+                Reply::Output {
+                    log,
+                    output: output(tag, 0, i64::MIN),
+                },
+                b"output 0 0 0 0 -9223372036854775808",
+            ),
+            (Reply::Nothing { log }, b"none 0"),
+            (Reply::Horizon { log, tag }, b"horizon 0 0 0"),
+            (Reply::Released { log, count }, b"released 0 0"),
+            (Reply::Lost { log, count }, b"lost 0 0"),
+            (Reply::Breach { log, broken: false }, b"breach 0 0"),
+            (Reply::Collected { log }, b"collected 0"),
+            (
+                Reply::Board {
+                    count: 0,
+                    frozen: false,
+                },
+                b"board 0 0",
+            ),
+            (
+                Reply::Row(output(tag, 0, i64::MIN)),
+                b"row 0 0 0 -9223372036854775808",
+            ),
+            (Reply::NoRow, b"none"),
+        ]
+    }
+
+    /// The replies without a record at the upper ends of their ranges.
+    fn high(rt: &impl Abort) -> [(Reply, &'static [u8]); 14] {
+        let log = 100_000;
+        let count = u64::MAX;
+        let tag = Tag::new(1_000_001, 15).expect(rt, "a tag");
+        [
+            (Reply::Taken(100_000), b"taken 100000"),
+            (Reply::Known(100_000), b"known 100000"),
+            (Reply::Refused(Refusal::NoBoard), b"refused 11"),
+            (
+                Reply::Var {
+                    log,
+                    value: i64::MAX,
+                },
+                b"var 100000 9223372036854775807",
+            ),
+            (
+                Reply::Outputs { log, count },
+                b"outputs 100000 18446744073709551615",
+            ),
+            (
+                Reply::Output {
+                    log,
+                    output: output(tag, 63, i64::MAX),
+                },
+                b"output 100000 1000001 15 63 9223372036854775807",
+            ),
+            (Reply::Nothing { log }, b"none 100000"),
+            (Reply::Horizon { log, tag }, b"horizon 100000 1000001 15"),
+            (
+                Reply::Released { log, count },
+                b"released 100000 18446744073709551615",
+            ),
+            (
+                Reply::Lost { log, count },
+                b"lost 100000 18446744073709551615",
+            ),
+            (Reply::Breach { log, broken: true }, b"breach 100000 1"),
+            (Reply::Collected { log }, b"collected 100000"),
+            (
+                Reply::Board {
+                    count: 4096,
+                    frozen: true,
+                },
+                b"board 4096 1",
+            ),
+            (
+                Reply::Row(output(tag, 63, i64::MAX)),
+                b"row 1000001 15 63 9223372036854775807",
+            ),
+        ]
+    }
+
+    /// Writes the reply, which gives the text, and reads it back.
+    fn comes_back(rt: &impl Abort, alloc: Global, reply: Reply, text: &[u8]) -> Result<(), Fail> {
+        let mut out = Vec::with_capacity(alloc, 128)?;
+        write_reply(&mut out, &reply);
+        assert_eq!(rt; out.as_slice(), text);
+        assert_eq!(rt; read_reply(text), Some(reply));
+        Ok(())
+    }
+
+    #[test]
+    fn replies_come_back(rt: HostRuntime) -> Result<(), Fail> {
+        for (reply, text) in low(&rt) {
+            comes_back(&rt, rt.alloc(), reply, text)?;
+        }
+        for (reply, text) in high(&rt) {
+            comes_back(&rt, rt.alloc(), reply, text)?;
+        }
+        Ok(())
+    }
+
+    #[test]
+    fn no_replies(rt: HostRuntime) {
+        let rows: [&[u8]; 22] = [
+            b"",
+            b"taken",
+            b"taken 0",
+            b"taken 100001",
+            b"known 01",
+            b"refused 0",
+            b"refused 12",
+            b"var 1 -0",
+            b"var 1 2 ",
+            b"outputs 1 18446744073709551616",
+            b"output 1 0 0 0",
+            b"output 1 0 16 0 1",
+            b"output 1 0 0 64 1",
+            b"none 1 2",
+            b"horizon 1 1000002 0",
+            b"lost -1 0",
+            b"breach 1 2",
+            b"log 1",
+            b"log 1 var 0",
+            b"board 4097 0",
+            b"row 1 2 64 0",
+            b"collected  1",
+        ];
+        for text in rows {
+            assert_eq!(rt; read_reply(text), None);
+        }
     }
 }

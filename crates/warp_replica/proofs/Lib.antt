@@ -1,3 +1,6 @@
 pub mod Standings
-pub mod Variables
+pub mod Answering
+pub mod MergeProgress
+pub mod Mergings
 pub mod Replies
+pub mod Takings

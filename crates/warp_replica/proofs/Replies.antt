@@ -1,57 +1,68 @@
--- What a query gives follows from the set of the records.
-use Rattle.std.proofs.Common.{◌≡◌, ℕ, ℤ, ◌≤◌, ◌↔◌, List, Contains, length, slice_get, None, refl, sym, ap, subst, ◌∙◌, arith}
-use Rattle.std.proofs.lemmas.Option.{same_Some}
+-- What a program answers over a set of records, and what a query gives then.
+use Rattle.std.proofs.Common.{◌≡◌, List, None, length, refl, sym, ap, subst, ◌∙◌}
 use Rattle.warp_tag.specs.Table.{live}
 use Rattle.warp_step.specs.Program.{Program}
 use Rattle.warp_step.specs.Snapshot.{start_state}
-use Rattle.warp_step.specs.Run.{Run, state_at_end}
+use Rattle.warp_step.specs.Run.{Run, state_at_end, outputs_of}
+use Rattle.warp_step.proofs.TraceExists.{exists}
 use Rattle.warp_step.proofs.TraceLemmas.{one_rest}
-use Rattle.warp_record.specs.declared.line.Record.{Record}
 use Rattle.warp_record.specs.declared.line.Query.{Query}
-use Rattle.warp_record.specs.declared.line.Query.TheVariants.{Var}
-use Rattle.warp_record.specs.declared.reply.Refusal.{Refusal}
-use Rattle.warp_record.specs.declared.reply.Refusal.TheVariants.{NoVar}
+use Rattle.warp_record.specs.declared.line.Query.TheVariants as query
+use Rattle.warp_record.specs.declared.record.Record.{Record}
 use Rattle.warp_record.specs.declared.reply.Reply.{Reply}
-use Rattle.warp_record.specs.declared.reply.Reply.TheVariants as reply
-use Rattle.warp_table.specs.Names.{table_of}
-use Rattle.warp_table.proofs.Told.{one_table}
-use Rattle.warp_replica.specs.Gives.{GivesQuery, HasValue}
+use Rattle.warp_table.specs.Log.{EachOnce}
+use Rattle.warp_table.specs.Records.{Records, set_of}
+use Rattle.warp_table.specs.Table.{table_of}
+use Rattle.warp_table.proofs.LiveEvents.{live_by_set, live_once}
+use Rattle.warp_table.proofs.Sets.{one_size}
+use Rattle.warp_replica.specs.Answers.{Answers, AreAnswers}
+use Rattle.warp_replica.specs.Gives.{AsksPlace, GivesQuery, reply_to}
 
-pub same_answers : (P : Program) (a b : List Record) (query : Query) (answer : Reply) → ((r : Record) → Contains a r ↔ Contains b r) → length a ≡ length b → GivesQuery P a query answer → GivesQuery P b query answer
-same_answers P a b (Var number) (reply.Var n value) same count given = (
-  given.0 ∙ count,
-  given.1,
-  (given.2.0, subst (λ t. Run P (live t) given.2.0) (one_table a b same) given.2.1, given.2.2),
-)
-same_answers P a b (Var number) other same count given = given
+-- the answers are those of the one run over the table's live events
+pub some_answer : (P : Program) (records : List Record) → EachOnce records → (a : Answers) × AreAnswers P (set_of records) a
+some_answer P records once =
+    let run = exists P (live (table_of records)) in (
+      record {
+        state = state_at_end (start_state P) run.0;
+        outputs = outputs_of run.0;
+        count = length records;
+      },
+      record {
+        events = live (table_of records);
+        live = live_by_set records;
+        trace = run.0;
+        run = run.1;
+        state = refl;
+        outputs = refl;
+        count = (records, once, refl, refl);
+      },
+    )
 
--- a variable has one value at the end of the run
-one_value : (P : Program) (records : List Record) (number : ℕ) (v w : ℤ) → HasValue P records number v → HasValue P records number w → v ≡ w
-one_value P records number v w has has' =
-    let one = one_rest P (live (table_of records)) None (start_state P) has.0 has'.0 has.1 has'.1 in
-    same_Some v w (sym has.2 ∙ ap (λ rows. slice_get (state_at_end (start_state P) rows).vars number) one ∙ has'.2)
+-- a set has one list of live events, and these one trace
+pub one_answer : (P : Program) (S : Records) (a b : Answers) → AreAnswers P S a → AreAnswers P S b → a ≡ b
+one_answer P S a b h k =
+    let events : h.events ≡ k.events = live_once S h.events k.events h.live k.live in
+    let run : Run P k.events h.trace = subst (λ E. Run P E h.trace) events h.run in
+    let rows : h.trace ≡ k.trace = one_rest P k.events None (start_state P) h.trace k.trace run k.run in
+    let states : a.state ≡ b.state = h.state ∙ ap (state_at_end (start_state P)) rows ∙ sym k.state in
+    let outputs : a.outputs ≡ b.outputs = h.outputs ∙ ap outputs_of rows ∙ sym k.outputs in
+    let counts : a.count ≡ b.count = one_size S a.count b.count h.count k.count in
+    λ i. record { state = states i; outputs = outputs i; count = counts i }
 
--- it is the only refusal of an answer
-no_var : (P : Program) (records : List Record) (number : ℕ) (k : Refusal) → GivesQuery P records (Var number) (reply.Refused k) → (k ≡ NoVar) × (length P.variables ≤ number)
-no_var P records number NoVar given = (refl, given)
-no_var P records number other given = absurd given
+-- and so have two sets that are one
+pub same_answers : (P : Program) (S T : Records) → S ≡ T → (a b : Answers) → AreAnswers P S a → AreAnswers P T b → a ≡ b
+same_answers P S T same a b h k = one_answer P T a b (subst (λ R. AreAnswers P R a) same h) k
 
-pub one_answer : (P : Program) (records : List Record) (query : Query) (a b : Reply) → GivesQuery P records query a → GivesQuery P records query b → a ≡ b
-one_answer P records (Var number) (reply.Var n v) (reply.Var m w) given given' =
-    let values = one_value P records number v w given.2 given'.2 in
-    let counts = given.0 ∙ sym given'.0 in
-    cc
-one_answer P records (Var number) (reply.Var n v) (reply.Refused k) given given' =
-    let k_is = no_var P records number k given' in absurd (omega (arith, given.1, k_is.1))
-one_answer P records (Var number) (reply.Refused k) (reply.Var m w) given given' =
-    let k_is = no_var P records number k given in absurd (omega (arith, given'.1, k_is.1))
-one_answer P records (Var number) (reply.Refused k) (reply.Refused j) given given' =
-    let k_is = no_var P records number k given in
-    let j_is = no_var P records number j given' in
-    cc
-one_answer P records (Var number) (reply.Var n v) (reply.Taken place) given given' = absurd given'
-one_answer P records (Var number) (reply.Var n v) (reply.Known place) given given' = absurd given'
-one_answer P records (Var number) (reply.Refused k) (reply.Taken place) given given' = absurd given'
-one_answer P records (Var number) (reply.Refused k) (reply.Known place) given given' = absurd given'
-one_answer P records (Var number) (reply.Taken place) b given given' = absurd given
-one_answer P records (Var number) (reply.Known place) b given given' = absurd given
+-- one set's answers give a query one reply
+pub one_reply : (P : Program) (records : List Record) (query : Query) (a b : Reply) → GivesQuery P records query a → GivesQuery P records query b → a ≡ b
+one_reply P records query a b h k =
+    h.2 ∙ ap (λ (answers : Answers). reply_to records answers query) (one_answer P (set_of records) h.0 k.0 h.1 k.1) ∙ sym k.2
+
+-- logs of one set give a query the same replies, but where it asks for a place
+pub same_gives : (P : Program) (records other : List Record) (asked : Query) (reply : Reply) → set_of records ≡ set_of other → ¬ AsksPlace asked
+    → GivesQuery P records asked reply → GivesQuery P other asked reply
+same_gives P records other (query.Var number) reply same places h = (h.0, subst (λ S. AreAnswers P S h.0) same h.1, h.2)
+same_gives P records other query.Outputs reply same places h = (h.0, subst (λ S. AreAnswers P S h.0) same h.1, h.2)
+same_gives P records other (query.Output number) reply same places h = (h.0, subst (λ S. AreAnswers P S h.0) same h.1, h.2)
+same_gives P records other query.Lost reply same places h = (h.0, subst (λ S. AreAnswers P S h.0) same h.1, h.2)
+same_gives P records other (query.Log place) reply same places h = absurd (places tt)

@@ -1,7 +1,7 @@
 -- What a replica's replies depend on.
 use Rattle.std.specs.Prelude.{◌≡◌, List}
 use Rattle.warp_step.specs.Program.{Program}
-use Rattle.warp_record.specs.declared.line.Record.{Record}
+use Rattle.warp_record.specs.declared.record.Record.{Record}
 use Rattle.warp_record.specs.declared.line.Line.{Line}
 use Rattle.warp_record.specs.declared.reply.Reply.{Reply}
 use Rattle.warp_replica.specs.Gives.{Gives}

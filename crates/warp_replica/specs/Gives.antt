@@ -1,30 +1,31 @@
 -- What a line gives on a log: a program, and the records in the order of taking.
-use Rattle.std.specs.Prelude.{◌≡◌, ◌⊎◌, ℕ, ℤ, ◌+◌, ◌<◌, ◌≤◌, Bool, true, false, List, [], ◌∷◌, ◌++◌, length, Contains, slice_get, Some, None, Result, Ok, Err}
+use Rattle.std.specs.Prelude.{◌≡◌, ◌⊎◌, ℕ, zero, suc, ◌+◌, ◌<◌, Bool, true, false, List, [], ◌∷◌, ◌++◌, length, Contains, slice_get, Option, Some, None, Result, Ok, Err}
+use Rattle.std.specs.Option.{option_map, unwrap_or}
 use Rattle.warp_tag.specs.Limits.{most_records}
 use Rattle.warp_tag.specs.Moment.{Moment}
-use Rattle.warp_tag.specs.Table.{live}
 use Rattle.warp_step.specs.Program.{Program}
-use Rattle.warp_step.specs.Snapshot.{start_state}
-use Rattle.warp_step.specs.Run.{Row, Run, state_at_end}
-use Rattle.warp_record.specs.declared.line.Record.{Record}
-use Rattle.warp_record.specs.declared.line.Record.TheVariants.{Event}
+use Rattle.warp_record.specs.declared.record.Record.{Record}
+use Rattle.warp_record.specs.declared.record.Record.TheVariants.{Event, Withdraw, Announce}
 use Rattle.warp_record.specs.declared.line.Query.{Query}
-use Rattle.warp_record.specs.declared.line.Query.TheVariants.{Var}
+use Rattle.warp_record.specs.declared.line.Query.TheVariants as query
 use Rattle.warp_record.specs.declared.line.Line.{Line}
-use Rattle.warp_record.specs.declared.line.Line.TheVariants.{Put, Ask}
+use Rattle.warp_record.specs.declared.line.Line.TheVariants as line
 use Rattle.warp_record.specs.declared.reply.Refusal.{Refusal}
-use Rattle.warp_record.specs.declared.reply.Refusal.TheVariants.{NoVar, LogFull, NoMemory}
+use Rattle.warp_record.specs.declared.reply.Refusal.TheVariants.{NoVar, LogFull, NoMemory, NoBoard}
 use Rattle.warp_record.specs.declared.reply.Reply.{Reply}
 use Rattle.warp_record.specs.declared.reply.Reply.TheVariants as reply
-use Rattle.warp_table.specs.Names.{table_of}
+use Rattle.warp_table.specs.Records.{set_of}
 use Rattle.warp_table.specs.Log.{IsAt}
 use Rattle.warp_table.specs.Check.{refusal_of}
+use Rattle.warp_replica.specs.Answers.{Answers, AreAnswers}
 use Rattle.warp_replica.specs.declared.took.Took.{Took}
 use Rattle.warp_replica.specs.declared.took.Took.TheVariants.{New, Known}
 
 -- the tag of a record
 abbrev pub tag_of : Record → Moment
 tag_of (Event origin tag input value) = tag
+tag_of (Withdraw origin tag) = tag
+tag_of (Announce origin tag events withdrawn) = tag
 
 -- the program has no reason against the record, and the log lacks it
 abbrev pub IsNew : Program → List Record → Record → Type 0
@@ -58,20 +59,36 @@ told (Ok (New place)) = reply.Taken place
 told (Ok (Known place)) = reply.Known place
 told (Err refusal) = reply.Refused refusal
 
--- at the end of the run over the live events of the records, the variable with this number has this value
-abbrev pub HasValue : Program → List Record → ℕ → ℤ → Type 0
-HasValue P records number value =
-    (trace : List Row) × Run P (live (table_of records)) trace
-    × (slice_get (state_at_end (start_state P) trace).vars number ≡ Some value)
+-- the record at this place of a log, counted from 1
+abbrev pub record_at : List Record → ℕ → Option Record
+record_at records zero = None
+record_at records (suc index) = slice_get records index
 
--- what a query gives: how many records there are, and the variable's value, or refusal 6 where there is no such variable
+-- The reply to a query, by the answers of a set of records; the places in `log` are those of the list alone. Where there
+-- is no such variable it is refusal 6, where there is no such output or place `none`.
+abbrev pub reply_to : List Record → Answers → Query → Reply
+reply_to records a (query.Var number) =
+    unwrap_or (option_map (λ value. reply.Var a.count value) (slice_get a.state.vars number)) (reply.Refused NoVar)
+reply_to records a query.Outputs = reply.Outputs a.count (length a.outputs)
+reply_to records a (query.Output number) =
+    unwrap_or (option_map (λ out. reply.Output a.count out) (slice_get a.outputs number)) (reply.Nothing a.count)
+reply_to records a query.Lost = reply.Lost a.count a.state.lost
+reply_to records a (query.Log place) =
+    unwrap_or (option_map (λ said. reply.Log a.count said) (record_at records place)) (reply.Nothing a.count)
+
+-- the query asks for a place of the log, which depends on the order of taking
+abbrev pub AsksPlace : Query → Type 0
+AsksPlace (query.Log place) = Unit {0}
+AsksPlace other = ⊥
+
+-- what a query gives: the reply by the answers of the log's set
 abbrev pub GivesQuery : Program → List Record → Query → Reply → Type 0
-GivesQuery P records (Var number) (reply.Var n value) =
-    (n ≡ length records) × (number < length P.variables) × HasValue P records number value
-GivesQuery P records (Var number) (reply.Refused NoVar) = length P.variables ≤ number
-GivesQuery P records (Var number) other = ⊥
+GivesQuery P records asked answer =
+    (a : Answers) × AreAnswers P (set_of records) a × (answer ≡ reply_to records a asked)
 
 -- On this log of this program the line may give this reply, and leave this log. Want of memory may stand before any query.
+-- There is no board here.
 abbrev pub Gives : Program → List Record → Line → Reply → List Record → Type 0
-Gives P records (Put said) answer records' = (result : Result Took Refusal) × Takes P records said result records' × (answer ≡ told result)
-Gives P records (Ask query) answer records' = (GivesQuery P records query answer ⊎ (answer ≡ reply.Refused NoMemory)) × (records' ≡ records)
+Gives P records (line.Put said) answer records' = (result : Result Took Refusal) × Takes P records said result records' × (answer ≡ told result)
+Gives P records (line.Ask asked) answer records' = (GivesQuery P records asked answer ⊎ (answer ≡ reply.Refused NoMemory)) × (records' ≡ records)
+Gives P records (line.Look look) answer records' = (answer ≡ reply.Refused NoBoard) × (records' ≡ records)

@@ -1,3 +1,5 @@
 pub mod Replica
+pub mod Answers
 pub mod Gives
+pub mod Merge
 pub mod Desk

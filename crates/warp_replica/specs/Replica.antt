@@ -1,11 +1,12 @@
 -- What a replica is, and what its timeline stands for.
-use Rattle.std.specs.Prelude.{List, refl}
+use Rattle.std.specs.Prelude.{◌≡◌, List, All, None, refl}
 use Rattle.std.specs.Coded.{Coded, code_by, coded×, coded_list}
 use Rattle.warp_step.specs.Codes.{program_code}
 use Rattle.warp_step.specs.Program.{Program}
 use Rattle.warp_step.specs.Run.{Row}
-use Rattle.warp_record.specs.declared.line.Record.{Record}
-use Rattle.warp_table.specs.Names.{table_of}
+use Rattle.warp_record.specs.declared.record.Record.{Record}
+use Rattle.warp_table.specs.Table.{table_of}
+use Rattle.warp_table.specs.Check.{refusal_of}
 use Rattle.warp_line.specs.Timeline.{Standing}
 use Rattle.warp_record.specs.Codes.{record_code}
 
@@ -31,3 +32,7 @@ standing_of r done = record { program = r.program; table = table_of r.records; d
 -- the timeline stands for the replica's program and records, with these rows done
 abbrev pub Stands : {T : Type 0} → (T → Standing → Type 0) → ReplicaState T → List Row → Type 0
 Stands stands_for r done = stands_for r.timeline (standing_of r done)
+
+-- the program has no reason against any of the records
+abbrev pub AreAllowed : Program → List Record → Type 0
+AreAllowed P records = All (λ said. refusal_of P said ≡ None) records

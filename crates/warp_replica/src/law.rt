@@ -1,19 +1,62 @@
-//! Laws: what a query gives follows from the set of the records.
-ghost use Rattle.std.specs.Prelude.{◌≡◌, ◌↔◌, List, Contains, length};
+//! Laws: what a query gives follows from the set of the records, whatever the order and repeats of taking.
+ghost use Rattle.std.specs.Prelude.{◌≡◌, ◌≢◌, ◌≤◌, ℕ, List, length, Result, Err};
+ghost use Rattle.warp_tag.specs.Limits.{most_records};
 ghost use Rattle.warp_step.specs.Program.{Program};
 ghost use Rattle.warp_record.specs.declared.line.Query.{Query};
-ghost use Rattle.warp_record.specs.declared.line.Record.{Record};
+ghost use Rattle.warp_record.specs.declared.record.Record.{Record};
+ghost use Rattle.warp_record.specs.declared.reply.Refusal.{Refusal};
 ghost use Rattle.warp_record.specs.declared.reply.Reply.{Reply};
-ghost use Rattle.warp_replica.specs.Gives.{GivesQuery};
+ghost use Rattle.warp_table.specs.Log.{EachOnce};
+ghost use Rattle.warp_table.specs.Records.{Records, set_of, union};
+ghost use Rattle.warp_replica.specs.Answers.{Answers, AreAnswers};
+ghost use Rattle.warp_replica.specs.Gives.{GivesQuery, AsksPlace, Takes};
+ghost use Rattle.warp_replica.specs.Merge.{merged};
+ghost use Rattle.warp_replica.specs.declared.took.Took.{Took};
 
-/// Lists of the same records, in whatever order, give a query the same replies.
-pub fn same_answers()
-    ensures { (P : Program) (a b : List Record) (query : Query) (reply : Reply) →
-        ((r : Record) → Contains a r ↔ Contains b r) → length a ≡ length b → GivesQuery P a query reply → GivesQuery P b query reply }
+/// A program has exactly one answer over the set of a log.
+pub fn one_answer()
+    ensures some { (P : Program) (records : List Record) → EachOnce records → (a : Answers) × AreAnswers P (set_of records) a }
+    ensures one { (P : Program) (S : Records) (a b : Answers) → AreAnswers P S a → AreAnswers P S b → a ≡ b }
 {}
 
-/// Records give a query one reply.
-pub fn one_answer()
+/// On one log a query gives one reply.
+pub fn one_reply()
     ensures { (P : Program) (records : List Record) (query : Query) (a b : Reply) →
         GivesQuery P records query a → GivesQuery P records query b → a ≡ b }
+{}
+
+/// Logs of one set give a query the same replies, but for a query that asks for a place. The set is all that a program's
+/// answers see of a log: records taken in another order, or some of them again, have the same answers.
+pub fn same_replies()
+    ensures { (P : Program) (records other : List Record) (query : Query) (reply : Reply) →
+        set_of records ≡ set_of other → ¬ AsksPlace query → GivesQuery P records query reply → GivesQuery P other query reply }
+{}
+
+/// What merging makes of two logs has the records of both, and none twice where none of them had.
+pub fn merging_joins()
+    ensures set { (records other : List Record) → set_of (merged records other) ≡ union (set_of records) (set_of other) }
+    ensures once { (records other : List Record) → EachOnce records → EachOnce other → EachOnce (merged records other) }
+{}
+
+/// In what a program answers, joining two sets is commutative, associative and idempotent, and so is merging logs; a log
+/// that was merged brings nothing more.
+pub fn merging_laws()
+    ensures commutes { (P : Program) (S T : Records) (a b : Answers) → AreAnswers P (union S T) a → AreAnswers P (union T S) b → a ≡ b }
+    ensures associates { (P : Program) (S T U : Records) (a b : Answers) →
+        AreAnswers P (union (union S T) U) a → AreAnswers P (union S (union T U)) b → a ≡ b }
+    ensures idempotent { (P : Program) (S : Records) (a b : Answers) → AreAnswers P (union S S) a → AreAnswers P S b → a ≡ b }
+    ensures logs_commute { (P : Program) (records other : List Record) (query : Query) (reply : Reply) → ¬ AsksPlace query →
+        GivesQuery P (merged records other) query reply → GivesQuery P (merged other records) query reply }
+    ensures logs_associate { (P : Program) (records other third : List Record) (query : Query) (reply : Reply) → ¬ AsksPlace query →
+        GivesQuery P (merged (merged records other) third) query reply → GivesQuery P (merged records (merged other third)) query reply }
+    ensures logs_again { (records other : List Record) → merged (merged records other) other ≡ merged records other }
+{}
+
+/// A record is taken in one way, but that memory may be wanting; and want of memory apart there is a way.
+pub fn one_taking()
+    ensures one { (P : Program) (records : List Record) (said : Record) (a b : Result Took Refusal) (left right : List Record) →
+        EachOnce records → Takes P records said a left → Takes P records said b right →
+        a ≢ Err Refusal.NoMemory → b ≢ Err Refusal.NoMemory → (a ≡ b) × (left ≡ right) }
+    ensures some { (P : Program) (records : List Record) (said : Record) → length records ≤ most_records →
+        (a : Result Took Refusal) × (after : List Record) × Takes P records said a after × (a ≢ Err Refusal.NoMemory) }
 {}

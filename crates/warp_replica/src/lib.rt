@@ -2,7 +2,7 @@
 //!
 //! `Replica` takes records, settles its timeline and answers queries; contracts see its program, the list of its
 //! records and the timeline. `Local` is a replica without peers as a desk, which answers lines. What a query gives
-//! follows from the set of the records (`same_answers`).
+//! follows from the set of the records (`one_answer`, `same_replies`).
 #![tactic(auto)]
 
 mod idle;
@@ -14,7 +14,7 @@ mod tests;
 mod took;
 
 pub use idle::Idle;
-pub use law::{one_answer, same_answers};
+pub use law::{merging_joins, merging_laws, one_answer, one_reply, one_taking, same_replies};
 pub use local::Local;
 pub use replica::Replica;
 pub use took::Took;

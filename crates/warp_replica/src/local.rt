@@ -78,11 +78,19 @@ impl<T: Timeline> Desk for Local<T> {
 
     ghost gives = { LocalGives };
 
-    /// Takes a record, or settles and answers a query. `refused 8` says that no memory was to be had, and leaves the
-    /// records as they were.
+    /// Takes a record, and settles where it is new; or settles and answers a query. `refused 8` says that no memory was to be
+    /// had for it, and leaves the records as they were. Where there was none to settle a record that came in, the next
+    /// line settles again.
     fn ask(&mut self, line: Line) -> Reply {
         match line {
-            Line::Put(record) => told(self.replica.take(self.alloc, &record)),
+            Line::Put(record) => {
+                let took = self.replica.take(self.alloc, &record);
+                if let Ok(Took::New(_)) = took {
+                    let _ = self.settle::<Brand>(Blank::new(1));
+                }
+                told(took)
+            }
+            Line::Look(_) => Reply::Refused(Refusal::NoBoard),
             Line::Ask(query) => {
                 if self.settle::<Brand>(Blank::new(1)).is_err() {
                     return Reply::Refused(Refusal::NoMemory);

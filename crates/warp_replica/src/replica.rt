@@ -1,14 +1,16 @@
 //! A replica: a program, the table of the records that it took, and the timeline that runs them.
-ghost use Rattle.std.specs.Prelude.{◌≡◌, ◌+◌, ◌-◌, ◌<◌, ◌≤◌, [], ◌∷◌, ◌++◌, false, None, length, List, Contains, IsTrue, IsOk, IfOk, OnOk, OnErr};
-ghost use Rattle.warp_tag.specs.Limits.{most_records};
+ghost use Rattle.std.specs.Prelude.{◌≡◌, ◌↔◌, ◌+◌, ◌-◌, ◌<◌, ◌≤◌, [], ◌∷◌, ◌++◌, false, None, length, List, Contains, IsTrue, IsOk, IfOk, OnOk, OnErr};
+ghost use Rattle.warp_tag.specs.Limits.{most_outputs, most_records};
 ghost use Rattle.warp_record.specs.declared.line.Query.{Query};
-ghost use Rattle.warp_record.specs.Reply.{IsReply};
+ghost use Rattle.warp_record.specs.Record.{IsRecord};
+ghost use Rattle.warp_record.specs.Reply.{IsOut, IsReply};
 ghost use Rattle.warp_step.specs.Run.{Row};
 ghost use Rattle.warp_line.specs.Timeline.{Standing, IsDone, KeepsDone, NowStands, Settles};
 ghost use Rattle.warp_table.specs.Log.{EachOnce};
-ghost use Rattle.warp_table.specs.Names.{with_record};
+ghost use Rattle.warp_table.specs.Table.{with_record};
 ghost use Rattle.warp_table.specs.Check.{refusal_of};
-ghost use Rattle.warp_replica.specs.Replica.{standing_of, Stands};
+ghost use Rattle.warp_replica.specs.Merge.{Merges};
+ghost use Rattle.warp_replica.specs.Replica.{AreAllowed, standing_of, Stands};
 ghost use Rattle.warp_replica.specs.Gives.{GivesQuery, Takes, came_in, tag_of, told};
 
 use crate::took::Took;
@@ -16,7 +18,7 @@ use std::alloc::Global;
 use std::marker::Model;
 use warp_line::Timeline;
 use warp_record::{Query, Record, Refusal, Reply};
-use warp_step::{Meter, Program};
+use warp_step::{Meter, Out, Program};
 use warp_table::Table;
 use warp_tag::OutOfMemory;
 
@@ -32,7 +34,7 @@ pub struct Replica<T: Timeline> {
 impl<T: Timeline> Model for Replica<T> {
     ghost use Rattle.std.specs.Prelude.{List};
     ghost use Rattle.warp_step.specs.Run.{Row};
-    ghost use Rattle.warp_replica.specs.Replica.{ReplicaState, replica_code, Stands};
+    ghost use Rattle.warp_replica.specs.Replica.{AreAllowed, ReplicaState, replica_code, Stands};
 
     ghost Value = { ReplicaState T };
 
@@ -40,7 +42,9 @@ impl<T: Timeline> Model for Replica<T> {
 
     ghost view = { λ r. record { program = r.program; records = r.table; timeline = r.timeline } };
 
-    ghost invariant = { λ r. (done : List Row) × Stands T.stands_for (record { program = r.program; records = r.table; timeline = r.timeline }) done };
+    ghost invariant = { λ r.
+        AreAllowed r.program r.table
+        × ((done : List Row) × Stands T.stands_for (record { program = r.program; records = r.table; timeline = r.timeline }) done) };
 }
 
 impl<T: Timeline> Replica<T> {
@@ -60,11 +64,13 @@ impl<T: Timeline> Replica<T> {
         })
     }
 
-    /// What is known of any replica: its timeline stands for its program and its records, none of which is there twice.
-    /// It does nothing.
+    /// What is known of any replica: its timeline stands for its program and its records, of which there are at most 100,000,
+    /// none twice and none against which the program has a reason. It does nothing.
     pub fn valid(&self)
+        ensures allowed { AreAllowed self.now.program self.now.records }
         ensures stands { (done : List Row) × Stands T.stands_for self.now done }
         ensures once { EachOnce self.now.records }
+        ensures bound { length self.now.records ≤ most_records }
     {
         // A look at the table shows it.
         let _length = self.table.len();
@@ -161,32 +167,125 @@ impl<T: Timeline> Replica<T> {
         self.timeline.is_settled()
     }
 
-    /// Answers a query from the run over all records, which is done: `Var` with the value, or `refused 6` where the
-    /// program has no such variable.
+    /// Answers a query from the run over all records, which is done: `refused 6` where the program has no such variable, and
+    /// `none` where there is no such output, or no such place in the log.
     pub fn answer(&self, query: Query) -> Reply
         requires { IsTrue (T.settled self.now.timeline) }
         ensures gives { GivesQuery self.now.program self.now.records query result }
         ensures reply { IsReply result }
     {
         match query {
-            Query::Var(number) => self.tell(number),
+            Query::Var(number) => self.variable(number),
+            Query::Outputs => self.outputs(),
+            Query::Output(number) => self.output(number),
+            Query::Lost => self.lost(),
+            Query::Log(place) => self.record(place),
         }
     }
 
     /// Tells the value of a variable at the end of the run, if there is such a variable.
-    fn tell(&self, number: u32) -> Reply
+    fn variable(&self, number: u32) -> Reply
         requires { IsTrue (T.settled self.now.timeline) }
         ensures gives { GivesQuery self.now.program self.now.records (Query.Var number) result }
         ensures reply { IsReply result }
     {
-        let vars = self.timeline.state().vars();
-        match vars.get(number as usize) {
-            Some(value) => Reply::Var {
-                log: self.table.len(),
-                value: *value,
-            },
+        let log = self.table.len();
+        match self.timeline.state().vars().get(number as usize) {
+            Some(value) => Reply::Var { log, value: *value },
             None => Reply::Refused(Refusal::NoVar),
         }
+    }
+
+    /// Tells how many outputs the run has.
+    fn outputs(&self) -> Reply
+        requires { IsTrue (T.settled self.now.timeline) }
+        ensures gives { GivesQuery self.now.program self.now.records Query.Outputs result }
+        ensures reply { IsReply result }
+    {
+        Reply::Outputs {
+            log: self.table.len(),
+            count: self.timeline.outputs().len() as u64,
+        }
+    }
+
+    /// Tells an output of the run, if there is one.
+    fn output(&self, number: u32) -> Reply
+        requires { IsTrue (T.settled self.now.timeline) }
+        ensures gives { GivesQuery self.now.program self.now.records (Query.Output number) result }
+        ensures reply { IsReply result }
+    {
+        // Each program is valid, and so has few outputs.
+        self.program.valid();
+        let log = self.table.len();
+        match self.timeline.outputs().get(number as usize) {
+            Some(output) => {
+                output_in_range(output);
+                Reply::Output {
+                    log,
+                    output: *output,
+                }
+            }
+            None => Reply::Nothing { log },
+        }
+    }
+
+    /// Tells how much was lost in the run.
+    fn lost(&self) -> Reply
+        requires { IsTrue (T.settled self.now.timeline) }
+        ensures gives { GivesQuery self.now.program self.now.records Query.Lost result }
+        ensures reply { IsReply result }
+    {
+        Reply::Lost {
+            log: self.table.len(),
+            count: self.timeline.state().lost(),
+        }
+    }
+
+    /// Tells the record at a place of the log, if there is one.
+    fn record(&self, place: u32) -> Reply
+        ensures gives { GivesQuery self.now.program self.now.records (Query.Log place) result }
+        ensures reply { IsReply result }
+    {
+        let log = self.table.len();
+        match self.table.entry(place) {
+            Some(record) => {
+                record_in_range(&self.program, &record);
+                Reply::Log { log, record }
+            }
+            None => Reply::Nothing { log },
+        }
+    }
+
+    /// Whether the other replica runs the same program.
+    pub fn same_program<U: Timeline>(&self, other: &Replica<U>) -> bool
+        ensures { IsTrue result ↔ (self.now.program ≡ other.now.program) }
+    {
+        self.program.is_same(&other.program)
+    }
+
+    /// Takes the records of another replica of the same program, in the order of its log, and gives how many these are. An
+    /// `Err` says how many of them are in, and why the next one is not: the log is full, or no memory was to be had.
+    pub fn merge<U: Timeline>(
+        &mut self,
+        alloc: Global,
+        other: &Replica<U>,
+    ) -> Result<u32, (u32, Refusal)>
+        requires { self.old.program ≡ other.now.program }
+        ensures merges { Merges self.old.records other.now.records result self.new.records }
+        ensures program { self.new.program ≡ self.old.program }
+        ensures kept { self.new.records ≡ self.old.records → (done : List Row) → Stands T.stands_for self.old done → Stands T.stands_for self.new done }
+        ensures settled { self.new.records ≡ self.old.records → T.settled self.new.timeline ≡ T.settled self.old.timeline }
+    {
+        // None of its records is there twice, and the program has no reason against one of them.
+        other.valid();
+        let mut count = 0;
+        while let Some(record) = other.table.entry(count + 1) {
+            if let Err(refusal) = self.take(alloc, &record) {
+                return Err((count, refusal));
+            }
+            count += 1;
+        }
+        Ok(count)
     }
 }
 
@@ -204,5 +303,46 @@ fn enter<T: Timeline>(timeline: &mut T, record: &Record)
             input,
             value,
         } => timeline.put(origin, tag, input, value),
+        Record::Withdraw { origin, tag } => timeline.withdraw(origin, tag),
+        // What it says counts for no event.
+        Record::Announce { .. } => {}
+    }
+}
+
+/// That an output is in range where its number is. It does nothing.
+fn output_in_range(output: &Out)
+    requires { output.now.port < most_outputs }
+    ensures { IsOut output.now }
+{
+    // A look at its tag and its value shows it.
+    let Out { tag, value, .. } = *output;
+    let _time = tag.time();
+    let _value = value;
+}
+
+/// That a record against which the program has no reason is in range. It does nothing.
+fn record_in_range(program: &Program, record: &Record)
+    requires { refusal_of program.now «record».now ≡ None }
+    ensures { IsRecord «record».now }
+{
+    // Each program is valid, and so has few origins and inputs; a look at the tag and the numbers shows the rest.
+    program.valid();
+    match *record {
+        Record::Event { tag, value, .. } => {
+            let _time = tag.time();
+            let _value = value;
+        }
+        Record::Withdraw { tag, .. } => {
+            let _time = tag.time();
+        }
+        Record::Announce {
+            tag,
+            events,
+            withdrawn,
+            ..
+        } => {
+            let _time = tag.time();
+            let _counts = (events.get(), withdrawn.get());
+        }
     }
 }

@@ -6,16 +6,20 @@ use std::alloc::Global;
 use std::marker::Brand;
 use std::process::Abort;
 use std::sync::ledger::{Blank, Ledger};
-use std::test::Fail;
 use warp_exchange::Desk;
 use warp_line::{Plain, Timeline};
-use warp_record::{Line, Query, Record, Refusal, Reply};
-use warp_step::Program;
-use warp_tag::{OutOfMemory, Tag};
+use warp_record::{Count, Line, Look, Query, Record, Refusal, Reply};
+use warp_step::{Out, Parts, Program};
+use warp_tag::Tag;
+
+/// A tag.
+fn tag(rt: &impl Abort, time: u64, micro: u32) -> Tag {
+    Tag::new(time, micro).expect(rt, "a tag")
+}
 
 /// An event with microstep 0.
 fn event(rt: &impl Abort, origin: u32, time: u64, input: u32, value: i64) -> Record {
-    let tag = Tag::new(time, 0).expect(rt, "a tag");
+    let tag = tag(rt, time, 0);
     Record::Event {
         origin,
         tag,
@@ -24,21 +28,78 @@ fn event(rt: &impl Abort, origin: u32, time: u64, input: u32, value: i64) -> Rec
     }
 }
 
+/// A withdrawal with microstep 0.
+fn withdraw(rt: &impl Abort, origin: u32, time: u64) -> Record {
+    let tag = tag(rt, time, 0);
+    Record::Withdraw { origin, tag }
+}
+
+/// An announcement of two events and no withdrawal.
+fn announce(rt: &impl Abort, origin: u32, time: u64, micro: u32) -> Record {
+    let tag = tag(rt, time, micro);
+    Record::Announce {
+        origin,
+        tag,
+        events: Count::new(2).expect(rt, "a count"),
+        withdrawn: Count::new(0).expect(rt, "a count"),
+    }
+}
+
+/// An output of `twice` with microstep 0.
+fn output(rt: &impl Abort, time: u64, value: i64) -> Out {
+    let tag = tag(rt, time, 0);
+    Out {
+        tag,
+        port: 0,
+        value,
+    }
+}
+
 /// A replica of `twice`, over `Plain`.
-fn replica(alloc: Global) -> Result<Replica<Plain>, OutOfMemory> {
-    Replica::new(alloc, Program::twice(alloc)?)
+fn replica(rt: &impl Abort, alloc: Global) -> Replica<Plain> {
+    let program = Program::twice(alloc).expect(rt, "memory");
+    Replica::new(alloc, program).expect(rt, "memory")
+}
+
+/// A replica that took these records.
+fn replica_of(rt: &impl Abort, alloc: Global, records: &[Record]) -> Replica<Plain> {
+    let mut replica = replica(rt, alloc);
+    for record in records {
+        assert!(rt; replica.take(alloc, record).is_ok());
+    }
+    replica
 }
 
 /// What the replica says of its first variable once it is settled. `blank` is the ledger that the ticks are counted in.
 fn total<T: Timeline, L: Ledger>(
+    rt: &impl Abort,
     replica: &mut Replica<T>,
     alloc: Global,
     blank: Blank,
-) -> Result<Reply, OutOfMemory>
+) -> Reply
     requires { IsUnused blank L.name L.parts }
 {
-    replica.settle(alloc, &mut Idle::<L>::new(blank))?;
-    Ok(replica.answer(Query::Var(0)))
+    replica
+        .settle(alloc, &mut Idle::<L>::new(blank))
+        .expect(rt, "memory");
+    replica.answer(Query::Var(0))
+}
+
+/// The same over `Plain`, where nobody counts the ticks.
+fn plain_total(rt: &impl Abort, replica: &mut Replica<Plain>, alloc: Global) -> Reply {
+    total::<Plain, Brand>(rt, replica, alloc, Blank::new(1))
+}
+
+/// Merges through the bounds.
+fn merge<T: Timeline, U: Timeline>(
+    rt: &impl Abort,
+    alloc: Global,
+    replica: &mut Replica<T>,
+    other: &Replica<U>,
+) -> Result<u32, (u32, Refusal)> {
+    let is_same = replica.same_program(other);
+    assert!(rt; is_same);
+    replica.merge(alloc, other)
 }
 
 /// Asks through the trait.
@@ -47,45 +108,154 @@ fn ask<D: Desk>(desk: &mut D, line: Line) -> Reply {
 }
 
 #[test]
-fn records(rt: HostRuntime) -> Result<(), Fail> {
+fn records(rt: HostRuntime) {
     let alloc = rt.alloc();
-    let mut replica = replica(alloc)?;
+    let mut replica = replica(&rt, alloc);
     let rows = [
         (event(&rt, 0, 5, 0, 3), Ok(Took::New(1))),
         (event(&rt, 1, 7, 1, 4), Ok(Took::New(2))),
+        (withdraw(&rt, 0, 5), Ok(Took::New(3))),
+        (announce(&rt, 1, 101, 0), Ok(Took::New(4))),
         (event(&rt, 0, 5, 0, 3), Ok(Took::Known(1))),
-        (event(&rt, 2, 5, 0, 3), Err(Refusal::NoOrigin)),
-        (event(&rt, 0, 101, 0, 3), Err(Refusal::PastStop)),
+        (withdraw(&rt, 0, 5), Ok(Took::Known(3))),
+        (announce(&rt, 1, 101, 0), Ok(Took::Known(4))),
+        (event(&rt, 2, 101, 2, 3), Err(Refusal::NoOrigin)),
+        (withdraw(&rt, 2, 101), Err(Refusal::NoOrigin)),
+        (announce(&rt, 2, 101, 1), Err(Refusal::NoOrigin)),
+        (event(&rt, 0, 101, 2, 3), Err(Refusal::PastStop)),
+        (withdraw(&rt, 0, 101), Err(Refusal::PastStop)),
+        (announce(&rt, 0, 101, 1), Err(Refusal::PastStop)),
         (event(&rt, 0, 5, 2, 3), Err(Refusal::NoInput)),
         (event(&rt, 0, 5, 1, 3), Err(Refusal::NotYours)),
     ];
     for (record, answer) in rows {
         assert_eq!(rt; replica.take(alloc, &record), answer);
     }
-    assert_eq!(rt; replica.len(), 2);
+    assert_eq!(rt; replica.len(), 4);
     assert!(rt; !replica.is_settled());
-    let reply = total::<Plain, Brand>(&mut replica, alloc, Blank::new(1))?;
-    assert_eq!(rt; reply, Reply::Var { log: 2, value: -1 });
+    let reply = plain_total(&rt, &mut replica, alloc);
+    assert_eq!(rt; reply, Reply::Var { log: 4, value: -4 });
     assert!(rt; replica.is_settled() && replica.timeline().is_settled());
     assert_eq!(rt; replica.program().origins(), 2);
-    Ok(())
 }
 
 #[test]
-fn lines(rt: HostRuntime) -> Result<(), Fail> {
-    let mut desk = Local::new(rt.alloc(), replica(rt.alloc())?);
+fn lines(rt: HostRuntime) {
+    let mut desk = Local::new(rt.alloc(), replica(&rt, rt.alloc()));
     let rows = [
         (Line::Ask(Query::Var(0)), Reply::Var { log: 0, value: 0 }),
+        (
+            Line::Ask(Query::Outputs),
+            Reply::Outputs { log: 0, count: 0 },
+        ),
         (Line::Put(event(&rt, 0, 5, 0, 3)), Reply::Taken(1)),
         (Line::Ask(Query::Var(0)), Reply::Var { log: 1, value: 3 }),
+        (
+            Line::Ask(Query::Output(0)),
+            Reply::Output {
+                log: 1,
+                output: output(&rt, 5, 3),
+            },
+        ),
+        (Line::Ask(Query::Output(1)), Reply::Nothing { log: 1 }),
         (Line::Put(event(&rt, 0, 5, 0, 3)), Reply::Known(1)),
         (Line::Put(event(&rt, 0, 4, 0, 1)), Reply::Taken(2)),
         (Line::Ask(Query::Var(0)), Reply::Var { log: 2, value: 5 }),
+        (
+            Line::Ask(Query::Outputs),
+            Reply::Outputs { log: 2, count: 2 },
+        ),
+        (Line::Put(withdraw(&rt, 1, 6)), Reply::Taken(3)),
+        (Line::Put(event(&rt, 1, 6, 1, 9)), Reply::Taken(4)),
+        (Line::Ask(Query::Var(0)), Reply::Var { log: 4, value: 5 }),
+        (Line::Put(withdraw(&rt, 0, 4)), Reply::Taken(5)),
+        (Line::Ask(Query::Var(0)), Reply::Var { log: 5, value: 3 }),
+        (Line::Ask(Query::Lost), Reply::Lost { log: 5, count: 0 }),
+        (Line::Ask(Query::Log(0)), Reply::Nothing { log: 5 }),
+        (
+            Line::Ask(Query::Log(3)),
+            Reply::Log {
+                log: 5,
+                record: withdraw(&rt, 1, 6),
+            },
+        ),
+        (Line::Ask(Query::Log(6)), Reply::Nothing { log: 5 }),
         (Line::Ask(Query::Var(1)), Reply::Refused(Refusal::NoVar)),
+        (Line::Look(Look::Board), Reply::Refused(Refusal::NoBoard)),
+        (
+            Line::Put(withdraw(&rt, 2, 6)),
+            Reply::Refused(Refusal::NoOrigin),
+        ),
     ];
     for (line, reply) in rows {
-        assert_eq!(rt; ask(&mut desk, line), reply);
+        assert_eq!(rt; ask(&mut desk, line), reply, "{line:?}");
     }
-    assert_eq!(rt; desk.replica().len(), 2);
-    Ok(())
+    // A new record is settled at once.
+    let last = ask(&mut desk, Line::Put(event(&rt, 1, 8, 1, 1)));
+    assert_eq!(rt; last, Reply::Taken(6));
+    assert!(rt; desk.replica().is_settled());
+    assert_eq!(rt; desk.replica().len(), 6);
+}
+
+/// Each of the two merges the other; then both say the same, and merging again changes nothing.
+fn merge_both(rt: &impl Abort, alloc: Global, a: &mut Replica<Plain>, b: &mut Replica<Plain>) {
+    assert_eq!(rt; merge(rt, alloc, a, b), Ok(2));
+    assert_eq!(rt; merge(rt, alloc, b, a), Ok(3));
+    let both = Reply::Var { log: 3, value: -5 };
+    assert_eq!(rt; plain_total(rt, a, alloc), both);
+    assert_eq!(rt; plain_total(rt, b, alloc), both);
+    assert_eq!(rt; merge(rt, alloc, a, b), Ok(3));
+    assert!(rt; a.is_settled());
+    assert_eq!(rt; a.len(), 3);
+}
+
+#[test]
+fn merging(rt: HostRuntime) {
+    let alloc = rt.alloc();
+    let mut a = replica_of(&rt, alloc, &[event(&rt, 0, 5, 0, 3)]);
+    let mut b = replica_of(&rt, alloc, &[event(&rt, 1, 2, 1, 4), withdraw(&rt, 0, 9)]);
+    merge_both(&rt, alloc, &mut a, &mut b);
+}
+
+#[test]
+fn full_log(rt: HostRuntime) {
+    let alloc = rt.alloc();
+    let mut full = replica(&rt, alloc);
+    for value in 0..99_999 {
+        assert!(rt; full.take(alloc, &event(&rt, 0, 5, 0, value)).is_ok());
+    }
+    let news = [
+        withdraw(&rt, 0, 1),
+        withdraw(&rt, 0, 2),
+        withdraw(&rt, 0, 3),
+    ];
+    let other = replica_of(&rt, alloc, &news);
+    assert_eq!(rt;
+        merge(&rt, alloc, &mut full, &other),
+        Err((1, Refusal::LogFull))
+    );
+    assert_eq!(rt; full.len(), 100_000);
+    assert_eq!(rt; full.take(alloc, &news[0]), Ok(Took::Known(100_000)));
+    assert_eq!(rt; full.take(alloc, &news[1]), Err(Refusal::LogFull));
+}
+
+#[test]
+fn programs(rt: HostRuntime) {
+    let alloc = rt.alloc();
+    let nothing = Program::new(Parts {
+        stop: 100,
+        origins: 2,
+        reactors: 0,
+        variables: Vec::new(alloc),
+        ports: Vec::new(alloc),
+        actions: Vec::new(alloc),
+        timers: Vec::new(alloc),
+        reactions: Vec::new(alloc),
+        links: Vec::new(alloc),
+        inputs: Vec::new(alloc),
+        outputs: Vec::new(alloc),
+    });
+    let other = Replica::<Plain>::new(alloc, nothing).expect(&rt, "memory");
+    let twice = replica(&rt, alloc);
+    assert!(rt; twice.same_program(&twice) && !twice.same_program(&other));
 }

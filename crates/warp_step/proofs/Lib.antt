@@ -1,6 +1,10 @@
 pub mod FrontLemmas
+pub mod OutputsBefore
+pub mod OutputsOfRun
+pub mod PartedLists
 pub mod PendingLemmas
 pub mod ReactLemmas
+pub mod RowsBefore
 pub mod Sameness
 pub mod SourceLemmas
 pub mod StepLemmas

@@ -20,6 +20,14 @@ has_input P input = nat_lt input (length P.inputs)
 abbrev pub owns_input : Program → ℕ → ℕ → Bool
 owns_input P origin input = slice_index (map (λ i. i.origin) P.inputs) input == origin
 
+-- the program takes a withdrawal of a name of this origin, at this tag
+abbrev pub takes_name : Program → ℕ → Moment → Bool
+takes_name P origin tag = is_declared P origin && is_in_time P tag
+
+-- the same, as a fact
+abbrev pub IsNameOf : Program → ℕ → Moment → Type 0
+IsNameOf P origin tag = IsTrue (takes_name P origin tag)
+
 -- the program takes an event of this origin, at this tag, for this input
 abbrev pub takes : Program → ℕ → Moment → ℕ → Bool
 takes P origin tag input = is_declared P origin && is_in_time P tag && has_input P input && owns_input P origin input

@@ -55,3 +55,15 @@ state_at_end s (row ∷ rows) = state_at_end row.state rows
 -- the outputs of the rows, in order
 abbrev pub outputs_of : List Row → List Out
 outputs_of rows = flat_map (λ row. row.outputs) rows
+
+-- the events before a tag
+abbrev pub events_until : Moment → List Event → List Event
+events_until end E = filter (λ e. is_before e.tag end) E
+
+-- the rows before a tag
+abbrev pub rows_until : Moment → List Row → List Row
+rows_until end rows = filter (λ row. is_before row.tag end) rows
+
+-- the outputs before a tag
+abbrev pub outputs_until : Moment → List Out → List Out
+outputs_until end outputs = filter (λ out. is_before out.tag end) outputs

@@ -24,7 +24,7 @@ mod tests;
 mod twice;
 
 pub use counter::Counter;
-pub use law::one_trace;
+pub use law::{early_outputs, early_rows, one_trace, outputs_begin};
 pub use meter::Meter;
 pub use one_step::{Scratch, step};
 pub use out::{Given, Out};

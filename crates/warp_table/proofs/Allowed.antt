@@ -7,7 +7,7 @@ use Rattle.warp_step.specs.Program.{Program}
 use Rattle.warp_step.specs.Valid.{is_valid}
 use Rattle.warp_step.specs.Events.{is_declared, is_in_time, has_input, owns_input, IsEventOf}
 use Rattle.warp_step.proofs.ValidLemmas.{validity}
-use Rattle.warp_record.specs.declared.line.Record.TheVariants.{Event}
+use Rattle.warp_record.specs.declared.record.Record.TheVariants.{Event}
 use Rattle.warp_record.specs.declared.reply.Refusal.TheVariants.{NoOrigin, PastStop, NoInput, NotYours}
 use Rattle.warp_table.specs.Check.{refusal_of}
 

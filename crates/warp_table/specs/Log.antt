@@ -1,6 +1,6 @@
--- Places in a list of records.
+-- Logs: records in the order of taking.
 use Rattle.std.specs.Prelude.{◌≡◌, ◌≢◌, ℕ, ◌-◌, ◌≤◌, List, Some, slice_get, AllPairs}
-use Rattle.warp_record.specs.declared.line.Record.{Record}
+use Rattle.warp_record.specs.declared.record.Record.{Record}
 
 -- the record stands at this place of the list, counted from 1
 abbrev pub IsAt : List Record → ℕ → Record → Type 0

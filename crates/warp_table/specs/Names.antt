@@ -1,50 +1,65 @@
--- What records say of names: the table that they make, and what they tell of one name, in whatever order they came.
-use Rattle.std.specs.Prelude.{◌≡◌, ℕ, ℤ, false, IsTrue, ◌↔◌, Option, Some, None, List, [], fold, Contains}
-use Rattle.warp_tag.specs.Moment.{Moment}
-use Rattle.warp_tag.specs.Table.{changed, with_event, is_lesser}
+-- What a set of records says of names: what it tells of one name, and which events are live. No order of arrival plays a
+-- part in it.
+use Rattle.std.specs.Prelude.{◌≡◌, ◌≢◌, ℕ, ℤ, Bool, false, ◌&&◌, ◌||◌, nat_lt, IsTrue, ◌↔◌, Option, Some, None, List, Contains, AllPairs}
+use Rattle.warp_tag.specs.Moment.{Moment, is_before, is_same}
+use Rattle.warp_tag.specs.Table.{Event as LiveEvent, is_lesser}
 use Rattle.warp_tag.specs.declared.entry.Entry.{Entry}
-use Rattle.warp_record.specs.declared.line.Record.{Record}
-use Rattle.warp_record.specs.declared.line.Record.TheVariants.{Event}
+use Rattle.warp_record.specs.declared.record.Record.{Record}
+use Rattle.warp_record.specs.declared.record.Record.TheVariants.{Event, Withdraw, Announce}
+use Rattle.warp_table.specs.Records.{Records, IsIn}
 
--- the table of names after one more record
-abbrev pub with_record : List Entry → Record → List Entry
-with_record table (Event origin tag input value) = changed (with_event input value) origin tag table
-
--- the names of a list of records: what the records say of each, one after another
-abbrev pub table_of : List Record → List Entry
-table_of records = fold with_record [] records
-
--- the record is of this name
+-- the record is of this name: an event or a withdrawal of it
 abbrev pub IsOf : ℕ → Moment → Record → Type 0
 IsOf origin tag (Event its_origin its_tag input value) = (its_origin ≡ origin) × (its_tag ≡ tag)
+IsOf origin tag (Withdraw its_origin its_tag) = (its_origin ≡ origin) × (its_tag ≡ tag)
+IsOf origin tag (Announce its_origin its_tag events withdrawn) = ⊥
 
--- the record withdraws this name
-abbrev pub Withdraws : ℕ → Moment → Record → Type 0
-Withdraws origin tag (Event its_origin its_tag input value) = ⊥
+-- in the set is an event of this name with this payload
+abbrev pub HasEvent : Records → ℕ → Moment → ℕ × ℤ → Type 0
+HasEvent S origin tag payload = IsIn S (Event origin tag payload.0 payload.1)
 
--- among the records is an event of this name with this payload
-abbrev pub HasEvent : List Record → ℕ → Moment → ℕ × ℤ → Type 0
-HasEvent records origin tag payload = Contains records (Event origin tag payload.0 payload.1)
+-- in the set is a withdrawal of this name
+abbrev pub HasWithdrawal : Records → ℕ → Moment → Type 0
+HasWithdrawal S origin tag = IsIn S (Withdraw origin tag)
 
--- among the records is a withdrawal of this name
-abbrev pub HasWithdrawal : List Record → ℕ → Moment → Type 0
-HasWithdrawal records origin tag = (r : Record) × Contains records r × Withdraws origin tag r
+-- the payload of this name counts: an event with it is in the set, and none with a greater one
+abbrev pub IsGreatest : Records → ℕ → Moment → ℕ × ℤ → Type 0
+IsGreatest S origin tag payload =
+    HasEvent S origin tag payload × ((other : ℕ × ℤ) → HasEvent S origin tag other → is_lesser payload other ≡ false)
 
--- the payload that the records tell of this name: none where no event of the name is among them, else the greatest one
-abbrev pub TellsPayload : List Record → ℕ → Moment → Option (ℕ × ℤ) → Type 0
-TellsPayload records origin tag None = (q : ℕ × ℤ) → ¬ HasEvent records origin tag q
-TellsPayload records origin tag (Some p) =
-    HasEvent records origin tag p × ((q : ℕ × ℤ) → HasEvent records origin tag q → is_lesser p q ≡ false)
+-- the payload that the set tells of this name: none where no event of the name is in it, else the greatest one
+abbrev pub TellsPayload : Records → ℕ → Moment → Option (ℕ × ℤ) → Type 0
+TellsPayload S origin tag None = (payload : ℕ × ℤ) → ¬ HasEvent S origin tag payload
+TellsPayload S origin tag (Some payload) = IsGreatest S origin tag payload
 
--- the records tell this of this name, of which there is one among them: the payload of its event, and whether it is withdrawn
-pub record TellsEntry (records : List Record) (origin : ℕ) (tag : Moment) (e : Entry) : Type 0 where
-  pub some : (r : Record) × Contains records r × IsOf origin tag r
+-- the set tells this of this name, of which there is a record in it: the payload of its event, and whether it is withdrawn
+pub record TellsEntry (S : Records) (origin : ℕ) (tag : Moment) (e : Entry) : Type 0 where
+  pub some : (said : Record) × IsIn S said × IsOf origin tag said
   pub origin_is : e.origin ≡ origin
   pub tag_is : e.tag ≡ tag
-  pub payload : TellsPayload records origin tag e.event
-  pub mark : IsTrue e.withdrawn ↔ HasWithdrawal records origin tag
+  pub payload : TellsPayload S origin tag e.event
+  pub mark : IsTrue e.withdrawn ↔ HasWithdrawal S origin tag
 
--- what the records tell of this name, whatever their order: nothing where none of them is of the name
-abbrev pub Tells : List Record → ℕ → Moment → Option Entry → Type 0
-Tells records origin tag None = (r : Record) → Contains records r → ¬ IsOf origin tag r
-Tells records origin tag (Some e) = TellsEntry records origin tag e
+-- what the set tells of this name: nothing where no record of the name is in it
+abbrev pub Tells : Records → ℕ → Moment → Option Entry → Type 0
+Tells S origin tag None = (said : Record) → IsIn S said → ¬ IsOf origin tag said
+Tells S origin tag (Some e) = TellsEntry S origin tag e
+
+-- two payloads of this name are in the set
+abbrev pub HasTwoPayloads : Records → ℕ → Moment → Type 0
+HasTwoPayloads S origin tag =
+    (one : ℕ × ℤ) × (other : ℕ × ℤ) × HasEvent S origin tag one × HasEvent S origin tag other × (one ≢ other)
+
+-- the event is live in the set: its payload is the greatest of its name, and the name is not withdrawn
+pub record IsLiveEvent (S : Records) (e : LiveEvent) : Type 0 where
+  pub greatest : IsGreatest S e.origin e.tag (e.input, e.value)
+  pub unwithdrawn : ¬ HasWithdrawal S e.origin e.tag
+
+-- the event's name comes before that of another: by tag, then by origin
+abbrev pub event_before : LiveEvent → LiveEvent → Bool
+event_before e d = is_before e.tag d.tag || (is_same e.tag d.tag && nat_lt e.origin d.origin)
+
+-- these are the live events of the set, in the order of their names
+pub record IsLive (S : Records) (E : List LiveEvent) : Type 0 where
+  pub ordered : AllPairs (λ e d. IsTrue (event_before e d)) E
+  pub each : (e : LiveEvent) → Contains E e ↔ IsLiveEvent S e

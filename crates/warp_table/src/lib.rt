@@ -1,13 +1,19 @@
 //! The records that were taken, in order: their places, why a program refuses one, and what they say of names.
 //!
-//! Contracts see a `Table` as the list of its records. What that list says of names, `table_of`, follows from the
-//! set of its records alone (`one_table`).
+//! Contracts see a `Table` as the list of its records. What that list says of names follows from the set of its records
+//! alone (`known_by_set`, `one_table`, `live_by_set`).
 #![tactic(auto)]
 
+mod announcer;
+mod honest_law;
 mod law;
 mod table;
 #[cfg(test)]
 mod tests;
 
-pub use law::{is_table, known_by_set, one_table, told_once};
+pub use honest_law::{honest_within, later_horizon, one_horizon, same_below};
+pub use law::{
+    in_set, is_table, joined, known_by_set, live_by_set, live_once, names_once, one_set, one_size,
+    one_table, told_once,
+};
 pub use table::{MAX_RECORDS, Table};

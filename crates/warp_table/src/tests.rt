@@ -1,49 +1,114 @@
-//! Each call once with ample memory, and each answer of `check`.
+//! Each call with ample memory, and each answer of `check`.
 use crate::Table;
+use std::process::Abort;
 use std::test::Fail;
-use warp_record::{Record, Refusal};
+use warp_record::{Count, Record, Refusal};
 use warp_step::Program;
-use warp_tag::Tag;
+use warp_tag::{Entry, Tag};
 
-/// An event with microstep 0.
-fn event(origin: u32, time: u64, input: u32, value: i64) -> Result<Record, Fail> {
-    let tag = Tag::new(time, 0).ok_or("no such tag")?;
-    Ok(Record::Event {
-        origin,
-        tag,
-        input,
-        value,
-    })
+/// What a record says beside its origin and its tag; an announcement is of one event and no withdrawal.
+#[derive(Clone, Copy)]
+enum Says {
+    Event(u32, i64),
+    Withdrawal,
+    Announcement,
+}
+
+/// The tag of this time and microstep.
+fn at(rt: &impl Abort, (time, micro): (u64, u32)) -> Tag {
+    Tag::new(time, micro).expect(rt, "a tag in range")
+}
+
+fn count(rt: &impl Abort, number: u32) -> Count {
+    Count::new(number).expect(rt, "a count in range")
+}
+
+fn record(rt: &impl Abort, origin: u32, tag: (u64, u32), says: Says) -> Record {
+    let tag = at(rt, tag);
+    match says {
+        Says::Event(input, value) => Record::Event {
+            origin,
+            tag,
+            input,
+            value,
+        },
+        Says::Withdrawal => Record::Withdraw { origin, tag },
+        Says::Announcement => Record::Announce {
+            origin,
+            tag,
+            events: count(rt, 1),
+            withdrawn: count(rt, 0),
+        },
+    }
 }
 
 #[test]
 fn reasons(rt: HostRuntime) -> Result<(), Fail> {
     let program = Program::twice(rt.alloc())?;
     let rows = [
-        (event(0, 5, 0, 3)?, Ok(())),
-        (event(1, 100, 1, 3)?, Ok(())),
-        (event(2, 101, 2, 3)?, Err(Refusal::NoOrigin)),
-        (event(1, 101, 2, 3)?, Err(Refusal::PastStop)),
-        (event(1, 100, 2, 3)?, Err(Refusal::NoInput)),
-        (event(1, 100, 0, 3)?, Err(Refusal::NotYours)),
+        (0, (5, 0), Says::Event(0, 3), Ok(())),
+        (0, (100, 0), Says::Event(0, 1), Ok(())),
+        (1, (100, 0), Says::Event(1, 3), Ok(())),
+        (2, (101, 0), Says::Event(2, 3), Err(Refusal::NoOrigin)),
+        (1, (101, 0), Says::Event(2, 3), Err(Refusal::PastStop)),
+        (1, (100, 0), Says::Event(2, 3), Err(Refusal::NoInput)),
+        (1, (100, 0), Says::Event(0, 3), Err(Refusal::NotYours)),
+        (0, (101, 0), Says::Event(0, 1), Err(Refusal::PastStop)),
+        (0, (100, 15), Says::Withdrawal, Ok(())),
+        (0, (101, 0), Says::Withdrawal, Err(Refusal::PastStop)),
+        (2, (101, 0), Says::Withdrawal, Err(Refusal::NoOrigin)),
+        (0, (101, 0), Says::Announcement, Ok(())),
+        (0, (101, 1), Says::Announcement, Err(Refusal::PastStop)),
+        (2, (101, 1), Says::Announcement, Err(Refusal::NoOrigin)),
     ];
-    for (record, answer) in rows {
+    for (origin, tag, says, answer) in rows {
+        let record = record(&rt, origin, tag, says);
         assert_eq!(rt; Table::check(&program, &record), answer);
     }
     Ok(())
 }
 
+/// Withdrawals come before their event, after it and for none; of two payloads the greater one counts.
 #[test]
-fn places(rt: HostRuntime) -> Result<(), Fail> {
+fn places_and_names(rt: HostRuntime) -> Result<(), Fail> {
+    let rows = [
+        (1, 1, (7, 0), Says::Event(1, 4)),
+        (2, 0, (5, 0), Says::Withdrawal),
+        (3, 0, (9, 0), Says::Announcement),
+        (4, 0, (5, 0), Says::Event(0, 3)),
+        (5, 1, (7, 0), Says::Event(1, -2)),
+        (6, 0, (2, 1), Says::Event(0, 1)),
+        (7, 0, (2, 1), Says::Event(0, 6)),
+        (8, 1, (7, 0), Says::Withdrawal),
+        (9, 1, (2, 1), Says::Withdrawal),
+    ];
     let mut table = Table::new(rt.alloc());
-    for place in 1..4 {
-        let record = event(0, 5, 0, i64::from(place))?;
-        assert!(rt; table.position(&record).is_none());
+    for (place, origin, tag, says) in rows {
+        let record = record(&rt, origin, tag, says);
+        assert_eq!(rt; table.position(&record), None);
         assert!(rt; !table.is_full());
         assert_eq!(rt; table.add(&record)?, place);
         assert_eq!(rt; table.position(&record), Some(place));
+        assert_eq!(rt; table.entry(place), Some(record));
     }
-    assert_eq!(rt; table.position(&event(0, 5, 0, 1)?), Some(1));
-    assert_eq!(rt; table.len(), 3);
+    assert_eq!(rt; table.len(), 9);
+    assert_eq!(rt; (table.entry(0), table.entry(10)), (None, None));
+    let names = [
+        (0, 1, (7, 0), Some((1, 4)), true),
+        (1, 0, (5, 0), Some((0, 3)), true),
+        (2, 0, (2, 1), Some((0, 6)), false),
+        (3, 1, (2, 1), None, true),
+    ];
+    for (number, origin, tag, event, withdrawn) in names {
+        let tag = at(&rt, tag);
+        let entry = Entry {
+            origin,
+            tag,
+            event,
+            withdrawn,
+        };
+        assert_eq!(rt; table.name_at(number), Some(entry));
+    }
+    assert_eq!(rt; table.name_at(4), None);
     Ok(())
 }

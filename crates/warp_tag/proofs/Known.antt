@@ -8,7 +8,7 @@ use Rattle.warp_tag.specs.declared.entry.Entry.{Entry}
 use Rattle.warp_tag.specs.Table.{IsTable, name_before, has_name, fresh, changed, known}
 use Rattle.warp_tag.proofs.Lists.{All-weaker, find_fails, some_not_none}
 use Rattle.warp_tag.proofs.Names.{Above, else_ahead, named_is}
-use Rattle.warp_tag.proofs.Tables.{KeepsNames, above_trans}
+use Rattle.warp_tag.proofs.Tables.{KeepsNames, above_trans, before_change}
 
 -- a name that comes before an entry's is not that entry's
 pub before_not_named : (o : ℕ) (t : Moment) (e : Entry) → name_before o t e ≡ true → has_name o t e ≡ false
@@ -36,6 +36,19 @@ known_above o t es above =
 -- where an entry of the name comes before all others, they say nothing of it
 known_behind : (o : ℕ) (t : Moment) (e : Entry) (es : List Entry) → has_name o t e ≡ true → Above e.origin e.tag es → known o t es ≡ None
 known_behind o t e es h above = let is = named_is o t e h in rw (is.0, is.1) (known_above e.origin e.tag es above)
+
+-- the entry that a change starts from is what is known of the name
+pub before_change_known : (o : ℕ) (t : Moment) (es : List Entry) → IsTable es → before_change o t es ≡ unwrap_or (known o t es) (fresh o t)
+before_change_known o t [] table = refl
+before_change_known o t (e ∷ es) table = elim (cases_Bool (name_before o t e)) [
+  | inl b ↦
+      let none : known o t (e ∷ es) ≡ None = known_above o t (e ∷ es) (b, above_trans o t e es b table.0) in
+      rw b (ap (λ r. unwrap_or r (fresh o t)) (sym none))
+  | inr b ↦ elim (cases_Bool (has_name o t e)) [
+    | inl n ↦ rw (b, n) refl
+    | inr n ↦ rw (b, n) (before_change_known o t es table.1)
+  ]
+]
 
 -- after a change of what is known of a name, that is known of it
 pub known_changed : (f : Entry → Entry) → KeepsNames f → (o : ℕ) (t : Moment) (es : List Entry) → IsTable es → known o t (changed f o t es) ≡ Some (f (unwrap_or (known o t es) (fresh o t)))

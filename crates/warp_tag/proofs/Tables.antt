@@ -5,7 +5,7 @@ use Rattle.std.specs.List.{cons_option, list_all, prefix_len, insert}
 use Rattle.std.proofs.lemmas.Bool.{cases_Bool}
 use Rattle.warp_tag.specs.Moment.{Moment}
 use Rattle.warp_tag.specs.declared.entry.Entry.{Entry}
-use Rattle.warp_tag.specs.Table.{IsTable, Event, name_before, has_name, fresh, changed, is_lesser, with_event, live_event, live}
+use Rattle.warp_tag.specs.Table.{IsTable, Event, name_before, has_name, fresh, changed, is_lesser, with_event, with_withdrawal, live_event, live}
 use Rattle.warp_tag.proofs.Names.{ahead, Above, ahead_not_before, ahead_not_named, named_not_before, behind, else_ahead, name_before_trans, ahead_trans, named_is}
 
 -- an entry that is not ahead ends the front
@@ -218,9 +218,23 @@ events_pass p o t input value (e ∷ es) h k = elim (cases_Bool (name_before o t
   ]
 ]
 
--- an event keeps the name
+-- and after a withdrawal
+pub withdrawal_passes : (p : Event → Bool) (o : ℕ) (t : Moment) (es : List Entry) → list_all p (live es) ≡ true → list_all p (live (changed with_withdrawal o t es)) ≡ true
+withdrawal_passes p o t [] h = refl
+withdrawal_passes p o t (e ∷ es) h = elim (cases_Bool (name_before o t e)) [
+  | inl b ↦ rw b h
+  | inr b ↦ elim (cases_Bool (has_name o t e)) [
+    | inl n ↦ rw (b, n) (all_rest p (live_event e) (live es) h)
+    | inr n ↦ rw (b, n) (all_cons_option p (live_event e) (live (changed with_withdrawal o t es)) (all_head p (live_event e) (live es) h) (withdrawal_passes p o t es (all_rest p (live_event e) (live es) h)))
+  ]
+]
+
+-- an event keeps the name, and so does a withdrawal
 pub with_event_names : (input : ℕ) (value : ℤ) → KeepsNames (with_event input value)
 with_event_names input value e = (refl, refl)
+
+pub with_withdrawal_names : KeepsNames with_withdrawal
+with_withdrawal_names e = (refl, refl)
 
 -- what is read at an index does not hang on the default
 read_as : (es : List Entry) (n : ℕ) (x d : Entry) → n < length es → x ≡ get_or es n x → get_or es n d ≡ x

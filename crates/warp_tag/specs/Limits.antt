@@ -73,7 +73,7 @@ most_inputs = 64
 abbrev pub most_outputs : ℕ
 most_outputs = 64
 
--- the greatest number of a variable that a line can name
+-- the greatest number of a variable, an output, a place or a row that a line can name
 abbrev pub last_number : ℕ
 last_number = 4294967295
 
@@ -84,6 +84,10 @@ most_names = 4000000000
 -- the most records of a log
 abbrev pub most_records : ℕ
 most_records = 100000
+
+-- the most rows of a board
+abbrev pub most_rows : ℕ
+most_rows = 4096
 
 -- the most bytes of a line, without its line feed
 abbrev pub longest_line : ℕ

@@ -1,7 +1,7 @@
 -- A session of a `Local` is one of its log.
 use Rattle.std.proofs.Common.{◌≡◌, ℕ, List, [], ◌∷◌, ap, subst, inl, inr, Option, Some, None}
 use Rattle.warp_step.specs.Program.{Program}
-use Rattle.warp_record.specs.declared.line.Record.{Record}
+use Rattle.warp_record.specs.declared.record.Record.{Record}
 use Rattle.warp_record.specs.declared.reply.Reply.{Reply}
 use Rattle.warp_record.specs.Lines.{Piece, Whole, Long, Torn, lines_of}
 use Rattle.warp_replica.specs.Gives.{Gives}

@@ -2,7 +2,7 @@
 use Rattle.std.specs.Prelude.{ℕ, List, [], Option, IfSome}
 use Rattle.std.specs.Io.KnownBytes.{Appends}
 use Rattle.warp_step.specs.Program.{Program}
-use Rattle.warp_record.specs.declared.line.Record.{Record}
+use Rattle.warp_record.specs.declared.record.Record.{Record}
 use Rattle.warp_replica.specs.Gives.{Gives}
 use Rattle.warpd.specs.Session.{Session, TranscribesLines}
 

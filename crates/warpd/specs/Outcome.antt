@@ -1,5 +1,5 @@
 -- How a run of the program ends.
-use Rattle.std.specs.Prelude.{◌≡◌, ◌≢◌, ◌⊎◌, ◌<◌, ◌≤◌, ℕ, List, [], ◌++◌, Option, Some, IfSome, codes, decimal, length}
+use Rattle.std.specs.Prelude.{◌≡◌, ◌≢◌, ◌⊎◌, ◌+◌, ◌<◌, ◌≤◌, ℕ, List, [], ◌++◌, Option, Some, IfSome, codes, decimal, length, take}
 use Rattle.clap.specs.Words.{IsAmong, Text, fault_of}
 use Rattle.clap.specs.declared.error.kind.ErrorKind.{ErrorKind}
 use Rattle.clap.specs.declared.error.kind.ErrorKind.TheVariants as kind
@@ -7,6 +7,7 @@ use Rattle.warp_tag.specs.Limits.{most_reads}
 use Rattle.warp_step.specs.Program.{Program as ReactorProgram}
 use Rattle.warp_step.specs.Twice.{twice}
 use Rattle.warp_prog.specs.Load.{IsLoaded, IsRefused}
+use Rattle.warp_prog.specs.Reading.{longest_file}
 use Rattle.warp_prog.specs.Refusal.{number_of}
 use Rattle.warp_prog.specs.declared.error.LoadError.{LoadError}
 use Rattle.warp_prog.specs.declared.error.LoadError.TheVariants.{Memory as WantOfMemory}
@@ -78,6 +79,10 @@ EndsSo P before after ReadFault =
 EndsSo P before after WriteFault = before.failed_writes < after.failed_writes
 EndsSo P before after TooManyReads = IfSome before.left (λ input. most_reads ≤ length input)
 EndsSo P before after NoMemory = after ≡ before
+
+-- These bytes begin what a reader tells, if it tells it: all of it, or one byte more than a program file may have.
+abbrev pub IsFrontOf : Option (List ℕ) → List ℕ → Type 0
+IsFrontOf told bytes = IfSome told (λ all. bytes ≡ take (longest_file + 1) all)
 
 -- the program of this name: `builtin:twice`, or that of some bytes, which were read of a file
 abbrev pub IsNamed : List ℕ → ReactorProgram → Type 0

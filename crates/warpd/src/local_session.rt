@@ -46,9 +46,36 @@ mod tests {
     use std::marker::Brand;
     use std::sync::ledger::{Blank, Ledger};
     use std::test::Fail;
-    use warp_tag::OutOfMemory;
+    use warp_prog::load;
 
-    const FIRST_RUN: &str = "event 0 5 0 0 3\nvar 0\n";
+    /// An action that lands at the next microstep.
+    const ECHO: &str =
+        r#"{"version":1,"stop":100,"origins":1,"reactors":[{"name":"e","vars":[["n",0]],
+"inputs":["a"],"outputs":["y"],"actions":[["c",0]],"reactions":[
+{"on":["a"],"writes":["c"],"body":[["schedule","c",0,"a"]]},
+{"on":["c"],"writes":["y"],"body":[["set","n",["+","n","c"]],["put","y","n"]]}]}],
+"inputs":[[0,"e.a"]],"outputs":["e.y"]}"#;
+
+    /// A link at the same tag.
+    const PAIR: &str = r#"{"version":1,"stop":100,"origins":2,"reactors":[
+{"name":"f","inputs":["a"],"outputs":["y"],"reactions":[
+{"on":["a"],"writes":["y"],"body":[["if",["<",0,"a"],[["put","y",["*","a","a"]]],[]]]}]},
+{"name":"g","vars":[["k",0]],"inputs":["x","b"],"outputs":["z"],"reactions":[
+{"on":["x","b"],"writes":["z"],"body":[
+["set","k",["+",["+","k","x"],["*",100,["present","b"]]]],["put","z","k"]]}]}],
+"links":[["f.y","g.x"]],"inputs":[[0,"f.a"],[1,"g.b"]],"outputs":["g.z"]}"#;
+
+    /// More pending entries than there may be.
+    const FLOOD: &str =
+        r#"{"version":1,"stop":2000,"origins":1,"reactors":[{"name":"w","vars":[["n",0]],
+"inputs":["a"],"actions":[["c",0]],"reactions":[
+{"on":["a"],"writes":["c"],"body":[
+["schedule","c",100,1],["schedule","c",200,1],["schedule","c",300,1],["schedule","c",400,1],
+["schedule","c",500,1],["schedule","c",600,1],["schedule","c",700,1],["schedule","c",800,1],
+["schedule","c",900,1],["schedule","c",1000,1],["schedule","c",1100,1],["schedule","c",1200,1],
+["schedule","c",1300,1],["schedule","c",1400,1],["schedule","c",1500,1],["schedule","c",1600,1]]},
+{"on":["c"],"body":[["set","n",["+","n",1]]]}]}],
+"inputs":[[0,"w.a"]]}"#;
 
     /// Lines that are refused, of which the last has no line feed.
     const REFUSED: &str = "event 00 5 0 0 3\nevent 0 5 0 1 3\nevent 2 5 0 0 3\nevent 0 5 0 2 3\n\
@@ -60,32 +87,57 @@ mod tests {
     const REFUSALS: &str =
         "refused 1\nrefused 5\nrefused 2\nrefused 4\nrefused 9\nrefused 1\nrefused 1\n";
 
-    /// How a session over the program `twice` ends, and what it wrote. Its failures are counted in these ledgers.
-    fn run<R: Read + Drop, L: Ledger, M: Ledger>(
+    /// How a session over this program ends, and what it wrote. Its failures are counted in these ledgers.
+    fn run_in<R: Read + Drop, L: Ledger, M: Ledger>(
         alloc: Global,
+        program: Program,
         reader: R,
         writer: MemoryWriter<'_>,
         reads: Blank,
         writes: Blank,
-    ) -> Result<(SessionEnd, Vec<u8>), OutOfMemory>
+    ) -> (SessionEnd, Vec<u8>)
         requires reads { IsUnused reads L.name L.parts }
         requires writes { IsUnused writes M.name M.parts }
     {
-        let program = Program::twice(alloc)?;
         let mut source = Stream::<_, L>::new(reader, reads);
         let mut sink = Stream::<_, M>::new(writer, writes);
         let end = run_session(alloc, program, &mut source, &mut sink);
-        Ok((end, sink.into_inner().into_written()))
+        (end, sink.into_inner().into_written())
     }
 
+    /// How a session over this program ends, and what it wrote.
+    fn run<R: Read + Drop>(
+        alloc: Global,
+        program: Program,
+        reader: R,
+        writer: MemoryWriter<'_>,
+    ) -> (SessionEnd, Vec<u8>) {
+        run_in::<R, Brand, Brand>(alloc, program, reader, writer, Blank::new(1), Blank::new(1))
+    }
+
+    /// The rows over the program `twice`, by lines and answers, in pieces of one, seven and many bytes.
     #[test]
-    fn lines_and_answers(rt: HostRuntime) -> Result<(), Fail> {
+    fn rows_of_twice(rt: HostRuntime) -> Result<(), Fail> {
         let rows = [
             ("", ""),
-            (FIRST_RUN, "taken 1\nvar 1 3\n"),
+            ("event 0 5 0 0 3\nvar 0\n", "taken 1\nvar 1 3\n"),
             (
-                "event 0 5 0 0 3\nvar 0\nevent 1 2 0 1 4\nvar 0\nevent 0 5 0 0 3\nvar 0\n",
-                "taken 1\nvar 1 3\ntaken 2\nvar 2 -5\nknown 1\nvar 2 -5\n",
+                "event 0 5 0 0 3\nvar 0\nevent 1 2 0 1 4\nvar 0\noutputs\noutput 0\noutput 1\n",
+                "taken 1\nvar 1 3\ntaken 2\nvar 2 -5\noutputs 2 2\noutput 2 2 0 0 -4\noutput 2 5 0 0 -5\n",
+            ),
+            (
+                "event 0 5 0 0 3\nvar 0\nevent 1 2 0 1 4\nvar 0\noutputs\noutput 0\noutput 1\nevent 0 5 0 0 3\nvar 0\n",
+                "taken 1\nvar 1 3\ntaken 2\nvar 2 -5\noutputs 2 2\noutput 2 2 0 0 -4\noutput 2 5 0 0 -5\nknown 1\nvar 2 -5\n",
+            ),
+            (
+                "event 0 5 0 0 3\nvar 0\nevent 1 2 0 1 4\nvar 0\noutputs\noutput 0\noutput 1\n\
+                    event 0 5 0 0 3\nvar 0\nwithdraw 1 2 0\nvar 0\n",
+                "taken 1\nvar 1 3\ntaken 2\nvar 2 -5\noutputs 2 2\noutput 2 2 0 0 -4\noutput 2 5 0 0 -5\n\
+                    known 1\nvar 2 -5\ntaken 3\nvar 3 3\n",
+            ),
+            (
+                "withdraw 1 2 0\nevent 1 2 0 1 4\nvar 0\n",
+                "taken 1\ntaken 2\nvar 2 0\n",
             ),
             (
                 "event 0 5 0 0 7\nevent 0 5 0 0 3\nvar 0\n",
@@ -96,39 +148,96 @@ mod tests {
                 "taken 1\ntaken 2\nvar 2 7\n",
             ),
             (
+                "event 1 5 0 1 4\nevent 0 5 0 0 3\noutputs\noutput 0\noutput 1\n",
+                "taken 1\ntaken 2\noutputs 2 1\noutput 2 5 0 0 -1\nnone 2\n",
+            ),
+            (
+                "event 0 100 0 0 1\nevent 0 101 0 0 1\nannounce 0 101 0 1 0\nannounce 0 101 1 1 0\n",
+                "taken 1\nrefused 3\ntaken 2\nrefused 3\n",
+            ),
+            (
                 "event 0 1 0 0 9223372036854775807\nevent 0 2 0 0 1\nvar 0\n",
                 "taken 1\ntaken 2\nvar 2 -1\n",
             ),
-            (REFUSED, REFUSALS),
             (
                 "\nevent 0 1 0 0 -0\nevent 0 1 16 0 1\nevent 0 1 0 0 -9223372036854775808\nvar 0\n",
                 "refused 1\nrefused 1\nrefused 1\ntaken 1\nvar 1 -9223372036854775808\n",
             ),
             (
-                "event 0 100 0 0 1\nevent 0 101 0 0 1\nvar 1\n",
-                "taken 1\nrefused 3\nrefused 6\n",
+                "board\nevent 0 5 0 0 3\nlog 1\nlog 0\nlog 2\nrow 0\n",
+                "refused 11\ntaken 1\nlog 1 event 0 5 0 0 3\nnone 1\nnone 1\nrefused 11\n",
             ),
+            (
+                "event 0 1 0 0 1\nevent 0 2 0 0 1\nevent 0 3 0 0 1\nevent 0 4 0 0 1\nevent 0 5 0 0 1\n\
+                    event 0 6 0 0 1\nevent 0 7 0 0 1\nevent 0 8 0 0 1\nevent 0 9 0 0 1\nevent 0 10 0 0 1\n\
+                    event 0 11 0 0 1\nevent 0 12 0 0 1\nevent 0 13 0 0 1\nevent 0 14 0 0 1\nevent 0 15 0 0 1\n\
+                    event 0 16 0 0 1\nevent 0 17 0 0 1\nevent 0 18 0 0 1\nevent 0 19 0 0 1\nevent 0 20 0 0 1\n\
+                    event 0 21 0 0 1\nevent 0 22 0 0 1\nevent 0 23 0 0 1\nevent 0 24 0 0 1\nevent 0 25 0 0 1\n\
+                    event 0 26 0 0 1\nevent 0 27 0 0 1\nevent 0 28 0 0 1\nevent 0 29 0 0 1\nevent 0 30 0 0 1\n\
+                    event 0 31 0 0 1\nevent 0 32 0 0 1\nevent 0 33 0 0 1\nevent 0 34 0 0 1\nevent 0 35 0 0 1\n\
+                    event 0 36 0 0 1\nevent 0 37 0 0 1\nevent 0 38 0 0 1\nevent 0 39 0 0 1\nevent 0 40 0 0 1\n\
+                    event 1 32 0 1 1\nvar 0\n",
+                "taken 1\ntaken 2\ntaken 3\ntaken 4\ntaken 5\ntaken 6\ntaken 7\ntaken 8\ntaken 9\ntaken 10\n\
+                    taken 11\ntaken 12\ntaken 13\ntaken 14\ntaken 15\ntaken 16\ntaken 17\ntaken 18\ntaken 19\n\
+                    taken 20\ntaken 21\ntaken 22\ntaken 23\ntaken 24\ntaken 25\ntaken 26\ntaken 27\ntaken 28\n\
+                    taken 29\ntaken 30\ntaken 31\ntaken 32\ntaken 33\ntaken 34\ntaken 35\ntaken 36\ntaken 37\n\
+                    taken 38\ntaken 39\ntaken 40\ntaken 41\nvar 41 1099511627519\n",
+            ),
+            (REFUSED, REFUSALS),
         ];
         let alloc = rt.alloc();
+        let count = Cell::new(0);
         for (lines, answers) in rows {
             for most in [1, 7, 4_096] {
                 let reader = MemoryReader::new(lines.as_bytes(), most, None);
-                let count = Cell::new(0);
                 let writer = MemoryWriter::new(alloc, &count, most, None);
-                let (end, written) = run::<_, Brand, Brand>(
-                    alloc,
-                    reader,
-                    writer,
-                    Blank::new(1),
-                    Blank::new(1),
-                )?;
+                let (end, written) = run(alloc, Program::twice(alloc)?, reader, writer);
                 assert_eq!(rt; end, SessionEnd::End);
-                assert_eq!(rt;
-                    written.as_slice(),
-                    answers.as_bytes(),
-                    "{lines} in pieces of {most}"
-                );
+                assert_eq!(rt; written.as_slice(), answers.as_bytes(), "{lines} by {most}");
             }
+        }
+        Ok(())
+    }
+
+    /// The rows over programs of files.
+    #[test]
+    fn rows_of_files(rt: HostRuntime) -> Result<(), Fail> {
+        let rows = [
+            (
+                ECHO,
+                "event 0 5 0 0 3\noutput 0\n",
+                "taken 1\noutput 1 5 1 0 3\n",
+            ),
+            (
+                ECHO,
+                "event 0 5 15 0 3\nlost\noutputs\n",
+                "taken 1\nlost 1 1\noutputs 1 0\n",
+            ),
+            (
+                PAIR,
+                "event 0 1 0 0 3\nevent 1 1 0 1 7\nevent 0 2 0 0 -3\nevent 1 3 0 1 0\noutputs\noutput 0\noutput 1\n",
+                "taken 1\ntaken 2\ntaken 3\ntaken 4\noutputs 4 2\noutput 4 1 0 0 109\noutput 4 3 0 0 209\n",
+            ),
+            (
+                FLOOD,
+                "event 0 0 0 0 1\nevent 0 1 0 0 1\nevent 0 2 0 0 1\nevent 0 3 0 0 1\nevent 0 4 0 0 1\n\
+                    event 0 5 0 0 1\nevent 0 6 0 0 1\nevent 0 7 0 0 1\nevent 0 8 0 0 1\nevent 0 9 0 0 1\n\
+                    event 0 10 0 0 1\nevent 0 11 0 0 1\nevent 0 12 0 0 1\nevent 0 13 0 0 1\nevent 0 14 0 0 1\n\
+                    event 0 15 0 0 1\nevent 0 16 0 0 1\nlost\nvar 0\n",
+                "taken 1\ntaken 2\ntaken 3\ntaken 4\ntaken 5\ntaken 6\ntaken 7\ntaken 8\ntaken 9\ntaken 10\n\
+                    taken 11\ntaken 12\ntaken 13\ntaken 14\ntaken 15\ntaken 16\ntaken 17\nlost 17 16\n\
+                    var 17 256\n",
+            ),
+        ];
+        let alloc = rt.alloc();
+        let count = Cell::new(0);
+        for (program, lines, answers) in rows {
+            let program = load(alloc, program.as_bytes()).expect(&rt, "a program");
+            let reader = MemoryReader::new(lines.as_bytes(), 4_096, None);
+            let writer = MemoryWriter::new(alloc, &count, 4_096, None);
+            let (end, written) = run(alloc, program, reader, writer);
+            assert_eq!(rt; end, SessionEnd::End);
+            assert_eq!(rt; written.as_slice(), answers.as_bytes(), "{lines}");
         }
         Ok(())
     }
@@ -142,13 +251,8 @@ mod tests {
             let second = MemoryReader::new(&bytes[cut..], 4_096, None);
             let count = Cell::new(0);
             let writer = MemoryWriter::new(alloc, &count, 4_096, None);
-            let (end, written) = run::<_, Brand, Brand>(
-                alloc,
-                first.chain(second),
-                writer,
-                Blank::new(1),
-                Blank::new(1),
-            )?;
+            let program = Program::twice(alloc)?;
+            let (end, written) = run(alloc, program, first.chain(second), writer);
             assert_eq!(rt; end, SessionEnd::End);
             assert_eq!(rt; written.as_slice(), REFUSALS.as_bytes(), "cut at {cut}");
         }

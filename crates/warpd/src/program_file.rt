@@ -1,11 +1,10 @@
 //! The program that a word names: `builtin:twice`, or that of a file.
-ghost use Rattle.std.specs.Prelude.{◌≡◌, ◌≢◌, ◌⊎◌, ◌+◌, ℕ, IfErr, IfOk, IfSome, List, take};
+ghost use Rattle.std.specs.Prelude.{◌≡◌, ◌≢◌, ◌⊎◌, ℕ, IfErr, IfOk, List};
 ghost use Rattle.std.specs.IoError.{error_kind};
 ghost use Rattle.std.specs.declared.io.ErrorKind.TheVariants.{OutOfMemory};
 ghost use Rattle.warp_step.specs.Twice.{twice};
 ghost use Rattle.warp_prog.specs.Load.{IsLoaded, IsRefused};
-ghost use Rattle.warp_prog.specs.Reading.{longest_file};
-ghost use Rattle.warpd.specs.Outcome.{IsNamed, IsNone, refused_outcome};
+ghost use Rattle.warpd.specs.Outcome.{IsFrontOf, IsNamed, IsNone, refused_outcome};
 
 use crate::outcome::Outcome;
 use std::alloc::Global;
@@ -46,11 +45,13 @@ fn built_in(alloc: Global) -> Result<Program, Outcome>
     }
 }
 
-/// The program that a reader's bytes spell.
+/// The program that a reader's bytes spell: all of them, or where there are more than a program file may have, so many that
+/// it is seen.
 fn loaded<R: Read + Drop>(alloc: Global, reader: R) -> Result<Program, Outcome>
-    ensures ok { IfOk result (λ P. (bytes : List ℕ) × IsLoaded bytes P) }
+    ensures ok { IfOk result (λ P. (bytes : List ℕ) × IsFrontOf (R.remaining reader) bytes × IsLoaded bytes P) }
     ensures err { IfErr result (λ outcome. (outcome ≡ Outcome.NoProgram) ⊎ (outcome ≡ Outcome.Memory)
-        ⊎ ((bytes : List ℕ) × (error : LoadError) × IsRefused bytes error × (outcome ≡ refused_outcome error))) }
+        ⊎ ((bytes : List ℕ) × IsFrontOf (R.remaining reader) bytes
+        × ((error : LoadError) × IsRefused bytes error × (outcome ≡ refused_outcome error)))) }
 {
     let bytes = first_bytes(alloc, reader)?;
     match load(alloc, &bytes) {
@@ -61,7 +62,7 @@ fn loaded<R: Read + Drop>(alloc: Global, reader: R) -> Result<Program, Outcome>
 
 /// The bytes of a reader, but no more than one past the most of a program file.
 fn first_bytes<R: Read + Drop>(alloc: Global, reader: R) -> Result<Vec<u8>, Outcome>
-    ensures bytes { IfOk result (λ bytes. IfSome (R.remaining reader) (λ all. bytes.items ≡ take (longest_file + 1) all)) }
+    ensures bytes { IfOk result (λ bytes. IsFrontOf (R.remaining reader) bytes.items) }
     ensures err { IfErr result (λ outcome. (outcome ≡ Outcome.NoProgram) ⊎ (outcome ≡ Outcome.Memory)) }
 {
     let mut bytes = Vec::new(alloc);

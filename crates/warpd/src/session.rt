@@ -118,7 +118,7 @@ impl Transcriber {
         if is_full {
             self.flush(sink)?;
         }
-        write_reply(&mut self.gathered, reply);
+        write_reply(&mut self.gathered, &reply);
         self.gathered.push_reserved(b'\n');
         Ok(())
     }
@@ -266,6 +266,8 @@ mod tests {
                     log: self.asked,
                     value: i64::from(number),
                 },
+                Line::Ask(_) => Reply::Nothing { log: self.asked },
+                Line::Look(_) => Reply::NoRow,
             }
         }
     }

@@ -40,11 +40,20 @@ const RUN_LONG_ABOUT: &str = "\
 Reads lines on standard input up to its end, and answers each of them with one line on
 standard output, in order.
 
-  event ORIGIN TIME MICROSTEP INPUT VALUE   hands in an event: taken P, or known P
-  var INDEX                                 asks for a variable: var N VALUE
+  event ORIGIN TIME MICROSTEP INPUT VALUE   an event: taken P, or known P
+  withdraw ORIGIN TIME MICROSTEP            no event of this name counts: the same
+  announce ORIGIN TIME MICROSTEP E W        how many names the origin has before this
+                                            time, with an event and withdrawn: the same
+  var INDEX                                 a variable: var N VALUE
+  outputs                                   how many outputs there are: outputs N COUNT
+  output INDEX                              output N TIME MICROSTEP PORT VALUE, or none N
+  lost                                      how much was lost: lost N COUNT
+  log P                                     log N and a record's line, or none N
+  board, row INDEX                          refused: there is no board here
 
-P is the event's place in the log, from 1, and N the length of the log. A line that is not
-understood or not allowed is answered by refused K, and changes nothing.
+P is a record's place in the log, from 1, and N the length of the log. The name of an event
+is its origin with its time and microstep. A line that is not understood or not allowed is
+answered by refused K, and changes nothing.
 
 PROGRAM is the path of a program file, which docs/FORMATS.md describes, or builtin:twice.
 That stops at time 100. Its variable 0 begins at 0. An event of origin 0 for input 0 doubles
@@ -61,6 +70,7 @@ Why a line is refused:
   7  the log is full
   8  there is no memory for it
   9  it is longer than 128 bytes
+ 11  there is no board here
 
 Why a program file is refused:
   1  it is no JSON text

@@ -1,15 +1,23 @@
-use Rattle.std.proofs.Common.{codes}
-use Rattle.warp_record.proofs.SpacedWords.{other_word}
-use Rattle.warp_record.proofs.Spellings.{line_has_space, no_other}
+use Rattle.std.proofs.Common.{ℕ, Bor, List, map, ◌∙◌, ap, sym, arith}
+use Rattle.std.specs.List.{join_with_byte}
+use Rattle.std.proofs.lemmas.Option.{IfSome_then}
+use Rattle.warp_record.proofs.LineWords.{words_of_line, IfNone_then}
+use Rattle.warp_record.proofs.WordCuts.{joined_words}
 use Rattle.warp_record.proofs.line.read_line.Goals as goal
 
-pub returns-in_err-word-clause-none : goal.returns-in_err-word-clause-none
-returns-in_err-word-clause-none c =
-    rw c.from_residual.ensures (λ line fits is. line_has_space c.args.bytes.now line c.in_err-word.ensures.none is)
+pub returns-in_err-words-clause-none : goal.returns-in_err-words-clause-none
+returns-in_err-words-clause-none c =
+    rw c.from_residual.ensures
+    (λ line fits is. omega (arith, c.in_err-words.ensures.none, (words_of_line c.args.bytes.now line fits is).1))
 
-pub returns-else-eq-2-clause-none : goal.returns-else-eq-2-clause-none
-returns-else-eq-2-clause-none c = λ line fits is.
-    no_other c.args.bytes.now c.in_ok-word.word.now c.in_ok-word.rest.now line c.in_ok-word.ensures.found.1
-    (λ same. other_word c.in_ok-word.word.now (codes "event") c.as_slice.result.now c.if-eq.ensures c.as_slice.ensures same)
-    (λ same. other_word c.in_ok-word.word.now (codes "var") c.as_slice-else-eq.result.now c.if-eq-2.ensures c.as_slice-else-eq.ensures same)
-    c.in_ok-word.ensures.found.0 is
+pub returns-clause-found : goal.returns-clause-found
+returns-clause-found c =
+    let are = ap (map (λ (word : Bor (List ℕ)). word.now)) c.deref.ensures.0 ∙ c.in_ok-words.ensures.found in
+    IfSome_then c.line_of.result c.line_of.ensures.found
+    (λ line is. (is.0, joined_words c.args.bytes.now ∙ ap (join_with_byte 32) (sym are ∙ is.1)))
+
+pub returns-clause-none : goal.returns-clause-none
+returns-clause-none c =
+    let are = ap (map (λ (word : Bor (List ℕ)). word.now)) c.deref.ensures.0 ∙ c.in_ok-words.ensures.found in
+    IfNone_then c.line_of.result c.line_of.ensures.none
+    (λ none line fits is. none line fits (are ∙ (words_of_line c.args.bytes.now line fits is).0))

@@ -1,5 +1,8 @@
-use Rattle.warp_replica.proofs.Replies.{one_answer}
+use Rattle.warp_replica.proofs.Replies.{some_answer, one_answer}
 use Rattle.warp_replica.proofs.law.one_answer.Goals as goal
 
-pub returns : goal.returns
-returns c = one_answer
+pub returns-clause-some : goal.returns-clause-some
+returns-clause-some c = some_answer
+
+pub returns-clause-one : goal.returns-clause-one
+returns-clause-one c = one_answer

@@ -1,5 +1,5 @@
-use Rattle.warp_table.proofs.Told.{one_told}
+use Rattle.warp_table.proofs.Told.{told_once}
 use Rattle.warp_table.proofs.law.told_once.Goals as goal
 
 pub returns : goal.returns
-returns c = one_told
+returns c = told_once

@@ -1,9 +1,11 @@
 use Rattle.std.proofs.Common.{◌≡◌, List, None, refl, sym, ap, subst, length, arith}
+use Rattle.std.proofs.lemmas.List.Elements.{All-push}
 use Rattle.warp_step.specs.Run.{Row}
+use Rattle.warp_record.specs.declared.record.Record.{Record}
 use Rattle.warp_line.specs.Timeline.{KeepsDone}
 use Rattle.warp_table.specs.Check.{refusal_of}
 use Rattle.warp_table.proofs.Sizes.{length-table_of}
-use Rattle.warp_replica.specs.Replica.{ReplicaState, standing_of, Stands}
+use Rattle.warp_replica.specs.Replica.{AreAllowed, ReplicaState, standing_of, Stands}
 use Rattle.warp_replica.specs.Gives.{tag_of}
 use Rattle.warp_replica.proofs.Standings.{with_more}
 use Rattle.warp_replica.proofs.replica.Replica.add.Goals as goal
@@ -11,7 +13,7 @@ use Rattle.warp_replica.proofs.replica.Replica.add.Goals as goal
 pub prepare-requires : goal.prepare-requires
 prepare-requires g c =
     let few = length-table_of c.self.inside.table in
-    (_, c.self.invariant.1, omega (arith, few, ap (λ r. length r.records) c.self.view_is, c.requires.room))
+    (_, c.self.invariant.1.1, omega (arith, few, ap (λ r. length r.records) c.self.view_is, c.requires.room))
 
 pub returns-clause-done : goal.returns-clause-done
 returns-clause-done g c done stood =
@@ -30,5 +32,10 @@ returns-clause-done g c done stood =
 pub invariant_of-self-2 : goal.invariant_of-self-2
 invariant_of-self-2 g c =
     let is = c.self.view_is in
-    let more = returns-clause-done g c c.self.invariant.0 (subst (λ r. Stands g.T.Timeline.stands_for r c.self.invariant.0) is c.self.invariant.1) in
-    (more.0, more.1)
+    let said = c.args.record.now in
+    let P = c.self.inside.program in
+    let fits = subst (λ r. refusal_of r.program said ≡ None) (sym is) c.requires.allowed in
+    let allowed = All-push (λ (one : Record). refusal_of P one ≡ None) c.self.inside.table said c.self.invariant.0 fits in
+    let done = c.self.invariant.1.0 in
+    let more = returns-clause-done g c done (subst (λ r. Stands g.T.Timeline.stands_for r done) is c.self.invariant.1.1) in
+    (subst (AreAllowed P) (sym c.in_ok-place.ensures.records) allowed, (more.0, more.1))

@@ -1,0 +1,50 @@
+-- Records: what an origin has to say, its range, and the one spelling of each.
+use Rattle.std.specs.Prelude.{ℕ, ℤ, ◌<◌, ◌≤◌, List, [], ◌∷◌, ◌++◌, codes, decimal, FitsSigned}
+use Rattle.std.specs.Int.{w64}
+use Rattle.std.specs.Fmt.{signed_decimal}
+use Rattle.std.specs.List.{join_with_byte}
+use Rattle.warp_tag.specs.Moment.{Moment, IsInRange}
+use Rattle.warp_tag.specs.Limits.{most_origins, most_inputs, most_records}
+use Rattle.warp_record.specs.declared.record.Record.{Record}
+use Rattle.warp_record.specs.declared.record.Record.TheVariants.{Event, Withdraw, Announce}
+
+-- the ranges of an event
+pub record IsEvent (origin : ℕ) (tag : Moment) (input : ℕ) (value : ℤ) : Type 0 where
+  pub origin_fits : origin < most_origins
+  pub tag_fits : IsInRange tag
+  pub input_fits : input < most_inputs
+  pub value_fits : FitsSigned w64 value
+
+-- the ranges of a withdrawal
+pub record IsWithdrawal (origin : ℕ) (tag : Moment) : Type 0 where
+  pub origin_fits : origin < most_origins
+  pub tag_fits : IsInRange tag
+
+-- the ranges of an announcement
+pub record IsAnnouncement (origin : ℕ) (tag : Moment) (events withdrawn : ℕ) : Type 0 where
+  pub origin_fits : origin < most_origins
+  pub tag_fits : IsInRange tag
+  pub events_fit : events ≤ most_records
+  pub withdrawn_fit : withdrawn ≤ most_records
+
+-- the ranges of a record
+abbrev pub IsRecord : Record → Type 0
+IsRecord (Event origin tag input value) = IsEvent origin tag input value
+IsRecord (Withdraw origin tag) = IsWithdrawal origin tag
+IsRecord (Announce origin tag events withdrawn) = IsAnnouncement origin tag events withdrawn
+
+-- the words of a tag
+abbrev pub tag_words : Moment → List (List ℕ)
+tag_words tag = decimal tag.time ∷ decimal tag.microstep ∷ []
+
+-- the words of a record
+abbrev pub record_words : Record → List (List ℕ)
+record_words (Event origin tag input value) =
+    codes "event" ∷ decimal origin ∷ tag_words tag ++ decimal input ∷ signed_decimal value ∷ []
+record_words (Withdraw origin tag) = codes "withdraw" ∷ decimal origin ∷ tag_words tag
+record_words (Announce origin tag events withdrawn) =
+    codes "announce" ∷ decimal origin ∷ tag_words tag ++ decimal events ∷ decimal withdrawn ∷ []
+
+-- a record's text, without its line feed: its words, with one space between two
+abbrev pub record_spelling : Record → List ℕ
+record_spelling «record» = join_with_byte 32 (record_words «record»)

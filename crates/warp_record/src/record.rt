@@ -1,0 +1,207 @@
+//! Records: what an origin has to say, and the one spelling of each, read and written.
+ghost use Rattle.std.specs.Prelude.{◌≡◌, ℕ, ℤ, ◌+◌, ◌<◌, ◌≤◌, [], ◌∷◌, ◌++◌, IfSome, IfNone, FitsSigned, decimal, map, vec_len, vec_capacity};
+ghost use Rattle.std.specs.Fmt.{signed_decimal};
+ghost use Rattle.std.specs.Int.{w64};
+ghost use Rattle.std.specs.List.{join_with_byte};
+ghost use Rattle.warp_tag.specs.Limits.{most_inputs, most_records};
+ghost use Rattle.warp_tag.specs.Moment.{Moment, IsInRange};
+ghost use Rattle.warp_record.specs.declared.record.Record.{Record};
+ghost use Rattle.warp_record.specs.Record.{IsRecord, record_words, record_spelling, tag_words};
+
+use crate::count::{Count, MAX_COUNT};
+use crate::number::{append, append_number, read_int, read_number, read_u32};
+use crate::room::{RECORD_ROOM, REPLY_ROOM};
+use crate::words::is_keyword;
+use warp_tag::{LAST_MICROSTEP, MAX_TIME, Tag};
+
+/// The last origin that a line can name.
+pub const LAST_ORIGIN: u32 = 31;
+
+/// The last program input that a line can name.
+pub const LAST_INPUT: u32 = 63;
+
+/// The first word of an event.
+pub(crate) const EVENT: &[u8] = b"event";
+
+/// The first word of a withdrawal.
+pub(crate) const WITHDRAW: &[u8] = b"withdraw";
+
+/// The first word of an announcement.
+pub(crate) const ANNOUNCE: &[u8] = b"announce";
+
+/// What an origin has to say. A name is an origin and a tag.
+#[derive(Clone, Copy, Debug, PartialEq, Eq, Hash)]
+pub enum Record {
+    /// An event `event O T M I V`: at its tag a program input has a value.
+    Event {
+        /// Who says so, 0 to `LAST_ORIGIN`.
+        origin: u32,
+        /// When.
+        tag: Tag,
+        /// The number of the program input, 0 to `LAST_INPUT`.
+        input: u32,
+        /// The input's value.
+        value: i64,
+    },
+    /// A withdrawal `withdraw O T M`: no event of this name counts, whether it came before or comes later.
+    Withdraw {
+        /// Who says so, 0 to `LAST_ORIGIN`.
+        origin: u32,
+        /// Of which tag.
+        tag: Tag,
+    },
+    /// An announcement `announce O T M E W`: before the tag the origin has so many names with an event and so many with a
+    /// withdrawal, and will add none.
+    Announce {
+        /// Who says so, 0 to `LAST_ORIGIN`.
+        origin: u32,
+        /// Before which tag.
+        tag: Tag,
+        /// How many names have an event, withdrawn or not.
+        events: Count,
+        /// How many names have a withdrawal.
+        withdrawn: Count,
+    },
+}
+
+/// The tag whose words these are.
+pub(crate) fn read_tag(time: &[u8], micro: &[u8]) -> Option<Tag>
+    ensures found { IfSome result (λ tag. IsInRange tag × (time.now ≡ decimal tag.time) × (micro.now ≡ decimal tag.microstep)) }
+    ensures none { IfNone result ((tag : Moment) → IsInRange tag → time.now ≡ decimal tag.time → micro.now ≡ decimal tag.microstep → ⊥) }
+{
+    let time = read_number(time, MAX_TIME)?;
+    let micro = read_u32(micro, LAST_MICROSTEP)?;
+    Tag::new(time, micro)
+}
+
+/// The count whose word this is.
+fn read_count(word: &[u8]) -> Option<Count>
+    ensures found { IfSome result (λ count. (count ≤ most_records) × (word.now ≡ decimal count)) }
+    ensures none { IfNone result ((count : ℕ) → count ≤ most_records → word.now ≡ decimal count → ⊥) }
+{
+    Count::new(read_u32(word, MAX_COUNT)?)
+}
+
+/// The input and the value whose words these are.
+fn read_value(words: &[&[u8]]) -> Option<(u32, i64)>
+    ensures found { IfSome result (λ given. (given.0 < most_inputs) × FitsSigned w64 given.1 ×
+        (map (λ word. word.now) words.now ≡ decimal given.0 ∷ signed_decimal given.1 ∷ [])) }
+    ensures none { IfNone result ((input : ℕ) (value : ℤ) → input < most_inputs → FitsSigned w64 value →
+        map (λ word. word.now) words.now ≡ decimal input ∷ signed_decimal value ∷ [] → ⊥) }
+{
+    let [input, value] = words else {
+        return None;
+    };
+    let input = read_u32(input, LAST_INPUT)?;
+    let value = read_int(value)?;
+    Some((input, value))
+}
+
+/// The counts whose words these are: of events, and of withdrawals.
+fn read_counts(words: &[&[u8]]) -> Option<(Count, Count)>
+    ensures found { IfSome result (λ counts. (counts.0 ≤ most_records) × (counts.1 ≤ most_records) ×
+        (map (λ word. word.now) words.now ≡ decimal counts.0 ∷ decimal counts.1 ∷ [])) }
+    ensures none { IfNone result ((events withdrawn : ℕ) → events ≤ most_records → withdrawn ≤ most_records →
+        map (λ word. word.now) words.now ≡ decimal events ∷ decimal withdrawn ∷ [] → ⊥) }
+{
+    let [events, withdrawn] = words else {
+        return None;
+    };
+    let events = read_count(events)?;
+    let withdrawn = read_count(withdrawn)?;
+    Some((events, withdrawn))
+}
+
+/// The record in range whose words these are; `None` where there is none.
+pub(crate) fn read_record(words: &[&[u8]]) -> Option<Record>
+    ensures found { IfSome result (λ said. IsRecord said × (map (λ word. word.now) words.now ≡ record_words said)) }
+    ensures none { IfNone result ((said : Record) → IsRecord said → map (λ word. word.now) words.now ≡ record_words said → ⊥) }
+{
+    let [word, origin, time, micro, operands @ ..] = words else {
+        return None;
+    };
+    let origin = read_u32(origin, LAST_ORIGIN)?;
+    let tag = read_tag(time, micro)?;
+    if is_keyword(word, EVENT) {
+        let (input, value) = read_value(operands)?;
+        Some(Record::Event {
+            origin,
+            tag,
+            input,
+            value,
+        })
+    } else if is_keyword(word, WITHDRAW) && operands.is_empty() {
+        Some(Record::Withdraw { origin, tag })
+    } else if is_keyword(word, ANNOUNCE) {
+        let (events, withdrawn) = read_counts(operands)?;
+        Some(Record::Announce {
+            origin,
+            tag,
+            events,
+            withdrawn,
+        })
+    } else {
+        None
+    }
+}
+
+/// Appends a space and the tag's words, for which there is room.
+pub(crate) fn append_tag(out: &mut Vec<u8>, tag: Tag)
+    requires { vec_len out.old + 32 ≤ vec_capacity out.old }
+    ensures items { out.new.items ≡ out.old.items ++ 32 ∷ join_with_byte 32 (tag_words tag) }
+    ensures len { vec_len out.new ≤ vec_len out.old + 32 }
+    ensures capacity { vec_capacity out.old ≤ vec_capacity out.new }
+{
+    append_number(out, tag.time());
+    append_number(out, tag.micro());
+}
+
+/// Appends the record's spelling, for which there is room.
+pub(crate) fn append_record(out: &mut Vec<u8>, record: &Record)
+    requires { vec_len out.old + RECORD_ROOM ≤ vec_capacity out.old }
+    ensures items { out.new.items ≡ out.old.items ++ record_spelling «record».now }
+    ensures len { vec_len out.new ≤ vec_len out.old + RECORD_ROOM }
+    ensures capacity { vec_capacity out.old ≤ vec_capacity out.new }
+{
+    match *record {
+        Record::Event {
+            origin,
+            tag,
+            input,
+            value,
+        } => {
+            append(out, EVENT);
+            append_number(out, origin);
+            append_tag(out, tag);
+            append_number(out, input);
+            append_number(out, value);
+        }
+        Record::Withdraw { origin, tag } => {
+            append(out, WITHDRAW);
+            append_number(out, origin);
+            append_tag(out, tag);
+        }
+        Record::Announce {
+            origin,
+            tag,
+            events,
+            withdrawn,
+        } => {
+            append(out, ANNOUNCE);
+            append_number(out, origin);
+            append_tag(out, tag);
+            append_number(out, events.get());
+            append_number(out, withdrawn.get());
+        }
+    }
+}
+
+/// Appends the record's spelling, for which there is room, and leaves room for a line feed. It takes no memory.
+pub fn write_record(out: &mut Vec<u8>, record: &Record)
+    requires { vec_len out.old + REPLY_ROOM ≤ vec_capacity out.old }
+    ensures items { out.new.items ≡ out.old.items ++ record_spelling «record».now }
+    ensures len { vec_len out.new < vec_len out.old + REPLY_ROOM }
+    ensures capacity { vec_capacity out.old ≤ vec_capacity out.new }
+{
+    append_record(out, record);
+}

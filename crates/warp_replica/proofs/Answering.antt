@@ -1,0 +1,104 @@
+-- What a settled replica answers: the program's answers over the set of its records.
+use Rattle.std.proofs.Common.{◌≡◌, ℕ, zero, suc, ℤ, ◌<◌, ◌-◌, IsTrue, List, length, slice_get, Option, Some, None, refl, sym, ap, ◌∙◌, subst, arith}
+use Rattle.std.specs.Option.{option_map, unwrap_or}
+use Rattle.std.proofs.lemmas.Option.{get_or_from_slice_get, slice_get_within}
+use Rattle.warp_tag.specs.Limits.{most_outputs}
+use Rattle.warp_tag.specs.Table.{live}
+use Rattle.warp_step.specs.Program.{Program}
+use Rattle.warp_step.specs.Snapshot.{Snapshot, start_state}
+use Rattle.warp_step.specs.Run.{Row, Run, state_at_end, outputs_of}
+use Rattle.warp_step.specs.Valid.{is_valid}
+use Rattle.warp_step.specs.declared.out.Out.{Out}
+use Rattle.warp_step.proofs.ValidLemmas.{validity}
+use Rattle.warp_step.proofs.OutputsOfRun.{output_within}
+use Rattle.warp_record.specs.declared.record.Record.{Record}
+use Rattle.warp_record.specs.declared.line.Query.{Query}
+use Rattle.warp_record.specs.declared.line.Query.TheVariants as query
+use Rattle.warp_record.specs.declared.reply.Refusal.TheVariants.{NoVar}
+use Rattle.warp_record.specs.declared.reply.Reply.TheVariants as reply
+use Rattle.warp_table.specs.Log.{EachOnce, IsAt}
+use Rattle.warp_table.specs.Records.{set_of}
+use Rattle.warp_table.specs.Table.{table_of}
+use Rattle.warp_table.specs.Check.{refusal_of}
+use Rattle.warp_replica.specs.Replica.{AreAllowed}
+use Rattle.warp_replica.specs.Answers.{Answers, AreAnswers}
+use Rattle.warp_replica.specs.Gives.{GivesQuery, record_at, reply_to}
+use Rattle.warp_table.proofs.LiveEvents.{live_by_set}
+
+-- the run over the records, each of which is there once, and how many these are
+module _ (P : Program) (records : List Record) (done : List Row) (log : ℕ) (once : EachOnce records) (long : log ≡ length records)
+    (run : Run P (live (table_of records)) done) where
+  -- what the end of the run answers
+  abbrev pub answers : Answers
+  answers = record { state = state_at_end (start_state P) done; outputs = outputs_of done; count = log }
+
+  are_answers : AreAnswers P (set_of records) answers
+  are_answers = record {
+    events = live (table_of records);
+    live = live_by_set records;
+    trace = done;
+    run = run;
+    state = refl;
+    outputs = refl;
+    count = (records, once, refl, sym long);
+  }
+
+  -- what a query gives: the reply by these answers
+  gives : (asked : Query) → GivesQuery P records asked (reply_to records answers asked)
+  gives asked = (answers, are_answers, refl)
+
+  -- the value of a variable, if there is one
+  pub gives_var : (number : ℕ) (found : Option ℤ) → slice_get (state_at_end (start_state P) done).vars number ≡ found
+      → GivesQuery P records (query.Var number) (unwrap_or (option_map (λ value. reply.Var log value) found) (reply.Refused NoVar))
+  gives_var number found is =
+      subst (λ (o : Option ℤ). GivesQuery P records (query.Var number) (unwrap_or (option_map (λ value. reply.Var log value) o) (reply.Refused NoVar)))
+      is (gives (query.Var number))
+
+  -- how many outputs
+  pub gives_outputs : (outs : List Out) → outs ≡ outputs_of done → GivesQuery P records query.Outputs (reply.Outputs log (length outs))
+  gives_outputs outs is =
+      subst (λ (o : List Out). GivesQuery P records query.Outputs (reply.Outputs log (length o))) (sym is) (gives query.Outputs)
+
+  -- an output, if there is one
+  pub gives_output : (number : ℕ) (found : Option Out) → slice_get (outputs_of done) number ≡ found
+      → GivesQuery P records (query.Output number) (unwrap_or (option_map (λ out. reply.Output log out) found) (reply.Nothing log))
+  gives_output number found is =
+      subst (λ (o : Option Out). GivesQuery P records (query.Output number) (unwrap_or (option_map (λ out. reply.Output log out) o) (reply.Nothing log)))
+      is (gives (query.Output number))
+
+  -- how much was lost
+  pub gives_lost : (state : Snapshot) → state ≡ state_at_end (start_state P) done → GivesQuery P records query.Lost (reply.Lost log state.lost)
+  gives_lost state is =
+      subst (λ (s : Snapshot). GivesQuery P records query.Lost (reply.Lost log s.lost)) (sym is) (gives query.Lost)
+
+  -- a record of the log, if there is one
+  pub gives_log : (place : ℕ) (found : Option Record) → record_at records place ≡ found
+      → GivesQuery P records (query.Log place) (unwrap_or (option_map (λ said. reply.Log log said) found) (reply.Nothing log))
+  gives_log place found is =
+      subst (λ (o : Option Record). GivesQuery P records (query.Log place) (unwrap_or (option_map (λ said. reply.Log log said) o) (reply.Nothing log)))
+      is (gives (query.Log place))
+
+  -- each output is one of the outputs of the program, which are few
+  pub few_outputs : (i : ℕ) (out : Out) → IsTrue (is_valid P) → slice_get (outputs_of done) i ≡ Some out → out.port < most_outputs
+  few_outputs i out valid found =
+      let within = output_within P (live (table_of records)) done i out run found in
+      let limit = (validity P valid).limits.outputs in
+      omega arith
+
+-- the record at a place of a list, and none where no record stands there
+pub at_place : (records : List Record) (place : ℕ) (said : Record) → IsAt records place said → record_at records place ≡ Some said
+at_place records zero said at = absurd (omega (arith, at.0))
+at_place records (suc index) said at = let same : suc index - 1 ≡ index = omega arith in subst (λ (i : ℕ). slice_get records i ≡ Some said) same at.1
+
+pub at_none : (records : List Record) (place : ℕ) → ((said : Record) → ¬ IsAt records place said) → record_at records place ≡ None
+at_none records zero none = refl
+at_none records (suc index) none = by (slice_get records index) refl
+  where
+    by : (found : Option Record) → slice_get records index ≡ found → found ≡ None
+    by (Some said) is = absurd (none said (omega arith, (let same : suc index - 1 ≡ index = omega arith in ap (slice_get records) same) ∙ is))
+    by None is = refl
+
+-- against a record of the list the program has no reason
+pub allowed_at : (P : Program) (records : List Record) → AreAllowed P records → (i : ℕ) (said : Record) → slice_get records i ≡ Some said → refusal_of P said ≡ None
+allowed_at P records allowed i said found =
+    subst (λ (one : Record). refusal_of P one ≡ None) (get_or_from_slice_get records i said said found) (allowed i said (slice_get_within records i said found))

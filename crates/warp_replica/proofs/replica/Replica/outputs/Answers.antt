@@ -1,0 +1,16 @@
+use Rattle.std.proofs.Common.{length, subst}
+use Rattle.warp_record.specs.declared.line.Query.TheVariants.{Outputs}
+use Rattle.warp_record.specs.declared.reply.Reply.TheVariants as reply
+use Rattle.warp_replica.specs.Gives.{GivesQuery}
+use Rattle.warp_replica.proofs.Answering.{gives_outputs}
+use Rattle.warp_replica.proofs.replica.Replica.outputs.Goals as goal
+
+pub returns-clause-gives : goal.returns-clause-gives
+returns-clause-gives g c =
+    let r = c.self.inside in
+    let log = c.len in
+    let done = c.self.invariant.1.0 in
+    let stood = c.outputs.ensures _ c.self.invariant.1.1 in
+    let outs = c.outputs.result.now in
+    subst (λ s. GivesQuery s.program s.records Outputs (reply.Outputs log.result (length outs))) c.self.view_is
+    (gives_outputs r.program r.table done log.result log.ensures.once log.ensures.value stood.0 outs stood.1)

@@ -1,0 +1,54 @@
+-- Announcements: what is reached in a set, and what is broken in it, is so in a larger one.
+use Rattle.std.proofs.Common.{ℕ, ◌+◌, inl, inr}
+use Rattle.warp_tag.specs.Moment.{Moment}
+use Rattle.warp_record.specs.declared.record.Record.TheVariants.{Event, Withdraw, Announce}
+use Rattle.warp_table.specs.Records.{Records}
+use Rattle.warp_table.specs.Names.{HasTwoPayloads}
+use Rattle.warp_table.specs.Announced.{AtLeast, HasReached, IsBroken, IsHonest, IsWithin, events_below, withdrawals_below}
+use Rattle.warp_table.proofs.Counts.{still_counted}
+
+module _ (S T : Records) (within : IsWithin S T) where
+  -- a name with an event has one in the larger set, and one with a withdrawal has that
+  pub event_stays : (origin : ℕ) (end tag : Moment) → events_below S origin end tag → events_below T origin end tag
+  event_stays origin end tag h = (h.0, (h.1.0, within (Event origin tag h.1.0.0 h.1.0.1) h.1.1))
+
+  pub withdrawal_stays : (origin : ℕ) (end tag : Moment) → withdrawals_below S origin end tag → withdrawals_below T origin end tag
+  withdrawal_stays origin end tag h = (h.0, within (Withdraw origin tag) h.1)
+
+  events_stay : (origin : ℕ) (end : Moment) (count : ℕ) → AtLeast count (events_below S origin end) → AtLeast count (events_below T origin end)
+  events_stay origin end count h = still_counted count (events_below S origin end) (events_below T origin end) (event_stays origin end) h
+
+  withdrawals_stay : (origin : ℕ) (end : Moment) (count : ℕ) → AtLeast count (withdrawals_below S origin end) → AtLeast count (withdrawals_below T origin end)
+  withdrawals_stay origin end count h = still_counted count (withdrawals_below S origin end) (withdrawals_below T origin end) (withdrawal_stays origin end) h
+
+  two_payloads_stay : (origin : ℕ) (tag : Moment) → HasTwoPayloads S origin tag → HasTwoPayloads T origin tag
+  two_payloads_stay origin tag h = (h.0, h.1, within (Event origin tag h.0.0 h.0.1) h.2, within (Event origin tag h.1.0 h.1.1) h.3, h.4)
+
+  -- a reached announcement is reached in the larger set
+  pub reached_stays : (origin : ℕ) (end : Moment) → HasReached S origin end → HasReached T origin end
+  reached_stays origin end h = (
+    h.0,
+    h.1,
+    within (Announce origin end h.0 h.1) h.2,
+    (events_stay origin end h.0 h.3.0, withdrawals_stay origin end h.1 h.3.1),
+  )
+
+  -- a broken origin is broken in the larger set
+  pub broken_stays : (origin : ℕ) → IsBroken S origin → IsBroken T origin
+  broken_stays origin h = (
+    h.0,
+    h.1,
+    h.2,
+    within (Announce origin h.0 h.1 h.2) h.3,
+    elim h.4 [
+      | inl events ↦ inl (events_stay origin h.0 (h.1 + 1) events)
+      | inr rest ↦ elim rest [
+        | inl withdrawals ↦ inr (inl (withdrawals_stay origin h.0 (h.2 + 1) withdrawals))
+        | inr two ↦ inr (inr (two.0, two.1, two_payloads_stay origin two.0 two.2))
+      ]
+    ],
+  )
+
+  -- a set within an honest one is honest
+  pub honest_stays : IsHonest T → IsHonest S
+  honest_stays honest = λ origin broken. honest origin (broken_stays origin broken)

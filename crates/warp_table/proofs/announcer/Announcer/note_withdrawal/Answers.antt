@@ -1,0 +1,52 @@
+-- the name comes in at its place and is counted beyond it
+use Rattle.std.proofs.Common.{◌≡◌, ◌+◌, ◌<◌, ◌^◌, List, Contains, fold, length, map, ap, sym, subst, ◌∙◌, arith}
+use Rattle.std.specs.List.{All}
+use Rattle.std.specs.Vec.{with_items}
+use Rattle.std.proofs.lemmas.List.{with_items_is}
+use Rattle.warp_tag.specs.Moment.{Moment}
+use Rattle.warp_table.specs.inner.Heard.{Heard, with_tag}
+use Rattle.warp_table.specs.inner.Tally.{AreKept, announcement_of, before_of, beyond, counted, with_name, with_tally}
+use Rattle.warp_table.specs.declared.announcer.Kind.TheVariants.{Withdrawal}
+use Rattle.warp_table.specs.declared.announcer.Tally.{Tally}
+use Rattle.warp_table.specs.declared.announcer.Verdict.{Verdict}
+use Rattle.warp_table.proofs.Tallies.{announced-counted, kept_withdrawal, length-counted, room_withdrawal}
+use Rattle.warp_table.proofs.announcer.Announcer.note_withdrawal.Goals as goal
+
+pub count_name-self-inside-requires-clause-room : goal.count_name-self-inside-requires-clause-room
+count_name-self-inside-requires-clause-room c =
+    let few : length c.self.inside.withdrawn.items < 2 ^ 63 = omega (arith, c.self.inside.withdrawn.ok.0, c.self.inside.withdrawn.ok.1, c.self.inside.withdrawn.small) in
+    subst (λ (ts : List Tally). All (λ t. before_of Withdrawal t + 1 < 2 ^ 64) ts) (sym c.deref_mut.ensures.value)
+    (room_withdrawal c.self.inside.events.items c.self.inside.withdrawn.items c.self.inside.doubled c.self.inside.announced.items c.self.inside.verdict c.self.invariant few)
+
+-- the announcements are those of before, counted
+now : (c : goal.After-self-2-1) →
+    (with_items c.self.inside.announced c.count_name-self-inside.new.announced).items ≡ counted Withdrawal c.args.tag c.self.inside.announced.items
+now c =
+    let counts : c.count_name-self-inside.new.announced ≡ counted Withdrawal c.args.tag c.self.inside.announced.items =
+    c.count_name-self-inside.ensures.tallies ∙ ap (counted Withdrawal c.args.tag) c.deref_mut.ensures.value in
+    let long : length c.count_name-self-inside.new.announced ≡ c.self.inside.announced.len =
+    ap length counts ∙ length-counted Withdrawal c.args.tag c.self.inside.announced.items ∙ sym c.self.inside.announced.ok.0 in
+    with_items_is c.self.inside.announced c.count_name-self-inside.new.announced long ∙ counts
+
+pub invariant_of-self-2 : goal.invariant_of-self-2
+invariant_of-self-2 c =
+    let was = c.self.inside in
+    let names : List Moment = was.events.items in
+    let old : List Tally = was.announced.items in
+    let gone : List Moment = with_tag c.args.tag was.withdrawn.items in
+    let tallies : List Tally = counted Withdrawal c.args.tag old in
+    let verdict : Verdict = fold with_tally was.verdict (map (with_name Withdrawal) (beyond c.args.tag old)) in
+    let new : Contains was.withdrawn.items c.args.tag → ⊥ = subst (λ (h : Heard). Contains h.withdrawn c.args.tag → ⊥) (sym c.self.view_is) c.requires in
+    let judged : c.count_name-self-inside.result ≡ verdict =
+    c.count_name-self-inside.ensures.judged ∙ ap (λ ts. fold with_tally was.verdict (map (with_name Withdrawal) (beyond c.args.tag ts))) c.deref_mut.ensures.value in
+    subst (λ (ws : List Moment). AreKept names ws was.doubled (with_items was.announced c.count_name-self-inside.new.announced).items c.count_name-self-inside.result) (sym c.in_ok-put_in.ensures.ok)
+    (subst (λ (ts : List Tally). AreKept names gone was.doubled ts c.count_name-self-inside.result) (sym (now c))
+    (subst (λ (v : Verdict). AreKept names gone was.doubled tallies v) (sym judged)
+    (kept_withdrawal c.args.tag names was.withdrawn.items was.doubled old was.verdict c.self.invariant new)))
+
+pub returns-clause-ok : goal.returns-clause-ok
+returns-clause-ok c =
+    let was = c.self.inside in
+    let told = ap (map announcement_of) (now c) ∙ announced-counted Withdrawal c.args.tag was.announced.items in
+    (λ i. record { events = was.events.items; withdrawn = c.in_ok-put_in.ensures.ok i; doubled = was.doubled; announced = told i })
+    ∙ ap (λ (h : Heard). record h { withdrawn = with_tag c.args.tag h.withdrawn }) c.self.view_is

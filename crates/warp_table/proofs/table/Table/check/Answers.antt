@@ -1,0 +1,7 @@
+use Rattle.warp_table.proofs.table.Table.check.Goals as goal
+
+pub returns-in-Event : goal.returns-in-Event
+returns-in-Event c = rw c.in-Event.is (c.check_event.ensures c.in-Event.value)
+
+pub returns-in-Announce : goal.returns-in-Announce
+returns-in-Announce c = rw c.in-Announce.is (c.check_end.ensures c.in-Announce.events c.in-Announce.withdrawn)

@@ -1,0 +1,3 @@
+pub mod Kept
+pub mod Heard
+pub mod Tally

@@ -1,0 +1,80 @@
+-- What is kept of one origin beside what is heard of it: how many names are before each announcement, and what follows from
+-- that. For proofs alone.
+use Rattle.std.specs.Prelude.{◌≡◌, ◌⊎◌, ℕ, ◌+◌, Bool, true, false, ◌&&◌, ◌||◌, nat_lt, nat_le, Option, Some, None, List, ◌++◌, Contains, All, AllPairs, map, take, drop, if◌then◌else◌}
+use Rattle.std.specs.List.{list_any, position_or_len}
+use Rattle.warp_tag.specs.Moment.{Moment, is_before}
+use Rattle.warp_table.specs.Announced.{beginning}
+use Rattle.warp_table.specs.inner.Heard.{Announced, AreAscending, count_before}
+use Rattle.warp_table.specs.declared.announcer.Kind.{Kind}
+use Rattle.warp_table.specs.declared.announcer.Kind.TheVariants.{Event, Withdrawal}
+use Rattle.warp_table.specs.declared.announcer.Tally.{Tally}
+use Rattle.warp_table.specs.declared.announcer.Verdict.{Verdict}
+
+-- the announcement of a tally
+abbrev pub announcement_of : Tally → Announced
+announcement_of tally = record { tag = tally.tag; events = tally.events; withdrawn = tally.withdrawn }
+
+-- how many names of a kind are before its tag
+abbrev pub before_of : Kind → Tally → ℕ
+before_of Event tally = tally.events_before
+before_of Withdrawal tally = tally.withdrawn_before
+
+-- a tally with one more name of a kind before its tag
+abbrev pub with_name : Kind → Tally → Tally
+with_name Event tally = record tally { events_before = tally.events_before + 1 }
+with_name Withdrawal tally = record tally { withdrawn_before = tally.withdrawn_before + 1 }
+
+-- so many names at least are before its tag as the announcement says
+abbrev pub is_met : Tally → Bool
+is_met tally = nat_le tally.events tally.events_before && nat_le tally.withdrawn tally.withdrawn_before
+
+-- more names are before its tag than the announcement says
+abbrev pub is_exceeded : Tally → Bool
+is_exceeded tally = nat_lt tally.events tally.events_before || nat_lt tally.withdrawn tally.withdrawn_before
+
+-- a tag of two payloads, if there is one, is before its tag
+abbrev pub has_doubled : Option Moment → Tally → Bool
+has_doubled None tally = false
+has_doubled (Some t) tally = is_before t tally.tag
+
+-- a verdict, with the counts of one more announcement
+abbrev pub with_tally : Verdict → Tally → Verdict
+with_tally verdict tally = record {
+  reached = if is_met tally && is_before verdict.reached tally.tag then tally.tag else verdict.reached;
+  is_broken = verdict.is_broken || is_exceeded tally;
+}
+
+-- the tallies are in order of their tags
+abbrev pub AreInOrder : List Tally → Type 0
+AreInOrder tallies = AllPairs (λ a b. is_before b.tag a.tag ≡ false) tallies
+
+-- how many of the tallies are not beyond a tag
+abbrev pub place_of : Moment → List Tally → ℕ
+place_of tag tallies = position_or_len (λ a. is_before tag a.tag) tallies
+
+-- those beyond it
+abbrev pub beyond : Moment → List Tally → List Tally
+beyond tag tallies = drop (place_of tag tallies) tallies
+
+-- the tallies, with one more name of a kind at this tag
+abbrev pub counted : Kind → Moment → List Tally → List Tally
+counted kind tag tallies = take (place_of tag tallies) tallies ++ map (with_name kind) (beyond tag tallies)
+
+-- the tally counts the names of these tags
+pub record Counts (names gone : List Moment) (tally : Tally) : Type 0 where
+  pub events : tally.events_before ≡ count_before tally.tag names
+  pub withdrawn : tally.withdrawn_before ≡ count_before tally.tag gone
+
+-- the verdict on these announcements
+pub record IsVerdict (doubled : Option Moment) (tallies : List Tally) (verdict : Verdict) : Type 0 where
+  pub some : ((tally : Tally) × Contains tallies tally × (is_met tally ≡ true) × (tally.tag ≡ verdict.reached)) ⊎ (verdict.reached ≡ beginning)
+  pub greatest : (tally : Tally) → Contains tallies tally → is_met tally ≡ true → is_before verdict.reached tally.tag ≡ false
+  pub broken : verdict.is_broken ≡ (list_any is_exceeded tallies || list_any (has_doubled doubled) tallies)
+
+-- what always holds of the parts of an announcer: of the tags of its events and of its withdrawals, and of the rest
+pub record AreKept (names gone : List Moment) (doubled : Option Moment) (tallies : List Tally) (verdict : Verdict) : Type 0 where
+  pub events : AreAscending names
+  pub withdrawn : AreAscending gone
+  pub in_order : AreInOrder tallies
+  pub counts : All (Counts names gone) tallies
+  pub judged : IsVerdict doubled tallies verdict
