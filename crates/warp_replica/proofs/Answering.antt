@@ -21,16 +21,24 @@ use Rattle.warp_table.specs.Records.{set_of}
 use Rattle.warp_table.specs.Table.{table_of}
 use Rattle.warp_table.specs.Check.{refusal_of}
 use Rattle.warp_replica.specs.Replica.{AreAllowed}
-use Rattle.warp_replica.specs.Answers.{Answers, AreAnswers}
+use Rattle.warp_replica.specs.Answers.{Answers, AreAnswers, released_of}
 use Rattle.warp_replica.specs.Gives.{GivesQuery, record_at, reply_to}
 use Rattle.warp_table.proofs.LiveEvents.{live_by_set}
+use Rattle.warp_replica.proofs.SomeHorizon.{Announces}
 
--- the run over the records, each of which is there once, and how many these are
+-- the run over the records, each of which is there once, how many these are, and what they announce
 module _ (P : Program) (records : List Record) (done : List Row) (log : ℕ) (once : EachOnce records) (long : log ≡ length records)
-    (run : Run P (live (table_of records)) done) where
+    (run : Run P (live (table_of records)) done) (announced : Announces P (set_of records)) where
   -- what the end of the run answers
   abbrev pub answers : Answers
-  answers = record { state = state_at_end (start_state P) done; outputs = outputs_of done; count = log }
+  answers = record {
+    state = state_at_end (start_state P) done;
+    outputs = outputs_of done;
+    count = log;
+    horizon = announced.horizon;
+    released = released_of announced.horizon (outputs_of done);
+    broken = announced.broken;
+  }
 
   are_answers : AreAnswers P (set_of records) answers
   are_answers = record {
@@ -41,6 +49,9 @@ module _ (P : Program) (records : List Record) (done : List Row) (log : ℕ) (on
     state = refl;
     outputs = refl;
     count = (records, once, refl, sym long);
+    horizon = announced.reached;
+    released = refl;
+    broken = announced.breaks;
   }
 
   -- what a query gives: the reply by these answers

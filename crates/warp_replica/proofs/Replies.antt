@@ -1,5 +1,6 @@
 -- What a program answers over a set of records, and what a query gives then.
 use Rattle.std.proofs.Common.{◌≡◌, List, None, length, refl, sym, ap, subst, ◌∙◌}
+use Rattle.std.proofs.lemmas.Bool.Decides.{same_from_decides}
 use Rattle.warp_tag.specs.Table.{live}
 use Rattle.warp_step.specs.Program.{Program}
 use Rattle.warp_step.specs.Snapshot.{start_state}
@@ -14,18 +15,24 @@ use Rattle.warp_table.specs.Log.{EachOnce}
 use Rattle.warp_table.specs.Records.{Records, set_of}
 use Rattle.warp_table.specs.Table.{table_of}
 use Rattle.warp_table.proofs.LiveEvents.{live_by_set, live_once}
+use Rattle.warp_table.proofs.Horizons.{one_horizon}
 use Rattle.warp_table.proofs.Sets.{one_size}
-use Rattle.warp_replica.specs.Answers.{Answers, AreAnswers}
+use Rattle.warp_replica.specs.Answers.{Answers, AreAnswers, released_of}
 use Rattle.warp_replica.specs.Gives.{AsksPlace, GivesQuery, reply_to}
+use Rattle.warp_replica.proofs.SomeHorizon.{Announces}
 
--- the answers are those of the one run over the table's live events
-pub some_answer : (P : Program) (records : List Record) → EachOnce records → (a : Answers) × AreAnswers P (set_of records) a
-some_answer P records once =
+-- the answers are those of the one run over the table's live events, and of what is announced
+pub some_answer : (P : Program) (records : List Record) → EachOnce records → Announces P (set_of records)
+    → (a : Answers) × AreAnswers P (set_of records) a
+some_answer P records once announced =
     let run = exists P (live (table_of records)) in (
       record {
         state = state_at_end (start_state P) run.0;
         outputs = outputs_of run.0;
         count = length records;
+        horizon = announced.horizon;
+        released = released_of announced.horizon (outputs_of run.0);
+        broken = announced.broken;
       },
       record {
         events = live (table_of records);
@@ -35,10 +42,13 @@ some_answer P records once =
         state = refl;
         outputs = refl;
         count = (records, once, refl, refl);
+        horizon = announced.reached;
+        released = refl;
+        broken = announced.breaks;
       },
     )
 
--- a set has one list of live events, and these one trace
+-- a set has one list of live events, and these one trace; it has one horizon
 pub one_answer : (P : Program) (S : Records) (a b : Answers) → AreAnswers P S a → AreAnswers P S b → a ≡ b
 one_answer P S a b h k =
     let events : h.events ≡ k.events = live_once S h.events k.events h.live k.live in
@@ -47,7 +57,18 @@ one_answer P S a b h k =
     let states : a.state ≡ b.state = h.state ∙ ap (state_at_end (start_state P)) rows ∙ sym k.state in
     let outputs : a.outputs ≡ b.outputs = h.outputs ∙ ap outputs_of rows ∙ sym k.outputs in
     let counts : a.count ≡ b.count = one_size S a.count b.count h.count k.count in
-    λ i. record { state = states i; outputs = outputs i; count = counts i }
+    let horizons : a.horizon ≡ b.horizon = one_horizon P S a.horizon b.horizon h.horizon k.horizon in
+    let released : a.released ≡ b.released = h.released ∙ (λ i. released_of (horizons i) (outputs i)) ∙ sym k.released in
+    let broken : a.broken ≡ b.broken =
+    λ i origin. same_from_decides (a.broken origin) (b.broken origin) (h.broken origin) (k.broken origin) i in
+    λ i. record {
+      state = states i;
+      outputs = outputs i;
+      count = counts i;
+      horizon = horizons i;
+      released = released i;
+      broken = broken i;
+    }
 
 -- and so have two sets that are one
 pub same_answers : (P : Program) (S T : Records) → S ≡ T → (a b : Answers) → AreAnswers P S a → AreAnswers P T b → a ≡ b

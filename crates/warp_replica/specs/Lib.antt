@@ -1,5 +1,6 @@
 pub mod Replica
 pub mod Answers
+pub mod Release
 pub mod Gives
 pub mod Merge
 pub mod Desk

@@ -1,5 +1,5 @@
 //! Laws: what a query gives follows from the set of the records, whatever the order and repeats of taking.
-ghost use Rattle.std.specs.Prelude.{◌≡◌, ◌≢◌, ◌≤◌, ℕ, List, length, Result, Err};
+ghost use Rattle.std.specs.Prelude.{◌≡◌, ◌≢◌, ◌≤◌, ◌<◌, ℕ, List, length, Result, Err};
 ghost use Rattle.warp_tag.specs.Limits.{most_records};
 ghost use Rattle.warp_step.specs.Program.{Program};
 ghost use Rattle.warp_record.specs.declared.line.Query.{Query};
@@ -13,9 +13,10 @@ ghost use Rattle.warp_replica.specs.Gives.{GivesQuery, AsksPlace, Takes};
 ghost use Rattle.warp_replica.specs.Merge.{merged};
 ghost use Rattle.warp_replica.specs.declared.took.Took.{Took};
 
-/// A program has exactly one answer over the set of a log.
+/// A program that has an origin, as each valid one, has exactly one answer over the set of a log.
 pub fn one_answer()
-    ensures some { (P : Program) (records : List Record) → EachOnce records → (a : Answers) × AreAnswers P (set_of records) a }
+    ensures some { (P : Program) (records : List Record) → 0 < P.origins → EachOnce records →
+        (a : Answers) × AreAnswers P (set_of records) a }
     ensures one { (P : Program) (S : Records) (a b : Answers) → AreAnswers P S a → AreAnswers P S b → a ≡ b }
 {}
 

@@ -2,12 +2,14 @@
 //!
 //! `Replica` takes records, settles its timeline and answers queries; contracts see its program, the list of its
 //! records and the timeline. `Local` is a replica without peers as a desk, which answers lines. What a query gives
-//! follows from the set of the records (`one_answer`, `same_replies`).
+//! follows from the set of the records (`one_answer`, `same_replies`). While no origin breaks an announcement, what was
+//! released stays (`released_stays`, `released_agree`).
 #![tactic(auto)]
 
 mod idle;
 mod law;
 mod local;
+mod release_law;
 mod replica;
 #[cfg(test)]
 mod tests;
@@ -16,5 +18,9 @@ mod took;
 pub use idle::Idle;
 pub use law::{merging_joins, merging_laws, one_answer, one_reply, one_taking, same_replies};
 pub use local::Local;
+pub use release_law::{
+    honest_subsets, released_agree, released_are_first, released_stays, rows_before_a_tag,
+    same_release,
+};
 pub use replica::Replica;
 pub use took::Took;

@@ -1,0 +1,78 @@
+-- What a set of records announces: a program that has an origin has a horizon over the set, the least tag up to which one of
+-- its origins has its announcements reached.
+use Rattle.std.proofs.Common.{◌≡◌, ◌↔◌, inl, inr, ℕ, zero, suc, ◌<◌, Bool, false, IsTrue, List, refl, sym, subst, arith}
+use Rattle.std.proofs.lemmas.Bool.{cases_Bool, cases_lt}
+use Rattle.warp_tag.specs.Moment.{Moment, is_before}
+use Rattle.warp_tag.proofs.Tags.{not_before_self, not_before_trans}
+use Rattle.warp_step.specs.Program.{Program}
+use Rattle.warp_record.specs.declared.record.Record.{Record}
+use Rattle.warp_table.specs.Announced.{IsBroken, IsHorizon, ReachesTo}
+use Rattle.warp_table.specs.Records.{Records, set_of}
+
+module _ (f : ℕ → Moment) where
+  -- no tag of the first so many is before this one
+  abbrev IsLeast : ℕ → Moment → Type 0
+  IsLeast count end = (i : ℕ) → i < count → is_before (f i) end ≡ false
+
+  -- with one more, which is not before it either
+  one_more : (count : ℕ) (end : Moment) → IsLeast count end → is_before (f count) end ≡ false → IsLeast (suc count) end
+  one_more count end least last i below = elim (cases_lt i count) [
+    | inl early ↦ least i early
+    | inr late ↦
+        let is : i ≡ count = omega (arith, below, late) in
+        subst (λ (k : ℕ). is_before (f k) end ≡ false) (sym is) last
+  ]
+
+  -- some tag of the first so many is the least
+  some_least : (count : ℕ) → (i : ℕ) × (i < suc count) × IsLeast (suc count) (f i)
+  some_least zero =
+      let none : IsLeast zero (f zero) = λ i below. absurd (omega (arith, below)) in
+      (zero, omega arith, one_more zero (f zero) none (not_before_self (f zero)))
+  some_least (suc count) =
+      let rest = some_least count in
+      elim (cases_Bool (is_before (f (suc count)) (f rest.0))) [
+        | inl earlier ↦ (
+          suc count,
+          omega arith,
+          one_more (suc count) (f (suc count))
+              (λ i below. not_before_trans (f i) (f (suc count)) (f rest.0) (rest.2 i below) earlier)
+              (not_before_self (f (suc count))),
+        )
+        | inr no_earlier ↦ (rest.0, omega (arith, rest.1), one_more (suc count) (f rest.0) rest.2 no_earlier)
+      ]
+
+-- a set's horizon, and for each origin whether it broke an announcement
+pub record Announces (P : Program) (S : Records) : Type 0 where
+  pub horizon : Moment
+  pub reached : IsHorizon P S horizon
+  pub broken : ℕ → Bool
+  pub breaks : (origin : ℕ) → IsTrue (broken origin) ↔ IsBroken S origin
+
+-- where each origin's announcements reach to some tag, there is a least of these tags
+pub some_horizon : (P : Program) (S : Records) → ((origin : ℕ) → (end : Moment) × ReachesTo S origin end) → 0 < P.origins
+    → (end : Moment) × IsHorizon P S end
+some_horizon P S reach some = from P.origins refl some
+  where
+    from : (count : ℕ) → P.origins ≡ count → 0 < count → (end : Moment) × IsHorizon P S end
+    from zero is none = absurd (omega (arith, none))
+    from (suc count) is more =
+        let found = some_least (λ origin. (reach origin).0) count in (
+          (reach found.0).0,
+          record {
+            some = (found.0, omega (arith, is, found.1), (reach found.0).1);
+            least = λ origin below. ((reach origin).0, (reach origin).1, found.2 origin (omega (arith, is, below)));
+          },
+        )
+
+-- in every set of a list an origin's announcements reach to some tag, and each origin either broke one or did not
+module _ (reach : (records : List Record) (origin : ℕ) → (end : Moment) × ReachesTo (set_of records) origin end)
+    (breach : (records : List Record) (origin : ℕ) → (broken : Bool) × (IsTrue broken ↔ IsBroken (set_of records) origin)) where
+  pub announces : (P : Program) (records : List Record) → 0 < P.origins → Announces P (set_of records)
+  announces P records some =
+      let horizon = some_horizon P (set_of records) (reach records) some in
+      record {
+        horizon = horizon.0;
+        reached = horizon.1;
+        broken = λ origin. (breach records origin).0;
+        breaks = λ origin. (breach records origin).1;
+      }
