@@ -3,7 +3,7 @@ use Rattle.std.proofs.Common.{◌≡◌, ℕ, zero, suc, ℤ, ◌<◌, ◌-◌, 
 use Rattle.std.specs.Option.{option_map, unwrap_or}
 use Rattle.std.proofs.lemmas.Option.{get_or_from_slice_get, slice_get_within}
 use Rattle.warp_tag.specs.Limits.{most_outputs}
-use Rattle.warp_tag.specs.Table.{live}
+use Rattle.warp_tag.specs.Table.{Event, live}
 use Rattle.warp_step.specs.Program.{Program}
 use Rattle.warp_step.specs.Snapshot.{Snapshot, start_state}
 use Rattle.warp_step.specs.Run.{Row, Run, state_at_end, outputs_of}
@@ -89,12 +89,13 @@ module _ (P : Program) (records : List Record) (done : List Row) (log : ℕ) (on
       subst (λ (o : Option Record). GivesQuery P records (query.Log place) (unwrap_or (option_map (λ said. reply.Log log said) o) (reply.Nothing log)))
       is (gives (query.Log place))
 
-  -- each output is one of the outputs of the program, which are few
-  pub few_outputs : (i : ℕ) (out : Out) → IsTrue (is_valid P) → slice_get (outputs_of done) i ≡ Some out → out.port < most_outputs
-  few_outputs i out valid found =
-      let within = output_within P (live (table_of records)) done i out run found in
-      let limit = (validity P valid).limits.outputs in
-      omega arith
+-- each output of a run is one of the outputs of the program, which are few
+pub few_outputs : (P : Program) (E : List Event) (done : List Row) → Run P E done → (i : ℕ) (out : Out) → IsTrue (is_valid P)
+    → slice_get (outputs_of done) i ≡ Some out → out.port < most_outputs
+few_outputs P E done run i out valid found =
+    let within = output_within P E done i out run found in
+    let limit = (validity P valid).limits.outputs in
+    omega arith
 
 -- the record at a place of a list, and none where no record stands there
 pub at_place : (records : List Record) (place : ℕ) (said : Record) → IsAt records place said → record_at records place ≡ Some said

@@ -22,14 +22,13 @@ returns-in-Some-clause-gives g c =
 pub output_in_range-requires : goal.output_in_range-requires
 output_in_range-requires g c =
     let r = c.self.inside in
-    let log = c.len-log in
     let done = c.self.invariant.1.0 in
     let stood = c.outputs.ensures _ c.self.invariant.1.1 in
     let outs = c.outputs.result.now in
     let out = c.in-Some.output.now in
     let item = c.in-Some.ensures.lookup in
     let is = ap (λ l. slice_get l c.args.number) (sym stood.1) ∙ slice_get_read outs (length outs) c.args.number out refl item.3.0 item.1 in
-    few_outputs r.program r.table done log.result log.ensures.once log.ensures.value stood.0 c.args.number out c.valid.ensures is
+    few_outputs r.program _ done stood.0 c.args.number out c.valid.ensures is
 
 pub returns-in-None-clause-gives : goal.returns-in-None-clause-gives
 returns-in-None-clause-gives g c =
