@@ -27,8 +27,12 @@ few_words (line.Put «record») = words_of_record «record»
 few_words (line.Ask (query.Var n)) = (omega arith, omega arith)
 few_words (line.Ask query.Outputs) = (omega arith, omega arith)
 few_words (line.Ask (query.Output n)) = (omega arith, omega arith)
+few_words (line.Ask query.Horizon) = (omega arith, omega arith)
+few_words (line.Ask query.Released) = (omega arith, omega arith)
 few_words (line.Ask query.Lost) = (omega arith, omega arith)
+few_words (line.Ask (query.Breach n)) = (omega arith, omega arith)
 few_words (line.Ask (query.Log n)) = (omega arith, omega arith)
+few_words line.Collect = (omega arith, omega arith)
 few_words (line.Look look.Board) = (omega arith, omega arith)
 few_words (line.Look (look.Row n)) = (omega arith, omega arith)
 

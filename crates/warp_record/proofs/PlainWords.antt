@@ -124,8 +124,12 @@ plain_line (line.Put «record») fits = plain_record «record» fits
 plain_line (line.Ask (query.Var n)) fits = number n [] (omega (arith, fits)) refl
 plain_line (line.Ask query.Outputs) fits = refl
 plain_line (line.Ask (query.Output n)) fits = number n [] (omega (arith, fits)) refl
+plain_line (line.Ask query.Horizon) fits = refl
+plain_line (line.Ask query.Released) fits = refl
 plain_line (line.Ask query.Lost) fits = refl
+plain_line (line.Ask (query.Breach n)) fits = number n [] (omega (arith, fits)) refl
 plain_line (line.Ask (query.Log n)) fits = number n [] (omega (arith, fits)) refl
+plain_line line.Collect fits = refl
 plain_line (line.Look look.Board) fits = refl
 plain_line (line.Look (look.Row n)) fits = number n [] (omega (arith, fits)) refl
 

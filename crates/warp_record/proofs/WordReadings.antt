@@ -102,11 +102,15 @@ line_said words =
     if is_first words (codes "var") then line.Ask (query.Var (number_at words 1))
     else (if is_first words (codes "outputs") then line.Ask query.Outputs
     else (if is_first words (codes "output") then line.Ask (query.Output (number_at words 1))
+    else (if is_first words (codes "horizon") then line.Ask query.Horizon
+    else (if is_first words (codes "released") then line.Ask query.Released
     else (if is_first words (codes "lost") then line.Ask query.Lost
+    else (if is_first words (codes "breach") then line.Ask (query.Breach (number_at words 1))
     else (if is_first words (codes "log") then line.Ask (query.Log (number_at words 1))
+    else (if is_first words (codes "collect") then line.Collect
     else (if is_first words (codes "board") then line.Look look.Board
     else (if is_first words (codes "row") then line.Look (look.Row (number_at words 1))
-    else line.Put (record_said words)))))))
+    else line.Put (record_said words)))))))))))
 
 line_back : (said : Line) → IsLine said → line_said (line_words said) ≡ said
 line_back (line.Put (Event origin tag input z)) fits = ap (λ (r : Record). line.Put r) (record_back (Event origin tag input z) fits)
@@ -116,8 +120,12 @@ line_back (line.Put (Announce origin tag events withdrawn)) fits =
 line_back (line.Ask (query.Var n)) fits = rw (value n (omega (arith, fits))) refl
 line_back (line.Ask query.Outputs) fits = refl
 line_back (line.Ask (query.Output n)) fits = rw (value n (omega (arith, fits))) refl
+line_back (line.Ask query.Horizon) fits = refl
+line_back (line.Ask query.Released) fits = refl
 line_back (line.Ask query.Lost) fits = refl
+line_back (line.Ask (query.Breach n)) fits = rw (value n (omega (arith, fits))) refl
 line_back (line.Ask (query.Log n)) fits = rw (value n (omega (arith, fits))) refl
+line_back line.Collect fits = refl
 line_back (line.Look look.Board) fits = refl
 line_back (line.Look (look.Row n)) fits = rw (value n (omega (arith, fits))) refl
 

@@ -1,5 +1,5 @@
 //! The lines that come in: their type, and reading them. Each has one spelling.
-ghost use Rattle.std.specs.Prelude.{◌≡◌, ℕ, ◌≤◌, IfSome, IfNone, decimal, map};
+ghost use Rattle.std.specs.Prelude.{◌≡◌, ◌↔◌, ℕ, ◌≤◌, IfSome, IfNone, IsTrue, decimal, map};
 ghost use Rattle.warp_tag.specs.Limits.{last_number};
 ghost use Rattle.warp_record.specs.declared.line.Line.{Line};
 ghost use Rattle.warp_record.specs.declared.line.Look.{Look};
@@ -7,7 +7,7 @@ ghost use Rattle.warp_record.specs.declared.line.Query.{Query};
 ghost use Rattle.warp_record.specs.Line.{IsLine, IsLook, IsQuery, line_words, look_words, query_words, spelling};
 
 use crate::number::read_u32;
-use crate::record::{Record, read_record};
+use crate::record::{LAST_ORIGIN, Record, read_record};
 use crate::words::{is_keyword, split_words};
 
 /// The first word of a query for a variable.
@@ -19,8 +19,17 @@ pub(crate) const OUTPUTS: &[u8] = b"outputs";
 /// The first word of a query for an output.
 pub(crate) const OUTPUT: &[u8] = b"output";
 
+/// The word of a query for the horizon.
+pub(crate) const HORIZON: &[u8] = b"horizon";
+
+/// The word of a query for the number of released outputs.
+pub(crate) const RELEASED: &[u8] = b"released";
+
 /// The word of a query for what was lost.
 pub(crate) const LOST: &[u8] = b"lost";
+
+/// The first word of a query for whether an origin is broken.
+pub(crate) const BREACH: &[u8] = b"breach";
 
 /// The first word of a query for a place of the log.
 pub(crate) const LOG: &[u8] = b"log";
@@ -34,11 +43,20 @@ pub enum Query {
     Outputs,
     /// `output I`: the output with this number, from 0.
     Output(u32),
+    /// `horizon`: the tag before which outputs are released.
+    Horizon,
+    /// `released`: how many outputs are released.
+    Released,
     /// `lost`: how much was lost, past the last microstep or the most pending entries.
     Lost,
+    /// `breach O`: whether the origin, 0 to `LAST_ORIGIN`, broke an announcement of its own.
+    Breach(u32),
     /// `log I`: the record at this place of the log, from 1.
     Log(u32),
 }
+
+/// The word of a line that collects.
+pub(crate) const COLLECT: &[u8] = b"collect";
 
 /// The word of a look at the board's size.
 pub(crate) const BOARD: &[u8] = b"board";
@@ -62,6 +80,8 @@ pub enum Line {
     Put(Record),
     /// A query to answer.
     Ask(Query),
+    /// `collect`: let go of what is not needed before the horizon.
+    Collect,
     /// A look at the board.
     Look(Look),
 }
@@ -81,11 +101,26 @@ fn read_query(words: &[&[u8]]) -> Option<Query>
 {
     match words {
         [word] if is_keyword(word, OUTPUTS) => Some(Query::Outputs),
+        [word] if is_keyword(word, HORIZON) => Some(Query::Horizon),
+        [word] if is_keyword(word, RELEASED) => Some(Query::Released),
         [word] if is_keyword(word, LOST) => Some(Query::Lost),
         [word, number] if is_keyword(word, VAR) => Some(Query::Var(read_index(number)?)),
         [word, number] if is_keyword(word, OUTPUT) => Some(Query::Output(read_index(number)?)),
+        [word, origin] if is_keyword(word, BREACH) => {
+            Some(Query::Breach(read_u32(origin, LAST_ORIGIN)?))
+        }
         [word, place] if is_keyword(word, LOG) => Some(Query::Log(read_index(place)?)),
         _ => None,
+    }
+}
+
+/// Whether these are the words of a line that collects.
+fn is_collect(words: &[&[u8]]) -> bool
+    ensures { IsTrue result ↔ (map (λ word. word.now) words.now ≡ line_words Line.Collect) }
+{
+    match words {
+        [word] => is_keyword(word, COLLECT),
+        _ => false,
     }
 }
 
@@ -111,6 +146,9 @@ fn line_of(words: &[&[u8]]) -> Option<Line>
     }
     if let Some(query) = read_query(words) {
         return Some(Line::Ask(query));
+    }
+    if is_collect(words) {
+        return Some(Line::Collect);
     }
     Some(Line::Look(read_look(words)?))
 }
@@ -192,15 +230,20 @@ mod tests {
 
     #[test]
     fn queries_and_looks(rt: HostRuntime) {
-        let rows: [(&[u8], Line); 11] = [
+        let rows: [(&[u8], Line); 16] = [
             (b"var 0", Line::Ask(Query::Var(0))),
             (b"var 4294967295", Line::Ask(Query::Var(u32::MAX))),
             (b"outputs", Line::Ask(Query::Outputs)),
             (b"output 0", Line::Ask(Query::Output(0))),
             (b"output 4294967295", Line::Ask(Query::Output(u32::MAX))),
+            (b"horizon", Line::Ask(Query::Horizon)),
+            (b"released", Line::Ask(Query::Released)),
             (b"lost", Line::Ask(Query::Lost)),
+            (b"breach 0", Line::Ask(Query::Breach(0))),
+            (b"breach 31", Line::Ask(Query::Breach(31))),
             (b"log 0", Line::Ask(Query::Log(0))),
             (b"log 4294967295", Line::Ask(Query::Log(u32::MAX))),
+            (b"collect", Line::Collect),
             (b"board", Line::Look(Look::Board)),
             (b"row 0", Line::Look(Look::Row(0))),
             (b"row 4294967295", Line::Look(Look::Row(u32::MAX))),
@@ -212,7 +255,7 @@ mod tests {
 
     #[test]
     fn no_lines(rt: HostRuntime) {
-        let rows: [&[u8]; 44] = [
+        let rows: [&[u8]; 47] = [
             b"",
             b" ",
             b"var",
@@ -253,10 +296,13 @@ mod tests {
             b"announce 0 5 0 100001 0",
             b"announce 0 5 0 0 100001",
             b"announce 0 5 0 0 0 0",
-            b"horizon",
-            b"released",
-            b"breach 0",
-            b"collect",
+            b"breach",
+            b"breach 32",
+            b"breach 00",
+            b"horizon 0",
+            b"released 0",
+            b"collect 0",
+            b"collect ",
         ];
         for text in rows {
             assert_eq!(rt; read_line(text), None);

@@ -11,6 +11,7 @@ ghost use Rattle.warp_record.specs.Record.{IsRecord, record_words, tag_words};
 ghost use Rattle.warp_record.specs.Reply.{IsOut, IsReply, flag_word, out_words, refusal_number, reply_spelling, reply_words};
 
 use crate::count::MAX_COUNT;
+use crate::line::{BOARD, BREACH, HORIZON, LOG, LOST, OUTPUT, OUTPUTS, RELEASED, ROW, VAR};
 use crate::number::{append, append_number, read_int, read_number, read_u32};
 use crate::record::{Record, append_record, append_tag, read_record, read_tag};
 use crate::room::REPLY_ROOM;
@@ -18,36 +19,16 @@ use crate::words::{is_keyword, split_words};
 use warp_step::Out;
 use warp_tag::Tag;
 
-// The first word of each reply. That of `none` stands alone or before a length.
+// The first words of replies that begin no line. That of `none` stands alone or before a length.
 const TAKEN: &[u8] = b"taken";
 
 const KNOWN: &[u8] = b"known";
 
 const REFUSED: &[u8] = b"refused";
 
-const VAR: &[u8] = b"var";
-
-const OUTPUTS: &[u8] = b"outputs";
-
-const OUTPUT: &[u8] = b"output";
-
 const NONE: &[u8] = b"none";
 
-const HORIZON: &[u8] = b"horizon";
-
-const RELEASED: &[u8] = b"released";
-
-const LOST: &[u8] = b"lost";
-
-const BREACH: &[u8] = b"breach";
-
-const LOG: &[u8] = b"log";
-
 const COLLECTED: &[u8] = b"collected";
-
-const BOARD: &[u8] = b"board";
-
-const ROW: &[u8] = b"row";
 
 /// The last program output that a reply can name.
 const LAST_PORT: u32 = 63;
