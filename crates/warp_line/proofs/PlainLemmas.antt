@@ -69,6 +69,7 @@ changed_stands p q m f origin tag h is ordered differs fits unsettled =
         front = λ before after rb ra u enough.
             few_before m.program (live (changed f origin tag m.table)) after (lesser tag u) 0 h.program fits ra;
         unchanged = λ same. absurd (differs (ap live table ∙ same ∙ ap live (sym h.table)));
+        idle = omega arith;
       },
     )
 
@@ -103,6 +104,7 @@ same_stands p q m f origin tag h is ordered same settled state outputs =
         front = λ before after rb ra u enough.
             few_before m.program (live (changed f origin tag m.table)) after (lesser tag u) (length m.done) h.program fits ra;
         unchanged = λ kept. omega arith;
+        idle = omega arith;
       },
     )
 

@@ -30,11 +30,12 @@ abbrev pub lesser : Moment → Moment → Moment
 lesser t u = if is_before u t then u else t
 
 -- What a change at a tag leaves done: if all rows before u were done but for at most so many, so are then all rows
--- before the lesser of u and that tag; and where the live events stay, what was done stays done.
+-- before the lesser of u and that tag; where the live events stay, what was done stays done; and nothing more is done.
 pub record KeepsDone (slack : ℕ) (tag : Moment) (old new : Standing) : Type 0 where
   pub front : (before after : List Row) → Run old.program (live old.table) before → Run new.program (live new.table) after →
       (u : Moment) → rows_before u before ≤ length old.done + slack → rows_before (lesser tag u) after ≤ length new.done + slack
   pub unchanged : live new.table ≡ live old.table → length old.done ≤ length new.done
+  pub idle : length new.done ≤ length old.done
 
 -- Some such rows are done now of the standing with this table, and the value stands for that.
 abbrev pub NowStands : {T : Type 0} → (T → Standing → Type 0) → ℕ → Moment → T → Standing → List Entry → Type 0

@@ -78,6 +78,9 @@ impl Timeline for Plain {
         Ok(())
     }
 
+    /// It keeps everything, since it runs from the start.
+    fn collect(&mut self, _below: Tag) {}
+
     fn is_settled(&self) -> bool {
         self.settled
     }

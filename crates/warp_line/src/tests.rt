@@ -130,7 +130,7 @@ fn take<T: Timeline, M: Meter, R: Abort>(
     Ok(vars[0])
 }
 
-/// Takes changes in turn, and settles once more.
+/// Takes changes in turn, settles once more, and collects what is before time 4.
 fn run<T: Timeline + Drop, L: Ledger, R: Abort>(
     rt: &R,
     alloc: Global,
@@ -153,6 +153,8 @@ fn run<T: Timeline + Drop, L: Ledger, R: Abort>(
     timeline.settle(alloc, program, &mut tally)?;
     assert!(rt; timeline.is_settled());
     assert_eq!(rt; tally.count, count, "settled anew");
+    timeline.collect(Tag::beginning_of(4));
+    assert!(rt; timeline.is_settled());
     let outputs = timeline.outputs().to_vec(alloc)?;
     Ok(Seen {
         totals,

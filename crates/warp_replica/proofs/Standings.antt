@@ -30,6 +30,7 @@ nothing_changed slack tag m = record {
       let here : rows_before (lesser tag u) after ≡ rows_before (lesser tag u) before = ap (rows_before (lesser tag u)) same in
       omega arith;
   unchanged = λ same. omega arith;
+  idle = omega arith;
 }
 
 -- a timeline that took a record which changes no name still stands for what it stood for
