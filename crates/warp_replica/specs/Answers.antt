@@ -36,3 +36,7 @@ pub record AreAnswers (P : Program) (S : Records) (a : Answers) : Type 0 where
   pub horizon : IsHorizon P S a.horizon
   pub released : a.released ≡ released_of a.horizon a.outputs
   pub broken : (origin : ℕ) → IsTrue (a.broken origin) ↔ IsBroken S origin
+
+-- this list is what the program releases over the set
+abbrev pub IsReleased : Program → Records → List Out → Type 0
+IsReleased P S outputs = (a : Answers) × AreAnswers P S a × (outputs ≡ a.released)

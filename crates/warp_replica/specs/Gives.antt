@@ -1,9 +1,10 @@
 -- What a line gives on a log: a program, and the records in the order of taking.
-use Rattle.std.specs.Prelude.{◌≡◌, ◌⊎◌, ℕ, zero, suc, ◌+◌, ◌<◌, Bool, true, false, List, [], ◌∷◌, ◌++◌, length, Contains, slice_get, Option, Some, None, Result, Ok, Err}
+use Rattle.std.specs.Prelude.{◌≡◌, ◌⊎◌, ℕ, zero, suc, ◌+◌, ◌<◌, Bool, true, false, List, [], ◌∷◌, ◌++◌, length, Contains, slice_get, Option, Some, None, Result, Ok, Err, if◌then◌else◌}
 use Rattle.std.specs.Option.{option_map, unwrap_or}
 use Rattle.warp_tag.specs.Limits.{most_records}
 use Rattle.warp_tag.specs.Moment.{Moment}
 use Rattle.warp_step.specs.Program.{Program}
+use Rattle.warp_step.specs.Events.{is_declared}
 use Rattle.warp_record.specs.declared.record.Record.{Record}
 use Rattle.warp_record.specs.declared.record.Record.TheVariants.{Event, Withdraw, Announce}
 use Rattle.warp_record.specs.declared.line.Query.{Query}
@@ -11,7 +12,7 @@ use Rattle.warp_record.specs.declared.line.Query.TheVariants as query
 use Rattle.warp_record.specs.declared.line.Line.{Line}
 use Rattle.warp_record.specs.declared.line.Line.TheVariants as line
 use Rattle.warp_record.specs.declared.reply.Refusal.{Refusal}
-use Rattle.warp_record.specs.declared.reply.Refusal.TheVariants.{NoVar, LogFull, NoMemory, NoBoard}
+use Rattle.warp_record.specs.declared.reply.Refusal.TheVariants.{NoOrigin, NoVar, LogFull, NoMemory, NoBoard}
 use Rattle.warp_record.specs.declared.reply.Reply.{Reply}
 use Rattle.warp_record.specs.declared.reply.Reply.TheVariants as reply
 use Rattle.warp_table.specs.Records.{set_of}
@@ -65,15 +66,20 @@ record_at records zero = None
 record_at records (suc index) = slice_get records index
 
 -- The reply to a query, by the answers of a set of records; the places in `log` are those of the list alone. Where there
--- is no such variable it is refusal 6, where there is no such output or place `none`.
-abbrev pub reply_to : List Record → Answers → Query → Reply
-reply_to records a (query.Var number) =
+-- is no such variable it is refusal 6, where the program has no such origin refusal 2, and where there is no such output or
+-- place `none`.
+abbrev pub reply_to : Program → List Record → Answers → Query → Reply
+reply_to P records a (query.Var number) =
     unwrap_or (option_map (λ value. reply.Var a.count value) (slice_get a.state.vars number)) (reply.Refused NoVar)
-reply_to records a query.Outputs = reply.Outputs a.count (length a.outputs)
-reply_to records a (query.Output number) =
+reply_to P records a query.Outputs = reply.Outputs a.count (length a.outputs)
+reply_to P records a (query.Output number) =
     unwrap_or (option_map (λ out. reply.Output a.count out) (slice_get a.outputs number)) (reply.Nothing a.count)
-reply_to records a query.Lost = reply.Lost a.count a.state.lost
-reply_to records a (query.Log place) =
+reply_to P records a query.Horizon = reply.Horizon a.count a.horizon
+reply_to P records a query.Released = reply.Released a.count (length a.released)
+reply_to P records a query.Lost = reply.Lost a.count a.state.lost
+reply_to P records a (query.Breach origin) =
+    if is_declared P origin then reply.Breach a.count (a.broken origin) else reply.Refused NoOrigin
+reply_to P records a (query.Log place) =
     unwrap_or (option_map (λ said. reply.Log a.count said) (record_at records place)) (reply.Nothing a.count)
 
 -- the query asks for a place of the log, which depends on the order of taking
@@ -84,11 +90,13 @@ AsksPlace other = ⊥
 -- what a query gives: the reply by the answers of the log's set
 abbrev pub GivesQuery : Program → List Record → Query → Reply → Type 0
 GivesQuery P records asked answer =
-    (a : Answers) × AreAnswers P (set_of records) a × (answer ≡ reply_to records a asked)
+    (a : Answers) × AreAnswers P (set_of records) a × (answer ≡ reply_to P records a asked)
 
--- On this log of this program the line may give this reply, and leave this log. Want of memory may stand before any query.
--- There is no board here.
+-- On this log of this program the line may give this reply, and leave this log. Want of memory may stand before any query, and
+-- before collecting. There is no board here.
 abbrev pub Gives : Program → List Record → Line → Reply → List Record → Type 0
 Gives P records (line.Put said) answer records' = (result : Result Took Refusal) × Takes P records said result records' × (answer ≡ told result)
 Gives P records (line.Ask asked) answer records' = (GivesQuery P records asked answer ⊎ (answer ≡ reply.Refused NoMemory)) × (records' ≡ records)
+Gives P records line.Collect answer records' =
+    ((answer ≡ reply.Collected (length records)) ⊎ (answer ≡ reply.Refused NoMemory)) × (records' ≡ records)
 Gives P records (line.Look look) answer records' = (answer ≡ reply.Refused NoBoard) × (records' ≡ records)

@@ -90,6 +90,12 @@ impl<T: Timeline> Desk for Local<T> {
                 }
                 told(took)
             }
+            Line::Collect => {
+                if self.settle::<Brand>(Blank::new(1)).is_err() {
+                    return Reply::Refused(Refusal::NoMemory);
+                }
+                self.replica.collect()
+            }
             Line::Look(_) => Reply::Refused(Refusal::NoBoard),
             Line::Ask(query) => {
                 if self.settle::<Brand>(Blank::new(1)).is_err() {

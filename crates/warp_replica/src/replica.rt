@@ -2,6 +2,7 @@
 ghost use Rattle.std.specs.Prelude.{◌≡◌, ◌↔◌, ◌+◌, ◌-◌, ◌<◌, ◌≤◌, [], ◌∷◌, ◌++◌, false, None, length, List, Contains, IsTrue, IsOk, IfOk, OnOk, OnErr};
 ghost use Rattle.warp_tag.specs.Limits.{most_outputs, most_records};
 ghost use Rattle.warp_record.specs.declared.line.Query.{Query};
+ghost use Rattle.warp_record.specs.declared.reply.Reply.{Reply};
 ghost use Rattle.warp_record.specs.Record.{IsRecord};
 ghost use Rattle.warp_record.specs.Reply.{IsOut, IsReply};
 ghost use Rattle.warp_step.specs.Run.{Row};
@@ -9,6 +10,8 @@ ghost use Rattle.warp_line.specs.Timeline.{Standing, IsDone, KeepsDone, NowStand
 ghost use Rattle.warp_table.specs.Log.{EachOnce};
 ghost use Rattle.warp_table.specs.Table.{with_record};
 ghost use Rattle.warp_table.specs.Check.{refusal_of};
+ghost use Rattle.warp_table.specs.Records.{set_of};
+ghost use Rattle.warp_replica.specs.Answers.{IsReleased};
 ghost use Rattle.warp_replica.specs.Merge.{Merges};
 ghost use Rattle.warp_replica.specs.Replica.{AreAllowed, standing_of, Stands};
 ghost use Rattle.warp_replica.specs.Gives.{GivesQuery, Takes, came_in, tag_of, told};
@@ -138,6 +141,8 @@ impl<T: Timeline> Replica<T> {
         ensures kept { OnErr result ((done : List Row) → Stands T.stands_for self.old done → Stands T.stands_for self.new done) }
         ensures settled { OnErr result (T.settled self.new.timeline ≡ T.settled self.old.timeline) }
     {
+        // The table keeps a place for each origin up to the record's.
+        record_in_range(&self.program, record);
         self.timeline.prepare(alloc)?;
         let place = self.table.add(record)?;
         enter(&mut self.timeline, record);
@@ -167,8 +172,8 @@ impl<T: Timeline> Replica<T> {
         self.timeline.is_settled()
     }
 
-    /// Answers a query from the run over all records, which is done: `refused 6` where the program has no such variable, and
-    /// `none` where there is no such output, or no such place in the log.
+    /// Answers a query from the run over all records, which is done: `refused 6` where the program has no such variable,
+    /// `refused 2` where it has no such origin, and `none` where there is no such output, or no such place in the log.
     pub fn answer(&self, query: Query) -> Reply
         requires { IsTrue (T.settled self.now.timeline) }
         ensures gives { GivesQuery self.now.program self.now.records query result }
@@ -178,7 +183,10 @@ impl<T: Timeline> Replica<T> {
             Query::Var(number) => self.variable(number),
             Query::Outputs => self.outputs(),
             Query::Output(number) => self.output(number),
+            Query::Horizon => self.horizon(),
+            Query::Released => self.released_count(),
             Query::Lost => self.lost(),
+            Query::Breach(origin) => self.breach(origin),
             Query::Log(place) => self.record(place),
         }
     }
@@ -229,6 +237,56 @@ impl<T: Timeline> Replica<T> {
         }
     }
 
+    /// Tells the tag before which outputs are released.
+    fn horizon(&self) -> Reply
+        requires { IsTrue (T.settled self.now.timeline) }
+        ensures gives { GivesQuery self.now.program self.now.records Query.Horizon result }
+        ensures reply { IsReply result }
+    {
+        Reply::Horizon {
+            log: self.table.len(),
+            tag: self.table.horizon(&self.program),
+        }
+    }
+
+    /// Tells how many outputs are released.
+    fn released_count(&self) -> Reply
+        requires { IsTrue (T.settled self.now.timeline) }
+        ensures gives { GivesQuery self.now.program self.now.records Query.Released result }
+        ensures reply { IsReply result }
+    {
+        Reply::Released {
+            log: self.table.len(),
+            count: self.released().len() as u64,
+        }
+    }
+
+    /// The released outputs, in order: those before the horizon. These are the first of all outputs.
+    pub fn released(&self) -> &[Out]
+        requires { IsTrue (T.settled self.now.timeline) }
+        ensures { IsReleased self.now.program (set_of self.now.records) result.now }
+    {
+        let horizon = self.table.horizon(&self.program);
+        let outputs = self.timeline.outputs();
+        let count = outputs.partition_point(|output| output.tag.is_before(horizon));
+        &outputs[..count]
+    }
+
+    /// Tells whether the origin broke an announcement of its own, if the program has such an origin.
+    fn breach(&self, origin: u32) -> Reply
+        requires { IsTrue (T.settled self.now.timeline) }
+        ensures gives { GivesQuery self.now.program self.now.records (Query.Breach origin) result }
+        ensures reply { IsReply result }
+    {
+        if self.program.origins() <= origin {
+            return Reply::Refused(Refusal::NoOrigin);
+        }
+        Reply::Breach {
+            log: self.table.len(),
+            broken: self.table.broken(origin),
+        }
+    }
+
     /// Tells how much was lost in the run.
     fn lost(&self) -> Reply
         requires { IsTrue (T.settled self.now.timeline) }
@@ -253,6 +311,24 @@ impl<T: Timeline> Replica<T> {
                 Reply::Log { log, record }
             }
             None => Reply::Nothing { log },
+        }
+    }
+
+    /// Lets go of what is not needed before the horizon, and tells how many records there are. It changes no answer, and what is
+    /// done stays done.
+    pub fn collect(&mut self) -> Reply
+        requires { IsTrue (T.settled self.old.timeline) }
+        ensures reply { result ≡ Reply.Collected (length self.old.records) }
+        ensures range { IsReply result }
+        ensures program { self.new.program ≡ self.old.program }
+        ensures records { self.new.records ≡ self.old.records }
+        ensures stands { (done : List Row) → Stands T.stands_for self.old done → Stands T.stands_for self.new done }
+        ensures settled { IsTrue (T.settled self.new.timeline) }
+    {
+        let horizon = self.table.horizon(&self.program);
+        self.timeline.collect(horizon);
+        Reply::Collected {
+            log: self.table.len(),
         }
     }
 
