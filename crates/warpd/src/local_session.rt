@@ -65,6 +65,15 @@ mod tests {
 ["set","k",["+",["+","k","x"],["*",100,["present","b"]]]],["put","z","k"]]}]}],
 "links":[["f.y","g.x"]],"inputs":[[0,"f.a"],[1,"g.b"]],"outputs":["g.z"]}"#;
 
+    /// Startup, a timer and a link with a delay.
+    const PULSE: &str = r#"{"version":1,"stop":10,"origins":1,"reactors":[
+{"name":"p","vars":[["k",10]],"outputs":["y"],"timers":[["t",2,3]],"reactions":[
+{"on":["startup"],"body":[["set","k",100]]},
+{"on":["t"],"writes":["y"],"body":[["set","k",["+","k",1]],["put","y","k"]]}]},
+{"name":"q","vars":[["s",0]],"inputs":["a"],"outputs":["z"],"reactions":[
+{"on":["a"],"writes":["z"],"body":[["set","s",["+","s","a"]],["put","z","s"]]}]}],
+"links":[["p.y","q.a",4]],"outputs":["p.y","q.z"]}"#;
+
     /// More pending entries than there may be.
     const FLOOD: &str =
         r#"{"version":1,"stop":2000,"origins":1,"reactors":[{"name":"w","vars":[["n",0]],
@@ -183,6 +192,22 @@ mod tests {
                     taken 29\ntaken 30\ntaken 31\ntaken 32\ntaken 33\ntaken 34\ntaken 35\ntaken 36\ntaken 37\n\
                     taken 38\ntaken 39\ntaken 40\ntaken 41\nvar 41 1099511627519\n",
             ),
+            (
+                "announce 0 10 0 1 0\nannounce 1 10 0 0 0\nhorizon\nevent 0 5 0 0 3\nhorizon\nreleased\n\
+                    event 0 6 0 0 1\nbreach 0\nbreach 1\nreleased\nbreach 2\n",
+                "taken 1\ntaken 2\nhorizon 2 0 0\ntaken 3\nhorizon 3 10 0\nreleased 3 1\n\
+                    taken 4\nbreach 4 1\nbreach 4 0\nreleased 4 2\nrefused 2\n",
+            ),
+            (
+                "announce 0 10 0 1 0\nannounce 1 10 0 0 0\nevent 0 5 0 0 3\ncollect\n\
+                    event 0 5 0 0 3\nevent 0 1 0 0 1\nvar 0\n",
+                "taken 1\ntaken 2\ntaken 3\ncollected 3\nknown 3\ntaken 4\nvar 4 5\n",
+            ),
+            (
+                "event 0 5 0 0 3\nannounce 0 10 0 1 1\nannounce 1 10 0 0 0\nhorizon\n\
+                    withdraw 0 5 0\nhorizon\nreleased\noutputs\n",
+                "taken 1\ntaken 2\ntaken 3\nhorizon 3 0 0\ntaken 4\nhorizon 4 10 0\nreleased 4 0\noutputs 4 0\n",
+            ),
             (REFUSED, REFUSALS),
         ];
         let alloc = rt.alloc();
@@ -217,6 +242,13 @@ mod tests {
                 PAIR,
                 "event 0 1 0 0 3\nevent 1 1 0 1 7\nevent 0 2 0 0 -3\nevent 1 3 0 1 0\noutputs\noutput 0\noutput 1\n",
                 "taken 1\ntaken 2\ntaken 3\ntaken 4\noutputs 4 2\noutput 4 1 0 0 109\noutput 4 3 0 0 209\n",
+            ),
+            (
+                PULSE,
+                "outputs\noutput 4\nvar 0\nvar 1\nvar 2\nreleased\nannounce 0 9 0 0 0\nreleased\n\
+                    announce 0 11 0 0 0\nreleased\n",
+                "outputs 0 5\noutput 0 9 0 1 203\nvar 0 103\nvar 0 203\nrefused 6\nreleased 0 0\ntaken 1\n\
+                    released 1 4\ntaken 2\nreleased 2 5\n",
             ),
             (
                 FLOOD,
