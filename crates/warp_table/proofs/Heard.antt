@@ -14,7 +14,7 @@ use Rattle.warp_tag.proofs.Tags.{not_before_self}
 use Rattle.warp_record.specs.declared.record.Record.{Record}
 use Rattle.warp_record.specs.declared.record.Record.TheVariants.{Event, Withdraw, Announce}
 use Rattle.warp_table.specs.Records.{Records, IsIn, set_of}
-use Rattle.warp_table.specs.Names.{HasEvent, HasTwoPayloads, HasWithdrawal}
+use Rattle.warp_table.specs.Names.{HasEvent, HasTwoPayloads, HasWithdrawal, origin_of}
 use Rattle.warp_table.specs.Announced.{AtLeast, HasReached, IsBroken, IsReached, ReachesTo, events_below, withdrawals_below}
 use Rattle.warp_table.specs.inner.Heard.{Announced, AreAscending, Heard, IsExceeded, IsExceededBy, IsHeard, IsHeardTo, IsReachedBy, count_before, earlier_of, nothing_heard, with_tag}
 use Rattle.warp_table.proofs.InOrder.{Contains-from_with_tag, Contains-with_tag, ascending-with_tag}
@@ -265,12 +265,6 @@ heard_again S one T origin heard more there is =
     (events_stay S T origin heard keeps (λ t payload. same (Event origin t payload.0 payload.1)) is)
     (withdrawals_stay S T origin heard keeps (λ t. same (Withdraw origin t)) is)
     (announcements_stay S T origin heard keeps (λ t events withdrawn. same (Announce origin t events withdrawn)) is)
-
--- the origin of a record
-abbrev pub origin_of : Record → ℕ
-origin_of (Event origin tag input value) = origin
-origin_of (Withdraw origin tag) = origin
-origin_of (Announce origin tag events withdrawn) = origin
 
 -- a record of another origin changes nothing
 pub heard_elsewhere : (S : Records) (one : Record) (T : Records) (origin : ℕ) (heard : Heard) → IsWithOne S one T → (origin_of one ≢ origin) → IsHeard S origin heard → IsHeard T origin heard

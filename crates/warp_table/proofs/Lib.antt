@@ -17,3 +17,5 @@ pub mod BelowHorizon
 pub mod InOrder
 pub mod Tallies
 pub mod Heard
+pub mod HeardNews
+pub mod LeastReach

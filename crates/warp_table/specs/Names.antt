@@ -8,6 +8,12 @@ use Rattle.warp_record.specs.declared.record.Record.{Record}
 use Rattle.warp_record.specs.declared.record.Record.TheVariants.{Event, Withdraw, Announce}
 use Rattle.warp_table.specs.Records.{Records, IsIn}
 
+-- whose record it is
+abbrev pub origin_of : Record → ℕ
+origin_of (Event origin tag input value) = origin
+origin_of (Withdraw origin tag) = origin
+origin_of (Announce origin tag events withdrawn) = origin
+
 -- the record is of this name: an event or a withdrawal of it
 abbrev pub IsOf : ℕ → Moment → Record → Type 0
 IsOf origin tag (Event its_origin its_tag input value) = (its_origin ≡ origin) × (its_tag ≡ tag)

@@ -1,3 +1,4 @@
 pub mod Kept
 pub mod Heard
 pub mod Tally
+pub mod News

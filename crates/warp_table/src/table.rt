@@ -1,16 +1,23 @@
-//! The records that were taken, in order, and what is known of the names that they speak of.
-ghost use Rattle.std.specs.Prelude.{◌≡◌, ◌↔◌, ℕ, ℤ, ◌+◌, ◌<◌, ◌≤◌, List, [], ◌∷◌, ◌++◌, None, Some, true, false, length, slice_get, Contains, IsTrue, IfSome, IfNone, IfOk, IsOk, OnOk, OnErr, MatchResult};
-ghost use Rattle.warp_tag.specs.Limits.{most_records};
+//! The records that were taken, in order, what is known of the names that they speak of, and what is heard of each origin.
+//!
+//! A record of a name asks a hash table twice. What an origin announced is kept by its `Announcer`, so that in order of tags
+//! no record costs a pass over all announcements or names; a horizon costs a look at each origin of the program.
+ghost use Rattle.std.specs.Prelude.{◌≡◌, ◌↔◌, ℕ, ℤ, ◌+◌, ◌<◌, ◌≤◌, List, [], ◌∷◌, ◌++◌, None, Some, true, false, is_some, length, slice_get, vec_len, Contains, IsTrue, IfSome, IfNone, IfOk, IsOk, OnOk, OnErr, MatchResult, if◌then◌else◌};
+ghost use Rattle.warp_tag.specs.Limits.{most_origins, most_records};
 ghost use Rattle.warp_step.specs.Events.{is_declared};
 ghost use Rattle.warp_record.specs.declared.record.Record.{Record};
 ghost use Rattle.warp_record.specs.declared.reply.Refusal.{Refusal};
+ghost use Rattle.warp_table.specs.Announced.{IsBroken, IsHorizon, ReachesTo};
 ghost use Rattle.warp_table.specs.Check.{refusal_of};
-ghost use Rattle.warp_table.specs.Names.{Tells};
+ghost use Rattle.warp_table.specs.Names.{Tells, origin_of};
 ghost use Rattle.warp_table.specs.Records.{set_of};
 ghost use Rattle.warp_table.specs.Table.{names_of};
+ghost use Rattle.warp_table.specs.inner.Heard.{AreHeard, IsHeard, earlier_of, heard_at, with_tag};
 ghost use Rattle.warp_table.specs.inner.Kept.{KeepsNames, after_event, after_withdrawal, kept_of, unknown};
+ghost use Rattle.warp_table.specs.inner.News.{IsNews, IsNewsOf};
 ghost use Rattle.indexmap.specs.IndexMap.{spare};
 
+use crate::announcer::Announcer;
 use indexmap::{IndexMap, IndexSet};
 use std::alloc::Global;
 use std::marker::Model;
@@ -35,24 +42,29 @@ struct Known {
     has_two_payloads: bool,
 }
 
-/// Records in the order of taking, each once, at most `MAX_RECORDS`. It is seen as their list.
+/// Records in the order of taking, each once, at most `MAX_RECORDS`. It is seen as their list. Beside them it keeps what is
+/// known of each name, and for each origin up to the greatest of a record an `Announcer`: which of its names came, what it
+/// announced, and how far that is reached.
 #[derive(Drop)]
 pub struct Table {
     records: IndexSet<Record>,
     names: IndexMap<Name, Known>,
+    announcers: Vec<Announcer>,
 }
 
 impl Model for Table {
     ghost use Rattle.std.specs.Prelude.{List, length, ◌≤◌};
     ghost use Rattle.warp_record.specs.declared.record.Record.{Record};
     ghost use Rattle.warp_tag.specs.Limits.{most_records};
+    ghost use Rattle.warp_table.specs.inner.Heard.{AreHeard};
     ghost use Rattle.warp_table.specs.inner.Kept.{KeepsNames};
 
     ghost Value = { List Record };
 
     ghost view = { λ t. t.records.keys };
 
-    ghost invariant = { λ t. (length t.records.keys ≤ most_records) × KeepsNames t.records.keys t.names.entries };
+    ghost invariant = { λ t. (length t.records.keys ≤ most_records) × KeepsNames t.records.keys t.names.entries
+        × AreHeard t.records.keys t.announcers.items };
 }
 
 impl Table {
@@ -82,6 +94,7 @@ impl Table {
         Table {
             records: IndexSet::new(alloc),
             names: IndexMap::new(alloc),
+            announcers: Vec::new(alloc),
         }
     }
 
@@ -111,17 +124,20 @@ impl Table {
         Some(index as u32 + 1)
     }
 
-    /// Adds a record that is not there yet, notes what it says of its name, and gives its place. An `Err` changes nothing.
+    /// Adds a record that is not there yet, notes what it says of its name and to its origin, and gives its place. An `Err`
+    /// changes nothing.
     pub fn add(&mut self, record: &Record) -> Result<u32, OutOfMemory>
         requires new { ¬ Contains self.old «record».now }
         requires room { length self.old < most_records }
+        requires origin { origin_of «record».now < most_origins }
         ensures records { OnOk result (self.new ≡ self.old ++ «record».now ∷ []) }
         ensures place { IfOk result (λ place. place ≡ length self.old + 1) }
         ensures err { OnErr result (self.new ≡ self.old) }
     {
         self.records.reserve(1)?;
         self.names.reserve(1)?;
-        // There is room for both, so that neither fails with the other done.
+        hear(&mut self.announcers, &self.names, record)?;
+        // The origin has noted it, and there is room for both, so that neither fails with the rest done.
         self.records.insert(*record)?;
         note(&mut self.names, record)?;
         Ok(self.records.len() as u32)
@@ -144,6 +160,44 @@ impl Table {
     {
         let (_, known) = self.names.get_index(number as usize)?;
         Some(known.entry)
+    }
+
+    /// Up to which tag the announcements of all origins of the program are reached: the least, over its origins, of the greatest
+    /// tag of a reached announcement, the beginning for an origin where none is. Outputs before it are released.
+    pub fn horizon(&self, program: &Program) -> Tag
+        ensures { IsHorizon program.now (set_of self.now) result }
+    {
+        // Each program is valid, and so has an origin.
+        program.valid();
+        let mut end = self.reached(0);
+        for origin in 1..program.origins() {
+            let own = self.reached(origin);
+            if own.is_before(end) {
+                end = own;
+            }
+        }
+        end
+    }
+
+    /// Up to which tag the origin's announcements are reached, the beginning where none is.
+    fn reached(&self, origin: u32) -> Tag
+        ensures { ReachesTo (set_of self.now) origin result }
+    {
+        match self.announcers.get(origin as usize) {
+            Some(announcer) => announcer.reached(),
+            None => Tag::default(),
+        }
+    }
+
+    /// Whether the origin broke an announcement of its own: more of its names before the announced tag have an event, or a
+    /// withdrawal, than it said, or one of them has two payloads.
+    pub fn broken(&self, origin: u32) -> bool
+        ensures { IsTrue result ↔ IsBroken (set_of self.now) origin }
+    {
+        match self.announcers.get(origin as usize) {
+            Some(announcer) => announcer.is_broken(),
+            None => false,
+        }
     }
 }
 
@@ -240,6 +294,90 @@ fn note(names: &mut IndexMap<Name, Known>, record: &Record) -> Result<(), OutOfM
         Record::Withdraw { origin, tag } => note_withdrawal(names, Name { origin, tag }),
         Record::Announce { .. } => Ok(()),
     }
+}
+
+/// Whose record it is.
+fn origin_of(record: &Record) -> u32
+    ensures { result ≡ origin_of «record».now }
+{
+    match *record {
+        Record::Event { origin, .. } => origin,
+        Record::Withdraw { origin, .. } => origin,
+        Record::Announce { origin, .. } => origin,
+    }
+}
+
+/// Keeps an announcer for each origin up to this one. What is heard stays, also on an `Err`.
+fn keep_up_to(announcers: &mut Vec<Announcer>, origin: u32) -> Result<(), OutOfMemory>
+    requires origin { origin < most_origins }
+    requires few { length announcers.old.items ≤ most_origins }
+    ensures few { length announcers.new.items ≤ most_origins }
+    ensures same { (other : ℕ) → heard_at announcers.new.items other ≡ heard_at announcers.old.items other }
+    ensures ok { OnOk result (origin < vec_len announcers.new) }
+{
+    let alloc = *announcers.allocator();
+    while announcers.len() <= origin as usize {
+        announcers.push(Announcer::new(alloc))?;
+    }
+    Ok(())
+}
+
+/// Whether the name has an event.
+fn has_event(names: &IndexMap<Name, Known>, name: &Name) -> bool
+    ensures { result ≡ is_some (kept_of name.now names.now.entries).entry.event }
+{
+    known_of(names, name).entry.event.is_some()
+}
+
+/// Notes a new event to its origin, where its name has one already or has none. An `Err` changes nothing.
+fn hear_event(announcer: &mut Announcer, tag: Tag, has_event: bool) -> Result<(), OutOfMemory>
+    requires { has_event ≡ false → ¬ Contains announcer.old.events tag }
+    ensures ok { OnOk result (announcer.new ≡ (if has_event
+        then record announcer.old { doubled = Some (earlier_of announcer.old.doubled tag) }
+        else record announcer.old { events = with_tag tag announcer.old.events })) }
+    ensures err { OnErr result (announcer.new ≡ announcer.old) }
+{
+    if has_event {
+        announcer.note_two_payloads(tag);
+        return Ok(());
+    }
+    announcer.note_event(tag)
+}
+
+/// Notes a new record to its origin. An `Err` changes nothing.
+fn hear_own(announcer: &mut Announcer, names: &IndexMap<Name, Known>, record: &Record) -> Result<(), OutOfMemory>
+    requires { (records : List Record) × IsNewsOf records names.now.entries announcer.old «record».now }
+    ensures ok { (records : List Record) → IsNewsOf records names.now.entries announcer.old «record».now
+        → OnOk result (IsHeard (set_of (records ++ «record».now ∷ [])) (origin_of «record».now) announcer.new) }
+    ensures err { OnErr result (announcer.new ≡ announcer.old) }
+{
+    match *record {
+        Record::Event { origin, tag, .. } => {
+            let has_event = has_event(names, &Name { origin, tag });
+            hear_event(announcer, tag, has_event)
+        }
+        Record::Withdraw { tag, .. } => announcer.note_withdrawal(tag),
+        Record::Announce {
+            tag,
+            events,
+            withdrawn,
+            ..
+        } => announcer.note_announcement(tag, events.get(), withdrawn.get()),
+    }
+}
+
+/// Notes a new record to its origin. What is heard stays on an `Err`.
+fn hear(announcers: &mut Vec<Announcer>, names: &IndexMap<Name, Known>, record: &Record) -> Result<(), OutOfMemory>
+    requires origin { origin_of «record».now < most_origins }
+    requires news { (records : List Record) × IsNews records names.now.entries announcers.old.items «record».now }
+    ensures ok { (records : List Record) → IsNews records names.now.entries announcers.old.items «record».now
+        → OnOk result (AreHeard (records ++ «record».now ∷ []) announcers.new.items) }
+    ensures err { (records : List Record) → AreHeard records announcers.old.items → OnErr result (AreHeard records announcers.new.items) }
+{
+    let origin = origin_of(record);
+    keep_up_to(announcers, origin)?;
+    let announcer = &mut announcers[origin as usize];
+    hear_own(announcer, names, record)
 }
 
 /// Why the program takes no event of this origin, at this tag, for this input.

@@ -1,8 +1,10 @@
 -- What is kept of one origin, for proofs alone: the tags of its names, and its announcements.
-use Rattle.std.specs.Prelude.{◌≡◌, ◌⊎◌, ℕ, ℤ, ◌<◌, ◌≤◌, ◌↔◌, false, IsTrue, IfSome, Option, Some, None, List, [], ◌∷◌, length, filter, Contains, AllPairs, if◌then◌else◌}
+use Rattle.std.specs.Prelude.{◌≡◌, ◌⊎◌, ℕ, ℤ, ◌<◌, ◌≤◌, ◌↔◌, false, IsTrue, IfSome, Option, Some, None, List, [], ◌∷◌, length, filter, get_or, Contains, AllPairs, if◌then◌else◌}
+use Rattle.warp_tag.specs.Limits.{most_origins}
 use Rattle.warp_tag.specs.Moment.{Moment, is_before}
+use Rattle.warp_record.specs.declared.record.Record.{Record}
 use Rattle.warp_record.specs.declared.record.Record.TheVariants.{Announce}
-use Rattle.warp_table.specs.Records.{Records, IsIn}
+use Rattle.warp_table.specs.Records.{Records, IsIn, set_of}
 use Rattle.warp_table.specs.Names.{HasEvent, HasWithdrawal, HasTwoPayloads}
 use Rattle.warp_table.specs.Announced.{beginning}
 
@@ -71,3 +73,12 @@ pub record IsHeard (S : Records) (origin : ℕ) (heard : Heard) : Type 0 where
   pub least_doubled : (tag : Moment) → HasTwoPayloads S origin tag → (t : Moment) × (heard.doubled ≡ Some t) × (is_before tag t ≡ false)
   pub announced : (tag : Moment) (events withdrawn : ℕ) →
       Contains heard.announced (record { tag = tag; events = events; withdrawn = withdrawn }) ↔ IsIn S (Announce origin tag events withdrawn)
+
+-- this is heard of an origin, by its number; of one past the last nothing
+abbrev pub heard_at : List Heard → ℕ → Heard
+heard_at heards origin = get_or heards origin nothing_heard
+
+-- these are what a list of records has of its origins, by number
+pub record AreHeard (records : List Record) (heards : List Heard) : Type 0 where
+  pub few : length heards ≤ most_origins
+  pub each : (origin : ℕ) → IsHeard (set_of records) origin (heard_at heards origin)
