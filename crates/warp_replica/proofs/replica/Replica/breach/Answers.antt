@@ -16,8 +16,8 @@ returns-then-origins-origin-clause-gives g c =
     let log = c.len-log in
     let run = exists r.program (live (table_of r.table)) in
     subst (λ s. GivesQuery s.program s.records (Breach c.args.origin) (reply.Refused NoOrigin)) c.self.view_is
-    (gives_no_origin r.program r.table run.0 log.result log.ensures.once log.ensures.value run.1 (announced_to r.program r.table c.valid.ensures)
-    c.args.origin (omega (arith, c.origins.ensures)))
+    (gives_no_origin r.program r.table run.0 log.result log.ensures.once log.ensures.value run.1
+    (announced_to r.program r.table c.valid.ensures) c.args.origin (omega (arith, c.origins.ensures)))
 
 pub returns-clause-gives : goal.returns-clause-gives
 returns-clause-gives g c =
@@ -25,5 +25,5 @@ returns-clause-gives g c =
     let log = c.len-log in
     let run = exists r.program (live (table_of r.table)) in
     subst (λ s. GivesQuery s.program s.records (Breach c.args.origin) (reply.Breach log.result c.broken.result)) c.self.view_is
-    (gives_breach r.program r.table run.0 log.result log.ensures.once log.ensures.value run.1 (announced_to r.program r.table c.valid.ensures)
-    c.args.origin c.broken.result (omega (arith, c.origins.ensures)) c.broken.ensures)
+    (gives_breach r.program r.table run.0 log.result log.ensures.once log.ensures.value run.1
+    (announced_to r.program r.table c.valid.ensures) c.args.origin c.broken.result (omega (arith, c.origins.ensures)) c.broken.ensures)

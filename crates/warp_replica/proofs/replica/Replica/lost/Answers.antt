@@ -14,4 +14,5 @@ returns-clause-gives g c =
     let stood = c.state.ensures _ c.self.invariant.1.1 in
     rw c.lost.ensures
     (subst (λ s. GivesQuery s.program s.records Lost (reply.Lost log.result c.state.result.now.lost)) c.self.view_is
-    (gives_lost r.program r.table done log.result log.ensures.once log.ensures.value stood.0 (announced_to r.program r.table c.valid.ensures) c.state.result.now stood.1))
+    (gives_lost r.program r.table done log.result log.ensures.once log.ensures.value stood.0
+    (announced_to r.program r.table c.valid.ensures) c.state.result.now stood.1))

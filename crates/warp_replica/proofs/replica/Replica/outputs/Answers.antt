@@ -14,4 +14,5 @@ returns-clause-gives g c =
     let stood = c.outputs.ensures _ c.self.invariant.1.1 in
     let outs = c.outputs.result.now in
     subst (λ s. GivesQuery s.program s.records Outputs (reply.Outputs log.result (length outs))) c.self.view_is
-    (gives_outputs r.program r.table done log.result log.ensures.once log.ensures.value stood.0 (announced_to r.program r.table c.valid.ensures) outs stood.1)
+    (gives_outputs r.program r.table done log.result log.ensures.once log.ensures.value stood.0
+    (announced_to r.program r.table c.valid.ensures) outs stood.1)
