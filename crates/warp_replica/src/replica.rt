@@ -197,6 +197,8 @@ impl<T: Timeline> Replica<T> {
         ensures gives { GivesQuery self.now.program self.now.records (Query.Var number) result }
         ensures reply { IsReply result }
     {
+        // Each program is valid, and so has an origin and a horizon.
+        self.program.valid();
         let log = self.table.len();
         match self.timeline.state().vars().get(number as usize) {
             Some(value) => Reply::Var { log, value: *value },
@@ -210,6 +212,8 @@ impl<T: Timeline> Replica<T> {
         ensures gives { GivesQuery self.now.program self.now.records Query.Outputs result }
         ensures reply { IsReply result }
     {
+        // Each program is valid, and so has an origin and a horizon.
+        self.program.valid();
         Reply::Outputs {
             log: self.table.len(),
             count: self.timeline.outputs().len() as u64,
@@ -266,6 +270,8 @@ impl<T: Timeline> Replica<T> {
         requires { IsTrue (T.settled self.now.timeline) }
         ensures { IsReleased self.now.program (set_of self.now.records) result.now }
     {
+        // Each record is there once, and so they can be counted.
+        self.valid();
         let horizon = self.table.horizon(&self.program);
         let outputs = self.timeline.outputs();
         let count = outputs.partition_point(|output| output.tag.is_before(horizon));
@@ -278,11 +284,14 @@ impl<T: Timeline> Replica<T> {
         ensures gives { GivesQuery self.now.program self.now.records (Query.Breach origin) result }
         ensures reply { IsReply result }
     {
+        // Each program is valid, and so has an origin and a horizon.
+        self.program.valid();
+        let log = self.table.len();
         if self.program.origins() <= origin {
             return Reply::Refused(Refusal::NoOrigin);
         }
         Reply::Breach {
-            log: self.table.len(),
+            log,
             broken: self.table.broken(origin),
         }
     }
@@ -293,6 +302,8 @@ impl<T: Timeline> Replica<T> {
         ensures gives { GivesQuery self.now.program self.now.records Query.Lost result }
         ensures reply { IsReply result }
     {
+        // Each program is valid, and so has an origin and a horizon.
+        self.program.valid();
         Reply::Lost {
             log: self.table.len(),
             count: self.timeline.state().lost(),
@@ -304,6 +315,8 @@ impl<T: Timeline> Replica<T> {
         ensures gives { GivesQuery self.now.program self.now.records (Query.Log place) result }
         ensures reply { IsReply result }
     {
+        // Each program is valid, and so has an origin and a horizon.
+        self.program.valid();
         let log = self.table.len();
         match self.table.entry(place) {
             Some(record) => {

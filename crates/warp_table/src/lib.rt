@@ -11,7 +11,7 @@ mod table;
 #[cfg(test)]
 mod tests;
 
-pub use honest_law::{honest_within, later_horizon, one_horizon, same_below};
+pub use honest_law::{honest_within, later_horizon, one_horizon, same_below, some_reach};
 pub use law::{
     in_set, is_table, joined, known_by_set, live_by_set, live_once, names_once, one_set, one_size,
     one_table, told_once,
