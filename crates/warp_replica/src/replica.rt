@@ -2,6 +2,7 @@
 ghost use Rattle.std.specs.Prelude.{◌≡◌, ◌↔◌, ◌+◌, ◌-◌, ◌<◌, ◌≤◌, [], ◌∷◌, ◌++◌, false, None, length, List, Contains, IsTrue, IsOk, IfOk, OnOk, OnErr};
 ghost use Rattle.warp_tag.specs.Limits.{most_outputs, most_records};
 ghost use Rattle.warp_record.specs.declared.line.Query.{Query};
+ghost use Rattle.warp_record.specs.declared.reply.Reply.{Reply};
 ghost use Rattle.warp_record.specs.Record.{IsRecord};
 ghost use Rattle.warp_record.specs.Reply.{IsOut, IsReply};
 ghost use Rattle.warp_step.specs.Run.{Row};
@@ -20,7 +21,7 @@ use warp_line::Timeline;
 use warp_record::{Query, Record, Refusal, Reply};
 use warp_step::{Meter, Out, Program};
 use warp_table::Table;
-use warp_tag::OutOfMemory;
+use warp_tag::{OutOfMemory, Tag};
 
 /// A program, the records that were taken, and the run over them. Contracts see the program, the list of the records
 /// in the order of taking, and the timeline, which stands for both with some rows done.
@@ -253,6 +254,23 @@ impl<T: Timeline> Replica<T> {
                 Reply::Log { log, record }
             }
             None => Reply::Nothing { log },
+        }
+    }
+
+    /// Lets go of what is not needed before the horizon, and tells how many records there are. It changes no answer, and what is
+    /// done stays done.
+    pub fn collect(&mut self) -> Reply
+        requires { IsTrue (T.settled self.old.timeline) }
+        ensures reply { result ≡ Reply.Collected (length self.old.records) }
+        ensures program { self.new.program ≡ self.old.program }
+        ensures records { self.new.records ≡ self.old.records }
+        ensures stands { (done : List Row) → Stands T.stands_for self.old done → Stands T.stands_for self.new done }
+        ensures settled { IsTrue (T.settled self.new.timeline) }
+        ensures range { IsReply result }
+    {
+        self.timeline.collect(Tag::default());
+        Reply::Collected {
+            log: self.table.len(),
         }
     }
 
