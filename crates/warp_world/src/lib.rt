@@ -6,6 +6,10 @@
 
 mod fault;
 mod moves;
+mod world;
+mod world_law;
 
 pub use fault::ScheduleFault;
 pub use moves::Move;
+pub use world::World;
+pub use world_law::{logs_are_made, worlds_grow};
