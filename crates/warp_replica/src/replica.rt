@@ -1,13 +1,14 @@
 //! A replica: a program, the table of the records that it took, and the timeline that runs them.
-ghost use Rattle.std.specs.Prelude.{◌≡◌, ◌↔◌, ◌+◌, ◌-◌, ◌<◌, ◌≤◌, [], ◌∷◌, ◌++◌, false, None, length, List, Contains, IsTrue, IsOk, IfOk, OnOk, OnErr};
+ghost use Rattle.std.specs.Prelude.{◌≡◌, ◌↔◌, ◌+◌, ◌-◌, ◌<◌, ◌≤◌, [], ◌∷◌, ◌++◌, false, None, length, List, Contains, IsTrue, IfSome, IfNone, IsOk, IfOk, OnOk, OnErr};
 ghost use Rattle.warp_tag.specs.Limits.{most_outputs, most_records};
 ghost use Rattle.warp_record.specs.declared.line.Query.{Query};
+ghost use Rattle.warp_record.specs.declared.record.Record.{Record};
 ghost use Rattle.warp_record.specs.declared.reply.Reply.{Reply};
 ghost use Rattle.warp_record.specs.Record.{IsRecord};
 ghost use Rattle.warp_record.specs.Reply.{IsOut, IsReply};
 ghost use Rattle.warp_step.specs.Run.{Row};
 ghost use Rattle.warp_line.specs.Timeline.{Standing, IsDone, KeepsDone, NowStands, Settles};
-ghost use Rattle.warp_table.specs.Log.{EachOnce};
+ghost use Rattle.warp_table.specs.Log.{EachOnce, IsAt};
 ghost use Rattle.warp_table.specs.Table.{with_record};
 ghost use Rattle.warp_table.specs.Check.{refusal_of};
 ghost use Rattle.warp_table.specs.Records.{set_of};
@@ -92,6 +93,14 @@ impl<T: Timeline> Replica<T> {
         ensures bound { result ≤ most_records }
     {
         self.table.len()
+    }
+
+    /// The record at this place of its log, from 1; `None` where there is none.
+    pub fn entry(&self, place: u32) -> Option<Record>
+        ensures found { IfSome result (λ said. IsAt self.now.records place said) }
+        ensures none { IfNone result ((said : Record) → ¬ IsAt self.now.records place said) }
+    {
+        self.table.entry(place)
     }
 
     /// Its timeline.
