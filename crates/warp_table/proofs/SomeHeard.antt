@@ -38,13 +38,13 @@ with_first one records = record {
 next_heard : (S : Records) (one : Record) (T : Records) (heard : Heard) → IsWithOne S one T → (IsIn S one → ⊥) → IsHeard S (origin_of one) heard → (now : Heard) × IsHeard T (origin_of one) now
 next_heard S (Event origin tag input value) T heard more new is = elim (cases_Bool (is_member is_same heard.events tag)) [
   | inl has ↦ (
-      record heard { doubled = Some (earlier_of heard.doubled tag) },
-      heard_new_payload S origin tag input value T heard more new ((is_member-Decides same_tag heard.events tag).0 has) is,
-    )
+    record heard { doubled = Some (earlier_of heard.doubled tag) },
+    heard_new_payload S origin tag input value T heard more new ((is_member-Decides same_tag heard.events tag).0 has) is,
+  )
   | inr lacks ↦ (
-      record heard { events = with_tag tag heard.events },
-      heard_event S origin tag input value T heard more (λ has. both_ways (is_member is_same heard.events tag) lacks ((is_member-Decides same_tag heard.events tag).1 has)) is,
-    )
+    record heard { events = with_tag tag heard.events },
+    heard_event S origin tag input value T heard more (λ has. both_ways (is_member is_same heard.events tag) lacks ((is_member-Decides same_tag heard.events tag).1 has)) is,
+  )
 ]
 next_heard S (Withdraw origin tag) T heard more new is = (
   record heard { withdrawn = with_tag tag heard.withdrawn },
@@ -54,16 +54,16 @@ next_heard S (Announce origin tag events withdrawn) T heard more new is =
     let one : Announced = record { tag = tag; events = events; withdrawn = withdrawn } in (
       record heard { announced = one ∷ heard.announced },
       heard_announcement S origin tag events withdrawn T heard (one ∷ heard.announced) more
-      (λ a. (
-        λ h. elim (Contains-cases one heard.announced a h) [
-          | inl e ↦ inr (sym e)
-          | inr old ↦ inl old
-        ],
-        λ h. elim h [
-          | inl old ↦ Contains-there one heard.announced a old
-          | inr e ↦ subst (λ (b : Announced). Contains (one ∷ heard.announced) b) (sym e) (Contains-here one heard.announced)
-        ],
-      )) is,
+          (λ a. (
+            λ h. elim (Contains-cases one heard.announced a h) [
+              | inl e ↦ inr (sym e)
+              | inr old ↦ inl old
+            ],
+            λ h. elim h [
+              | inl old ↦ Contains-there one heard.announced a old
+              | inr e ↦ subst (λ (b : Announced). Contains (one ∷ heard.announced) b) (sym e) (Contains-here one heard.announced)
+            ],
+          )) is,
     )
 
 -- something is heard of an origin
@@ -96,34 +96,43 @@ not_behind_later t u v h k = grind (arith, nat_tests)
 -- with one more announcement
 greater_tag : (p : Announced → Bool) (first : Announced) (announced : List Announced) (end : Moment) (passes : Bool) → p first ≡ passes → IsGreatestTag p announced end →
     (now : Moment) × IsGreatestTag p (first ∷ announced) now
-greater_tag p first announced end false fails is = (end, record {
-  some = elim is.some [
-    | inl a ↦ inl (a.0, Contains-there first announced a.0 a.1, a.2, a.3)
-    | inr none ↦ inr none
-  ];
-  greatest = λ a has passes. elim (Contains-cases first announced a has) [
-    | inl e ↦ absurd (false≢true (sym fails ∙ ap p e ∙ passes))
-    | inr old ↦ is.greatest a old passes
-  ];
-})
-greater_tag p first announced end true here is = elim (cases_Bool (is_before end first.tag)) [
-  | inl later ↦ (first.tag, record {
-    some = inl (first, Contains-here first announced, here, refl);
-    greatest = λ a has passes. elim (Contains-cases first announced a has) [
-      | inl e ↦ subst (λ (b : Announced). is_before first.tag b.tag ≡ false) e (not_before_self first.tag)
-      | inr old ↦ not_behind_later end a.tag first.tag (is.greatest a old passes) later
-    ];
-  })
-  | inr not_later ↦ (end, record {
+greater_tag p first announced end false fails is = (
+  end,
+  record {
     some = elim is.some [
       | inl a ↦ inl (a.0, Contains-there first announced a.0 a.1, a.2, a.3)
       | inr none ↦ inr none
     ];
     greatest = λ a has passes. elim (Contains-cases first announced a has) [
-      | inl e ↦ subst (λ (b : Announced). is_before end b.tag ≡ false) e not_later
+      | inl e ↦ absurd (false≢true (sym fails ∙ ap p e ∙ passes))
       | inr old ↦ is.greatest a old passes
     ];
-  })
+  },
+)
+greater_tag p first announced end true here is = elim (cases_Bool (is_before end first.tag)) [
+  | inl later ↦ (
+    first.tag,
+    record {
+      some = inl (first, Contains-here first announced, here, refl);
+      greatest = λ a has passes. elim (Contains-cases first announced a has) [
+        | inl e ↦ subst (λ (b : Announced). is_before first.tag b.tag ≡ false) e (not_before_self first.tag)
+        | inr old ↦ not_behind_later end a.tag first.tag (is.greatest a old passes) later
+      ];
+    },
+  )
+  | inr not_later ↦ (
+    end,
+    record {
+      some = elim is.some [
+        | inl a ↦ inl (a.0, Contains-there first announced a.0 a.1, a.2, a.3)
+        | inr none ↦ inr none
+      ];
+      greatest = λ a has passes. elim (Contains-cases first announced a has) [
+        | inl e ↦ subst (λ (b : Announced). is_before end b.tag ≡ false) e not_later
+        | inr old ↦ is.greatest a old passes
+      ];
+    },
+  )
 ]
 
 greatest_tag : (p : Announced → Bool) (announced : List Announced) → (end : Moment) × IsGreatestTag p announced end
@@ -138,13 +147,16 @@ at_most m n = (leb-true m n, le-leb m n)
 
 -- up to some tag announcements are heard to be reached
 some_end : (heard : Heard) → (end : Moment) × IsHeardTo heard end
-some_end heard = (best.0, record {
-  some = elim best.1.some [
-    | inl a ↦ inl (a.0, a.1, (test a.0).0 a.2, a.3)
-    | inr none ↦ inr none
-  ];
-  greatest = λ a has reached. best.1.greatest a has ((test a).1 reached);
-})
+some_end heard = (
+  best.0,
+  record {
+    some = elim best.1.some [
+      | inl a ↦ inl (a.0, a.1, (test a.0).0 a.2, a.3)
+      | inr none ↦ inr none
+    ];
+    greatest = λ a has reached. best.1.greatest a has ((test a).1 reached);
+  },
+)
   where
     is_reached : Announced → Bool
     is_reached a = nat_le a.events (count_before a.tag heard.events) && nat_le a.withdrawn (count_before a.tag heard.withdrawn)
@@ -175,7 +187,7 @@ exceeds heard a =
     let doubled = doubled_before heard.doubled a.tag in (
       events || (withdrawn || doubled.0),
       Decides-or events (withdrawn || doubled.0) (Decides-ltb a.events (count_before a.tag heard.events))
-      (Decides-or withdrawn doubled.0 (Decides-ltb a.withdrawn (count_before a.tag heard.withdrawn)) doubled.1),
+          (Decides-or withdrawn doubled.0 (Decides-ltb a.withdrawn (count_before a.tag heard.withdrawn)) doubled.1),
     )
 
 -- one of a list is so or none is
