@@ -1,0 +1,3 @@
+pub mod MoveWords
+pub mod MoveReadings
+pub mod ScheduleLines
