@@ -1,3 +1,4 @@
 pub mod MoveWords
 pub mod MoveReadings
 pub mod ScheduleLines
+pub mod OneSchedule

@@ -13,7 +13,6 @@ use Rattle.warp_world.specs.Moves.{IsMove, move_words}
 use Rattle.warp_world.specs.Schedule.{count_words, line, schedule_text}
 use Rattle.warp_world.specs.declared.moves.Move.{Move}
 
-
 -- a text with its line feed is the line of its words
 pub line_of_words : (bytes text rest : List ℕ) (words : List (List ℕ)) → bytes ≡ text ++ 10 ∷ rest → slice_split is_space text ≡ words
     → bytes ≡ line words ++ rest
@@ -57,11 +56,10 @@ pub one_more : (bytes : List ℕ) (count : ℕ) (moves : List Move) (next : Move
 one_more bytes count moves next rest behind fit fits text first =
     let text_of : Move → List ℕ = λ (m : Move). line (move_words m) in
     let before : List ℕ = schedule_text count moves in
-    let more = flat_map_more text_of (line (count_words count)) moves next in
-    (
+    let more = flat_map_more text_of (line (count_words count)) moves next in (
       All-append IsMove moves (next ∷ []) fit (All-cons IsMove next [] fits (λ k d below. absurd (omega arith))),
       text
-      ∙ ap (λ (left : List ℕ). before ++ left) first
-      ∙ sym (append_assoc before (text_of next) behind)
-      ∙ ap (λ (front : List ℕ). front ++ behind) more,
+          ∙ ap (λ (left : List ℕ). before ++ left) first
+          ∙ sym (append_assoc before (text_of next) behind)
+          ∙ ap (λ (front : List ℕ). front ++ behind) more,
     )

@@ -7,7 +7,9 @@
 mod fault;
 mod moves;
 mod schedule;
+mod schedule_law;
 
 pub use fault::ScheduleFault;
 pub use moves::Move;
 pub use schedule::{MAX_REPLICAS, MAX_SCHEDULE, read_schedule};
+pub use schedule_law::one_schedule;
