@@ -1,6 +1,6 @@
 //! Why a schedule could not be had.
 
-use std::alloc::AllocError;
+use std::alloc::{AllocError, AllocFailed};
 use thiserror::Error;
 
 /// Why a schedule is none, or could not be played.
@@ -21,6 +21,17 @@ impl From<AllocError> for ScheduleFault {
     ghost from_gives = { λ _ e. e ≡ NoMemory };
 
     fn from(_: AllocError) -> ScheduleFault {
+        ScheduleFault::NoMemory
+    }
+}
+
+impl<T: Drop> From<AllocFailed<T>> for ScheduleFault {
+    ghost use Rattle.std.specs.Prelude.{◌≡◌};
+    ghost use Rattle.warp_world.specs.declared.fault.ScheduleFault.TheVariants.{NoMemory};
+
+    ghost from_gives = { λ _ e. e ≡ NoMemory };
+
+    fn from(_: AllocFailed<T>) -> ScheduleFault {
         ScheduleFault::NoMemory
     }
 }

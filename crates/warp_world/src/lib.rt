@@ -6,10 +6,14 @@
 
 mod fault;
 mod moves;
+mod schedule;
+mod schedule_law;
 mod world;
 mod world_law;
 
 pub use fault::ScheduleFault;
 pub use moves::Move;
+pub use schedule::{MAX_REPLICAS, MAX_SCHEDULE, read_schedule};
+pub use schedule_law::one_schedule;
 pub use world::World;
 pub use world_law::{logs_are_made, worlds_grow};
