@@ -1,3 +1,5 @@
 pub mod Replacing
+pub mod Takings
+pub mod Playing
 pub mod SoundLogs
 pub mod GrowingLogs

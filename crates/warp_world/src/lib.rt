@@ -6,10 +6,12 @@
 
 mod fault;
 mod moves;
+#[cfg(test)]
+mod tests;
 mod world;
 mod world_law;
 
 pub use fault::ScheduleFault;
 pub use moves::Move;
-pub use world::World;
+pub use world::{World, play};
 pub use world_law::{logs_are_made, worlds_grow};
