@@ -1,4 +1,6 @@
 pub mod Replacing
+pub mod Takings
+pub mod Playing
 pub mod SoundLogs
 pub mod GrowingLogs
 pub mod MoveWords

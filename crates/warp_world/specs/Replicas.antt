@@ -2,7 +2,9 @@
 use Rattle.std.specs.Prelude.{◌≡◌, List, All, map}
 use Rattle.warp_step.specs.Program.{Program}
 use Rattle.warp_record.specs.declared.record.Record.{Record}
+use Rattle.warp_table.specs.Records.{Records}
 use Rattle.warp_replica.specs.Replica.{ReplicaState}
+use Rattle.warp_world.specs.World.{World}
 
 -- the logs of replicas
 abbrev pub logs_of : {T : Type 0} → List (ReplicaState T) → List (List Record)
@@ -11,3 +13,7 @@ logs_of replicas = map (λ r. r.records) replicas
 -- each of them runs the program
 abbrev pub RunAll : {T : Type 0} → Program → List (ReplicaState T) → Type 0
 RunAll P replicas = All (λ r. r.program ≡ P) replicas
+
+-- the world that they are, where these records were made
+abbrev pub world_of : {T : Type 0} → Records → List (ReplicaState T) → World
+world_of made replicas = record { made = made; logs = logs_of replicas }

@@ -8,6 +8,8 @@ mod fault;
 mod moves;
 mod schedule;
 mod schedule_law;
+#[cfg(test)]
+mod tests;
 mod world;
 mod world_law;
 
@@ -15,5 +17,5 @@ pub use fault::ScheduleFault;
 pub use moves::Move;
 pub use schedule::{MAX_REPLICAS, MAX_SCHEDULE, read_schedule};
 pub use schedule_law::one_schedule;
-pub use world::World;
+pub use world::{World, play};
 pub use world_law::{logs_are_made, worlds_grow};

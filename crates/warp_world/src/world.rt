@@ -1,11 +1,13 @@
 //! Several replicas of one program, and what happens to them.
-ghost use Rattle.std.specs.Prelude.{◌≡◌, ◌<◌, ◌≤◌, List, All, IfNone, IfOk, IfSome, IsTrue, OnOk, Some, length, map, slice_get};
+ghost use Rattle.std.specs.Prelude.{◌≡◌, ◌<◌, ◌≤◌, List, [], ◌∷◌, ◌++◌, All, IfNone, IfOk, IfSome, IsTrue, OnOk, Some, length, map, slice_get, slice_set, if◌then◌else◌};
+ghost use Rattle.warp_step.specs.Program.{Program};
 ghost use Rattle.warp_step.specs.Counter.{IsUnused};
 ghost use Rattle.warp_record.specs.declared.record.Record.{Record};
 ghost use Rattle.warp_table.specs.Records.{Records};
 ghost use Rattle.warp_world.specs.Moves.{most_replicas};
-ghost use Rattle.warp_world.specs.Replicas.{RunAll, logs_of};
-ghost use Rattle.warp_world.specs.World.{happens, world_after};
+ghost use Rattle.warp_world.specs.Replicas.{RunAll, logs_of, world_of};
+ghost use Rattle.warp_world.specs.World.{after_carry, entry_of, happens, log_of, new_world, takes_in, world_after};
+ghost use Rattle.warp_world.specs.declared.moves.Move.{Move};
 
 use crate::moves::Move;
 use std::alloc::Global;
@@ -35,6 +37,25 @@ impl<T: Timeline> Model for World<T> {
     ghost view = { λ w. w.replicas.items };
 }
 
+/// The world of `count` replicas of this program, 1 to 16, after these moves. An `Err` says that memory was wanting, at whichever
+/// move; then there is no world.
+pub fn play<T: Timeline + Drop>(
+    alloc: Global,
+    program: &Program,
+    count: usize,
+    moves: &[Move],
+) -> Result<World<T>, OutOfMemory>
+    requires { (1 ≤ count) × (count ≤ most_replicas) }
+    ensures logs { IfOk result (λ w. logs_of w ≡ (world_after program.now count moves.now).logs) }
+    ensures programs { IfOk result (λ w. RunAll program.now w) }
+{
+    let mut world = World::start(alloc, program, count)?;
+    for step in moves {
+        world.happen(alloc, program, step)?;
+    }
+    Ok(world)
+}
+
 impl<T: Timeline> World<T> {
     /// How many replicas there are.
     pub fn len(&self) -> usize
@@ -60,6 +81,120 @@ impl<T: Timeline> World<T> {
     {
         settle_all(alloc, &mut self.replicas)
     }
+
+    /// The world of so many replicas of this program before the first move.
+    fn start(alloc: Global, program: &Program, count: usize) -> Result<World<T>, OutOfMemory>
+    where
+        T: Drop,
+        requires { count ≤ most_replicas }
+        ensures logs { IfOk result (λ w. logs_of w ≡ (new_world count).logs) }
+        ensures programs { IfOk result (λ w. RunAll program.now w) }
+    {
+        let mut replicas = Vec::with_capacity(alloc, count)?;
+        for _ in 0..count {
+            let replica = Replica::new(alloc, program.copy(alloc)?)?;
+            replicas.push(replica)?;
+        }
+        Ok(World { replicas })
+    }
+
+    /// Does what a move does. An `Err` says that memory was wanting.
+    fn happen(&mut self, alloc: Global, program: &Program, step: &Move) -> Result<(), OutOfMemory>
+    where
+        T: Drop,
+        requires { RunAll program.now self.old }
+        ensures logs { OnOk result ((made : Records) → logs_of self.new ≡ (happens program.now (world_of made self.old) step.now).logs) }
+        ensures programs { RunAll program.now self.new }
+    {
+        match *step {
+            Move::Make { replica, record } => self.bring(alloc, replica, &record),
+            Move::Carry { from, place, to } => match self.entry(from, place) {
+                Some(record) => self.bring(alloc, to, &record),
+                None => Ok(()),
+            },
+            Move::Collect(replica) => self.collect(alloc, replica),
+            Move::Settle(replica) => self.settle_one(alloc, replica),
+            Move::Restart(replica) => self.restart(alloc, program, replica),
+        }
+    }
+
+    /// The record at a place of a replica's log; `None` where there is no such replica or place.
+    fn entry(&self, replica: u32, place: u32) -> Option<Record>
+        ensures { (made : Records) → result ≡ entry_of (world_of made self.now) replica place }
+    {
+        self.replicas.get(replica as usize)?.entry(place)
+    }
+
+    /// Lets a replica take a record, if there is such a replica. Where it is refused, nothing happens; an `Err` says that memory
+    /// was wanting.
+    fn bring(&mut self, alloc: Global, replica: u32, record: &Record) -> Result<(), OutOfMemory>
+        ensures logs { (P : Program) → RunAll P self.old → OnOk result ((made : Records) → let w = world_of made self.old in
+            logs_of self.new ≡ (after_carry P replica w (Some «record».now) (log_of w replica)).logs) }
+        ensures programs { map (λ r. r.program) self.new ≡ map (λ r. r.program) self.old }
+    {
+        let Some(replica) = self.replicas.get_mut(replica as usize) else {
+            return Ok(());
+        };
+        take_in(alloc, replica, record)
+    }
+
+    /// Collects a replica, which is settled first, if there is such a replica.
+    fn collect(&mut self, alloc: Global, replica: u32) -> Result<(), OutOfMemory>
+        ensures logs { logs_of self.new ≡ logs_of self.old }
+        ensures programs { map (λ r. r.program) self.new ≡ map (λ r. r.program) self.old }
+    {
+        let Some(replica) = self.replicas.get_mut(replica as usize) else {
+            return Ok(());
+        };
+        collect_replica(alloc, replica)
+    }
+
+    /// Settles a replica, if there is such a replica.
+    fn settle_one(&mut self, alloc: Global, replica: u32) -> Result<(), OutOfMemory>
+        ensures logs { logs_of self.new ≡ logs_of self.old }
+        ensures programs { map (λ r. r.program) self.new ≡ map (λ r. r.program) self.old }
+    {
+        let Some(replica) = self.replicas.get_mut(replica as usize) else {
+            return Ok(());
+        };
+        settle_replica(alloc, replica)
+    }
+
+    /// Puts a new replica of this program in the place of a replica, if there is such a replica.
+    fn restart(&mut self, alloc: Global, program: &Program, replica: u32) -> Result<(), OutOfMemory>
+    where
+        T: Drop,
+        ensures logs { OnOk result (logs_of self.new ≡ slice_set (logs_of self.old) replica []) }
+        ensures programs { RunAll program.now self.old → RunAll program.now self.new }
+    {
+        let number = replica as usize;
+        if number < self.replicas.len() {
+            self.replicas[number] = Replica::new(alloc, program.copy(alloc)?)?;
+        }
+        Ok(())
+    }
+}
+
+/// Lets a replica take a record. Where it is refused, nothing happens; an `Err` says that memory was wanting.
+fn take_in<T: Timeline>(alloc: Global, replica: &mut Replica<T>, record: &Record) -> Result<(), OutOfMemory>
+    ensures records { OnOk result (let log = replica.old.records in
+        replica.new.records ≡ (if takes_in replica.old.program log «record».now then log ++ «record».now ∷ [] else log)) }
+    ensures program { replica.new.program ≡ replica.old.program }
+{
+    match replica.take(alloc, record) {
+        Err(Refusal::NoMemory) => Err(OutOfMemory),
+        _ => Ok(()),
+    }
+}
+
+/// Collects a replica, which is settled first.
+fn collect_replica<T: Timeline>(alloc: Global, replica: &mut Replica<T>) -> Result<(), OutOfMemory>
+    ensures program { replica.new.program ≡ replica.old.program }
+    ensures records { replica.new.records ≡ replica.old.records }
+{
+    settle_replica(alloc, replica)?;
+    let _ = replica.collect();
+    Ok(())
 }
 
 /// Settles replicas, from the first to the last.
@@ -69,13 +204,22 @@ fn settle_all<T: Timeline>(alloc: Global, replicas: &mut [Replica<T>]) -> Result
     ensures settled { OnOk result (All (λ r. IsTrue (T.settled r.timeline)) replicas.new) }
 {
     for replica in replicas.iter_mut() {
-        settle_replica::<T, Brand>(alloc, replica, Blank::new(1))?;
+        settle_replica(alloc, replica)?;
     }
     Ok(())
 }
 
+/// Settles a replica.
+fn settle_replica<T: Timeline>(alloc: Global, replica: &mut Replica<T>) -> Result<(), OutOfMemory>
+    ensures settled { OnOk result (IsTrue (T.settled replica.new.timeline)) }
+    ensures program { replica.new.program ≡ replica.old.program }
+    ensures records { replica.new.records ≡ replica.old.records }
+{
+    settle_counting::<T, Brand>(alloc, replica, Blank::new(1))
+}
+
 /// Settles a replica. `blank` is the ledger that the ticks are counted in.
-fn settle_replica<T: Timeline, L: Ledger>(
+fn settle_counting<T: Timeline, L: Ledger>(
     alloc: Global,
     replica: &mut Replica<T>,
     blank: Blank,

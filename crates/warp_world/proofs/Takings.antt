@@ -1,0 +1,47 @@
+-- What a log is once a record was taken: it has the record as its last one where the log takes it in, and else is as before.
+use Rattle.std.proofs.Common.{◌≡◌, ◌≢◌, ◌⊎◌, ℕ, ◌-◌, ◌<◌, Bool, true, false, not, ◌&&◌, nat_lt, List, [], ◌∷◌, ◌++◌, length, slice_get, Option, Some, None, Result, Ok, Err, Contains, if◌then◌else◌, inl, inr, refl, sym, ap, subst, ◌∙◌, arith}
+use Rattle.std.specs.Option.{is_none}
+use Rattle.std.proofs.Math.Bool.{and-false}
+use Rattle.std.proofs.lemmas.Bool.{and_from, cases_Bool, lt-ltb}
+use Rattle.std.proofs.lemmas.Option.{get_or_from_slice_get, slice_get_within}
+use Rattle.warp_tag.specs.Limits.{most_records}
+use Rattle.warp_step.specs.Program.{Program}
+use Rattle.warp_record.specs.declared.record.Record.{Record}
+use Rattle.warp_table.specs.Check.{refusal_of}
+use Rattle.warp_table.specs.Log.{IsAt}
+use Rattle.warp_table.specs.Records.{set_of}
+use Rattle.warp_table.proofs.Sets.{in_set}
+use Rattle.warp_replica.specs.Gives.{IsNew, Takes}
+use Rattle.warp_replica.specs.declared.took.Took.{Took}
+use Rattle.warp_replica.specs.declared.took.Took.TheVariants.{New, Known}
+use Rattle.warp_world.specs.World.{takes_in}
+
+-- what a log is where its taking in is decided
+abbrev pub log_with : Program → List Record → Record → List Record
+log_with P log said = if takes_in P log said then log ++ said ∷ [] else log
+
+module _ (P : Program) (log : List Record) (said : Record) where
+  decided : (taken : Bool) → takes_in P log said ≡ taken → log_with P log said ≡ (if taken then log ++ said ∷ [] else log)
+  decided taken h = ap (λ b. if b then log ++ said ∷ [] else log) h
+
+  -- a new record of a log with room is taken in
+  new_in : IsNew P log said → length log < most_records → takes_in P log said ≡ true
+  new_in new room =
+      let lacks : not (set_of log said) ≡ true = elim (cases_Bool (set_of log said)) [
+        | inl there ↦ absurd (new.1 ((in_set log said).1 there))
+        | inr missing ↦ ap not missing
+      ] in
+      and_from (is_none (refusal_of P said)) (not (set_of log said) && nat_lt (length log) most_records) (ap (λ o. is_none o) new.0)
+      (and_from (not (set_of log said)) (nat_lt (length log) most_records) lacks (lt-ltb (length log) most_records room))
+
+  -- a known one is not
+  known_out : (place : ℕ) → IsAt log place said → takes_in P log said ≡ false
+  known_out place at =
+      let has : Contains log said =
+          (place - 1, slice_get_within log (place - 1) said at.1, get_or_from_slice_get log (place - 1) said said at.1) in
+      ap (λ b. is_none (refusal_of P said) && (not b && nat_lt (length log) most_records)) ((in_set log said).0 has)
+      ∙ and-false (is_none (refusal_of P said))
+
+  pub taken_ok : (took : Took) (after : List Record) → Takes P log said (Ok took) after → after ≡ log_with P log said
+  taken_ok (New place) after h = h.3 ∙ sym (decided true (new_in h.0 h.1))
+  taken_ok (Known place) after h = h.2 ∙ sym (decided false (known_out place h.1))
