@@ -90,6 +90,16 @@ pub(crate) fn enter(entries: &mut Entries, tag: Tag, target: Target, value: i64)
     is_room
 }
 
+/// Puts these entries, for which there is room, in the place of all.
+pub(crate) fn replace_all(entries: &mut Entries, others: &[Waiting])
+    requires { length others.now ≤ most_pending }
+    ensures { entries.new.items ≡ others.now }
+{
+    entries.clear();
+    // There is room, so nothing can be refused.
+    let _ = entries.try_extend_from_slice(others);
+}
+
 /// Drops the first so many entries.
 pub(crate) fn drop_front(entries: &mut Entries, count: usize)
     requires { count ≤ length entries.old.items }

@@ -1,14 +1,14 @@
 //! The state of a program between two steps.
-ghost use Rattle.std.specs.Prelude.{◌≡◌, ◌≤◌, ◌+◌, ℕ, pos, length, map, IfOk};
+ghost use Rattle.std.specs.Prelude.{◌≡◌, ◌≤◌, ◌+◌, ◌++◌, ℕ, pos, length, map, IfOk, vec_len, vec_capacity};
 ghost use Rattle.std.specs.List.{list_any};
-ghost use Rattle.warp_tag.specs.Limits.{longest_delay};
+ghost use Rattle.warp_tag.specs.Limits.{longest_delay, most_pending, most_variables};
 ghost use Rattle.warp_step.specs.Program.{rule_of};
 ghost use Rattle.warp_step.specs.Valid.{names};
 ghost use Rattle.warp_body.specs.declared.place.Target.TheVariants as to;
-ghost use Rattle.warp_step.specs.Snapshot.{IsStateOf, entered, landed, least_pending, start_state, with_loss, with_timers};
+ghost use Rattle.warp_step.specs.Snapshot.{AreInOrder, IsStateOf, entered, landed, least_pending, start_state, with_loss, with_timers};
 
 use crate::parts::Variable;
-use crate::pending::{Entries, Waiting, enter};
+use crate::pending::{Entries, Waiting, enter, replace_all};
 use crate::program::Program;
 use crate::reaction::Reaction;
 use std::alloc::Global;
@@ -26,13 +26,15 @@ pub struct State {
 }
 
 impl Model for State {
+    ghost use Rattle.std.specs.Prelude.{◌≤◌, length};
+    ghost use Rattle.warp_tag.specs.Limits.{most_variables};
     ghost use Rattle.warp_step.specs.Snapshot.{Snapshot, AreInOrder};
 
     ghost Value = { Snapshot };
 
     ghost view = { λ s. record { vars = s.vars; pending = s.pending.items; lost = s.lost } };
 
-    ghost invariant = { λ s. AreInOrder s.pending.items };
+    ghost invariant = { λ s. AreInOrder s.pending.items × (length s.vars ≤ most_variables) };
 }
 
 impl State {
@@ -42,6 +44,7 @@ impl State {
         ensures state { IfOk result (λ s. s ≡ start_state program.now) }
         ensures of_program { IfOk result (IsStateOf program.now) }
     {
+        program.valid();
         let values = start_values(alloc, program.variables())?;
         let mut state = State {
             vars: Vars::from_vec(values),
@@ -126,6 +129,42 @@ impl State {
         })
     }
 
+    /// Appends the values of the variables and the pending entries to lists that have room for them. It takes no memory.
+    pub fn append_to(&self, values: &mut Vec<i64>, entries: &mut Vec<Waiting>)
+        requires values { vec_len values.old + length self.now.vars ≤ vec_capacity values.old }
+        requires entries { vec_len entries.old + length self.now.pending ≤ vec_capacity entries.old }
+        ensures values { values.new.items ≡ values.old.items ++ self.now.vars }
+        ensures entries { entries.new.items ≡ entries.old.items ++ self.now.pending }
+        ensures values_room { vec_capacity values.old ≤ vec_capacity values.new }
+        ensures entries_room { vec_capacity entries.old ≤ vec_capacity entries.new }
+    {
+        // There is room, so nothing can be refused.
+        let _ = values.extend_from_slice(self.vars.as_slice());
+        let _ = entries.extend_from_slice(self.pending.as_slice());
+    }
+
+    /// Becomes the state with these values of the variables, these pending entries and this loss. It takes no memory.
+    pub fn restore(&mut self, values: &[i64], entries: &[Waiting], lost: u64)
+        requires vars { length values.now ≡ length self.old.vars }
+        requires few { length entries.now ≤ most_pending }
+        requires order { AreInOrder entries.now }
+        ensures { self.new ≡ record { vars = values.now; pending = entries.now; lost = lost } }
+    {
+        set_all(&mut self.vars, values);
+        replace_all(&mut self.pending, entries);
+        self.lost = lost;
+    }
+
+    /// That the variables are few, and the pending entries few and in order, as in each state. It does nothing.
+    pub fn valid(&self)
+        ensures variables { length self.now.vars ≤ most_variables }
+        ensures few { length self.now.pending ≤ most_pending }
+        ensures order { AreInOrder self.now.pending }
+    {
+        // A look at the entries shows it.
+        let _count = self.pending.len();
+    }
+
     /// The values of the variables, by number.
     pub fn vars(&self) -> &[i64]
         ensures { result.now ≡ self.now.vars }
@@ -158,6 +197,17 @@ fn start_values(alloc: Global, variables: &[Variable]) -> Result<Vec<i64>, OutOf
         values.push(variable.start)?;
     }
     Ok(values)
+}
+
+/// Gives the variables these values, by number.
+fn set_all(vars: &mut Vars, values: &[i64])
+    requires all { length values.now ≡ length vars.old }
+    requires few { length vars.old ≤ most_variables }
+    ensures { vars.new ≡ values.now }
+{
+    for (number, value) in values.iter().enumerate() {
+        vars.set(number as u32, *value);
+    }
 }
 
 /// Whether one of the reactions is triggered by startup.

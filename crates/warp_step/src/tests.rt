@@ -187,18 +187,20 @@ fn compare(rt: &impl Abort, state: &State, out: &[Out], tag: Tag, row: &Row) {
     }
 }
 
-/// Makes the steps of the rows, each of which is a tick, and gives the state after them.
+/// Makes the steps of the rows, each of which is a tick.
 fn run<L: Ledger>(
     rt: &impl Abort,
     alloc: Global,
     blank: Blank,
     program: &Program,
+    state: &mut State,
     rows: &[Row],
-) -> State
-    requires { IsUnused blank L.name L.parts }
+)
+    requires blank { IsUnused blank L.name L.parts }
+    requires state { IsStateOf program.now state.old }
+    ensures { IsStateOf program.now state.new }
 {
     let mut tally = Tally::<L>::new(blank);
-    let mut state = State::start(alloc, program).expect(rt, "memory");
     let mut scratch = Scratch::new(alloc, program).expect(rt, "memory");
     for row in rows {
         let (time, micro) = row.at;
@@ -211,22 +213,33 @@ fn run<L: Ledger>(
         next_step(
             rt,
             program,
-            &mut state,
+            state,
             &mut scratch,
             tag,
             &given,
             &mut out,
             &mut tally,
         );
-        compare(rt, &state, &out, tag, row);
+        compare(rt, state, &out, tag, row);
     }
     assert_eq!(rt; tally.count, rows.len() as u64);
-    state
+}
+
+/// Makes the steps of the rows.
+fn go_on(rt: &impl Abort, alloc: Global, program: &Program, state: &mut State, rows: &[Row])
+    requires { IsStateOf program.now state.old }
+    ensures { IsStateOf program.now state.new }
+{
+    run::<Brand>(rt, alloc, Blank::new(1), program, state, rows);
 }
 
 /// Makes the steps of the rows from the program's start, and gives the state after them.
-fn play(rt: &impl Abort, alloc: Global, program: &Program, rows: &[Row]) -> State {
-    run::<Brand>(rt, alloc, Blank::new(1), program, rows)
+fn play(rt: &impl Abort, alloc: Global, program: &Program, rows: &[Row]) -> State
+    ensures { IsStateOf program.now result }
+{
+    let mut state = State::start(alloc, program).expect(rt, "memory");
+    go_on(rt, alloc, program, &mut state, rows);
+    state
 }
 
 #[test]
@@ -255,62 +268,96 @@ fn twice_in_two_steps(rt: HostRuntime) -> Result<(), Fail> {
     Ok(())
 }
 
+/// The steps of `pulse`, from its start to its stop.
+const PULSE: [Row; 6] = [
+    Row {
+        at: (0, 0),
+        given: &[],
+        vars: &[100, 0],
+        outs: &[],
+        pending: 1,
+        lost: 0,
+    },
+    Row {
+        at: (2, 0),
+        given: &[],
+        vars: &[101, 0],
+        outs: &[(0, 101)],
+        pending: 2,
+        lost: 0,
+    },
+    Row {
+        at: (5, 0),
+        given: &[],
+        vars: &[102, 0],
+        outs: &[(0, 102)],
+        pending: 3,
+        lost: 0,
+    },
+    Row {
+        at: (6, 0),
+        given: &[],
+        vars: &[102, 101],
+        outs: &[(1, 101)],
+        pending: 2,
+        lost: 0,
+    },
+    Row {
+        at: (8, 0),
+        given: &[],
+        vars: &[103, 101],
+        outs: &[(0, 103)],
+        pending: 1,
+        lost: 0,
+    },
+    Row {
+        at: (9, 0),
+        given: &[],
+        vars: &[103, 203],
+        outs: &[(1, 203)],
+        pending: 0,
+        lost: 0,
+    },
+];
+
 /// Startup, a timer that repeats up to the stop, and a link with a delay.
 #[test]
 fn pulse_to_its_stop(rt: HostRuntime) -> Result<(), Fail> {
     let program = pulse(&rt, rt.alloc());
-    let rows = [
-        Row {
-            at: (0, 0),
-            given: &[],
-            vars: &[100, 0],
-            outs: &[],
-            pending: 1,
-            lost: 0,
-        },
-        Row {
-            at: (2, 0),
-            given: &[],
-            vars: &[101, 0],
-            outs: &[(0, 101)],
-            pending: 2,
-            lost: 0,
-        },
-        Row {
-            at: (5, 0),
-            given: &[],
-            vars: &[102, 0],
-            outs: &[(0, 102)],
-            pending: 3,
-            lost: 0,
-        },
-        Row {
-            at: (6, 0),
-            given: &[],
-            vars: &[102, 101],
-            outs: &[(1, 101)],
-            pending: 2,
-            lost: 0,
-        },
-        Row {
-            at: (8, 0),
-            given: &[],
-            vars: &[103, 101],
-            outs: &[(0, 103)],
-            pending: 1,
-            lost: 0,
-        },
-        Row {
-            at: (9, 0),
-            given: &[],
-            vars: &[103, 203],
-            outs: &[(1, 203)],
-            pending: 0,
-            lost: 0,
-        },
-    ];
-    let state = play(&rt, rt.alloc(), &program, &rows);
+    let state = play(&rt, rt.alloc(), &program, &PULSE);
     assert_eq!(rt; state.next(), None);
+    Ok(())
+}
+
+/// Appends the state to lists behind others, makes the steps of the rows, and restores it.
+fn go_and_return(rt: &impl Abort, alloc: Global, program: &Program, state: &mut State, rows: &[Row])
+    requires { IsStateOf program.now state.old }
+    ensures { state.new ≡ state.old }
+{
+    let mut values = vec![in alloc; 7].expect(rt, "memory");
+    let mut entries = vec![in alloc; Waiting::default()].expect(rt, "memory");
+    values.try_reserve(state.vars().len()).expect(rt, "memory");
+    entries
+        .try_reserve(state.pending().len())
+        .expect(rt, "memory");
+    state.valid();
+    let lost = state.lost();
+    state.append_to(&mut values, &mut entries);
+    go_on(rt, alloc, program, state, rows);
+    state.restore(&values[1..], &entries[1..], lost);
+}
+
+/// A state with pending entries that is kept in lists behind others, and restored after further steps, is the state that it was.
+#[test]
+fn a_kept_state_is_restored(rt: HostRuntime) -> Result<(), Fail> {
+    let program = pulse(&rt, rt.alloc());
+    let mut state = play(&rt, rt.alloc(), &program, &PULSE[..3]);
+    let copy = state.copy(rt.alloc())?;
+    go_and_return(&rt, rt.alloc(), &program, &mut state, &PULSE[3..]);
+    assert_eq!(rt; state.vars(), copy.vars());
+    assert_eq!(rt; state.pending(), copy.pending());
+    assert_eq!(rt; state.lost(), copy.lost());
+    assert_eq!(rt; copy.pending().len(), 3);
     Ok(())
 }
 

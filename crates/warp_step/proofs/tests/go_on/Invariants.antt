@@ -1,5 +1,5 @@
 -- The ledger that the ticks are counted in is the blank one.
-use Rattle.warp_step.proofs.tests.play.Given as goal
+use Rattle.warp_step.proofs.tests.go_on.Given as goal
 
 abbrev pub ghosts-run : goal.ghosts-run
 ghosts-run g a = record { name = a.blank.name; parts = a.blank.parts }
