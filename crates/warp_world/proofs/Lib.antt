@@ -1,3 +1,5 @@
 pub mod Replacing
 pub mod SoundLogs
 pub mod GrowingLogs
+pub mod ReleasedByTwo
+pub mod LogsOfFronts

@@ -4,12 +4,16 @@
 //! collected, settled or restarted. `play` plays one; contracts see the replicas' logs, which are those of `world_after`.
 #![tactic(auto)]
 
+mod convergence;
 mod fault;
+mod front_law;
 mod moves;
 mod world;
 mod world_law;
 
+pub use convergence::{releases, replies};
 pub use fault::ScheduleFault;
+pub use front_law::{equal_sets, released_fronts};
 pub use moves::Move;
 pub use world::World;
 pub use world_law::{logs_are_made, worlds_grow};
