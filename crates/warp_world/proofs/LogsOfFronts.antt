@@ -1,5 +1,5 @@
--- The logs of a world after the first of some moves: all their records are among those made by the end, and a log has those that it
--- had earlier, unless its replica was restarted between.
+-- The logs of a world after the first of some moves: all their records are among those made by the end, and a log has those
+-- that it had earlier, unless its replica was restarted between.
 use Rattle.std.proofs.Common.{◌≡◌, ◌≤◌, ℕ, List, ◌++◌, drop, take, Some, Contains, sym, ap, subst, ◌∙◌}
 use Rattle.std.specs.List.{fold}
 use Rattle.std.proofs.lemmas.Bool.{or_left}
@@ -35,15 +35,16 @@ module _ (P : Program) (count : ℕ) (moves : List Move) where
   made_by_end i =
       let front = world_after P count (take i moves) in
       subst (λ (ms : List Move). IsWithin front.made (world_after P count ms).made) (take-append-drop i moves)
-      (subst (λ (w : World). IsWithin front.made w.made) (sym (fold-append (happens P) (new_world count) (take i moves) (drop i moves)))
-      (follows_fold P front (drop i moves)).made)
+      (subst (λ (w : World). IsWithin front.made w.made)
+      (sym (fold-append (happens P) (new_world count) (take i moves) (drop i moves))) (follows_fold P front (drop i moves)).made)
 
   -- and so was each record of a log
   pub front_within : (i replica : ℕ) (log : List Record) → log_of (world_after P count (take i moves)) replica ≡ Some log
       → IsWithin (set_of log) (world_after P count moves).made
   front_within i replica log at said h =
       let front = world_after P count (take i moves) in
-      made_by_end i said ((All_at (IsSoundLog front.made) front.logs replica log (sound_after P count (take i moves)).logs at).within said h)
+      let sound = All_at (IsSoundLog front.made) front.logs replica log (sound_after P count (take i moves)).logs at in
+      made_by_end i said (sound.within said h)
 
   -- the moves of a longer front are those of a shorter one, and some more
   world_later : (i j : ℕ) → i ≤ j

@@ -11,6 +11,7 @@ returns-clause-alike g c places =
     let other = c.args.other.now in
     let asked = c.args.query in
     let reply = c.answer-2.result in
-    let gives = subst (λ (P : Program). GivesQuery P other.records asked reply) (sym c.requires.program) c.answer-2.ensures.gives in
+    let gives =
+    subst (λ (P : Program). GivesQuery P other.records asked reply) (sym c.requires.program) c.answer-2.ensures.gives in
     one_reply one.program one.records asked c.answer.result reply c.answer.ensures.gives
     (same_gives one.program other.records one.records asked reply (sym c.requires.records) places gives)

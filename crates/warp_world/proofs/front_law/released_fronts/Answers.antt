@@ -13,4 +13,5 @@ returns-clause-agree c P count moves i j one other left right a b honest at_left
 pub returns-clause-stays : goal.returns-clause-stays
 returns-clause-stays c P count moves i j replica early late a b honest le stays at_early at_late h k =
     released_stays P (set_of early) (set_of late) (world_after P count moves).made a b honest (made_taken P count moves)
-    (early_within P count moves i j replica early late le stays at_early at_late) (front_within P count moves j replica late at_late) h k
+    (early_within P count moves i j replica early late le stays at_early at_late)
+    (front_within P count moves j replica late at_late) h k
