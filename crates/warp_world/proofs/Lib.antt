@@ -7,3 +7,5 @@ pub mod MoveWords
 pub mod MoveReadings
 pub mod ScheduleLines
 pub mod OneSchedule
+pub mod ReleasedByTwo
+pub mod LogsOfFronts

@@ -4,7 +4,9 @@
 //! collected, settled or restarted. `play` plays one; contracts see the replicas' logs, which are those of `world_after`.
 #![tactic(auto)]
 
+mod convergence;
 mod fault;
+mod front_law;
 mod moves;
 mod schedule;
 mod schedule_law;
@@ -13,7 +15,9 @@ mod tests;
 mod world;
 mod world_law;
 
+pub use convergence::{releases, replies};
 pub use fault::ScheduleFault;
+pub use front_law::{equal_sets, released_fronts};
 pub use moves::Move;
 pub use schedule::{MAX_REPLICAS, MAX_SCHEDULE, read_schedule};
 pub use schedule_law::one_schedule;
