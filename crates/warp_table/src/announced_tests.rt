@@ -7,15 +7,20 @@ use warp_record::Record;
 use warp_step::Program;
 use warp_tag::Tag;
 
-/// How many times and microsteps the tags of a walk have: few, so that names repeat.
+/// How many times the tags of a walk have: few, so that names repeat.
 const TIMES: u32 = 6;
 
+/// How many microsteps each of them has.
 const MICROS: u32 = 2;
 
-/// How many tables a walk fills, and how many records it draws for each.
-const TABLES: u32 = 40;
+/// How many tags there are so.
+const TAGS: usize = 12;
 
-const DRAWN: u32 = 50;
+/// How many tables a walk fills.
+const TABLES: u32 = 50;
+
+/// How many records it draws for each.
+const DRAWN: u32 = 40;
 
 /// Adds a record that is not there yet.
 fn add(rt: &impl Abort, table: &mut Table, origin: u32, tag: (u64, u32), says: Says) {
@@ -62,20 +67,6 @@ fn draw(seed: &mut u32, below: u32) -> u32 {
     (*seed >> 16).checked_rem(below).unwrap_or(0)
 }
 
-/// Draws a record, and adds it where it is not there yet.
-fn add_drawn(rt: &impl Abort, table: &mut Table, seed: &mut u32) {
-    let origin = draw(seed, 2);
-    let tag = (u64::from(draw(seed, TIMES)), draw(seed, MICROS));
-    let says = match draw(seed, 6) {
-        0..=2 => Says::Event(origin, i64::from(draw(seed, 2))),
-        3 => Says::Withdrawal,
-        _ => Says::Announcement(draw(seed, 8), draw(seed, 4)),
-    };
-    if table.position(&record(rt, origin, tag, says)).is_none() {
-        add(rt, table, origin, tag, says);
-    }
-}
-
 /// Whether the record is an event of the name.
 fn is_event_of(record: &Record, origin: u32, tag: Tag) -> bool {
     match *record {
@@ -88,8 +79,16 @@ fn is_event_of(record: &Record, origin: u32, tag: Tag) -> bool {
     }
 }
 
-/// How many events of the name there are, and how many withdrawals.
-fn of_name(table: &Table, origin: u32, tag: Tag) -> (u32, u32) {
+/// What there is of a name: how many events, and how many withdrawals.
+#[derive(Clone, Copy)]
+struct OfName {
+    tag: Tag,
+    events: u32,
+    withdrawn: u32,
+}
+
+/// Counts the records of the name.
+fn of_name(table: &Table, origin: u32, tag: Tag) -> OfName {
     let mut events = 0_u32;
     let mut withdrawn = 0_u32;
     for place in 1..table.len() + 1 {
@@ -100,7 +99,21 @@ fn of_name(table: &Table, origin: u32, tag: Tag) -> (u32, u32) {
             withdrawn = withdrawn.saturating_add(u32::from(is_withdrawal));
         }
     }
-    (events, withdrawn)
+    OfName {
+        tag,
+        events,
+        withdrawn,
+    }
+}
+
+/// Counts the records of each name of the origin.
+fn of_names(rt: &impl Abort, table: &Table, origin: u32) -> [OfName; TAGS] {
+    let mut names = [of_name(table, origin, Tag::default()); TAGS];
+    for number in 0..TIMES * MICROS {
+        let tag = at(rt, (u64::from(number / MICROS), number % MICROS));
+        names[number as usize] = of_name(table, origin, tag);
+    }
+    names
 }
 
 /// What there is of an origin before a tag: names with an event, names with a withdrawal, and names of two payloads.
@@ -111,27 +124,47 @@ struct Counted {
     doubled: u32,
 }
 
-/// Counts the names of the origin before the tag, one after another.
-fn names_before(rt: &impl Abort, table: &Table, origin: u32, end: Tag) -> Counted {
+/// Counts the names before the tag, one after another.
+fn names_before(names: &[OfName], end: Tag) -> Counted {
     let mut all = Counted {
         events: 0,
         withdrawn: 0,
         doubled: 0,
     };
-    for number in 0..TIMES * MICROS {
-        let tag = at(rt, (u64::from(number / MICROS), number % MICROS));
-        if tag.is_before(end) {
-            let (events, withdrawn) = of_name(table, origin, tag);
-            all.events = all.events.saturating_add(events.min(1));
-            all.withdrawn = all.withdrawn.saturating_add(withdrawn.min(1));
-            all.doubled = all.doubled.saturating_add(u32::from(events > 1));
+    for name in names {
+        if name.tag.is_before(end) {
+            all.events = all.events.saturating_add(name.events.min(1));
+            all.withdrawn = all.withdrawn.saturating_add(name.withdrawn.min(1));
+            all.doubled = all.doubled.saturating_add(u32::from(name.events > 1));
         }
     }
     all
 }
 
+/// Draws an announcement: of what is there before the tag, or of one name more, so that it is reached at once, later or never.
+fn drawn_announcement(names: &[OfName], seed: &mut u32, tag: Tag) -> Says {
+    let all = names_before(names, tag);
+    let events = all.events.saturating_add(draw(seed, 2));
+    let withdrawn = all.withdrawn.saturating_add(draw(seed, 2));
+    Says::Announcement(events, withdrawn)
+}
+
+/// Draws a record, and adds it where it is not there yet.
+fn add_drawn(rt: &impl Abort, table: &mut Table, seed: &mut u32) {
+    let origin = draw(seed, 2);
+    let tag = (u64::from(draw(seed, TIMES)), draw(seed, MICROS));
+    let says = match draw(seed, 8) {
+        0..=4 => Says::Event(origin, i64::from(draw(seed, 8) / 7)),
+        5 => Says::Withdrawal,
+        _ => drawn_announcement(&of_names(rt, table, origin), seed, at(rt, tag)),
+    };
+    if table.position(&record(rt, origin, tag, says)).is_none() {
+        add(rt, table, origin, tag, says);
+    }
+}
+
 /// Where the record is an announcement of the origin: its tag if it is reached, and whether it is exceeded.
-fn judged(rt: &impl Abort, table: &Table, origin: u32, record: &Record) -> (Option<Tag>, bool) {
+fn judged(names: &[OfName], origin: u32, record: &Record) -> (Option<Tag>, bool) {
     match *record {
         Record::Announce {
             origin: of,
@@ -139,7 +172,7 @@ fn judged(rt: &impl Abort, table: &Table, origin: u32, record: &Record) -> (Opti
             events,
             withdrawn,
         } if of == origin => {
-            let all = names_before(rt, table, origin, tag);
+            let all = names_before(names, tag);
             let met = all.events >= events.get() && all.withdrawn >= withdrawn.get();
             let more = all.events > events.get() || all.withdrawn > withdrawn.get();
             (met.then_some(tag), more || all.doubled > 0)
@@ -150,11 +183,12 @@ fn judged(rt: &impl Abort, table: &Table, origin: u32, record: &Record) -> (Opti
 
 /// Up to which tag the origin's announcements are reached, and whether it broke one, counted for each of them.
 fn judged_all(rt: &impl Abort, table: &Table, origin: u32) -> (Tag, bool) {
+    let names = of_names(rt, table, origin);
     let mut reached = Tag::default();
     let mut broken = false;
     for place in 1..table.len() + 1 {
         if let Some(record) = table.entry(place) {
-            let (end, is_exceeded) = judged(rt, table, origin, &record);
+            let (end, is_exceeded) = judged(&names, origin, &record);
             reached = end.unwrap_or(reached).max(reached);
             broken = broken || is_exceeded;
         }
