@@ -16,8 +16,8 @@ use std::marker::Model;
 use warp_body::{Target, Vars};
 use warp_tag::{Landing, OutOfMemory, Tag};
 
-/// The state of a program between two steps: the values of its variables, the entries that are pending (sorted by tag,
-/// then by target, each tag and target once, at most 256), and how many were lost.
+/// The state of a program between two steps: the values of its variables (at most 256), the entries that are pending
+/// (sorted by tag, then by target, each tag and target once, at most 256), and how many were lost.
 #[derive(Debug, Drop)]
 pub struct State {
     pub(crate) vars: Vars,
@@ -143,7 +143,8 @@ impl State {
         let _ = entries.extend_from_slice(self.pending.as_slice());
     }
 
-    /// Becomes the state with these values of the variables, these pending entries and this loss. It takes no memory.
+    /// Becomes the state with these values of the variables, by number, these pending entries, at most 256 and in order, and
+    /// this loss. It takes no memory.
     pub fn restore(&mut self, values: &[i64], entries: &[Waiting], lost: u64)
         requires vars { length values.now ≡ length self.old.vars }
         requires few { length entries.now ≤ most_pending }
@@ -155,7 +156,8 @@ impl State {
         self.lost = lost;
     }
 
-    /// That the variables are few, and the pending entries few and in order, as in each state. It does nothing.
+    /// That at most 256 variables have values, and at most 256 entries are pending, in order of tag, then of target, each tag
+    /// and target once, as in each state. It does nothing.
     pub fn valid(&self)
         ensures variables { length self.now.vars ≤ most_variables }
         ensures few { length self.now.pending ≤ most_pending }
