@@ -329,7 +329,8 @@ fn has_event(names: &IndexMap<Name, Known>, name: &Name) -> bool
     known_of(names, name).entry.event.is_some()
 }
 
-/// Notes a new event to its origin, where its name has one already or has none. An `Err` changes nothing.
+/// Notes a new event to its origin: that its name has two payloads where it has an event already, and else a new name. An
+/// `Err` changes nothing.
 fn hear_event(announcer: &mut Announcer, tag: Tag, has_event: bool) -> Result<(), OutOfMemory>
     requires { has_event ≡ false → ¬ Contains announcer.old.events tag }
     ensures ok { OnOk result (announcer.new ≡ (if has_event
