@@ -79,8 +79,10 @@ lines_of-piece line piece more one some =
 pub first_line : (line other rest more : List ℕ) → IsOneLine line → IsOneLine other → line ++ 10 ∷ rest ≡ other ++ 10 ∷ more
     → (line ≡ other) × (rest ≡ more)
 first_line line other rest more one_line one_other same =
-    let parts_line : slice_split is_end (line ++ 10 ∷ rest) ≡ line ∷ slice_split is_end rest = slice_split_at is_end line 10 rest one_line refl in
-    let parts_other : slice_split is_end (other ++ 10 ∷ more) ≡ other ∷ slice_split is_end more = slice_split_at is_end other 10 more one_other refl in
+    let parts_line : slice_split is_end (line ++ 10 ∷ rest) ≡ line ∷ slice_split is_end rest =
+    slice_split_at is_end line 10 rest one_line refl in
+    let parts_other : slice_split is_end (other ++ 10 ∷ more) ≡ other ∷ slice_split is_end more =
+    slice_split_at is_end other 10 more one_other refl in
     let split : slice_split is_end (line ++ 10 ∷ rest) ≡ slice_split is_end (other ++ 10 ∷ more) = ap (slice_split is_end) same in
     let parts : line ∷ slice_split is_end rest ≡ other ∷ slice_split is_end more = sym parts_line ∙ split ∙ parts_other in
     let behind : slice_split is_end rest ≡ slice_split is_end more = cc in

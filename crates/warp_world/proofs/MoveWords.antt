@@ -1,5 +1,5 @@
 -- The words of a move and of a number of replicas: they are few, and they are plain.
-use Rattle.std.proofs.Common.{◌≡◌, ℕ, ◌+◌, ◌<◌, ◌≤◌, true, List, [], ◌∷◌, length, decimal, refl, arith}
+use Rattle.std.proofs.Common.{◌≡◌, ℕ, ◌<◌, ◌≤◌, true, [], ◌∷◌, length, decimal, refl, arith}
 use Rattle.warp_record.specs.Record.{record_words}
 use Rattle.warp_record.proofs.LineWords.{words_of_record}
 use Rattle.warp_record.proofs.PlainWords.{are_plain, plain_number, plain_record}

@@ -1,10 +1,8 @@
 //! Schedule files, read: a line with the number of replicas, and a line for each move. Each schedule has one text.
-ghost use Rattle.std.specs.Prelude.{◌≡◌, ◌≢◌, ℕ, ◌<◌, ◌≤◌, List, [], ◌∷◌, ◌++◌, IfSome, IfNone, IfOk, IfErr, codes, decimal, map};
-ghost use Rattle.std.specs.List.{join_with_byte};
-ghost use Rattle.warp_tag.specs.Limits.{most_records};
+ghost use Rattle.std.specs.Prelude.{◌≡◌, ◌≢◌, ℕ, ◌<◌, List, ◌∷◌, ◌++◌, IfSome, IfNone, IfOk, IfErr, decimal, map};
 ghost use Rattle.warp_record.specs.Lines.{IsOneLine};
 ghost use Rattle.warp_world.specs.Moves.{IsMove, most_replicas, move_words};
-ghost use Rattle.warp_world.specs.Schedule.{IsCount, IsFault, SpellsSchedule, count_words, line, schedule_text};
+ghost use Rattle.warp_world.specs.Schedule.{IsCount, IsFault, SpellsSchedule, count_words, line};
 ghost use Rattle.warp_world.specs.declared.moves.Move.{Move};
 
 use crate::fault::ScheduleFault;

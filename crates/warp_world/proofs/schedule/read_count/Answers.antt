@@ -1,4 +1,4 @@
-use Rattle.std.proofs.Common.{ℕ, Bor, List, length, map, ap, ◌<◌, ◌∙◌, sym, arith}
+use Rattle.std.proofs.Common.{ℕ, Bor, List, length, map, ap, ◌∙◌, sym, arith}
 use Rattle.warp_world.specs.Schedule.{count_words}
 use Rattle.warp_world.proofs.MoveWords.{plain_count}
 use Rattle.warp_world.proofs.ScheduleLines.{line_of_words, no_first, words_of_first}
@@ -7,7 +7,8 @@ use Rattle.warp_world.proofs.schedule.read_count.Goals as goal
 pub returns-in_err-text-clause-none : goal.returns-in_err-text-clause-none
 returns-in_err-text-clause-none c =
     rw c.from_residual.ensures
-    (λ count rest fits is. no_first c.args.bytes.now rest (count_words count) c.in_err-text.ensures.none (plain_count count fits) is)
+    (λ count rest fits is.
+    no_first c.args.bytes.now rest (count_words count) c.in_err-text.ensures.none (plain_count count fits) is)
 
 pub returns-in_err-words-clause-none : goal.returns-in_err-words-clause-none
 returns-in_err-words-clause-none c =
@@ -33,4 +34,5 @@ returns-clause-found c =
     let cut = c.in_ok-text.ensures.found in
     let are = ap (map (λ (word : Bor (List ℕ)). word.now)) c.deref.ensures.0 ∙ c.in_ok-words.ensures.found in
     let found = c.in_ok-count_of.ensures.found in
-    (found.0, line_of_words c.args.bytes.now c.in_ok-text.text.now c.in_ok-text.rest.now (count_words c.in_ok-count_of.field-0) cut.1 (sym are ∙ found.1))
+    let words = count_words c.in_ok-count_of.field-0 in
+    (found.0, line_of_words c.args.bytes.now c.in_ok-text.text.now c.in_ok-text.rest.now words cut.1 (sym are ∙ found.1))

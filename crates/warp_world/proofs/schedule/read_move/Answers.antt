@@ -29,4 +29,5 @@ returns-clause-found c =
     let cut = c.in_ok-text.ensures.found in
     let are = ap (map (λ (word : Bor (List ℕ)). word.now)) c.deref.ensures.0 ∙ c.in_ok-words.ensures.found in
     let found = c.in_ok-move_of.ensures.found in
-    (found.0, line_of_words c.args.bytes.now c.in_ok-text.text.now c.in_ok-text.rest.now (move_words c.in_ok-move_of.field-0) cut.1 (sym are ∙ found.1))
+    let words = move_words c.in_ok-move_of.field-0 in
+    (found.0, line_of_words c.args.bytes.now c.in_ok-text.text.now c.in_ok-text.rest.now words cut.1 (sym are ∙ found.1))

@@ -1,4 +1,3 @@
-use Rattle.std.proofs.Common.{sym, ◌∙◌}
 use Rattle.warp_world.proofs.ScheduleLines.{one_more}
 use Rattle.warp_world.proofs.schedule.read_schedule.Goals as goal
 
