@@ -1,18 +1,18 @@
 -- Each move leaves made what was made, as many logs as there were, and in front of a log what stood in it, unless it restarts its
 -- replica.
-use Rattle.std.proofs.Common.{◌≡◌, ◌≢◌, ℕ, ◌+◌, ◌<◌, Bool, true, false, ◌||◌, List, [], ◌∷◌, ◌++◌, length, slice_get, set, Option, Some, None, Contains, if◌then◌else◌, inl, inr, refl, sym, ap, subst, ◌∙◌, arith, append_assoc}
+use Rattle.std.proofs.Common.{◌≡◌, ◌≢◌, ℕ, Bool, true, false, List, [], ◌∷◌, ◌++◌, length, slice_get, set, Option, Some, None, Contains, if◌then◌else◌, inl, inr, refl, sym, ap, subst, ◌∙◌, arith, append_assoc}
 use Rattle.std.specs.List.{fold}
 use Rattle.std.proofs.lemmas.Bool.{cases_eq, or_left}
 use Rattle.std.proofs.lemmas.List.{append-nil, get_or-set_other, get_or-set_same, length-set}
 use Rattle.std.proofs.lemmas.Option.{get_or_from_slice_get, slice_get-get_or, slice_get_within}
 use Rattle.warp_tag.specs.Lists.{StartsWith}
-use Rattle.warp_tag.proofs.Lists.{same_some, some_not_none}
+use Rattle.warp_tag.proofs.Lists.{same_some}
 use Rattle.warp_step.specs.Program.{Program}
 use Rattle.warp_record.specs.declared.record.Record.{Record}
 use Rattle.warp_table.specs.Announced.{IsWithin}
-use Rattle.warp_table.specs.Records.{IsIn, Records, set_of, union}
+use Rattle.warp_table.specs.Records.{Records, set_of, union}
 use Rattle.warp_table.proofs.Members.{Contains-here, Contains-there}
-use Rattle.warp_world.specs.World.{World, after_carry, after_make, entry_of, happens, log_of, new_world, takes_in, with_log, world_after}
+use Rattle.warp_world.specs.World.{World, after_carry, after_make, entry_of, happens, log_of, takes_in, with_log}
 use Rattle.warp_world.specs.declared.moves.Move.{Move}
 use Rattle.warp_world.specs.declared.moves.Move.TheVariants.{Make, Carry, Collect, Settle, Restart}
 

@@ -1,6 +1,5 @@
 -- That replicas of code do what the moves of a world say.
 use Rattle.std.proofs.Common.{◌≡◌, ℕ, ◌+◌, ◌<◌, Bool, true, false, List, [], ◌∷◌, ◌++◌, length, get_or, set, slice_get, take, Option, Some, None, if◌then◌else◌, refl, sym, ap, subst, ◌∙◌}
-use Rattle.std.specs.List.{fold}
 use Rattle.std.proofs.lemmas.List.{get_or-map, length-map, map-set, set-get_or}
 use Rattle.std.proofs.lemmas.List.Sums.{fold_more}
 use Rattle.std.proofs.lemmas.Option.{slice_get-get_or}
@@ -9,8 +8,9 @@ use Rattle.warp_record.specs.declared.record.Record.{Record}
 use Rattle.warp_table.specs.Records.{Records, set_of, union}
 use Rattle.warp_replica.specs.Replica.{ReplicaState}
 use Rattle.warp_world.specs.Replicas.{RunAll, logs_of, world_of}
-use Rattle.warp_world.specs.World.{World, after_carry, after_make, happens, log_of, new_world, takes_in, with_log, world_after}
+use Rattle.warp_world.specs.World.{World, after_carry, after_make, entry_of, happens, log_of, new_world, takes_in, with_log, world_after}
 use Rattle.warp_world.specs.declared.moves.Move.{Move}
+use Rattle.warp_world.specs.declared.moves.Move.TheVariants.{Make, Carry}
 use Rattle.warp_world.proofs.Takings.{log_with}
 
 -- the logs of the one or the other of two worlds, which are as many
@@ -36,7 +36,7 @@ brought {T} P made xs i said old new runs within is took =
     let at : log_of w i ≡ Some log = logged xs i old within ∙ ap (λ (r : ReplicaState T). Some r.records) (sym is) in
     let runs_it : old.program ≡ P = ap (λ r. r.program) is ∙ runs i old within in
     let same : set w.logs i log ≡ w.logs =
-        ap (set w.logs i) (ap (λ (r : ReplicaState T). r.records) is ∙ sym (get_or-map (λ (r : ReplicaState T). r.records) xs i old [] within)) ∙ set-get_or w.logs i [] in
+    ap (set w.logs i) (ap (λ (r : ReplicaState T). r.records) is ∙ sym (get_or-map (λ (r : ReplicaState T). r.records) xs i old [] within)) ∙ set-get_or w.logs i [] in
     map-set (λ r. r.records) xs i new
     ∙ ap (set w.logs i) (took ∙ ap (λ (Q : Program). log_with Q log said) runs_it)
     ∙ chosen w i log (log ++ said ∷ []) (takes_in P log said) same
@@ -48,10 +48,20 @@ either_made : (i : ℕ) (longer : List Record) (more : Records) (w : World) (tak
 either_made i longer more w true = refl
 either_made i longer more w false = refl
 
-pub made_as_carried : (P : Program) (i : ℕ) (said : Record) (w : World) (log : Option (List Record))
-    → (after_carry P i w (Some said) log).logs ≡ (after_make P i said w log).logs
-made_as_carried P i said w None = refl
-made_as_carried P i said w (Some log) = either_made i (log ++ said ∷ []) (union w.made (set_of (said ∷ []))) w (takes_in P log said)
+module _ (P : Program) (w : World) (m : Move) (logs : List (List Record)) where
+  as_carried : (i : ℕ) (said : Record) (log : Option (List Record)) → (after_carry P i w (Some said) log).logs ≡ (after_make P i said w log).logs
+  as_carried i said None = refl
+  as_carried i said (Some log) = either_made i (log ++ said ∷ []) (union w.made (set_of (said ∷ []))) w (takes_in P log said)
+
+  -- what is brought is made
+  pub made_in : (i : ℕ) (said : Record) → m ≡ Make i said → logs ≡ (after_carry P i w (Some said) (log_of w i)).logs → logs ≡ (happens P w m).logs
+  made_in i said is brought = brought ∙ as_carried i said (log_of w i) ∙ ap (λ (n : Move). (happens P w n).logs) (sym is)
+
+  -- or is carried, if it was found
+  pub carried_in : (from place to : ℕ) (said : Option Record) → m ≡ Carry from place to → said ≡ entry_of w from place
+      → logs ≡ (after_carry P to w said (log_of w to)).logs → logs ≡ (happens P w m).logs
+  carried_in from place to said is found brought =
+      brought ∙ ap (λ (s : Option Record). (after_carry P to w s (log_of w to)).logs) found ∙ ap (λ (n : Move). (happens P w n).logs) (sym is)
 
 -- one more move: what it does to the logs of the replicas, where these are the world's, it does to the world's
 pub one_move_more : {T : Type 0} (P : Program) (count : ℕ) (moves : List Move) (i : ℕ) (m : Move) (old new : List (ReplicaState T)) → i < length moves

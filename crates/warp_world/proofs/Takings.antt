@@ -1,5 +1,5 @@
 -- What a log is once a record was taken: it has the record as its last one where the log takes it in, and else is as before.
-use Rattle.std.proofs.Common.{◌≡◌, ◌≢◌, ◌⊎◌, ℕ, ◌-◌, ◌<◌, Bool, true, false, not, ◌&&◌, nat_lt, List, [], ◌∷◌, ◌++◌, length, slice_get, Option, Some, None, Result, Ok, Err, Contains, if◌then◌else◌, inl, inr, refl, sym, ap, subst, ◌∙◌, arith}
+use Rattle.std.proofs.Common.{◌≡◌, ℕ, ◌-◌, ◌<◌, Bool, true, false, not, ◌&&◌, nat_lt, List, [], ◌∷◌, ◌++◌, length, Ok, Contains, if◌then◌else◌, inl, inr, sym, ap, ◌∙◌}
 use Rattle.std.specs.Option.{is_none}
 use Rattle.std.proofs.Math.Bool.{and-false}
 use Rattle.std.proofs.lemmas.Bool.{and_from, cases_Bool, lt-ltb}
@@ -38,7 +38,7 @@ module _ (P : Program) (log : List Record) (said : Record) where
   known_out : (place : ℕ) → IsAt log place said → takes_in P log said ≡ false
   known_out place at =
       let has : Contains log said =
-          (place - 1, slice_get_within log (place - 1) said at.1, get_or_from_slice_get log (place - 1) said said at.1) in
+      (place - 1, slice_get_within log (place - 1) said at.1, get_or_from_slice_get log (place - 1) said said at.1) in
       ap (λ b. is_none (refusal_of P said) && (not b && nat_lt (length log) most_records)) ((in_set log said).0 has)
       ∙ and-false (is_none (refusal_of P said))
 

@@ -30,12 +30,13 @@ fn has_log(world: &World<Plain>, number: usize, records: &[Record]) -> bool {
     let Some(replica) = world.replica(number) else {
         return false;
     };
-    let mut place = 1;
-    for record in records {
+    for (index, record) in records.iter().enumerate() {
+        let Ok(place) = u32::try_from(index + 1) else {
+            return false;
+        };
         if replica.entry(place) != Some(*record) {
             return false;
         }
-        place += 1;
     }
     replica.len() as usize == records.len()
 }
@@ -47,44 +48,53 @@ fn total(rt: &impl Abort, world: &World<Plain>, number: usize) -> Reply {
     replica.answer(Query::Var(0))
 }
 
-/// A record is made at each of two replicas, and each is carried to the other.
-fn exchange(first: Record, second: Record) -> [Move; 4] {
+/// An event of origin 0, which is the first of the two that are exchanged.
+fn first(rt: &impl Abort) -> Record {
+    event(rt, 0, 5, 0, 3)
+}
+
+/// An event of origin 1, which is the second of them.
+fn second(rt: &impl Abort) -> Record {
+    event(rt, 1, 2, 1, 4)
+}
+
+/// A record is made at a replica.
+fn make(replica: u32, record: Record) -> Move {
+    Move::Make { replica, record }
+}
+
+/// The record at a place of a replica's log is carried to another.
+fn carry(from: u32, place: u32, to: u32) -> Move {
+    Move::Carry { from, place, to }
+}
+
+/// A record is made at each of two replicas, and each is carried to the other; and then the first replica is restarted.
+fn exchange(rt: &impl Abort) -> [Move; 5] {
     [
-        Move::Make {
-            replica: 0,
-            record: first,
-        },
-        Move::Make {
-            replica: 1,
-            record: second,
-        },
-        Move::Carry {
-            from: 1,
-            place: 1,
-            to: 0,
-        },
-        Move::Carry {
-            from: 0,
-            place: 1,
-            to: 1,
-        },
+        make(0, first(rt)),
+        make(1, second(rt)),
+        carry(1, 1, 0),
+        carry(0, 1, 1),
+        Move::Restart(0),
     ]
 }
 
 #[test]
 fn exchanged(rt: HostRuntime) {
     let alloc = rt.alloc();
-    let (first, second) = (event(&rt, 0, 5, 0, 3), event(&rt, 1, 2, 1, 4));
-    let mut world = played(&rt, alloc, 2, &exchange(first, second));
+    let mut world = played(&rt, alloc, 2, &exchange(&rt)[..4]);
     assert_eq!(rt; world.len(), 2);
-    assert!(rt; has_log(&world, 0, &[first, second]));
-    assert!(rt; has_log(&world, 1, &[second, first]));
     assert!(rt; world.replica(2).is_none());
+    assert!(rt; has_log(&world, 0, &[first(&rt), second(&rt)]));
+    assert!(rt; has_log(&world, 1, &[second(&rt), first(&rt)]));
     // Settling again changes nothing.
     for _ in 0..2 {
         assert!(rt; world.settle(alloc).is_ok());
         for number in 0..2 {
-            assert_eq!(rt; total(&rt, &world, number), Reply::Var { log: 2, value: -5 });
+            assert_eq!(rt;
+                total(&rt, &world, number),
+                Reply::Var { log: 2, value: -5 }
+            );
         }
     }
 }
@@ -92,20 +102,11 @@ fn exchanged(rt: HostRuntime) {
 #[test]
 fn idle_moves(rt: HostRuntime) {
     let alloc = rt.alloc();
-    let record = event(&rt, 0, 5, 0, 3);
-    let first = Move::Make { replica: 0, record };
-    let carry = |from, place, to| Move::Carry { from, place, to };
     let rows = [
-        Move::Make {
-            replica: 0,
-            record: event(&rt, 0, 5, 9, 3),
-        },
-        Move::Make {
-            replica: 0,
-            record: event(&rt, 2, 5, 0, 3),
-        },
-        first,
-        Move::Make { replica: 3, record },
+        make(0, event(&rt, 0, 5, 9, 3)),
+        make(0, event(&rt, 2, 5, 0, 3)),
+        make(0, first(&rt)),
+        make(3, second(&rt)),
         carry(0, 0, 0),
         carry(0, 1, 0),
         carry(0, 2, 0),
@@ -118,18 +119,16 @@ fn idle_moves(rt: HostRuntime) {
         Move::Restart(3),
     ];
     for row in rows {
-        let world = played(&rt, alloc, 1, &[first, row]);
-        assert!(rt; has_log(&world, 0, &[record]), "{row:?}");
+        let world = played(&rt, alloc, 1, &[make(0, first(&rt)), row]);
+        assert!(rt; has_log(&world, 0, &[first(&rt)]), "{row:?}");
     }
 }
 
 #[test]
 fn settled_moves(rt: HostRuntime) {
     let alloc = rt.alloc();
-    let record = event(&rt, 0, 5, 0, 3);
     for last in [Move::Collect(1), Move::Settle(1)] {
-        let first = Move::Make { replica: 1, record };
-        let world = played(&rt, alloc, 2, &[first, last]);
+        let world = played(&rt, alloc, 2, &[make(1, first(&rt)), last]);
         assert_eq!(rt; total(&rt, &world, 1), Reply::Var { log: 1, value: 3 });
     }
 }
@@ -137,11 +136,9 @@ fn settled_moves(rt: HostRuntime) {
 #[test]
 fn restarted(rt: HostRuntime) {
     let alloc = rt.alloc();
-    let (first, second) = (event(&rt, 0, 5, 0, 3), event(&rt, 1, 2, 1, 4));
-    let [a, b, c, d] = exchange(first, second);
-    let mut world = played(&rt, alloc, 2, &[a, b, c, d, Move::Restart(0)]);
+    let mut world = played(&rt, alloc, 2, &exchange(&rt));
     assert!(rt; has_log(&world, 0, &[]));
-    assert!(rt; has_log(&world, 1, &[second, first]));
+    assert!(rt; has_log(&world, 1, &[second(&rt), first(&rt)]));
     assert!(rt; world.settle(alloc).is_ok());
     assert_eq!(rt; total(&rt, &world, 0), Reply::Var { log: 0, value: 0 });
     assert_eq!(rt; total(&rt, &world, 1), Reply::Var { log: 2, value: -5 });

@@ -168,7 +168,7 @@ impl<T: Timeline> World<T> {
         ensures programs { RunAll program.now self.old → RunAll program.now self.new }
     {
         let number = replica as usize;
-        if number < self.replicas.len() {
+        if number < self.len() {
             self.replicas[number] = Replica::new(alloc, program.copy(alloc)?)?;
         }
         Ok(())
@@ -176,7 +176,11 @@ impl<T: Timeline> World<T> {
 }
 
 /// Lets a replica take a record. Where it is refused, nothing happens; an `Err` says that memory was wanting.
-fn take_in<T: Timeline>(alloc: Global, replica: &mut Replica<T>, record: &Record) -> Result<(), OutOfMemory>
+fn take_in<T: Timeline>(
+    alloc: Global,
+    replica: &mut Replica<T>,
+    record: &Record,
+) -> Result<(), OutOfMemory>
     ensures records { OnOk result (let log = replica.old.records in
         replica.new.records ≡ (if takes_in replica.old.program log «record».now then log ++ «record».now ∷ [] else log)) }
     ensures program { replica.new.program ≡ replica.old.program }

@@ -1,4 +1,4 @@
-use Rattle.std.proofs.Common.{sym, ap, ◌∙◌, arith}
+use Rattle.std.proofs.Common.{arith}
 use Rattle.warp_world.proofs.Playing.{one_move_more}
 use Rattle.warp_world.proofs.world.play.Goals as goal
 

@@ -1,4 +1,4 @@
-use Rattle.std.proofs.Common.{◌∙◌, subst, length, take, All, IsTrue, arith, rules}
+use Rattle.std.proofs.Common.{◌∙◌, subst, All, IsTrue, arith}
 use Rattle.std.proofs.lemmas.List.{take_all}
 use Rattle.warp_world.proofs.Replacing.{All-one_more, logs_stay, programs_stay}
 use Rattle.warp_world.proofs.world.settle_all.Goals as goal

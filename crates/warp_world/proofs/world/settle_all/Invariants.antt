@@ -1,5 +1,5 @@
 -- So many replicas are settled, and none has another log or another program.
-use Rattle.std.proofs.Common.{◌≡◌, List, All, IsTrue, map, take}
+use Rattle.std.proofs.Common.{◌≡◌, All, IsTrue, map, take}
 use Rattle.warp_world.specs.Replicas.{logs_of}
 use Rattle.warp_world.proofs.world.settle_all.Given as goal
 

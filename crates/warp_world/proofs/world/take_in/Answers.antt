@@ -1,5 +1,4 @@
-use Rattle.std.proofs.Common.{List, Result, subst}
-use Rattle.warp_record.specs.declared.record.Record.{Record}
+use Rattle.std.proofs.Common.{Result, subst}
 use Rattle.warp_record.specs.declared.reply.Refusal.{Refusal}
 use Rattle.warp_replica.specs.Gives.{Takes}
 use Rattle.warp_replica.specs.declared.took.Took.{Took}

@@ -1,5 +1,4 @@
-use Rattle.std.proofs.Common.{arith}
-use Rattle.warp_world.specs.World.{log_of, world_after}
+use Rattle.warp_world.specs.World.{world_after}
 use Rattle.warp_world.proofs.SoundLogs.{All_at, IsSoundLog, sound_after}
 use Rattle.warp_world.proofs.world_law.logs_are_made.Goals as goal
 

@@ -1,5 +1,5 @@
-use Rattle.std.proofs.Common.{[], set, sym, ap, ◌∙◌}
-use Rattle.warp_world.specs.Replicas.{RunAll, logs_of}
+use Rattle.std.proofs.Common.{[], set, ap, ◌∙◌}
+use Rattle.warp_world.specs.Replicas.{logs_of}
 use Rattle.warp_world.proofs.Replacing.{logs_replaced, run_replaced}
 use Rattle.warp_world.proofs.world.World.restart.Goals as goal
 

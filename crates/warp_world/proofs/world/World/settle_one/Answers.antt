@@ -1,4 +1,4 @@
-use Rattle.std.proofs.Common.{map, sym, ap, ◌∙◌}
+use Rattle.std.proofs.Common.{map, ap, ◌∙◌}
 use Rattle.warp_world.specs.Replicas.{logs_of}
 use Rattle.warp_world.proofs.Replacing.{logs_stay, programs_stay}
 use Rattle.warp_world.proofs.world.World.settle_one.Goals as goal
