@@ -5,7 +5,7 @@ ghost use Rattle.warp_record.specs.Number.{is_space};
 
 use arrayvec::ArrayVec;
 
-/// The most words of a text here: those of `log N event O T M I V`.
+/// The most words of a text: those of the reply `log N event O T M I V`, and of the move `make R event O T M I V`.
 pub const MOST_WORDS: usize = 8;
 
 /// Adds the word behind the others; `None` where there is no place for it.
