@@ -50,8 +50,8 @@ pub fn play<T: Timeline + Drop>(
     ensures programs { IfOk result (λ w. RunAll program.now w) }
 {
     let mut world = World::start(alloc, program, count)?;
-    for step in moves {
-        world.happen(alloc, program, step)?;
+    for next in moves {
+        world.happen(alloc, program, next)?;
     }
     Ok(world)
 }
@@ -86,7 +86,6 @@ impl<T: Timeline> World<T> {
     fn start(alloc: Global, program: &Program, count: usize) -> Result<World<T>, OutOfMemory>
     where
         T: Drop,
-        requires { count ≤ most_replicas }
         ensures logs { IfOk result (λ w. logs_of w ≡ (new_world count).logs) }
         ensures programs { IfOk result (λ w. RunAll program.now w) }
     {
@@ -99,14 +98,15 @@ impl<T: Timeline> World<T> {
     }
 
     /// Does what a move does. An `Err` says that memory was wanting.
-    fn happen(&mut self, alloc: Global, program: &Program, step: &Move) -> Result<(), OutOfMemory>
+    fn happen(&mut self, alloc: Global, program: &Program, next: &Move) -> Result<(), OutOfMemory>
     where
         T: Drop,
         requires { RunAll program.now self.old }
-        ensures logs { OnOk result ((made : Records) → logs_of self.new ≡ (happens program.now (world_of made self.old) step.now).logs) }
+        ensures logs { OnOk result ((made : Records) →
+            logs_of self.new ≡ (happens program.now (world_of made self.old) next.now).logs) }
         ensures programs { RunAll program.now self.new }
     {
-        match *step {
+        match *next {
             Move::Make { replica, record } => self.bring(alloc, replica, &record),
             Move::Carry { from, place, to } => match self.entry(from, place) {
                 Some(record) => self.bring(alloc, to, &record),
@@ -207,8 +207,8 @@ fn settle_all<T: Timeline>(alloc: Global, replicas: &mut [Replica<T>]) -> Result
     ensures programs { map (λ r. r.program) replicas.new ≡ map (λ r. r.program) replicas.old }
     ensures settled { OnOk result (All (λ r. IsTrue (T.settled r.timeline)) replicas.new) }
 {
-    for replica in replicas.iter_mut() {
-        settle_replica(alloc, replica)?;
+    for each in replicas.iter_mut() {
+        settle_replica(alloc, each)?;
     }
     Ok(())
 }

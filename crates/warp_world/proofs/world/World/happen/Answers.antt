@@ -9,7 +9,7 @@ pub returns-in-Make-clause-logs : goal.returns-in-Make-clause-logs
 returns-in-Make-clause-logs g c =
     let P = c.args.program.now in
     on_ok_weaker c.bring.result
-    (λ did made. made_in P (world_of made c.args.self.now) c.args.step.now (logs_of c.bring.new.self) c.in-Make.replica c.in-Make.record c.in-Make.is (did made))
+    (λ did made. made_in P (world_of made c.args.self.now) c.args.next.now (logs_of c.bring.new.self) c.in-Make.replica c.in-Make.record c.in-Make.is (did made))
     (c.bring.ensures.logs P c.requires)
 
 pub returns-in-Make-clause-programs : goal.returns-in-Make-clause-programs
@@ -20,7 +20,7 @@ returns-in-Some-clause-logs g c =
     let P = c.args.program.now in
     on_ok_weaker c.bring-in-Some.result
     (λ did made.
-    carried_in P (world_of made c.args.self.now) c.args.step.now (logs_of c.bring-in-Some.new.self) c.in-Carry.from c.in-Carry.place c.in-Carry.to
+    carried_in P (world_of made c.args.self.now) c.args.next.now (logs_of c.bring-in-Some.new.self) c.in-Carry.from c.in-Carry.place c.in-Carry.to
     (Some c.in-Some.record) c.in-Carry.is (c.in-Some.ensures made) (did made))
     (c.bring-in-Some.ensures.logs P c.requires)
 
@@ -30,7 +30,7 @@ returns-in-Some-clause-programs g c =
 
 pub returns-in-None-clause-logs : goal.returns-in-None-clause-logs
 returns-in-None-clause-logs g c made =
-    carried_in c.args.program.now (world_of made c.args.self.now) c.args.step.now (logs_of c.args.self.now) c.in-Carry.from c.in-Carry.place c.in-Carry.to
+    carried_in c.args.program.now (world_of made c.args.self.now) c.args.next.now (logs_of c.args.self.now) c.in-Carry.from c.in-Carry.place c.in-Carry.to
     None c.in-Carry.is (c.in-None.ensures made) refl
 
 pub returns-in-Collect-clause-programs : goal.returns-in-Collect-clause-programs
