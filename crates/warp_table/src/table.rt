@@ -381,7 +381,8 @@ fn hear(
     requires news { (records : List Record) × IsNews records names.now.entries announcers.old.items «record».now }
     ensures ok { (records : List Record) → IsNews records names.now.entries announcers.old.items «record».now
         → OnOk result (AreHeard (records ++ «record».now ∷ []) announcers.new.items) }
-    ensures err { (records : List Record) → AreHeard records announcers.old.items → OnErr result (AreHeard records announcers.new.items) }
+    ensures err { (records : List Record) → AreHeard records announcers.old.items
+        → OnErr result (AreHeard records announcers.new.items) }
 {
     let origin = origin_of(record);
     keep_up_to(announcers, origin)?;
