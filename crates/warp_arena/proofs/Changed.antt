@@ -10,9 +10,10 @@ use Rattle.warp_tag.proofs.Lists.{All-weaker}
 use Rattle.warp_arena.specs.declared.arena.Arena.TheInside.{Inside}
 use Rattle.warp_arena.specs.declared.node.Links.{Links}
 use Rattle.warp_arena.specs.declared.node.Node.{Node}
+use Rattle.warp_arena.specs.declared.node.Origin.{Origin}
 use Rattle.warp_arena.specs.declared.node.TheConstants.{NO_NODE}
 use Rattle.warp_arena.specs.Places.{Place, entry_of, with_change}
-use Rattle.warp_arena.specs.Shape.{IsArena, IsWhole, threads_of, contents_of, unused_of, node_at, entry_at, by_tag, of_origin, place_at, members, no_node, no_links, next_in, prev_in, free_ends, IsChain, IsPath}
+use Rattle.warp_arena.specs.Shape.{IsArena, IsWhole, threads_of, contents_of, unused_of, node_at, entry_at, by_tag, of_origin, place_at, members, no_node, no_origin, IsOneOf, next_in, prev_in, free_ends, IsChain, IsPath}
 use Rattle.warp_arena.proofs.Rings.{length-walk}
 use Rattle.warp_arena.proofs.Tables.{Precedes, All-map, All-unmap}
 use Rattle.warp_arena.proofs.Walks.{threads, used, node_read}
@@ -67,7 +68,7 @@ members_names entry entry' h o (i ∷ is) =
     ap (λ k. cond (eqb k o) (i ∷ members entry' o is) (members entry' o is)) (h i).0
     ∙ ap (λ js. cond (eqb (entry i).origin o) (i ∷ js) js) (members_names entry entry' h o is)
 
-module _ (old new : List Node) (own : List Links) (ends : Links) (free : ℕ) (is fs : List ℕ)
+module _ (old new : List Node) (own : List Origin) (ends : Links) (free : ℕ) (is fs : List ℕ)
     (shape : IsArena (threads_of old own ends free) is fs)
     (len : length new ≡ length old)
     (names : SameNames (entry_at old) (entry_at new))
@@ -84,10 +85,12 @@ module _ (old new : List Node) (own : List Links) (ends : Links) (free : ℕ) (i
               (λ i p. subst (λ o. o < length own) (sym (names i).0) p) is shape.declared;
           spelled = subst (λ links. IsChain (next_in ends links) (prev_in ends links) NO_NODE is NO_NODE) (sym tags) shape.spelled;
           own = λ o h.
-              let e : Links = get_or own o no_links in
+              let e : Links = (get_or own o no_origin).ends in
               subst (λ links. IsChain (next_in e links) (prev_in e links) NO_NODE (members (entry_at new) o is) NO_NODE) (sym owns)
               (subst (λ js. IsChain (next_in e (of_origin old)) (prev_in e (of_origin old)) NO_NODE js NO_NODE) (sym (members_names (entry_at old) (entry_at new) names o is))
               (shape.own o h));
+          touched = λ o h.
+              subst (λ js. IsOneOf js (get_or own o no_origin).touched) (sym (members_names (entry_at old) (entry_at new) names o is)) (shape.touched o h);
           free = subst (λ links. IsPath (next_in (free_ends free) links) NO_NODE fs NO_NODE) (sym tags) shape.free;
           once = λ i. shape.once i ∙ ap (λ n. cond (ltb i n) 1 0) (sym len);
         }
@@ -118,10 +121,10 @@ module _ (a : Inside) (w : IsWhole (threads a) a.used) (i : ℕ) (found : IsSome
     below : i < length a.nodes.items
     below = used_found_below a w i found
 
-    shape' : IsArena (threads_of (set a.nodes.items i changed_node) a.origin_ends.items a.ends a.free) (used a) (unused_of (threads a) ((threads a).size - a.used))
+    shape' : IsArena (threads_of (set a.nodes.items i changed_node) a.by_origin.items a.ends a.free) (used a) (unused_of (threads a) ((threads a).size - a.used))
     unfolding changed_node
     shape' =
-        IsArena-names a.nodes.items (set a.nodes.items i changed_node) a.origin_ends.items a.ends a.free (used a) (unused_of (threads a) ((threads a).size - a.used)) w.shape
+        IsArena-names a.nodes.items (set a.nodes.items i changed_node) a.by_origin.items a.ends a.free (used a) (unused_of (threads a) ((threads a).size - a.used)) w.shape
         (length-set a.nodes.items i changed_node)
         (λ j. (
           same_field (λ (n : Node). n.entry.origin) a.nodes.items i changed_node below (origins m.entry ∙ ap (λ n. n.entry.origin) read) j,
@@ -133,18 +136,18 @@ module _ (a : Inside) (w : IsWhole (threads a) a.used) (i : ℕ) (found : IsSome
     used_len : length (used a) ≡ a.used
     used_len = length-walk (next_in a.ends (threads a).links) a.used NO_NODE
 
-    pub whole_changed : IsWhole (threads_of (set a.nodes.items i (record { entry = change m.entry; by_tag = m.by_tag; of_origin = m.of_origin })) a.origin_ends.items a.ends a.free) a.used
+    pub whole_changed : IsWhole (threads_of (set a.nodes.items i (record { entry = change m.entry; by_tag = m.by_tag; of_origin = m.of_origin })) a.by_origin.items a.ends a.free) a.used
     unfolding changed_node
     whole_changed =
-        IsWhole-from (threads_of (set a.nodes.items i changed_node) a.origin_ends.items a.ends a.free) (used a) (unused_of (threads a) ((threads a).size - a.used)) a.used shape' used_len
+        IsWhole-from (threads_of (set a.nodes.items i changed_node) a.by_origin.items a.ends a.free) (used a) (unused_of (threads a) ((threads a).size - a.used)) a.used shape' used_len
         (omega (arith, w.fits, length-set a.nodes.items i changed_node, length-walk (next_in (free_ends a.free) (threads a).links) ((threads a).size - a.used) NO_NODE))
 
-    pub contents_changed : contents_of (threads_of (set a.nodes.items i (record { entry = change m.entry; by_tag = m.by_tag; of_origin = m.of_origin })) a.origin_ends.items a.ends a.free) a.used (vec_capacity a.nodes)
-        ≡ record { origins = length a.origin_ends.items; places = with_change change i (places a); free = length a.nodes.items - a.used; room = vec_capacity a.nodes }
+    pub contents_changed : contents_of (threads_of (set a.nodes.items i (record { entry = change m.entry; by_tag = m.by_tag; of_origin = m.of_origin })) a.by_origin.items a.ends a.free) a.used (vec_capacity a.nodes)
+        ≡ record { origins = length a.by_origin.items; places = with_change change i (places a); free = length a.nodes.items - a.used; room = vec_capacity a.nodes }
     unfolding changed_node
     contents_changed =
         let new : List Node = set a.nodes.items i changed_node in
-        let t' = threads_of new a.origin_ends.items a.ends a.free in
+        let t' = threads_of new a.by_origin.items a.ends a.free in
         same_contents refl
         (ap (map (place_at (entry_at new))) (used_is t' (used a) (unused_of (threads a) ((threads a).size - a.used)) a.used shape' used_len)
         ∙ map_change change (threads a).entry (entry_at new) i
@@ -155,9 +158,9 @@ module _ (a : Inside) (w : IsWhole (threads a) a.used) (i : ℕ) (found : IsSome
 
 -- the arena after a call that wrote this entry at the node of a handle
 pub record Changing (a : Inside) (i : ℕ) (change : Entry → Entry) (nodes : List Node) : Type 0 where
-  pub whole : IsWhole (threads_of nodes a.origin_ends.items a.ends a.free) a.used
-  pub contents : contents_of (threads_of nodes a.origin_ends.items a.ends a.free) a.used (vec_capacity a.nodes)
-      ≡ record { origins = length a.origin_ends.items; places = with_change change i (places a); free = length a.nodes.items - a.used; room = vec_capacity a.nodes }
+  pub whole : IsWhole (threads_of nodes a.by_origin.items a.ends a.free) a.used
+  pub contents : contents_of (threads_of nodes a.by_origin.items a.ends a.free) a.used (vec_capacity a.nodes)
+      ≡ record { origins = length a.by_origin.items; places = with_change change i (places a); free = length a.nodes.items - a.used; room = vec_capacity a.nodes }
 
 pub changing : (a : Inside) → IsWhole (threads a) a.used → (i j : ℕ) → j ≡ i → IsSome (entry_of i (places a)) → (m : Node) → m ≡ get_or a.nodes.items j m → (change : Entry → Entry) → ((e : Entry) → (change e).origin ≡ e.origin) → ((e : Entry) → (change e).tag ≡ e.tag) → (e : Entry) → e ≡ change m.entry → Changing a i change (set a.nodes.items j (record { entry = e; by_tag = m.by_tag; of_origin = m.of_origin }))
 changing a w i j at found m read change origins moments e made =

@@ -35,12 +35,12 @@ module _ (a : Inside) (w : IsWhole (threads a) a.used) (o : ℕ) (g : Moment) wh
       ∙ ap (find (λ (p : Place). has_name o g p.entry)) (places_of-members (threads a).entry o (used a)))
 
   -- no entry is of an origin that the arena does not have
-  pub none_declared : length a.origin_ends.items ≤ o → node_of o g (places a) ≡ None
+  pub none_declared : length a.by_origin.items ≤ o → node_of o g (places a) ≡ None
   none_declared h =
       ap (option_map (λ (p : Place). p.node))
       (find_fails (λ (p : Place). has_name o g p.entry) (places a)
       (All-map (λ p. has_name o g p.entry ≡ false) (place_at (threads a).entry) (used a)
-      (All-weaker (λ i. ((threads a).entry i).origin < length a.origin_ends.items) (λ i. has_name o g ((threads a).entry i) ≡ false)
+      (All-weaker (λ i. ((threads a).entry i).origin < length a.by_origin.items) (λ i. has_name o g ((threads a).entry i) ≡ false)
       (λ i below. other_origin o g ((threads a).entry i) (ne_eqb ((threads a).entry i).origin o (λ e. omega arith))) (used a) w.shape.declared)))
 
   -- the origin's nodes up to the name, and those behind it
@@ -66,7 +66,7 @@ module _ (a : Inside) (w : IsWhole (threads a) a.used) (o : ℕ) (g : Moment) wh
       (All-weaker (λ i. name_before o g ((threads a).entry i) ≡ true) (λ i. has_name o g ((threads a).entry i) ≡ false)
       (λ i h. before_not_named o g ((threads a).entry i) h) own_back (All-kept (λ i. name_before o g ((threads a).entry i)) (owned a o))))
 
-  module _ (declared : o < length a.origin_ends.items) (at : ℕ) (last : at ≡ last_or NO_NODE own_front) where
+  module _ (declared : o < length a.by_origin.items) (at : ℕ) (last : at ≡ last_or NO_NODE own_front) where
     -- the walk passed all
     pub node_of-none : at ≡ NO_NODE → node_of o g (places a) ≡ None
     node_of-none e =

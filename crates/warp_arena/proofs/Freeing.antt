@@ -8,7 +8,7 @@ use Rattle.warp_tag.specs.declared.entry.Entry.{Entry}
 use Rattle.warp_tag.proofs.Lists.{All-weaker, All-append, some_not_none, same_some}
 use Rattle.warp_tag.proofs.Names.{before_tag}
 use Rattle.warp_arena.specs.Places.{Place, Contents, entries_of, entry_of, first_node, places_past, places_through}
-use Rattle.warp_arena.proofs.Tables.{Precedes, All-unmap, filter_front, filter_back}
+use Rattle.warp_arena.proofs.Tables.{Precedes, IsTable-rest, All-unmap, filter_front, filter_back}
 use Rattle.warp_arena.proofs.Reading.{entry_of-here}
 use Rattle.warp_arena.proofs.Inserted.{same_contents}
 
@@ -70,10 +70,6 @@ all_later tag (p ∷ ps) t i d first entry h =
       All-weaker (λ q. Precedes p.entry q.entry) (λ q. is_before tag q.entry.tag ≡ true) (λ q k. before_tag tag p.entry q.entry here k) ps
           (All-unmap (λ x. Precedes p.entry x) (λ (q : Place). q.entry) ps t.0),
     )
-
-IsTable-rest : (xs ys : List Entry) → IsTable (xs ++ ys) → IsTable ys
-IsTable-rest [] ys t = t
-IsTable-rest (x ∷ xs) ys t = IsTable-rest xs ys t.1
 
 counted : (tag : Moment) (start now' : Contents) (f : Freed tag start now') (n : ℕ) → n ≡ length start.places - length now'.places → n ≡ length f.front
 counted tag start now' f n e = omega (arith, e, ap length f.parts, length-append f.front now'.places)

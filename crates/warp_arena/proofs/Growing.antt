@@ -10,10 +10,11 @@ use Rattle.warp_tag.specs.declared.entry.Entry.{Entry}
 use Rattle.warp_tag.proofs.Lists.{All-both, All-weaker, All-filter}
 use Rattle.warp_arena.specs.declared.arena.Arena.TheInside.{Inside}
 use Rattle.warp_arena.specs.declared.node.Links.{Links}
+use Rattle.warp_arena.specs.declared.node.Origin.{Origin}
 use Rattle.warp_arena.specs.declared.node.Node.{Node}
 use Rattle.warp_arena.specs.declared.node.TheConstants.{NO_NODE}
 use Rattle.warp_arena.specs.Places.{Place}
-use Rattle.warp_arena.specs.Shape.{Threads, IsArena, IsWhole, threads_of, contents_of, unused_of, count_of, node_at, entry_at, by_tag, of_origin, place_at, members, no_node, no_links, next_in, free_ends, walk, Spells}
+use Rattle.warp_arena.specs.Shape.{Threads, IsArena, IsWhole, threads_of, contents_of, unused_of, count_of, node_at, entry_at, by_tag, of_origin, place_at, members, no_node, no_links, no_origin, IsOneOf, next_in, free_ends, walk, Spells}
 use Rattle.warp_arena.proofs.Rings.{length-walk}
 use Rattle.warp_arena.proofs.Tables.{map_agree}
 use Rattle.warp_arena.proofs.Shapes.{all_used_below, members_agree, none_unused}
@@ -25,23 +26,22 @@ use Rattle.warp_arena.proofs.Inserted.{same_contents}
 
 -- ---- the start
 
-start_shape : (own : List Links) (n : ℕ) → own ≡ replicate n no_links → IsArena (threads_of [] own no_links NO_NODE) [] []
+start_shape : (own : List Origin) (n : ℕ) → own ≡ replicate n no_origin → IsArena (threads_of [] own no_links NO_NODE) [] []
 start_shape own n e =
+    let none_yet : (o : ℕ) → o < length own → get_or own o no_origin ≡ no_origin =
+    λ o h. ap (λ xs. get_or xs o no_origin) e ∙ get_or-replicate n o no_origin no_origin (omega (arith, ap length e, length-replicate n no_origin)) in
     record {
       small = omega arith;
       sorted = tt;
       declared = tt;
       spelled = (refl, refl);
-      own = λ o h.
-          let l : get_or own o no_links ≡ no_links =
-          ap (λ xs. get_or xs o no_links) e
-          ∙ get_or-replicate n o no_links no_links (omega (arith, ap length e, length-replicate n no_links)) in
-          (ap (λ (k : Links). k.next) l, ap (λ (k : Links). k.prev) l);
+      own = λ o h. (ap (λ (m : Origin). m.ends.next) (none_yet o h), ap (λ (m : Origin). m.ends.prev) (none_yet o h));
+      touched = λ o h n. absurd (n (ap (λ (m : Origin). m.touched) (none_yet o h)));
       free = refl;
       once = λ i. sym (ap (λ b. cond b 1 0) (le-ltb i 0 (omega arith)));
     }
 
-pub start_whole : (nodes : List Node) (own : List Links) (n : ℕ) → nodes ≡ [] → own ≡ replicate n no_links → IsWhole (threads_of nodes own no_links NO_NODE) 0
+pub start_whole : (nodes : List Node) (own : List Origin) (n : ℕ) → nodes ≡ [] → own ≡ replicate n no_origin → IsWhole (threads_of nodes own no_links NO_NODE) 0
 start_whole nodes own n e f =
     subst (λ ns. IsWhole (threads_of ns own no_links NO_NODE) 0) (sym e)
     (IsWhole-from (threads_of [] own no_links NO_NODE) [] [] 0 (start_shape own n f) refl refl)
@@ -85,7 +85,7 @@ module _ (a : Inside) (w : IsWhole (threads a) a.used) (full : a.used ≡ length
   new_len = omega (arith, length-append a.nodes.items (no_node ∷ []))
 
   abbrev t' : Threads
-  t' = threads_of new a.origin_ends.items a.ends (length a.nodes.items)
+  t' = threads_of new a.by_origin.items a.ends (length a.nodes.items)
 
   off_new : (is : List ℕ) → AllByRecursion (λ i. i < length a.nodes.items) is → AllByRecursion (λ i. node_at new i ≡ node_at a.nodes.items i) is
   off_new is below =
@@ -121,16 +121,19 @@ module _ (a : Inside) (w : IsWhole (threads a) a.used) (full : a.used ≡ length
         small = omega (arith, new_len);
         sorted = subst IsTable (sym (map_agree (entry_at a.nodes.items) (entry_at new) (used a) same_entries)) w.shape.sorted;
         declared =
-            All-both (λ i. entry_at new i ≡ entry_at a.nodes.items i) (λ i. (entry_at a.nodes.items i).origin < length a.origin_ends.items)
-            (λ i. (entry_at new i).origin < length a.origin_ends.items) (λ i p q. subst (λ d. d.origin < length a.origin_ends.items) (sym p) q) (used a) same_entries w.shape.declared;
+            All-both (λ i. entry_at new i ≡ entry_at a.nodes.items i) (λ i. (entry_at a.nodes.items i).origin < length a.by_origin.items)
+            (λ i. (entry_at new i).origin < length a.by_origin.items) (λ i p q. subst (λ d. d.origin < length a.by_origin.items) (sym p) q) (used a) same_entries w.shape.declared;
         spelled = Spells-frame a.ends (by_tag a.nodes.items) (by_tag new) (used a) (kept (λ (m : Node). m.by_tag) (used a) same_nodes) w.shape.spelled;
         own = λ o h.
             let ms : List ℕ = members (entry_at a.nodes.items) o (used a) in
-            let e : Links = get_or a.origin_ends.items o no_links in
+            let e : Links = (get_or a.by_origin.items o no_origin).ends in
             subst (Spells e (of_origin new)) (sym (members_agree (entry_at a.nodes.items) (entry_at new) o (used a) same_entries))
             (Spells-frame e (of_origin a.nodes.items) (of_origin new) ms
             (kept (λ (m : Node). m.of_origin) ms (All-filter (λ i. node_at new i ≡ node_at a.nodes.items i) (λ i. eqb (entry_at a.nodes.items i).origin o) (used a) same_nodes))
             (w.shape.own o h));
+        touched = λ o h.
+            subst (λ js. IsOneOf js (get_or a.by_origin.items o no_origin).touched) (sym (members_agree (entry_at a.nodes.items) (entry_at new) o (used a) same_entries))
+            (w.shape.touched o h);
         free = (
           refl,
           next_in-at (free_ends (length a.nodes.items)) (by_tag new) (length a.nodes.items) not_none
@@ -142,11 +145,11 @@ module _ (a : Inside) (w : IsWhole (threads a) a.used) (full : a.used ≡ length
   used_len : length (used a) ≡ a.used
   used_len = length-walk (next_in a.ends (threads a).links) a.used NO_NODE
 
-  pub whole_grown : IsWhole (threads_of (a.nodes.items ++ no_node ∷ []) a.origin_ends.items a.ends (length a.nodes.items)) a.used
+  pub whole_grown : IsWhole (threads_of (a.nodes.items ++ no_node ∷ []) a.by_origin.items a.ends (length a.nodes.items)) a.used
   whole_grown = IsWhole-from t' (used a) (length a.nodes.items ∷ []) a.used shape' used_len (omega (arith, new_len, full))
 
-  pub contents_grown : (room' : ℕ) → contents_of (threads_of (a.nodes.items ++ no_node ∷ []) a.origin_ends.items a.ends (length a.nodes.items)) a.used room'
-      ≡ record { origins = length a.origin_ends.items; places = places a; free = 1; room = room' }
+  pub contents_grown : (room' : ℕ) → contents_of (threads_of (a.nodes.items ++ no_node ∷ []) a.by_origin.items a.ends (length a.nodes.items)) a.used room'
+      ≡ record { origins = length a.by_origin.items; places = places a; free = 1; room = room' }
   contents_grown room' =
       same_contents refl
       (ap (map (place_at (entry_at new))) (used_is t' (used a) (length a.nodes.items ∷ []) a.used shape' used_len)

@@ -13,7 +13,7 @@ use Rattle.warp_arena.specs.declared.node.Node.{Node}
 use Rattle.warp_arena.specs.declared.node.TheConstants.{NO_NODE}
 use Rattle.warp_arena.specs.Changes.{Threaded}
 use Rattle.warp_arena.specs.Places.{Place, Contents, entry_of, with_place}
-use Rattle.warp_arena.specs.Shape.{IsArena, IsWhole, threads_of, contents_of, used_of, entry_at, by_tag, place_at, last_or, no_links}
+use Rattle.warp_arena.specs.Shape.{IsArena, IsWhole, threads_of, contents_of, used_of, entry_at, by_tag, place_at, last_or, no_origin}
 use Rattle.warp_arena.proofs.Rings.{IsOff, count_of-here}
 use Rattle.warp_arena.proofs.Tables.{All-map, map_agree}
 use Rattle.warp_arena.proofs.Shapes.{unused_off}
@@ -37,7 +37,7 @@ entry_of-off entry i (j ∷ is) off = entry_of-other (place_at entry j) (map (pl
 pub same_contents : {o o' : ℕ} {ps ps' : List Place} {f f' r r' : ℕ} → o ≡ o' → ps ≡ ps' → f ≡ f' → r ≡ r' → ◌≡◌ {A = Contents} (record { origins = o; places = ps; free = f; room = r }) (record { origins = o'; places = ps'; free = f'; room = r' })
 same_contents o ps f r = λ i. record { origins = o i; places = ps i; free = f i; room = r i }
 
-module _ (a : Inside) (o : ℕ) (g : Moment) (before own_before : ℕ) (r : Ready a o g before own_before) (declared : o < length a.origin_ends.items) where
+module _ (a : Inside) (o : ℕ) (g : Moment) (before own_before : ℕ) (r : Ready a o g before own_before) (declared : o < length a.by_origin.items) where
   came : IsOff a.free (r.xs ++ r.ys)
   came = unused_off (threads a) (r.xs ++ r.ys) (a.free ∷ r.fs) r.shape a.free (omega (arith, count_of-here a.free r.fs))
 
@@ -45,30 +45,30 @@ module _ (a : Inside) (o : ℕ) (g : Moment) (before own_before : ℕ) (r : Read
   new_handle = ap (λ is. entry_of a.free (map (place_at (threads a).entry) is)) r.parts ∙ entry_of-off (threads a).entry a.free (r.xs ++ r.ys) came
 
   module _ (new : List Node) (own ends' e' : Links) (free' : ℕ)
-      (own_is : own ≡ get_or a.origin_ends.items o no_links)
+      (own_is : own ≡ (get_or a.by_origin.items o no_origin).ends)
       (free_is : free' ≡ (by_tag a.nodes.items a.free).next)
       (change : Threaded a.nodes.items new a.ends ends' own e' before own_before a.free (fresh o g))
     where
-      shape' : IsArena (threads_of new (set a.origin_ends.items o e') ends' free') (r.xs ++ a.free ∷ r.ys) r.fs
+      shape' : IsArena (threads_of new (set a.by_origin.items o (record { ends = e'; touched = a.free })) ends' free') (r.xs ++ a.free ∷ r.ys) r.fs
       shape' =
-          let at_before = subst (λ b. Threaded a.nodes.items new a.ends ends' (get_or a.origin_ends.items o no_links) e' b own_before a.free (fresh o g)) r.before_is
+          let at_before = subst (λ b. Threaded a.nodes.items new a.ends ends' (get_or a.by_origin.items o no_origin).ends e' b own_before a.free (fresh o g)) r.before_is
           (subst (λ l. Threaded a.nodes.items new a.ends ends' l e' before own_before a.free (fresh o g)) own_is change) in
-          let at_both = subst (λ b. Threaded a.nodes.items new a.ends ends' (get_or a.origin_ends.items o no_links) e' (last_or NO_NODE r.xs) b a.free (fresh o g)) r.own_before_is at_before in
-          subst (λ f. IsArena (threads_of new (set a.origin_ends.items o e') ends' f) (r.xs ++ a.free ∷ r.ys) r.fs) (sym free_is)
-          (IsArena-insert a.nodes.items new a.origin_ends.items a.ends ends' e' a.free o a.free g r.xs r.ys r.fs r.shape at_both declared r.through r.absent r.past)
+          let at_both = subst (λ b. Threaded a.nodes.items new a.ends ends' (get_or a.by_origin.items o no_origin).ends e' (last_or NO_NODE r.xs) b a.free (fresh o g)) r.own_before_is at_before in
+          subst (λ f. IsArena (threads_of new (set a.by_origin.items o (record { ends = e'; touched = a.free })) ends' f) (r.xs ++ a.free ∷ r.ys) r.fs) (sym free_is)
+          (IsArena-insert a.nodes.items new a.by_origin.items a.ends ends' e' a.free o a.free g r.xs r.ys r.fs r.shape at_both declared r.through r.absent r.past)
 
       len' : length (r.xs ++ a.free ∷ r.ys) ≡ a.used + 1
       len' = omega (arith, length-append r.xs (a.free ∷ r.ys), length-append r.xs r.ys, r.used_len)
 
-      pub whole_inserted : IsWhole (threads_of new (set a.origin_ends.items o e') ends' free') (a.used + 1)
+      pub whole_inserted : IsWhole (threads_of new (set a.by_origin.items o (record { ends = e'; touched = a.free })) ends' free') (a.used + 1)
       whole_inserted =
-          IsWhole-from (threads_of new (set a.origin_ends.items o e') ends' free') (r.xs ++ a.free ∷ r.ys) r.fs (a.used + 1) shape' len'
+          IsWhole-from (threads_of new (set a.by_origin.items o (record { ends = e'; touched = a.free })) ends' free') (r.xs ++ a.free ∷ r.ys) r.fs (a.used + 1) shape' len'
           (omega (arith, r.len, change.len))
 
-      pub contents_inserted : contents_of (threads_of new (set a.origin_ends.items o e') ends' free') (a.used + 1) (vec_capacity a.nodes)
-          ≡ record { origins = length a.origin_ends.items; places = with_place (record { node = a.free; entry = fresh o g }) (places a); free = length a.nodes.items - a.used - 1; room = vec_capacity a.nodes }
+      pub contents_inserted : contents_of (threads_of new (set a.by_origin.items o (record { ends = e'; touched = a.free })) ends' free') (a.used + 1) (vec_capacity a.nodes)
+          ≡ record { origins = length a.by_origin.items; places = with_place (record { node = a.free; entry = fresh o g }) (places a); free = length a.nodes.items - a.used - 1; room = vec_capacity a.nodes }
       contents_inserted =
-          let t' = threads_of new (set a.origin_ends.items o e') ends' free' in
+          let t' = threads_of new (set a.by_origin.items o (record { ends = e'; touched = a.free })) ends' free' in
           let place : ℕ → Place = place_at (threads a).entry in
           let place' : ℕ → Place = place_at (entry_at new) in
           let p : Place = record { node = a.free; entry = fresh o g } in
@@ -89,4 +89,4 @@ module _ (a : Inside) (o : ℕ) (g : Moment) (before own_before : ℕ) (r : Read
           (All-map (λ q. name_before o g q.entry ≡ false) place r.xs r.through)
           (All-map (λ q. name_before o g q.entry ≡ true) place r.ys r.past) in
           let sizes : length new - (a.used + 1) ≡ length a.nodes.items - a.used - 1 = omega (arith, change.len) in
-          same_contents (length-set a.origin_ends.items o e') (new_places ∙ sym put) sizes refl
+          same_contents (length-set a.by_origin.items o (record { ends = e'; touched = a.free })) (new_places ∙ sym put) sizes refl

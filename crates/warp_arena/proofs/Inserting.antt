@@ -8,18 +8,19 @@ use Rattle.warp_tag.proofs.Lists.{All-both, All-weaker, All-append, All-left, Al
 use Rattle.warp_tag.proofs.Names.{else_ahead}
 use Rattle.warp_arena.specs.declared.node.Links.{Links}
 use Rattle.warp_arena.specs.declared.node.Node.{Node}
+use Rattle.warp_arena.specs.declared.node.Origin.{Origin}
 use Rattle.warp_arena.specs.declared.node.TheConstants.{NO_NODE}
 use Rattle.warp_arena.specs.Changes.{Threaded}
-use Rattle.warp_arena.specs.Shape.{IsArena, Spells, threads_of, count_of, members, entry_at, by_tag, of_origin, IsPath, last_or, next_in, free_ends, no_links}
+use Rattle.warp_arena.specs.Shape.{IsArena, Spells, threads_of, count_of, members, entry_at, by_tag, of_origin, IsPath, last_or, next_in, free_ends, IsOneOf, no_origin}
 use Rattle.warp_arena.proofs.Rings.{IsOff, IsSame, All-from_in, All-at, IsPath-from, count_of-here, count_of-append}
 use Rattle.warp_arena.proofs.Tables.{Precedes, All-map, IsTable-insert, map_agree}
 use Rattle.warp_arena.proofs.Shapes.{unused_apart, none_unused, unused_off, members_agree, members-append, members_here, members_past, members_not, kept_others}
 use Rattle.warp_arena.proofs.Listing.{Listed, next_in-at, kept_next, Spells-frame, Spells-insert, Keeps-insert, each_origin}
 use Rattle.warp_arena.proofs.Walks.{Listed-used, Listed-own}
 
-module _ (old new : List Node) (own : List Links) (ends ends' e' : Links) (free o x : ℕ) (g : Moment) (xs ys fs : List ℕ)
+module _ (old new : List Node) (own : List Origin) (ends ends' e' : Links) (free o x : ℕ) (g : Moment) (xs ys fs : List ℕ)
     (shape : IsArena (threads_of old own ends free) (xs ++ ys) (x ∷ fs))
-    (change : Threaded old new ends ends' (get_or own o no_links) e' (last_or NO_NODE xs) (last_or NO_NODE (members (entry_at old) o xs)) x (fresh o g))
+    (change : Threaded old new ends ends' (get_or own o no_origin).ends e' (last_or NO_NODE xs) (last_or NO_NODE (members (entry_at old) o xs)) x (fresh o g))
     (declared : o < length own)
   where
     came_off : IsOff x (xs ++ ys)
@@ -63,40 +64,52 @@ module _ (old new : List Node) (own : List Links) (ends ends' e' : Links) (free 
     tags = Listed-used (threads_of old own ends free) (xs ++ ys) (x ∷ fs) shape
 
     -- the list of the node's origin, before
-    owns : Listed (length old) (get_or own o no_links) (of_origin old) (members (entry_at old) o xs ++ members (entry_at old) o ys)
+    owns : Listed (length old) (get_or own o no_origin).ends (of_origin old) (members (entry_at old) o xs ++ members (entry_at old) o ys)
     owns =
-        subst (Listed (length old) (get_or own o no_links) (of_origin old)) (members-append (entry_at old) o xs ys)
+        subst (Listed (length old) (get_or own o no_origin).ends (of_origin old)) (members-append (entry_at old) o xs ys)
         (Listed-own (threads_of old own ends free) (xs ++ ys) (x ∷ fs) shape o declared)
 
     off_members : (i : ℕ) → IsOff i (members (entry_at old) o (xs ++ ys)) → IsOff i (members (entry_at old) o xs ++ members (entry_at old) o ys)
     off_members i off = subst (IsOff i) (members-append (entry_at old) o xs ys) off
 
     -- and after
+    own_members : members (entry_at new) o (xs ++ x ∷ ys) ≡ members (entry_at old) o xs ++ x ∷ members (entry_at old) o ys
+    own_members =
+        let ms : List ℕ = members (entry_at old) o xs in
+        members-append (entry_at new) o xs (x ∷ ys)
+        ∙ ap (λ is. is ++ members (entry_at new) o (x ∷ ys)) (members_agree (entry_at old) (entry_at new) o xs (same_entries xs (All-left (λ i. i ≢ x) xs ys came_off)))
+        ∙ ap (λ is. ms ++ is) (members_here (entry_at new) o x ys (ap (λ d. d.origin) change.here))
+        ∙ ap (λ is. ms ++ x ∷ is) (members_agree (entry_at old) (entry_at new) o ys (same_entries ys (All-right (λ i. i ≢ x) xs ys came_off)))
+
     own_insert : Spells e' (of_origin new) (members (entry_at new) o (xs ++ x ∷ ys))
     own_insert =
         let ms : List ℕ = members (entry_at old) o xs in
         let ns : List ℕ = members (entry_at old) o ys in
-        let whole : members (entry_at new) o (xs ++ x ∷ ys) ≡ ms ++ x ∷ ns =
-        members-append (entry_at new) o xs (x ∷ ys)
-        ∙ ap (λ is. is ++ members (entry_at new) o (x ∷ ys)) (members_agree (entry_at old) (entry_at new) o xs (same_entries xs (All-left (λ i. i ≢ x) xs ys came_off)))
-        ∙ ap (λ is. ms ++ is) (members_here (entry_at new) o x ys (ap (λ d. d.origin) change.here))
-        ∙ ap (λ is. ms ++ x ∷ is) (members_agree (entry_at old) (entry_at new) o ys (same_entries ys (All-right (λ i. i ≢ x) xs ys came_off))) in
-        subst (Spells e' (of_origin new)) (sym whole)
-        (Spells-insert (length old) (get_or own o no_links) e' (of_origin old) (of_origin new) ms ns x owns change.owns came_not_none
+        subst (Spells e' (of_origin new)) (sym own_members)
+        (Spells-insert (length old) (get_or own o no_origin).ends e' (of_origin old) (of_origin new) ms ns x owns change.owns came_not_none
         (off_members x (All-filter (λ i. i ≢ x) (λ i. eqb (entry_at old i).origin o) (xs ++ ys) came_off)))
 
+    -- the node that came in is one of its origin's
+    own_touched : IsOneOf (members (entry_at new) o (xs ++ x ∷ ys)) x
+    own_touched =
+        let ms : List ℕ = members (entry_at old) o xs in
+        let ns : List ℕ = members (entry_at old) o ys in
+        subst (λ is. IsOneOf is x) (sym own_members) (λ _. omega (arith, count_of-append x ms (x ∷ ns), count_of-here x ns))
+
     -- the list of another origin
-    other_insert : (q : ℕ) → q ≢ o → q < length own → Spells (get_or own q no_links) (of_origin new) (members (entry_at new) q (xs ++ x ∷ ys))
-    other_insert q n h =
-        let whole : members (entry_at new) q (xs ++ x ∷ ys) ≡ members (entry_at old) q (xs ++ ys) =
+    other_members : (q : ℕ) → q ≢ o → members (entry_at new) q (xs ++ x ∷ ys) ≡ members (entry_at old) q (xs ++ ys)
+    other_members q n =
         members-append (entry_at new) q xs (x ∷ ys)
         ∙ ap (λ js. members (entry_at new) q xs ++ js) (members_past (entry_at new) q x ys (λ r. n (sym r ∙ ap (λ d. d.origin) change.here)))
         ∙ sym (members-append (entry_at new) q xs ys)
-        ∙ members_agree (entry_at old) (entry_at new) q (xs ++ ys) (same_entries (xs ++ ys) came_off) in
-        subst (Spells (get_or own q no_links) (of_origin new)) (sym whole)
-        (Spells-frame (get_or own q no_links) (of_origin old) (of_origin new) (members (entry_at old) q (xs ++ ys))
+        ∙ members_agree (entry_at old) (entry_at new) q (xs ++ ys) (same_entries (xs ++ ys) came_off)
+
+    other_insert : (q : ℕ) → q ≢ o → q < length own → Spells (get_or own q no_origin).ends (of_origin new) (members (entry_at new) q (xs ++ x ∷ ys))
+    other_insert q n h =
+        subst (Spells (get_or own q no_origin).ends (of_origin new)) (sym (other_members q n))
+        (Spells-frame (get_or own q no_origin).ends (of_origin old) (of_origin new) (members (entry_at old) q (xs ++ ys))
         (kept_others (entry_at old) (of_origin old) (of_origin new) o q x (xs ++ ys) n tags.none came_off
-        (λ i node other r. Keeps-insert (length old) (get_or own o no_links) e' (of_origin old) (of_origin new) (members (entry_at old) o xs) (members (entry_at old) o ys) x
+        (λ i node other r. Keeps-insert (length old) (get_or own o no_origin).ends e' (of_origin old) (of_origin new) (members (entry_at old) o xs) (members (entry_at old) o ys) x
         owns change.owns i node other (off_members i (members_not (entry_at old) o i (xs ++ ys) r))))
         (shape.own q h))
 
@@ -112,14 +125,18 @@ module _ (old new : List Node) (own : List Links) (ends ends' e' : Links) (free 
         (Keeps-insert (length old) ends ends' (by_tag old) (by_tag new) xs ys x tags change.tags i node other
         (unused_off (threads_of old own ends free) (xs ++ ys) (x ∷ fs) shape i (omega arith)))))
 
-    pub IsArena-insert : AllByRecursion (λ i. name_before o g (entry_at old i) ≡ false) xs → AllByRecursion (λ i. has_name o g (entry_at old i) ≡ false) xs → AllByRecursion (λ i. name_before o g (entry_at old i) ≡ true) ys → IsArena (threads_of new (set own o e') ends' (by_tag old x).next) (xs ++ x ∷ ys) fs
+    pub IsArena-insert : AllByRecursion (λ i. name_before o g (entry_at old i) ≡ false) xs → AllByRecursion (λ i. has_name o g (entry_at old i) ≡ false) xs → AllByRecursion (λ i. name_before o g (entry_at old i) ≡ true) ys → IsArena (threads_of new (set own o (record { ends = e'; touched = x })) ends' (by_tag old x).next) (xs ++ x ∷ ys) fs
     IsArena-insert through absent past =
+        let n' : Origin = record { ends = e'; touched = x } in
         record {
           small = omega (arith, shape.small, change.len);
           sorted = sorted_insert through absent past;
-          declared = subst (λ n. AllByRecursion (λ i. (entry_at new i).origin < n) (xs ++ x ∷ ys)) (sym (length-set own o e')) declared_insert;
+          declared = subst (λ n. AllByRecursion (λ i. (entry_at new i).origin < n) (xs ++ x ∷ ys)) (sym (length-set own o n')) declared_insert;
           spelled = Spells-insert (length old) ends ends' (by_tag old) (by_tag new) xs ys x tags change.tags came_not_none came_off;
-          own = each_origin own o e' (λ e q. Spells e (of_origin new) (members (entry_at new) q (xs ++ x ∷ ys))) declared own_insert other_insert;
+          own = each_origin own o n' (λ n q. Spells n.ends (of_origin new) (members (entry_at new) q (xs ++ x ∷ ys))) declared own_insert other_insert;
+          touched =
+              each_origin own o n' (λ n q. IsOneOf (members (entry_at new) q (xs ++ x ∷ ys)) n.touched) declared own_touched
+              (λ q n h. subst (λ is. IsOneOf is (get_or own q no_origin).touched) (sym (other_members q n)) (shape.touched q h));
           free = free_insert;
           once = λ i.
               let c = count_of-append i xs (x ∷ ys) in

@@ -14,5 +14,6 @@ pub mod Changed
 pub mod Freeing
 pub mod Growing
 pub mod Finding
+pub mod Touching
 pub mod Handles
 pub mod ByName

@@ -5,9 +5,10 @@ use Rattle.std.proofs.lemmas.Bool.{cases_eq, ne_eqb}
 use Rattle.std.proofs.lemmas.List.{length-set, get_or-set_same, get_or-set_other}
 use Rattle.warp_tag.proofs.Lists.{All-weaker, All-left, All-right}
 use Rattle.warp_arena.specs.declared.node.Links.{Links}
+use Rattle.warp_arena.specs.declared.node.Origin.{Origin}
 use Rattle.warp_arena.specs.declared.node.TheConstants.{NO_NODE}
 use Rattle.warp_arena.specs.Changes.{Inserts, Skips}
-use Rattle.warp_arena.specs.Shape.{Spells, last_or, first_or, next_in, prev_in, no_links}
+use Rattle.warp_arena.specs.Shape.{Spells, last_or, first_or, next_in, prev_in, no_origin}
 use Rattle.warp_arena.proofs.Rings.{IsOff, IsApart, IsSame, first_holds, last_holds, IsChain-frame, IsChain-split, IsChain-insert, IsChain-skip}
 
 -- the links spell these indices of nodes, each once
@@ -83,12 +84,12 @@ module _ (size : ℕ) (ends ends' : Links) (links links' : ℕ → Links) (x : �
         (sym (next_in-at ends' links' i node) ∙ change.nexts i node other ∙ next_in-at ends links i node)
         (sym (prev_in-at ends' links' i node) ∙ change.prevs i (λ h. not_after (sym (h ∙ after))) other ∙ prev_in-at ends links i node)
 
--- what holds of each origin's ends and list, after those of one origin changed
-pub each_origin : (own : List Links) (o : ℕ) (e' : Links) (C : Links → ℕ → Type 0) → o < length own → C e' o → ((q : ℕ) → q ≢ o → q < length own → C (get_or own q no_links) q) → (q : ℕ) → q < length (set own o e') → C (get_or (set own o e') q no_links) q
-each_origin own o e' C declared here others q h =
+-- what holds of each origin and its list, after one origin changed
+pub each_origin : (own : List Origin) (o : ℕ) (n' : Origin) (C : Origin → ℕ → Type 0) → o < length own → C n' o → ((q : ℕ) → q ≢ o → q < length own → C (get_or own q no_origin) q) → (q : ℕ) → q < length (set own o n') → C (get_or (set own o n') q no_origin) q
+each_origin own o n' C declared here others q h =
     elim (cases_eq q o) [
       | inl same ↦
-          subst (λ e. C e q) (sym (ap (λ k. get_or (set own o e') k no_links) same ∙ get_or-set_same own o e' no_links declared))
-          (subst (C e') (sym same) here)
-      | inr other ↦ subst (λ e. C e q) (sym (get_or-set_other own o q e' no_links other)) (others q other (omega (arith, length-set own o e')))
+          subst (λ n. C n q) (sym (ap (λ k. get_or (set own o n') k no_origin) same ∙ get_or-set_same own o n' no_origin declared))
+          (subst (C n') (sym same) here)
+      | inr other ↦ subst (λ n. C n q) (sym (get_or-set_other own o q n' no_origin other)) (others q other (omega (arith, length-set own o n')))
     ]

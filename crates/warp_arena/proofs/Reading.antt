@@ -238,9 +238,9 @@ module _ (a : Inside) (w : IsWhole (threads a) a.used) (i : ℕ) (h : IsSome (en
   next_of_origin_found k e =
       let entry : ℕ → Entry = (threads a).entry in
       let o : ℕ = (entry i).origin in
-      let D : ℕ → Type 0 = λ j. (entry j).origin < length a.origin_ends.items in
+      let D : ℕ → Type 0 = λ j. (entry j).origin < length a.by_origin.items in
       let P : ℕ → Type 0 = λ j. IsSome (entry_of j (places a)) in
-      let declared : o < length a.origin_ends.items = (All-right D found.front (i ∷ found.back) (subst (AllByRecursion D) found.parts w.shape.declared)).0 in
+      let declared : o < length a.by_origin.items = (All-right D found.front (i ∷ found.back) (subst (AllByRecursion D) found.parts w.shape.declared)).0 in
       let ms : List ℕ = members entry o found.front in
       let ns : List ℕ = members entry o found.back in
       let parts : owned a o ≡ ms ++ i ∷ ns =

@@ -1,5 +1,5 @@
 -- The arena after its first node is freed.
-use Rattle.std.proofs.Common.{◌≡◌, ℕ, zero, suc, ◌+◌, ◌-◌, ◌<◌, eqb, List, [], ◌∷◌, length, refl, sym, ap, ◌∙◌, subst, arith, map, get_or, set, drop}
+use Rattle.std.proofs.Common.{◌≡◌, ℕ, zero, suc, ◌+◌, ◌-◌, ◌<◌, cond, eqb, List, [], ◌∷◌, length, refl, sym, ap, ◌∙◌, subst, arith, map, get_or, set, drop}
 use Rattle.std.specs.List.{AllByRecursion}
 use Rattle.std.specs.Vec.{vec_capacity}
 use Rattle.std.proofs.lemmas.List.{length-set, length-map}
@@ -8,14 +8,15 @@ use Rattle.warp_tag.proofs.Lists.{All-weaker, All-filter}
 use Rattle.warp_arena.specs.declared.arena.Arena.TheInside.{Inside}
 use Rattle.warp_arena.specs.declared.node.Links.{Links}
 use Rattle.warp_arena.specs.declared.node.Node.{Node}
+use Rattle.warp_arena.specs.declared.node.Origin.{Origin}
 use Rattle.warp_arena.specs.declared.node.TheConstants.{NO_NODE}
 use Rattle.warp_arena.specs.Changes.{Unthreaded, IsPlace, CanUnthread}
 use Rattle.warp_arena.specs.Places.{Place, Contents}
-use Rattle.warp_arena.specs.Shape.{IsArena, IsWhole, threads_of, contents_of, unused_of, entry_at, place_at, members, no_links, next_in, prev_in, walk, IsChain, free_ends}
+use Rattle.warp_arena.specs.Shape.{IsArena, IsWhole, threads_of, contents_of, unused_of, entry_at, place_at, members, no_origin, next_in, prev_in, walk, IsChain, free_ends}
 use Rattle.warp_arena.proofs.Rings.{first_holds, IsChain-split, length-walk}
 use Rattle.warp_arena.proofs.Tables.{map_agree}
 use Rattle.warp_arena.proofs.Shapes.{all_used_below, none_used, members_here}
-use Rattle.warp_arena.proofs.Walks.{threads, used, node_read, ends_read}
+use Rattle.warp_arena.proofs.Walks.{threads, used, node_read, origin_read}
 use Rattle.warp_arena.proofs.Reading.{places}
 use Rattle.warp_arena.proofs.Removing.{IsArena-remove, All-same}
 use Rattle.warp_arena.proofs.Wholes.{IsWhole-from, used_is}
@@ -64,8 +65,8 @@ after_first size next prev x rest chain below =
     subst (IsPlace size) (sym (IsChain-split next prev NO_NODE (x ∷ []) rest NO_NODE chain).0)
     (first_holds (IsPlace size) rest NO_NODE (All-weaker (λ i. i < size) (IsPlace size) (λ i h _. h) rest below) (λ n. absurd (n refl)))
 
-pub unthreadable : (a : Inside) (l : Leaving a) → Unthreadable (length a.nodes.items) (length a.origin_ends.items) (next_in a.ends (threads a).links)
-    (next_in (get_or a.origin_ends.items ((threads a).entry a.ends.next).origin no_links) (threads a).own_links) ((threads a).entry a.ends.next).origin a.ends.next
+pub unthreadable : (a : Inside) (l : Leaving a) → Unthreadable (length a.nodes.items) (length a.by_origin.items) (next_in a.ends (threads a).links)
+    (next_in (get_or a.by_origin.items ((threads a).entry a.ends.next).origin no_origin).ends (threads a).own_links) ((threads a).entry a.ends.next).origin a.ends.next
 unthreadable a l =
     let t = threads a in
     let x : ℕ = a.ends.next in
@@ -91,53 +92,55 @@ unthreadable a l =
     }
 
 -- what the reads of the first node and of its origin's ends give
-pub record FirstRead (a : Inside) (n : Node) (own : Links) : Type 0 where
+pub record FirstRead (a : Inside) (n : Node) (own : Origin) : Type 0 where
   pub is_own : ((threads a).entry a.ends.next).origin ≡ n.entry.origin
-  pub own_is : own ≡ get_or a.origin_ends.items n.entry.origin no_links
-  pub owns : CanUnthread (length a.nodes.items) (next_in own (threads a).own_links) a.ends.next
+  pub own_is : own ≡ get_or a.by_origin.items n.entry.origin no_origin
+  pub owns : CanUnthread (length a.nodes.items) (next_in own.ends (threads a).own_links) a.ends.next
 
-pub first_declared : (a : Inside) (l : Leaving a) (n : Node) → n ≡ get_or a.nodes.items a.ends.next n → n.entry.origin < length a.origin_ends.items
+pub first_declared : (a : Inside) (l : Leaving a) (n : Node) → n ≡ get_or a.nodes.items a.ends.next n → n.entry.origin < length a.by_origin.items
 first_declared a l n rn =
-    subst (λ (m : Node). m.entry.origin < length a.origin_ends.items) (sym (node_read a.nodes.items a.ends.next n (unthreadable a l).tags.at_in rn)) l.shape.declared.0
+    subst (λ (m : Node). m.entry.origin < length a.by_origin.items) (sym (node_read a.nodes.items a.ends.next n (unthreadable a l).tags.at_in rn)) l.shape.declared.0
 
-pub first_read : (a : Inside) (l : Leaving a) (n : Node) (own : Links) → n ≡ get_or a.nodes.items a.ends.next n → own ≡ get_or a.origin_ends.items n.entry.origin own → FirstRead a n own
+pub first_read : (a : Inside) (l : Leaving a) (n : Node) (own : Origin) → n ≡ get_or a.nodes.items a.ends.next n → own ≡ get_or a.by_origin.items n.entry.origin own → FirstRead a n own
 first_read a l n own rn ro =
     let u = unthreadable a l in
     let is_own : ((threads a).entry a.ends.next).origin ≡ n.entry.origin = ap (λ (m : Node). m.entry.origin) (sym (node_read a.nodes.items a.ends.next n u.tags.at_in rn)) in
-    let own_is = ends_read a.origin_ends.items n.entry.origin own (first_declared a l n rn) ro in
+    let own_is = origin_read a.by_origin.items n.entry.origin own (first_declared a l n rn) ro in
     record {
       is_own = is_own;
       own_is = own_is;
       owns =
-          subst (λ (k : Links). CanUnthread (length a.nodes.items) (next_in k (threads a).own_links) a.ends.next)
-          (ap (λ o. get_or a.origin_ends.items o no_links) is_own ∙ sym own_is) u.owns;
+          subst (λ (k : Origin). CanUnthread (length a.nodes.items) (next_in k.ends (threads a).own_links) a.ends.next)
+          (ap (λ o. get_or a.by_origin.items o no_origin) is_own ∙ sym own_is) u.owns;
     }
 
-module _ (a : Inside) (l : Leaving a) (new : List Node) (own ends' e' : Links) (o : ℕ)
+module _ (a : Inside) (l : Leaving a) (new : List Node) (own : Origin) (ends' e' : Links) (o k : ℕ)
     (is_own : ((threads a).entry a.ends.next).origin ≡ o)
-    (own_is : own ≡ get_or a.origin_ends.items o no_links)
-    (change : Unthreaded a.nodes.items new a.ends ends' own e' a.ends.next a.free)
+    (own_is : own ≡ get_or a.by_origin.items o no_origin)
+    (touched_is : k ≡ cond (eqb own.touched a.ends.next) NO_NODE own.touched)
+    (change : Unthreaded a.nodes.items new a.ends ends' own.ends e' a.ends.next a.free)
   where
-    shape' : IsArena (threads_of new (set a.origin_ends.items o e') ends' a.ends.next) l.rest (a.ends.next ∷ l.fs)
+    shape' : IsArena (threads_of new (set a.by_origin.items o (record { ends = e'; touched = k })) ends' a.ends.next) l.rest (a.ends.next ∷ l.fs)
     shape' =
-        IsArena-remove a.nodes.items new a.origin_ends.items a.ends ends' e' a.free o a.ends.next l.rest l.fs l.shape is_own
-        (subst (λ k. Unthreaded a.nodes.items new a.ends ends' k e' a.ends.next a.free) own_is change)
+        IsArena-remove a.nodes.items new a.by_origin.items a.ends ends' e' a.free o a.ends.next l.rest l.fs l.shape is_own
+        (subst (λ n. Unthreaded a.nodes.items new a.ends ends' n.ends e' a.ends.next a.free) own_is change)
+        k (subst (λ n. k ≡ cond (eqb n.touched a.ends.next) NO_NODE n.touched) own_is touched_is)
 
-    pub whole_removed : IsWhole (threads_of new (set a.origin_ends.items o e') ends' a.ends.next) (a.used - 1)
+    pub whole_removed : IsWhole (threads_of new (set a.by_origin.items o (record { ends = e'; touched = k })) ends' a.ends.next) (a.used - 1)
     whole_removed =
-        IsWhole-from (threads_of new (set a.origin_ends.items o e') ends' a.ends.next) l.rest (a.ends.next ∷ l.fs) (a.used - 1) shape'
+        IsWhole-from (threads_of new (set a.by_origin.items o (record { ends = e'; touched = k })) ends' a.ends.next) l.rest (a.ends.next ∷ l.fs) (a.used - 1) shape'
         (omega (arith, l.len)) (omega (arith, l.len, l.free_len, change.len))
 
-    pub contents_removed : contents_of (threads_of new (set a.origin_ends.items o e') ends' a.ends.next) (a.used - 1) (vec_capacity a.nodes)
-        ≡ record { origins = length a.origin_ends.items; places = drop 1 (places a); free = length a.nodes.items - a.used + 1; room = vec_capacity a.nodes }
+    pub contents_removed : contents_of (threads_of new (set a.by_origin.items o (record { ends = e'; touched = k })) ends' a.ends.next) (a.used - 1) (vec_capacity a.nodes)
+        ≡ record { origins = length a.by_origin.items; places = drop 1 (places a); free = length a.nodes.items - a.used + 1; room = vec_capacity a.nodes }
     contents_removed =
-        let t' = threads_of new (set a.origin_ends.items o e') ends' a.ends.next in
+        let t' = threads_of new (set a.by_origin.items o (record { ends = e'; touched = k })) ends' a.ends.next in
         let place : ℕ → Place = place_at (threads a).entry in
         let place' : ℕ → Place = place_at (entry_at new) in
         let same : map place' l.rest ≡ map place l.rest =
         map_agree place place' l.rest
         (All-same place place' l.rest (λ i. ap (λ (e : Entry). let q : Place = record { node = i; entry = e } in q) (change.entries i))) in
-        same_contents (length-set a.origin_ends.items o e')
+        same_contents (length-set a.by_origin.items o (record { ends = e'; touched = k }))
         (ap (map place') (used_is t' l.rest (a.ends.next ∷ l.fs) (a.used - 1) shape' (omega (arith, l.len))) ∙ same
         ∙ sym (ap (λ is. drop 1 (map place is)) l.parts))
         (omega (arith, l.len, l.free_len, change.len)) refl

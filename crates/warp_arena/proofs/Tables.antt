@@ -32,6 +32,11 @@ pub IsTable-before : (xs ys : List Entry) (d : Entry) → IsTable (xs ++ d ∷ y
 IsTable-before [] ys d t = tt
 IsTable-before (x ∷ xs) ys d t = ((All-right (λ e. Precedes x e) xs (d ∷ ys) t.0).0, IsTable-before xs ys d t.1)
 
+-- what is behind a front
+pub IsTable-rest : (xs ys : List Entry) → IsTable (xs ++ ys) → IsTable ys
+IsTable-rest [] ys t = t
+IsTable-rest (x ∷ xs) ys t = IsTable-rest xs ys t.1
+
 pub filter-map_at : {X Y : Type 0} (p : Y → Bool) (f : X → Y) (xs : List X) → filter p (map f xs) ≡ map f (filter (λ x. p (f x)) xs)
 filter-map_at p f [] = refl
 filter-map_at p f (x ∷ xs) =

@@ -7,8 +7,9 @@ use Rattle.warp_tag.proofs.Lists.{All-weaker, All-left, All-right, All-filter}
 use Rattle.warp_tag.specs.declared.entry.Entry.{Entry}
 use Rattle.warp_arena.specs.declared.arena.Arena.TheInside.{Inside}
 use Rattle.warp_arena.specs.declared.node.Links.{Links}
+use Rattle.warp_arena.specs.declared.node.Origin.{Origin}
 use Rattle.warp_arena.specs.declared.node.Node.{Node}
-use Rattle.warp_arena.specs.Shape.{Threads, IsArena, IsWhole, used_of, unused_of, threads_of, members, Spells, last_or, first_or, next_in, prev_in, node_at, no_node, no_links}
+use Rattle.warp_arena.specs.Shape.{Threads, IsArena, IsWhole, used_of, unused_of, threads_of, members, Spells, last_or, first_or, next_in, prev_in, node_at, no_node, no_origin}
 use Rattle.warp_arena.specs.declared.node.TheConstants.{NO_NODE}
 use Rattle.warp_arena.proofs.Listing.{Listed, prev_in-at}
 use Rattle.warp_arena.proofs.Rings.{IsOff, IsApart, IsOff-front, IsChain-split, by_last, last_or-push, rank, rank_at}
@@ -46,8 +47,9 @@ module _ (size : ℕ) (ends : Links) (links : ℕ → Links) (is : List ℕ) (l 
 pub node_read : (nodes : List Node) (i : ℕ) (x : Node) → i < length nodes → x ≡ get_or nodes i x → x ≡ node_at nodes i
 node_read nodes i x h e = get_or_read nodes i x h e no_node
 
-pub ends_read : (ends : List Links) (i : ℕ) (x : Links) → i < length ends → x ≡ get_or ends i x → x ≡ get_or ends i no_links
-ends_read ends i x h e = get_or_read ends i x h e no_links
+-- a read of an origin
+pub origin_read : (origins : List Origin) (i : ℕ) (x : Origin) → i < length origins → x ≡ get_or origins i x → x ≡ get_or origins i no_origin
+origin_read origins i x h e = get_or_read origins i x h e no_origin
 
 -- ---- walking a list from its end
 
@@ -149,7 +151,7 @@ module _ (nodes : List Node) (links : Node → Links) (ends : Links) (is : List 
 
 -- what the fields say
 abbrev pub threads : Inside → Threads
-threads a = threads_of a.nodes.items a.origin_ends.items a.ends a.free
+threads a = threads_of a.nodes.items a.by_origin.items a.ends a.free
 
 -- the used nodes
 abbrev pub used : Inside → List ℕ
@@ -163,5 +165,5 @@ module _ (a : Inside) (w : IsWhole (threads a) a.used) where
   pub Listed-tags : Listed (length a.nodes.items) a.ends (threads a).links (used a)
   Listed-tags = Listed-used (threads a) (used a) (unused_of (threads a) ((threads a).size - a.used)) w.shape
 
-  pub Listed-origin : (o : ℕ) → o < length a.origin_ends.items → Listed (length a.nodes.items) ((threads a).own_ends o) (threads a).own_links (owned a o)
+  pub Listed-origin : (o : ℕ) → o < length a.by_origin.items → Listed (length a.nodes.items) ((threads a).own_ends o) (threads a).own_links (owned a o)
   Listed-origin o h = Listed-own (threads a) (used a) (unused_of (threads a) ((threads a).size - a.used)) w.shape o h

@@ -10,7 +10,7 @@ use Rattle.warp_tag.proofs.Lists.{All-weaker, All-left, All-right, All-filter, A
 use Rattle.warp_arena.specs.declared.arena.Arena.TheInside.{Inside}
 use Rattle.warp_arena.specs.declared.node.TheConstants.{NO_NODE}
 use Rattle.warp_arena.specs.Places.{Place, places_of, node_of, entries_of, IsOrdered}
-use Rattle.warp_arena.specs.Shape.{Threads, IsArena, IsWhole, last_not_after, contents_of, used_of, unused_of, members, place_at, IsChain, last_or, first_or, next_in, prev_in, free_ends, walk, no_links}
+use Rattle.warp_arena.specs.Shape.{Threads, IsArena, IsWhole, last_not_after, contents_of, used_of, unused_of, members, place_at, IsChain, last_or, first_or, next_in, prev_in, free_ends, walk, no_origin}
 use Rattle.warp_arena.specs.Changes.{IsPlace, CanThread}
 use Rattle.warp_arena.proofs.Rings.{IsOff, IsApart, first_holds, last_holds, IsChain-split, walk_path, length-walk, IsPath-chain, count_of-here}
 use Rattle.warp_arena.proofs.Tables.{All-map, All-unmap, nodes_of-places, places_of-members, sorted_parts, last_of_places, filter_comm, not_true}
@@ -132,7 +132,7 @@ at_split size next prev xs ys x before chain below off at_in node e =
       not_after = subst (λ k. k ≢ x) (sym after) (first_holds (λ k. k ≢ x) ys NO_NODE (All-right (λ i. i ≢ x) xs ys off) none);
     }
 
-pub threadable : (a : Inside) (o : ℕ) (g : Moment) (before own_before : ℕ) → Ready a o g before own_before → o < length a.origin_ends.items → Threadable (length a.nodes.items) (next_in a.ends (threads a).links) (next_in (get_or a.origin_ends.items o no_links) (threads a).own_links) before own_before a.free
+pub threadable : (a : Inside) (o : ℕ) (g : Moment) (before own_before : ℕ) → Ready a o g before own_before → o < length a.by_origin.items → Threadable (length a.nodes.items) (next_in a.ends (threads a).links) (next_in (get_or a.by_origin.items o no_origin).ends (threads a).own_links) before own_before a.free
 threadable a o g before own_before r h =
     let t = threads a in
     let x : ℕ = a.free in
@@ -168,7 +168,7 @@ pub ordered : (a : Inside) → IsWhole (threads a) a.used → (room : ℕ) → I
 ordered a w room =
     record {
       table = subst IsTable (sym (entries_of-places (threads a).entry (used a))) w.shape.sorted;
-      declared = All-map (λ p. p.entry.origin < length a.origin_ends.items) (place_at (threads a).entry) (used a) w.shape.declared;
+      declared = All-map (λ p. p.entry.origin < length a.by_origin.items) (place_at (threads a).entry) (used a) w.shape.declared;
       handles =
           subst (IsDistinct nat_eq) (sym (nodes_of-places (threads a).entry (used a)))
           (IsDistinct-apart (used a) (used_apart (threads a) (used a) (unused_of (threads a) ((threads a).size - a.used)) w.shape));

@@ -1,5 +1,5 @@
 -- The shape of an arena: how its links spell its lists. No public clause cites this module.
-use Rattle.std.specs.Prelude.{not, ◌≡◌, ℕ, zero, suc, ◌+◌, ◌-◌, ◌<◌, ◌≤◌, ◌==◌, nat_lt, List, [], ◌∷◌, if◌then◌else◌, map, filter, length, slice_index_or}
+use Rattle.std.specs.Prelude.{not, ◌≡◌, ◌≢◌, true, IsSomeAnd, ℕ, zero, suc, ◌+◌, ◌-◌, ◌<◌, ◌≤◌, ◌==◌, nat_lt, List, [], ◌∷◌, if◌then◌else◌, map, filter, length, slice_index_or}
 use Rattle.std.specs.List.{AllByRecursion}
 use Rattle.warp_tag.specs.Moment.{Moment}
 use Rattle.warp_tag.specs.Limits.{most_names}
@@ -7,12 +7,17 @@ use Rattle.warp_tag.specs.Table.{IsTable, fresh, name_before}
 use Rattle.warp_tag.specs.declared.entry.Entry.{Entry}
 use Rattle.warp_arena.specs.declared.node.Links.{Links}
 use Rattle.warp_arena.specs.declared.node.Node.{Node}
+use Rattle.warp_arena.specs.declared.node.Origin.{Origin}
 use Rattle.warp_arena.specs.declared.node.TheConstants.{NO_NODE}
-use Rattle.warp_arena.specs.Places.{Place, Contents}
+use Rattle.warp_arena.specs.Places.{Place, Contents, entry_of}
 
 -- the links of a list without a node
 abbrev pub no_links : Links
 no_links = record { next = NO_NODE; prev = NO_NODE }
+
+-- what a read past the origins gives
+abbrev pub no_origin : Origin
+no_origin = record { ends = no_links; touched = NO_NODE }
 
 -- what a read past the nodes gives
 abbrev pub no_node : Node
@@ -77,8 +82,12 @@ abbrev pub count_of : ℕ → List ℕ → ℕ
 count_of i [] = 0
 count_of i (j ∷ js) = (if j == i then 1 else 0) + count_of i js
 
+-- the index is one of these, or NO_NODE
+abbrev pub IsOneOf : List ℕ → ℕ → Type 0
+IsOneOf is i = i ≢ NO_NODE → 0 < count_of i is
+
 -- what an arena's nodes say, each at its index: the entries, the links of the tag list and of the origins'
--- lists with their ends, and the first unused node
+-- lists with their ends, the node of each origin that was touched last, and the first unused node
 pub record Threads : Type 0 where
   pub size : ℕ
   pub origins : ℕ
@@ -87,6 +96,7 @@ pub record Threads : Type 0 where
   pub ends : Links
   pub own_links : ℕ → Links
   pub own_ends : ℕ → Links
+  pub touched : ℕ → ℕ
   pub free : ℕ
 
 -- the ends of the free list
@@ -99,19 +109,20 @@ members entry origin is = filter (λ i. (entry i).origin == origin) is
 
 -- The shape of an arena with these used nodes, in order of tag, then of origin, and these unused ones. The
 -- forward links spell the used nodes and the backward links spell them backwards; each origin's forward and
--- backward links spell its own nodes in order; the free links spell the unused ones; each index is used once or
--- unused once.
+-- backward links spell its own nodes in order; the node that an origin touched last is one of its own, or NO_NODE; the
+-- free links spell the unused ones; each index is used once or unused once.
 pub record IsArena (t : Threads) (used unused : List ℕ) : Type 0 where
   pub small : t.size ≤ most_names
   pub sorted : IsTable (map t.entry used)
   pub declared : AllByRecursion (λ i. (t.entry i).origin < t.origins) used
   pub spelled : Spells t.ends t.links used
   pub own : (o : ℕ) → o < t.origins → Spells (t.own_ends o) t.own_links (members t.entry o used)
+  pub touched : (o : ℕ) → o < t.origins → IsOneOf (members t.entry o used) (t.touched o)
   pub free : IsPath (next_in (free_ends t.free) t.links) NO_NODE unused NO_NODE
   pub once : (i : ℕ) → count_of i used + count_of i unused ≡ (if nat_lt i t.size then 1 else 0)
 
--- what these nodes, with these ends of lists, say
-abbrev pub threads_of : List Node → List Links → Links → ℕ → Threads
+-- what these nodes and origins, with these ends of the tag list and this first unused node, say
+abbrev pub threads_of : List Node → List Origin → Links → ℕ → Threads
 threads_of nodes origins ends free =
     record {
       size = length nodes;
@@ -120,7 +131,8 @@ threads_of nodes origins ends free =
       links = by_tag nodes;
       ends = ends;
       own_links = of_origin nodes;
-      own_ends = λ o. slice_index_or origins o no_links;
+      own_ends = λ o. (slice_index_or origins o no_origin).ends;
+      touched = λ o. (slice_index_or origins o no_origin).touched;
       free = free;
     }
 
@@ -155,3 +167,8 @@ pub record IsWhole (t : Threads) (count : ℕ) : Type 0 where
 abbrev pub last_not_after : ℕ → Moment → List Place → ℕ
 last_not_after origin tag places =
     last_or NO_NODE (map (λ p. p.node) (filter (λ p. not (name_before origin tag p.entry)) places))
+
+-- the handle is of an entry of this origin, whose name is after this one
+abbrev pub IsAfter : ℕ → Moment → ℕ → List Place → Type 0
+IsAfter origin tag node places =
+    IsSomeAnd (entry_of node places) (λ e. (e.origin ≡ origin) × (name_before origin tag e ≡ true))

@@ -1,6 +1,6 @@
 //! The arena: entries of names, in order, each at a handle.
 use crate::links::{add_node, handle, thread_node, unthread_node};
-use crate::node::{Links, MAX_USED, NO_NODE, Node, NodeId};
+use crate::node::{Links, MAX_USED, NO_NODE, Node, NodeId, Origin};
 use std::alloc::Global;
 use std::marker::Model;
 use warp_tag::{Entry, OutOfMemory, Tag};
@@ -10,10 +10,15 @@ use warp_tag::{Entry, OutOfMemory, Tag};
 /// how many nodes in all memory was taken.
 ///
 /// Only `start` and `reserve_one` take memory.
+///
+/// For a name, `find` and `insert` walk back along its origin's list, and `insert` along the tag list as well. A walk starts
+/// at the entry of the origin that `insert`, `set_event` or `set_withdrawn` touched last, where that is after the name,
+/// and else at the list's end. So where names come in order of tags it takes no hop. Where an origin's come newest first
+/// it takes one, and in the tag list one more for each entry of another origin that lies between.
 #[derive(Drop)]
 pub struct Arena {
     nodes: Vec<Node>,
-    origin_ends: Vec<Links>,
+    by_origin: Vec<Origin>,
     ends: Links,
     free: u32,
     used: usize,
@@ -27,9 +32,9 @@ impl Model for Arena {
     ghost use Rattle.std.specs.Vec.{vec_capacity};
     ghost use Rattle.warp_arena.specs.Shape.{threads_of, contents_of, IsWhole};
 
-    ghost view = { λ a. contents_of (threads_of a.nodes.items a.origin_ends.items a.ends a.free) a.used (vec_capacity a.nodes) };
+    ghost view = { λ a. contents_of (threads_of a.nodes.items a.by_origin.items a.ends a.free) a.used (vec_capacity a.nodes) };
 
-    ghost invariant = { λ a. IsWhole (threads_of a.nodes.items a.origin_ends.items a.ends a.free) a.used };
+    ghost invariant = { λ a. IsWhole (threads_of a.nodes.items a.by_origin.items a.ends a.free) a.used };
 }
 
 impl Arena {
@@ -40,19 +45,19 @@ impl Arena {
     ghost use Rattle.warp_tag.specs.Table.{name_before, has_name, fresh, with_event, with_withdrawal};
     ghost use Rattle.warp_tag.specs.declared.entry.Entry.{Entry};
     ghost use Rattle.warp_arena.specs.Places.{places_of, node_of, entry_of, first_node, last_node, Reaches, places_from, places_after, places_before, with_place, with_change, with_free, places_past, places_through, IsOrdered, origin_of};
-    ghost use Rattle.warp_arena.specs.Shape.{last_not_after};
+    ghost use Rattle.warp_arena.specs.Shape.{last_not_after, IsAfter};
 
     /// An arena without entries, for origins below this number. The only error is want of memory.
     pub fn start(alloc: Global, origins: u32) -> Result<Arena, OutOfMemory>
         ensures { IfOk result (λ a. a ≡ record { origins = origins; places = []; free = 0; room = 0 }) }
     {
-        let mut origin_ends = Vec::with_capacity(alloc, origins as usize)?;
+        let mut by_origin = Vec::with_capacity(alloc, origins as usize)?;
         for _ in 0..origins {
-            origin_ends.push(Links::EMPTY)?;
+            by_origin.push(Origin::EMPTY)?;
         }
         Ok(Arena {
             nodes: Vec::new(alloc),
-            origin_ends,
+            by_origin,
             ends: Links::EMPTY,
             free: NO_NODE,
             used: 0,
@@ -77,14 +82,14 @@ impl Arena {
         Ok(())
     }
 
-    /// The handle of this name, or none where the arena does not hold it. It walks the list of the origin alone,
-    /// from its end to the first node that is not after the tag.
+    /// The handle of this name, or none where the arena does not hold it. It walks the list of the origin alone, back
+    /// from the node touched last where that is after the tag, and else from its end, to the first that is not after it.
     pub fn find(&self, origin: u32, tag: Tag) -> Option<NodeId>
         ensures handle { result ≡ node_of origin tag self.now.places }
         ensures named { IfSome result
             (λ node. IsSomeAnd (entry_of node self.now.places) (λ e. IsTrue (has_name origin tag e))) }
     {
-        if origin as usize >= self.origin_ends.len() {
+        if origin as usize >= self.by_origin.len() {
             return None;
         }
         let at = self.last_of_origin_through(origin, tag);
@@ -113,7 +118,7 @@ impl Arena {
         let own_before = self.last_of_origin_through(origin, tag);
         let at = self.free;
         self.free = self.nodes[at as usize].by_tag.next;
-        let mut own_ends = self.origin_ends[origin as usize];
+        let mut own_ends = self.by_origin[origin as usize].ends;
         let entry = Entry::fresh(origin, tag);
         thread_node(
             &mut self.nodes,
@@ -124,7 +129,10 @@ impl Arena {
             at,
             entry,
         );
-        self.origin_ends[origin as usize] = own_ends;
+        self.by_origin[origin as usize] = Origin {
+            ends: own_ends,
+            touched: at,
+        };
         self.used += 1;
         NodeId::new(at)
     }
@@ -136,6 +144,7 @@ impl Arena {
         ensures entry { entry_of node self.new.places ≡ option_map (with_event input value) (entry_of node self.old.places) }
         ensures others { (other : ℕ) → other ≢ node → entry_of other self.new.places ≡ entry_of other self.old.places }
     {
+        self.touch(node);
         self.nodes[node.index() as usize]
             .entry
             .note_event(input, value);
@@ -148,6 +157,7 @@ impl Arena {
         ensures entry { entry_of node self.new.places ≡ option_map with_withdrawal (entry_of node self.old.places) }
         ensures others { (other : ℕ) → other ≢ node → entry_of other self.new.places ≡ entry_of other self.old.places }
     {
+        self.touch(node);
         self.nodes[node.index() as usize].entry.withdraw();
     }
 
@@ -259,19 +269,48 @@ impl Arena {
     {
         let at = self.ends.next;
         let origin = self.nodes[at as usize].entry.origin as usize;
-        let mut own_ends = self.origin_ends[origin];
+        let own = self.by_origin[origin];
+        let mut own_ends = own.ends;
         let free = self.free;
         unthread_node(&mut self.nodes, &mut self.ends, &mut own_ends, at, free);
-        self.origin_ends[origin] = own_ends;
+        self.by_origin[origin] = Origin {
+            ends: own_ends,
+            touched: own.touched_without(at),
+        };
         self.free = at;
         self.used -= 1;
     }
 
+    /// Notes that the handle's node is the one of its origin that was touched last.
+    fn touch(&mut self, node: NodeId)
+        requires { IsSome (entry_of node self.old.places) }
+        ensures { self.new ≡ self.old }
+    {
+        let at = node.index();
+        let origin = self.nodes[at as usize].entry.origin as usize;
+        self.by_origin[origin].touched = at;
+    }
+
+    /// Where a walk back to this name starts: at the node of its origin that was touched last, where that is after the
+    /// name, since then all behind it are too, and else at this end of the list.
+    fn start_of_walk(&self, origin: u32, tag: Tag, end: u32) -> u32
+        requires { origin < self.now.origins }
+        ensures { result ≢ end → IsAfter origin tag result self.now.places }
+    {
+        let touched = self.by_origin[origin as usize].touched;
+        if touched != NO_NODE && self.nodes[touched as usize].entry.comes_after(origin, tag) {
+            touched
+        } else {
+            end
+        }
+    }
+
     /// The last node of the tag list whose name is not after this one, or `NO_NODE`.
     fn last_through(&self, origin: u32, tag: Tag) -> u32
+        requires { origin < self.now.origins }
         ensures { result ≡ last_not_after origin tag self.now.places }
     {
-        let mut at = self.ends.prev;
+        let mut at = self.start_of_walk(origin, tag, self.ends.prev);
         while at != NO_NODE && self.nodes[at as usize].entry.comes_after(origin, tag) {
             at = self.nodes[at as usize].by_tag.prev;
         }
@@ -283,7 +322,8 @@ impl Arena {
         requires { origin < self.now.origins }
         ensures { result ≡ last_not_after origin tag (places_of origin self.now.places) }
     {
-        let mut at = self.origin_ends[origin as usize].prev;
+        let last = self.by_origin[origin as usize].ends.prev;
+        let mut at = self.start_of_walk(origin, tag, last);
         while at != NO_NODE && self.nodes[at as usize].entry.comes_after(origin, tag) {
             at = self.nodes[at as usize].of_origin.prev;
         }

@@ -4,6 +4,9 @@
 //! in the doubly linked list of its origin (by tag); the unused ones are in a free list. Contracts see none of
 //! these links: they see the entries in order, each with the handle that names it, how many nodes are free, and for how
 //! many memory was taken.
+//!
+//! A name is looked for from the end of a list back. So that names that come newest first do not walk the whole list each
+//! time, the arena keeps for each origin the node touched last, and the walk starts there where that is after the name.
 #![tactic(auto)]
 
 mod arena;

@@ -58,6 +58,34 @@ impl Links {
     };
 }
 
+/// What the arena keeps of an origin: the ends of its list, and the node of it that was touched last, or `NO_NODE`.
+#[derive(Clone, Copy, Debug, PartialEq, Eq)]
+pub(crate) struct Origin {
+    pub ends: Links,
+    pub touched: u32,
+}
+
+impl Origin {
+    /// An origin without a node.
+    pub const EMPTY: Origin = Origin {
+        ends: Links::EMPTY,
+        touched: NO_NODE,
+    };
+
+    ghost use Rattle.std.specs.Prelude.{◌≡◌, ◌==◌, if◌then◌else◌};
+
+    /// The node touched last, or `NO_NODE` where that is this one, which is freed.
+    pub fn touched_without(&self, freed: u32) -> u32
+        ensures { result ≡ (if self.now.touched == freed then NO_NODE else self.now.touched) }
+    {
+        if self.touched == freed {
+            NO_NODE
+        } else {
+            self.touched
+        }
+    }
+}
+
 /// A node: its entry, and its neighbours in the tag list and in its origin's list. Of an unused node only
 /// `by_tag.next` counts, the next node of the free list.
 #[derive(Clone, Copy, Debug, PartialEq, Eq)]

@@ -5,3 +5,4 @@ pub mod ProgressLemmas
 pub mod PlainLemmas
 pub mod NextLemmas
 pub mod TableLemmas
+pub mod ReworkLemmas

@@ -1,3 +1,4 @@
 pub mod Timeline
+pub mod Rework
 pub mod Plain
 pub mod inner

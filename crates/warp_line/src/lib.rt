@@ -6,10 +6,12 @@
 
 mod plain;
 mod replay;
+mod rework_law;
 mod table;
 #[cfg(test)]
 mod tests;
 mod timeline;
 
 pub use plain::Plain;
+pub use rework_law::rework_is_bounded;
 pub use timeline::Timeline;

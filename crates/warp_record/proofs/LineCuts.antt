@@ -1,8 +1,8 @@
 -- The lines of bytes that were cut into pieces.
 use Rattle.std.proofs.Common.{◌≡◌, ℕ, ◌+◌, ◌<◌, Bool, true, false, cond, not, ltb, List, [], ◌∷◌, ◌++◌, length, get_or, drop, Some, None, sym, ap, ◌∙◌, refl, arith, append_assoc}
-use Rattle.std.specs.List.{position, slice_split, before_first}
+use Rattle.std.specs.List.{position, slice_split, join_with_byte, before_first}
 use Rattle.std.specs.Option.{option_to_list}
-use Rattle.std.proofs.lemmas.List.Splits.{slice_split_at, slice_split_none, length-slice_split}
+use Rattle.std.proofs.lemmas.List.Splits.{slice_split_at, slice_split_none, length-slice_split, join_with_byte-slice_split}
 use Rattle.std.proofs.lemmas.List.Sums.{prefix_len-le-length, fails_before_first, passes_at_first, split_at_first}
 use Rattle.std.proofs.lemmas.Bool.{eqb-true}
 use Rattle.std.proofs.lemmas.List.{length-take, get_or-take}
@@ -75,12 +75,18 @@ lines_of-piece line piece more one some =
     All-append (λ (byte : ℕ). is_end byte ≡ false) line before one (one_line_before piece) in
     ap lines_of regrouped ∙ lines_of-ended (line ++ before) (after ++ more) front
 
+-- where bytes begin with a line and its line feed, they do so in one way
+pub first_line : (line other rest more : List ℕ) → IsOneLine line → IsOneLine other → line ++ 10 ∷ rest ≡ other ++ 10 ∷ more
+    → (line ≡ other) × (rest ≡ more)
+first_line line other rest more one_line one_other same =
+    let parts_line : slice_split is_end (line ++ 10 ∷ rest) ≡ line ∷ slice_split is_end rest = slice_split_at is_end line 10 rest one_line refl in
+    let parts_other : slice_split is_end (other ++ 10 ∷ more) ≡ other ∷ slice_split is_end more = slice_split_at is_end other 10 more one_other refl in
+    let split : slice_split is_end (line ++ 10 ∷ rest) ≡ slice_split is_end (other ++ 10 ∷ more) = ap (slice_split is_end) same in
+    let parts : line ∷ slice_split is_end rest ≡ other ∷ slice_split is_end more = sym parts_line ∙ split ∙ parts_other in
+    let behind : slice_split is_end rest ≡ slice_split is_end more = cc in
+    (cc, sym (join_with_byte-slice_split 10 rest) ∙ ap (join_with_byte 10) behind ∙ join_with_byte-slice_split 10 more)
+
 -- a line with its line feed that begins another with its line feed is that line
 pub same_front : (line other rest : List ℕ) → IsOneLine line → IsOneLine other → other ++ 10 ∷ [] ≡ line ++ 10 ∷ [] ++ rest → line ≡ other
 same_front line other rest one_line one_other same =
-    let parts_other : slice_split is_end (other ++ 10 ∷ []) ≡ other ∷ slice_split is_end [] = slice_split_at is_end other 10 [] one_other refl in
-    let parts_line : slice_split is_end (line ++ 10 ∷ rest) ≡ line ∷ slice_split is_end rest = slice_split_at is_end line 10 rest one_line refl in
-    let regrouped : other ++ 10 ∷ [] ≡ line ++ 10 ∷ rest = same ∙ append_assoc line (10 ∷ []) rest in
-    let split : slice_split is_end (other ++ 10 ∷ []) ≡ slice_split is_end (line ++ 10 ∷ rest) = ap (slice_split is_end) regrouped in
-    let first : line ∷ slice_split is_end rest ≡ other ∷ slice_split is_end [] = sym parts_line ∙ sym split ∙ parts_other in
-    cc
+    (first_line line other rest [] one_line one_other (sym (append_assoc line (10 ∷ []) rest) ∙ sym same)).0

@@ -91,8 +91,8 @@ more : (word : List ℕ) (words : List (List ℕ)) → is_plain word ≡ true �
 more word words first rest = and_from (is_plain word) (are_plain words) first rest
 
 -- the words of a number, and what follows
-number : (n : ℕ) (words : List (List ℕ)) → n < 2 ^ 64 → are_plain words ≡ true → are_plain (decimal n ∷ words) ≡ true
-number n words fits rest = more (decimal n) words (plain_decimal n fits) rest
+pub plain_number : (n : ℕ) (words : List (List ℕ)) → n < 2 ^ 64 → are_plain words ≡ true → are_plain (decimal n ∷ words) ≡ true
+plain_number n words fits rest = more (decimal n) words (plain_decimal n fits) rest
 
 -- a signed number at the end
 last : (value : ℤ) → FitsSigned w64 value → are_plain (signed_decimal value ∷ []) ≡ true
@@ -101,43 +101,43 @@ last value fits = more (signed_decimal value) [] (plain_signed value fits) refl
 -- a tag, and what follows
 tagged : (tag : Moment) (words : List (List ℕ)) → IsInRange tag → are_plain words ≡ true → are_plain (tag_words tag ++ words) ≡ true
 tagged tag words fits rest =
-    number tag.time (decimal tag.microstep ∷ words) (omega (arith, fits.time))
-    (number tag.microstep words (omega (arith, fits.microstep)) rest)
+    plain_number tag.time (decimal tag.microstep ∷ words) (omega (arith, fits.time))
+    (plain_number tag.microstep words (omega (arith, fits.microstep)) rest)
 
 -- the words of a record are plain
 pub plain_record : («record» : Record) → IsRecord «record» → are_plain (record_words «record») ≡ true
 plain_record (Event origin tag input value) fits =
-    number origin (tag_words tag ++ decimal input ∷ signed_decimal value ∷ []) (omega (arith, fits.origin_fits))
+    plain_number origin (tag_words tag ++ decimal input ∷ signed_decimal value ∷ []) (omega (arith, fits.origin_fits))
     (tagged tag (decimal input ∷ signed_decimal value ∷ []) fits.tag_fits
-    (number input (signed_decimal value ∷ []) (omega (arith, fits.input_fits)) (last value fits.value_fits)))
+    (plain_number input (signed_decimal value ∷ []) (omega (arith, fits.input_fits)) (last value fits.value_fits)))
 plain_record (Withdraw origin tag) fits =
-    number origin (tag_words tag) (omega (arith, fits.origin_fits)) (tagged tag [] fits.tag_fits refl)
+    plain_number origin (tag_words tag) (omega (arith, fits.origin_fits)) (tagged tag [] fits.tag_fits refl)
 plain_record (Announce origin tag events withdrawn) fits =
-    number origin (tag_words tag ++ decimal events ∷ decimal withdrawn ∷ []) (omega (arith, fits.origin_fits))
+    plain_number origin (tag_words tag ++ decimal events ∷ decimal withdrawn ∷ []) (omega (arith, fits.origin_fits))
     (tagged tag (decimal events ∷ decimal withdrawn ∷ []) fits.tag_fits
-    (number events (decimal withdrawn ∷ []) (omega (arith, fits.events_fit))
-    (number withdrawn [] (omega (arith, fits.withdrawn_fit)) refl)))
+    (plain_number events (decimal withdrawn ∷ []) (omega (arith, fits.events_fit))
+    (plain_number withdrawn [] (omega (arith, fits.withdrawn_fit)) refl)))
 
 -- the words of a line are plain
 pub plain_line : (said : Line) → IsLine said → are_plain (line_words said) ≡ true
 plain_line (line.Put «record») fits = plain_record «record» fits
-plain_line (line.Ask (query.Var n)) fits = number n [] (omega (arith, fits)) refl
+plain_line (line.Ask (query.Var n)) fits = plain_number n [] (omega (arith, fits)) refl
 plain_line (line.Ask query.Outputs) fits = refl
-plain_line (line.Ask (query.Output n)) fits = number n [] (omega (arith, fits)) refl
+plain_line (line.Ask (query.Output n)) fits = plain_number n [] (omega (arith, fits)) refl
 plain_line (line.Ask query.Horizon) fits = refl
 plain_line (line.Ask query.Released) fits = refl
 plain_line (line.Ask query.Lost) fits = refl
-plain_line (line.Ask (query.Breach n)) fits = number n [] (omega (arith, fits)) refl
-plain_line (line.Ask (query.Log n)) fits = number n [] (omega (arith, fits)) refl
+plain_line (line.Ask (query.Breach n)) fits = plain_number n [] (omega (arith, fits)) refl
+plain_line (line.Ask (query.Log n)) fits = plain_number n [] (omega (arith, fits)) refl
 plain_line line.Collect fits = refl
 plain_line (line.Look look.Board) fits = refl
-plain_line (line.Look (look.Row n)) fits = number n [] (omega (arith, fits)) refl
+plain_line (line.Look (look.Row n)) fits = plain_number n [] (omega (arith, fits)) refl
 
 -- the words of an output are plain
 plain_out : (out : Out) → IsOut out → are_plain (out_words out) ≡ true
 plain_out out fits =
     tagged out.tag (decimal out.port ∷ signed_decimal out.value ∷ []) fits.tag_fits
-    (number out.port (signed_decimal out.value ∷ []) (omega (arith, fits.port_fits)) (last out.value fits.value_fits))
+    (plain_number out.port (signed_decimal out.value ∷ []) (omega (arith, fits.port_fits)) (last out.value fits.value_fits))
 
 -- the word of a flag is plain
 plain_flag : (flag : Bool) → are_plain (flag_word flag ∷ []) ≡ true
@@ -147,7 +147,7 @@ plain_flag false = refl
 -- a length of a log and a count are plain
 counted : (log count : ℕ) → log ≤ most_records → count ≤ greatest_count → are_plain (decimal log ∷ decimal count ∷ []) ≡ true
 counted log count log_fits count_fits =
-    number log (decimal count ∷ []) (omega (arith, log_fits)) (number count [] (omega (arith, count_fits)) refl)
+    plain_number log (decimal count ∷ []) (omega (arith, log_fits)) (plain_number count [] (omega (arith, count_fits)) refl)
 
 -- the numbers of refusals
 pub refusal_number-le : (refusal : Refusal) → refusal_number refusal ≤ 11
@@ -165,19 +165,19 @@ refusal_number-le NoBoard = omega arith
 
 -- the words of a reply are plain
 pub plain_reply : (reply : Reply) → IsReply reply → are_plain (reply_words reply) ≡ true
-plain_reply (Taken place) fits = number place [] (omega (arith, fits.1)) refl
-plain_reply (Known place) fits = number place [] (omega (arith, fits.1)) refl
-plain_reply (Refused refusal) fits = number (refusal_number refusal) [] (omega (arith, refusal_number-le refusal)) refl
-plain_reply (Var log value) fits = number log (signed_decimal value ∷ []) (omega (arith, fits.0)) (last value fits.1)
+plain_reply (Taken place) fits = plain_number place [] (omega (arith, fits.1)) refl
+plain_reply (Known place) fits = plain_number place [] (omega (arith, fits.1)) refl
+plain_reply (Refused refusal) fits = plain_number (refusal_number refusal) [] (omega (arith, refusal_number-le refusal)) refl
+plain_reply (Var log value) fits = plain_number log (signed_decimal value ∷ []) (omega (arith, fits.0)) (last value fits.1)
 plain_reply (Outputs log count) fits = counted log count fits.0 fits.1
-plain_reply (Output log out) fits = number log (out_words out) (omega (arith, fits.0)) (plain_out out fits.1)
-plain_reply (Nothing log) fits = number log [] (omega (arith, fits)) refl
-plain_reply (Horizon log tag) fits = number log (tag_words tag) (omega (arith, fits.0)) (tagged tag [] fits.1 refl)
+plain_reply (Output log out) fits = plain_number log (out_words out) (omega (arith, fits.0)) (plain_out out fits.1)
+plain_reply (Nothing log) fits = plain_number log [] (omega (arith, fits)) refl
+plain_reply (Horizon log tag) fits = plain_number log (tag_words tag) (omega (arith, fits.0)) (tagged tag [] fits.1 refl)
 plain_reply (Released log count) fits = counted log count fits.0 fits.1
 plain_reply (Lost log count) fits = counted log count fits.0 fits.1
-plain_reply (Breach log broken) fits = number log (flag_word broken ∷ []) (omega (arith, fits)) (plain_flag broken)
-plain_reply (Log log said) fits = number log (record_words said) (omega (arith, fits.0)) (plain_record said fits.1)
-plain_reply (Collected log) fits = number log [] (omega (arith, fits)) refl
-plain_reply (Board count frozen) fits = number count (flag_word frozen ∷ []) (omega (arith, fits)) (plain_flag frozen)
+plain_reply (Breach log broken) fits = plain_number log (flag_word broken ∷ []) (omega (arith, fits)) (plain_flag broken)
+plain_reply (Log log said) fits = plain_number log (record_words said) (omega (arith, fits.0)) (plain_record said fits.1)
+plain_reply (Collected log) fits = plain_number log [] (omega (arith, fits)) refl
+plain_reply (Board count frozen) fits = plain_number count (flag_word frozen ∷ []) (omega (arith, fits)) (plain_flag frozen)
 plain_reply (Row out) fits = plain_out out fits
 plain_reply NoRow fits = refl

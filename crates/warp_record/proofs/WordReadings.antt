@@ -29,11 +29,11 @@ use Rattle.warp_record.proofs.PlainWords.{refusal_number-le}
 -- ---- one word
 
 -- the first word is this one
-abbrev is_first : List (List ℕ) → List ℕ → Bool
+abbrev pub is_first : List (List ℕ) → List ℕ → Bool
 is_first words key = bytes_eq (get_or words 0 []) key
 
 -- the number at a place
-abbrev number_at : List (List ℕ) → ℕ → ℕ
+abbrev pub number_at : List (List ℕ) → ℕ → ℕ
 number_at words place = digits_value 10 (get_or words place [])
 
 -- the signed number of a word
@@ -72,13 +72,14 @@ tag_said tag a b fits is_a is_b =
 -- ---- records and lines
 
 -- the record that the words say
-abbrev record_said : List (List ℕ) → Record
+abbrev pub record_said : List (List ℕ) → Record
 record_said words =
     if is_first words (codes "event") then Event (number_at words 1) (tag_at words 2) (number_at words 4) (signed_value (get_or words 5 []))
     else (if is_first words (codes "withdraw") then Withdraw (number_at words 1) (tag_at words 2)
     else Announce (number_at words 1) (tag_at words 2) (number_at words 4) (number_at words 5))
 
-record_back : («record» : Record) → IsRecord «record» → record_said (record_words «record») ≡ «record»
+-- a record is what its words say
+pub record_back : («record» : Record) → IsRecord «record» → record_said (record_words «record») ≡ «record»
 record_back (Event origin tag input z) fits =
     rw (
       value origin (omega (arith, fits.origin_fits)),

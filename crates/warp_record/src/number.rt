@@ -51,7 +51,7 @@ pub fn read_number(word: &[u8], max: u64) -> Option<u64>
 }
 
 /// The number up to `max` that the word spells, which fits 32 bits.
-pub(crate) fn read_u32(word: &[u8], max: u32) -> Option<u32>
+pub fn read_u32(word: &[u8], max: u32) -> Option<u32>
     ensures found { IfSome result (λ number. (number ≤ max) × (word.now ≡ decimal number)) }
     ensures none { IfNone result ((number : ℕ) → number ≤ max → word.now ≡ decimal number → ⊥) }
 {

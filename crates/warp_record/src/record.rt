@@ -113,7 +113,7 @@ fn read_counts(words: &[&[u8]]) -> Option<(Count, Count)>
 }
 
 /// The record in range whose words these are; `None` where there is none.
-pub(crate) fn read_record(words: &[&[u8]]) -> Option<Record>
+pub fn read_record(words: &[&[u8]]) -> Option<Record>
     ensures found { IfSome result (λ said. IsRecord said × (map (λ word. word.now) words.now ≡ record_words said)) }
     ensures none { IfNone result ((said : Record) → IsRecord said → map (λ word. word.now) words.now ≡ record_words said → ⊥) }
 {

@@ -6,7 +6,7 @@ ghost use Rattle.warp_record.specs.Number.{is_space};
 use arrayvec::ArrayVec;
 
 /// The most words of a text here: those of `log N event O T M I V`.
-pub(crate) const MOST_WORDS: usize = 8;
+pub const MOST_WORDS: usize = 8;
 
 /// Adds the word behind the others; `None` where there is no place for it.
 fn push_word<'a>(words: &mut ArrayVec<&'a [u8], MOST_WORDS>, word: &'a [u8]) -> Option<()>
@@ -18,7 +18,7 @@ fn push_word<'a>(words: &mut ArrayVec<&'a [u8], MOST_WORDS>, word: &'a [u8]) -> 
 
 /// The words of the text; `None` where there are more than `MOST_WORDS`. A space at an end, or one behind another, has an
 /// empty word beside it.
-pub(crate) fn split_words(bytes: &[u8]) -> Option<ArrayVec<&[u8], MOST_WORDS>>
+pub fn split_words(bytes: &[u8]) -> Option<ArrayVec<&[u8], MOST_WORDS>>
     ensures found { IfSome result (λ words. map (λ word. word.now) words.items ≡ slice_split is_space bytes.now) }
     ensures none { IfNone result (MOST_WORDS < length (slice_split is_space bytes.now)) }
 {
@@ -35,7 +35,7 @@ pub(crate) fn split_words(bytes: &[u8]) -> Option<ArrayVec<&[u8], MOST_WORDS>>
 }
 
 /// Whether the word is this keyword.
-pub(crate) fn is_keyword(word: &[u8], keyword: &[u8]) -> bool
+pub fn is_keyword(word: &[u8], keyword: &[u8]) -> bool
     ensures { IsTrue result ↔ (word.now ≡ keyword.now) }
 {
     word == keyword

@@ -1,12 +1,16 @@
 -- What a settled replica answers: the program's answers over the set of its records.
-use Rattle.std.proofs.Common.{◌≡◌, ℕ, zero, suc, ℤ, ◌<◌, ◌-◌, IsTrue, List, length, slice_get, Option, Some, None, refl, sym, ap, ◌∙◌, subst, arith}
+use Rattle.std.proofs.Common.{◌≡◌, ◌↔◌, ℕ, zero, suc, ℤ, ◌<◌, ◌≤◌, ◌-◌, Bool, true, false, if◌then◌else◌, IsTrue, List, length, slice_get, Option, Some, None, refl, sym, ap, ◌∙◌, subst, arith}
 use Rattle.std.specs.Option.{option_map, unwrap_or}
+use Rattle.std.proofs.lemmas.Bool.{le-ltb}
+use Rattle.std.proofs.lemmas.Bool.Decides.{Decides-ltb, same_from_decides}
 use Rattle.std.proofs.lemmas.Option.{get_or_from_slice_get, slice_get_within}
 use Rattle.warp_tag.specs.Limits.{most_outputs}
+use Rattle.warp_tag.specs.Moment.{Moment}
 use Rattle.warp_tag.specs.Table.{Event, live}
 use Rattle.warp_step.specs.Program.{Program}
 use Rattle.warp_step.specs.Snapshot.{Snapshot, start_state}
 use Rattle.warp_step.specs.Run.{Row, Run, state_at_end, outputs_of}
+use Rattle.warp_step.specs.Events.{is_declared}
 use Rattle.warp_step.specs.Valid.{is_valid}
 use Rattle.warp_step.specs.declared.out.Out.{Out}
 use Rattle.warp_step.proofs.ValidLemmas.{validity}
@@ -14,16 +18,19 @@ use Rattle.warp_step.proofs.OutputsOfRun.{output_within}
 use Rattle.warp_record.specs.declared.record.Record.{Record}
 use Rattle.warp_record.specs.declared.line.Query.{Query}
 use Rattle.warp_record.specs.declared.line.Query.TheVariants as query
-use Rattle.warp_record.specs.declared.reply.Refusal.TheVariants.{NoVar}
+use Rattle.warp_record.specs.declared.reply.Refusal.TheVariants.{NoOrigin, NoVar}
 use Rattle.warp_record.specs.declared.reply.Reply.TheVariants as reply
+use Rattle.warp_table.specs.Announced.{IsBroken, IsHorizon}
 use Rattle.warp_table.specs.Log.{EachOnce, IsAt}
 use Rattle.warp_table.specs.Records.{set_of}
 use Rattle.warp_table.specs.Table.{table_of}
 use Rattle.warp_table.specs.Check.{refusal_of}
 use Rattle.warp_replica.specs.Replica.{AreAllowed}
-use Rattle.warp_replica.specs.Answers.{Answers, AreAnswers, released_of}
+use Rattle.warp_replica.specs.Answers.{Answers, AreAnswers, IsReleased, released_of}
 use Rattle.warp_replica.specs.Gives.{GivesQuery, record_at, reply_to}
+use Rattle.warp_table.proofs.Horizons.{one_horizon}
 use Rattle.warp_table.proofs.LiveEvents.{live_by_set}
+use Rattle.warp_table.proofs.Sets.{one_size}
 use Rattle.warp_replica.proofs.SomeHorizon.{Announces}
 
 -- the run over the records, each of which is there once, how many these are, and what they announce
@@ -55,7 +62,7 @@ module _ (P : Program) (records : List Record) (done : List Row) (log : ℕ) (on
   }
 
   -- what a query gives: the reply by these answers
-  gives : (asked : Query) → GivesQuery P records asked (reply_to records answers asked)
+  gives : (asked : Query) → GivesQuery P records asked (reply_to P records answers asked)
   gives asked = (answers, are_answers, refl)
 
   -- the value of a variable, if there is one
@@ -77,6 +84,36 @@ module _ (P : Program) (records : List Record) (done : List Row) (log : ℕ) (on
       subst (λ (o : Option Out). GivesQuery P records (query.Output number) (unwrap_or (option_map (λ out. reply.Output log out) o) (reply.Nothing log)))
       is (gives (query.Output number))
 
+  -- the horizon
+  pub gives_horizon : (end : Moment) → IsHorizon P (set_of records) end → GivesQuery P records query.Horizon (reply.Horizon log end)
+  gives_horizon end reached =
+      subst (λ (tag : Moment). GivesQuery P records query.Horizon (reply.Horizon log tag))
+      (one_horizon P (set_of records) announced.horizon end announced.reached reached) (gives query.Horizon)
+
+  -- the released outputs are those before the horizon
+  pub released_before : (end : Moment) (outs : List Out) → IsHorizon P (set_of records) end → outs ≡ released_of end (outputs_of done)
+      → IsReleased P (set_of records) outs
+  released_before end outs reached is =
+      let same : end ≡ announced.horizon = one_horizon P (set_of records) end announced.horizon reached announced.reached in
+      (answers, are_answers, is ∙ ap (λ (tag : Moment). released_of tag (outputs_of done)) same)
+
+  -- whether the origin broke an announcement, where the program has it, and that it has no such origin
+  breach_at : (origin : ℕ) (declared : Bool) → is_declared P origin ≡ declared
+      → GivesQuery P records (query.Breach origin) (if declared then reply.Breach log (announced.broken origin) else reply.Refused NoOrigin)
+  breach_at origin declared is =
+      subst (λ (b : Bool). GivesQuery P records (query.Breach origin) (if b then reply.Breach log (announced.broken origin) else reply.Refused NoOrigin))
+      is (gives (query.Breach origin))
+
+  pub gives_breach : (origin : ℕ) (broken : Bool) → origin < P.origins → (IsTrue broken ↔ IsBroken (set_of records) origin)
+      → GivesQuery P records (query.Breach origin) (reply.Breach log broken)
+  gives_breach origin broken below breaks =
+      subst (λ (b : Bool). GivesQuery P records (query.Breach origin) (reply.Breach log b))
+      (same_from_decides (announced.broken origin) broken (announced.breaks origin) breaks)
+      (breach_at origin true ((Decides-ltb origin P.origins).1 below))
+
+  pub gives_no_origin : (origin : ℕ) → P.origins ≤ origin → GivesQuery P records (query.Breach origin) (reply.Refused NoOrigin)
+  gives_no_origin origin past = breach_at origin false (le-ltb origin P.origins past)
+
   -- how much was lost
   pub gives_lost : (state : Snapshot) → state ≡ state_at_end (start_state P) done → GivesQuery P records query.Lost (reply.Lost log state.lost)
   gives_lost state is =
@@ -88,6 +125,13 @@ module _ (P : Program) (records : List Record) (done : List Row) (log : ℕ) (on
   gives_log place found is =
       subst (λ (o : Option Record). GivesQuery P records (query.Log place) (unwrap_or (option_map (λ said. reply.Log log said) o) (reply.Nothing log)))
       is (gives (query.Log place))
+
+-- how many outputs are released, where they are known
+pub gives_released : (P : Program) (records : List Record) (log : ℕ) → EachOnce records → log ≡ length records
+    → (outs : List Out) → IsReleased P (set_of records) outs → GivesQuery P records query.Released (reply.Released log (length outs))
+gives_released P records log once long outs h =
+    let count : log ≡ h.0.count = one_size (set_of records) log h.0.count (records, once, refl, sym long) h.1.count in
+    (h.0, h.1, λ i. reply.Released (count i) (length (h.2 i)))
 
 -- each output of a run is one of the outputs of the program, which are few
 pub few_outputs : (P : Program) (E : List Event) (done : List Row) → Run P E done → (i : ℕ) (out : Out) → IsTrue (is_valid P)

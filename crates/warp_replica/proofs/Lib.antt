@@ -6,3 +6,4 @@ pub mod Mergings
 pub mod Replies
 pub mod ReleasedLists
 pub mod Takings
+pub mod PulledRecords

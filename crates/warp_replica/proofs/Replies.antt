@@ -77,7 +77,7 @@ same_answers P S T same a b h k = one_answer P T a b (subst (λ R. AreAnswers P 
 -- one set's answers give a query one reply
 pub one_reply : (P : Program) (records : List Record) (query : Query) (a b : Reply) → GivesQuery P records query a → GivesQuery P records query b → a ≡ b
 one_reply P records query a b h k =
-    h.2 ∙ ap (λ (answers : Answers). reply_to records answers query) (one_answer P (set_of records) h.0 k.0 h.1 k.1) ∙ sym k.2
+    h.2 ∙ ap (λ (answers : Answers). reply_to P records answers query) (one_answer P (set_of records) h.0 k.0 h.1 k.1) ∙ sym k.2
 
 -- logs of one set give a query the same replies, but where it asks for a place
 pub same_gives : (P : Program) (records other : List Record) (asked : Query) (reply : Reply) → set_of records ≡ set_of other → ¬ AsksPlace asked
@@ -85,5 +85,8 @@ pub same_gives : (P : Program) (records other : List Record) (asked : Query) (re
 same_gives P records other (query.Var number) reply same places h = (h.0, subst (λ S. AreAnswers P S h.0) same h.1, h.2)
 same_gives P records other query.Outputs reply same places h = (h.0, subst (λ S. AreAnswers P S h.0) same h.1, h.2)
 same_gives P records other (query.Output number) reply same places h = (h.0, subst (λ S. AreAnswers P S h.0) same h.1, h.2)
+same_gives P records other query.Horizon reply same places h = (h.0, subst (λ S. AreAnswers P S h.0) same h.1, h.2)
+same_gives P records other query.Released reply same places h = (h.0, subst (λ S. AreAnswers P S h.0) same h.1, h.2)
 same_gives P records other query.Lost reply same places h = (h.0, subst (λ S. AreAnswers P S h.0) same h.1, h.2)
+same_gives P records other (query.Breach origin) reply same places h = (h.0, subst (λ S. AreAnswers P S h.0) same h.1, h.2)
 same_gives P records other (query.Log place) reply same places h = absurd (places tt)

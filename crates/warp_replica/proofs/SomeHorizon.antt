@@ -5,9 +5,12 @@ use Rattle.std.proofs.lemmas.Bool.{cases_Bool, cases_lt}
 use Rattle.warp_tag.specs.Moment.{Moment, is_before}
 use Rattle.warp_tag.proofs.Tags.{not_before_self, not_before_trans}
 use Rattle.warp_step.specs.Program.{Program}
+use Rattle.warp_step.specs.Valid.{is_valid}
+use Rattle.warp_step.proofs.ValidLemmas.{validity}
 use Rattle.warp_record.specs.declared.record.Record.{Record}
 use Rattle.warp_table.specs.Announced.{IsBroken, IsHorizon, ReachesTo}
 use Rattle.warp_table.specs.Records.{Records, set_of}
+use Rattle.warp_table.proofs.SomeHeard.{some_breach, some_reach}
 
 module _ (f : ℕ → Moment) where
   -- no tag of the first so many is before this one
@@ -64,15 +67,21 @@ some_horizon P S reach some = from P.origins refl some
           },
         )
 
--- in every set of a list an origin's announcements reach to some tag, and each origin either broke one or did not
-module _ (reach : (records : List Record) (origin : ℕ) → (end : Moment) × ReachesTo (set_of records) origin end)
-    (breach : (records : List Record) (origin : ℕ) → (broken : Bool) × (IsTrue broken ↔ IsBroken (set_of records) origin)) where
-  pub announces : (P : Program) (records : List Record) → 0 < P.origins → Announces P (set_of records)
-  announces P records some =
-      let horizon = some_horizon P (set_of records) (reach records) some in
-      record {
-        horizon = horizon.0;
-        reached = horizon.1;
-        broken = λ origin. (breach records origin).0;
-        breaks = λ origin. (breach records origin).1;
-      }
+-- the records of a list announce something to a program that has an origin
+pub announces : (P : Program) (records : List Record) → 0 < P.origins → Announces P (set_of records)
+announces P records some =
+    let horizon = some_horizon P (set_of records) (some_reach records) some in
+    record {
+      horizon = horizon.0;
+      reached = horizon.1;
+      broken = λ origin. (some_breach records origin).0;
+      breaks = λ origin. (some_breach records origin).1;
+    }
+
+-- and to a valid one
+pub announced_to : (P : Program) (records : List Record) → IsTrue (is_valid P) → Announces P (set_of records)
+announced_to P records valid = announces P records (validity P valid).limits.origins_some
+
+-- and to one that has a horizon over them
+pub announced_before : (P : Program) (records : List Record) (end : Moment) → IsHorizon P (set_of records) end → Announces P (set_of records)
+announced_before P records end reached = announces P records (omega (arith, reached.some.1))

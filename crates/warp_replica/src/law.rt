@@ -1,14 +1,16 @@
 //! Laws: what a query gives follows from the set of the records, whatever the order and repeats of taking.
-ghost use Rattle.std.specs.Prelude.{◌≡◌, ◌≢◌, ◌≤◌, ◌<◌, ℕ, List, length, Result, Err};
+ghost use Rattle.std.specs.Prelude.{◌≡◌, ◌≢◌, ◌≤◌, ◌<◌, ◌⊎◌, ◌++◌, ◌∷◌, [], ℕ, List, length, Option, Some, Result, Err};
 ghost use Rattle.warp_tag.specs.Limits.{most_records};
 ghost use Rattle.warp_step.specs.Program.{Program};
 ghost use Rattle.warp_record.specs.declared.line.Query.{Query};
 ghost use Rattle.warp_record.specs.declared.record.Record.{Record};
 ghost use Rattle.warp_record.specs.declared.reply.Refusal.{Refusal};
 ghost use Rattle.warp_record.specs.declared.reply.Reply.{Reply};
+ghost use Rattle.warp_exchange.specs.Pulls.{Pulls, Step};
 ghost use Rattle.warp_table.specs.Log.{EachOnce};
 ghost use Rattle.warp_table.specs.Records.{Records, set_of, union};
 ghost use Rattle.warp_replica.specs.Answers.{Answers, AreAnswers};
+ghost use Rattle.warp_replica.specs.Desk.{LocalState, LocalGives};
 ghost use Rattle.warp_replica.specs.Gives.{GivesQuery, AsksPlace, Takes};
 ghost use Rattle.warp_replica.specs.Merge.{merged};
 ghost use Rattle.warp_replica.specs.declared.took.Took.{Took};
@@ -60,4 +62,11 @@ pub fn one_taking()
         a ≢ Err Refusal.NoMemory → b ≢ Err Refusal.NoMemory → (a ≡ b) × (left ≡ right) }
     ensures some { (P : Program) (records : List Record) (said : Record) → length records ≤ most_records →
         (a : Result Took Refusal) × (after : List Record) × Takes P records said a after × (a ≢ Err Refusal.NoMemory) }
+{}
+
+/// What a puller does with a replica as its desk: the replica's log grows by the record that was replied, or not at all.
+pub fn pulled_record()
+    ensures { (s s' : LocalState) (place : ℕ) (said : Option Reply) (step : Step) → Pulls LocalGives s place said step s' →
+        (s'.program ≡ s.program) × ((s'.records ≡ s.records)
+        ⊎ ((log : ℕ) × (new : Record) × (said ≡ Some (Reply.Log log new)) × (s'.records ≡ s.records ++ new ∷ []))) }
 {}

@@ -16,7 +16,9 @@ mod tests;
 mod took;
 
 pub use idle::Idle;
-pub use law::{merging_joins, merging_laws, one_answer, one_reply, one_taking, same_replies};
+pub use law::{
+    merging_joins, merging_laws, one_answer, one_reply, one_taking, pulled_record, same_replies,
+};
 pub use local::Local;
 pub use release_law::{
     honest_subsets, released_agree, released_are_first, released_stays, rows_before_a_tag,

@@ -90,19 +90,15 @@ impl<T: Timeline> Desk for Local<T> {
                 }
                 told(took)
             }
-            Line::Collect => {
-                if self.settle::<Brand>(Blank::new(1)).is_err() {
-                    return Reply::Refused(Refusal::NoMemory);
-                }
-                self.replica.collect()
-            }
             Line::Look(_) => Reply::Refused(Refusal::NoBoard),
-            Line::Ask(query) => {
-                if self.settle::<Brand>(Blank::new(1)).is_err() {
-                    return Reply::Refused(Refusal::NoMemory);
-                }
-                self.replica.answer(query)
-            }
+            Line::Collect => match self.settle::<Brand>(Blank::new(1)) {
+                Ok(()) => self.replica.collect(),
+                Err(_) => Reply::Refused(Refusal::NoMemory),
+            },
+            Line::Ask(query) => match self.settle::<Brand>(Blank::new(1)) {
+                Ok(()) => self.replica.answer(query),
+                Err(_) => Reply::Refused(Refusal::NoMemory),
+            },
         }
     }
 }

@@ -1,13 +1,14 @@
 //! A replica: a program, the table of the records that it took, and the timeline that runs them.
-ghost use Rattle.std.specs.Prelude.{◌≡◌, ◌↔◌, ◌+◌, ◌-◌, ◌<◌, ◌≤◌, [], ◌∷◌, ◌++◌, false, None, length, List, Contains, IsTrue, IsOk, IfOk, OnOk, OnErr};
+ghost use Rattle.std.specs.Prelude.{◌≡◌, ◌↔◌, ◌+◌, ◌-◌, ◌<◌, ◌≤◌, [], ◌∷◌, ◌++◌, false, None, length, List, Contains, IsTrue, IfSome, IfNone, IsOk, IfOk, OnOk, OnErr};
 ghost use Rattle.warp_tag.specs.Limits.{most_outputs, most_records};
 ghost use Rattle.warp_record.specs.declared.line.Query.{Query};
+ghost use Rattle.warp_record.specs.declared.record.Record.{Record};
 ghost use Rattle.warp_record.specs.declared.reply.Reply.{Reply};
 ghost use Rattle.warp_record.specs.Record.{IsRecord};
 ghost use Rattle.warp_record.specs.Reply.{IsOut, IsReply};
 ghost use Rattle.warp_step.specs.Run.{Row};
 ghost use Rattle.warp_line.specs.Timeline.{Standing, IsDone, KeepsDone, NowStands, Settles};
-ghost use Rattle.warp_table.specs.Log.{EachOnce};
+ghost use Rattle.warp_table.specs.Log.{EachOnce, IsAt};
 ghost use Rattle.warp_table.specs.Table.{with_record};
 ghost use Rattle.warp_table.specs.Check.{refusal_of};
 ghost use Rattle.warp_table.specs.Records.{set_of};
@@ -92,6 +93,14 @@ impl<T: Timeline> Replica<T> {
         ensures bound { result ≤ most_records }
     {
         self.table.len()
+    }
+
+    /// The record at this place of its log, from 1; `None` where there is none.
+    pub fn entry(&self, place: u32) -> Option<Record>
+        ensures found { IfSome result (λ said. IsAt self.now.records place said) }
+        ensures none { IfNone result ((said : Record) → ¬ IsAt self.now.records place said) }
+    {
+        self.table.entry(place)
     }
 
     /// Its timeline.
@@ -197,6 +206,8 @@ impl<T: Timeline> Replica<T> {
         ensures gives { GivesQuery self.now.program self.now.records (Query.Var number) result }
         ensures reply { IsReply result }
     {
+        // Each program is valid, and so has an origin and a horizon.
+        self.program.valid();
         let log = self.table.len();
         match self.timeline.state().vars().get(number as usize) {
             Some(value) => Reply::Var { log, value: *value },
@@ -210,6 +221,8 @@ impl<T: Timeline> Replica<T> {
         ensures gives { GivesQuery self.now.program self.now.records Query.Outputs result }
         ensures reply { IsReply result }
     {
+        // Each program is valid, and so has an origin and a horizon.
+        self.program.valid();
         Reply::Outputs {
             log: self.table.len(),
             count: self.timeline.outputs().len() as u64,
@@ -266,6 +279,8 @@ impl<T: Timeline> Replica<T> {
         requires { IsTrue (T.settled self.now.timeline) }
         ensures { IsReleased self.now.program (set_of self.now.records) result.now }
     {
+        // Each record is there once, and so they can be counted.
+        self.valid();
         let horizon = self.table.horizon(&self.program);
         let outputs = self.timeline.outputs();
         let count = outputs.partition_point(|output| output.tag.is_before(horizon));
@@ -278,11 +293,14 @@ impl<T: Timeline> Replica<T> {
         ensures gives { GivesQuery self.now.program self.now.records (Query.Breach origin) result }
         ensures reply { IsReply result }
     {
+        // Each program is valid, and so has an origin and a horizon.
+        self.program.valid();
+        let log = self.table.len();
         if self.program.origins() <= origin {
             return Reply::Refused(Refusal::NoOrigin);
         }
         Reply::Breach {
-            log: self.table.len(),
+            log,
             broken: self.table.broken(origin),
         }
     }
@@ -293,6 +311,8 @@ impl<T: Timeline> Replica<T> {
         ensures gives { GivesQuery self.now.program self.now.records Query.Lost result }
         ensures reply { IsReply result }
     {
+        // Each program is valid, and so has an origin and a horizon.
+        self.program.valid();
         Reply::Lost {
             log: self.table.len(),
             count: self.timeline.state().lost(),
@@ -304,6 +324,8 @@ impl<T: Timeline> Replica<T> {
         ensures gives { GivesQuery self.now.program self.now.records (Query.Log place) result }
         ensures reply { IsReply result }
     {
+        // Each program is valid, and so has an origin and a horizon.
+        self.program.valid();
         let log = self.table.len();
         match self.table.entry(place) {
             Some(record) => {

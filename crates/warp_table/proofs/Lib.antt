@@ -19,3 +19,4 @@ pub mod Tallies
 pub mod Heard
 pub mod HeardNews
 pub mod LeastReach
+pub mod SomeHeard

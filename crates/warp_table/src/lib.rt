@@ -1,9 +1,12 @@
-//! The records that were taken, in order: their places, why a program refuses one, and what they say of names.
+//! The records that were taken, in order: their places, why a program refuses one, what they say of names, how far the
+//! announcements let the horizon come, and which origins broke theirs.
 //!
-//! Contracts see a `Table` as the list of its records. What that list says of names follows from the set of its records
-//! alone (`known_by_set`, `one_table`, `live_by_set`).
+//! Contracts see a `Table` as the list of its records. What that list says of names, the horizon and who broke an announcement
+//! follow from the set of its records alone (`known_by_set`, `one_table`, `live_by_set`, `one_horizon`, `some_reach`).
 #![tactic(auto)]
 
+#[cfg(test)]
+mod announced_tests;
 mod announcer;
 mod honest_law;
 mod law;
@@ -11,7 +14,7 @@ mod table;
 #[cfg(test)]
 mod tests;
 
-pub use honest_law::{honest_within, later_horizon, one_horizon, same_below};
+pub use honest_law::{honest_within, later_horizon, one_horizon, same_below, some_reach};
 pub use law::{
     in_set, is_table, joined, known_by_set, live_by_set, live_once, names_once, one_set, one_size,
     one_table, told_once,

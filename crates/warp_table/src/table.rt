@@ -1,7 +1,7 @@
 //! The records that were taken, in order, what is known of the names that they speak of, and what is heard of each origin.
 //!
-//! A record of a name asks a hash table twice. What an origin announced is kept by its `Announcer`, so that in order of tags
-//! no record costs a pass over all announcements or names; a horizon costs a look at each origin of the program.
+//! Known records and names are found by hash. What an origin announced is kept by its `Announcer`, so that in order of tags no
+//! record costs a pass over all announcements or names. A horizon costs a look at each origin of the program.
 ghost use Rattle.std.specs.Prelude.{◌≡◌, ◌↔◌, ℕ, ℤ, ◌+◌, ◌<◌, ◌≤◌, List, [], ◌∷◌, ◌++◌, None, Some, true, false, is_some, length, slice_get, vec_len, Contains, IsTrue, IfSome, IfNone, IfOk, IsOk, OnOk, OnErr, MatchResult, if◌then◌else◌};
 ghost use Rattle.warp_tag.specs.Limits.{most_origins, most_records};
 ghost use Rattle.warp_step.specs.Events.{is_declared};
@@ -194,10 +194,10 @@ impl Table {
     pub fn broken(&self, origin: u32) -> bool
         ensures { IsTrue result ↔ IsBroken (set_of self.now) origin }
     {
-        match self.announcers.get(origin as usize) {
-            Some(announcer) => announcer.is_broken(),
-            None => false,
-        }
+        let Some(announcer) = self.announcers.get(origin as usize) else {
+            return false;
+        };
+        announcer.is_broken()
     }
 }
 
@@ -345,7 +345,11 @@ fn hear_event(announcer: &mut Announcer, tag: Tag, has_event: bool) -> Result<()
 }
 
 /// Notes a new record to its origin. An `Err` changes nothing.
-fn hear_own(announcer: &mut Announcer, names: &IndexMap<Name, Known>, record: &Record) -> Result<(), OutOfMemory>
+fn hear_own(
+    announcer: &mut Announcer,
+    names: &IndexMap<Name, Known>,
+    record: &Record,
+) -> Result<(), OutOfMemory>
     requires { (records : List Record) × IsNewsOf records names.now.entries announcer.old «record».now }
     ensures ok { (records : List Record) → IsNewsOf records names.now.entries announcer.old «record».now
         → OnOk result (IsHeard (set_of (records ++ «record».now ∷ [])) (origin_of «record».now) announcer.new) }
@@ -367,7 +371,11 @@ fn hear_own(announcer: &mut Announcer, names: &IndexMap<Name, Known>, record: &R
 }
 
 /// Notes a new record to its origin. What is heard stays on an `Err`.
-fn hear(announcers: &mut Vec<Announcer>, names: &IndexMap<Name, Known>, record: &Record) -> Result<(), OutOfMemory>
+fn hear(
+    announcers: &mut Vec<Announcer>,
+    names: &IndexMap<Name, Known>,
+    record: &Record,
+) -> Result<(), OutOfMemory>
     requires origin { origin_of «record».now < most_origins }
     requires news { (records : List Record) × IsNews records names.now.entries announcers.old.items «record».now }
     ensures ok { (records : List Record) → IsNews records names.now.entries announcers.old.items «record».now

@@ -1,4 +1,7 @@
 //! Each call with ample memory, and each answer of `check`.
+ghost use Rattle.std.specs.Prelude.{◌≡◌};
+ghost use Rattle.warp_table.specs.Names.{origin_of};
+
 use crate::Table;
 use std::process::Abort;
 use std::test::Fail;
@@ -6,16 +9,16 @@ use warp_record::{Count, Record, Refusal};
 use warp_step::Program;
 use warp_tag::{Entry, Tag};
 
-/// What a record says beside its origin and its tag; an announcement is of one event and no withdrawal.
+/// What a record says beside its origin and its tag: an event's input and value, how many events and withdrawals are announced.
 #[derive(Clone, Copy)]
-enum Says {
+pub(crate) enum Says {
     Event(u32, i64),
     Withdrawal,
-    Announcement,
+    Announcement(u32, u32),
 }
 
 /// The tag of this time and microstep.
-fn at(rt: &impl Abort, (time, micro): (u64, u32)) -> Tag {
+pub(crate) fn at(rt: &impl Abort, (time, micro): (u64, u32)) -> Tag {
     Tag::new(time, micro).expect(rt, "a tag in range")
 }
 
@@ -23,7 +26,9 @@ fn count(rt: &impl Abort, number: u32) -> Count {
     Count::new(number).expect(rt, "a count in range")
 }
 
-fn record(rt: &impl Abort, origin: u32, tag: (u64, u32), says: Says) -> Record {
+pub(crate) fn record(rt: &impl Abort, origin: u32, tag: (u64, u32), says: Says) -> Record
+    ensures { origin_of result ≡ origin }
+{
     let tag = at(rt, tag);
     match says {
         Says::Event(input, value) => Record::Event {
@@ -33,11 +38,11 @@ fn record(rt: &impl Abort, origin: u32, tag: (u64, u32), says: Says) -> Record {
             value,
         },
         Says::Withdrawal => Record::Withdraw { origin, tag },
-        Says::Announcement => Record::Announce {
+        Says::Announcement(events, withdrawn) => Record::Announce {
             origin,
             tag,
-            events: count(rt, 1),
-            withdrawn: count(rt, 0),
+            events: count(rt, events),
+            withdrawn: count(rt, withdrawn),
         },
     }
 }
@@ -57,9 +62,19 @@ fn reasons(rt: HostRuntime) -> Result<(), Fail> {
         (0, (100, 15), Says::Withdrawal, Ok(())),
         (0, (101, 0), Says::Withdrawal, Err(Refusal::PastStop)),
         (2, (101, 0), Says::Withdrawal, Err(Refusal::NoOrigin)),
-        (0, (101, 0), Says::Announcement, Ok(())),
-        (0, (101, 1), Says::Announcement, Err(Refusal::PastStop)),
-        (2, (101, 1), Says::Announcement, Err(Refusal::NoOrigin)),
+        (0, (101, 0), Says::Announcement(1, 0), Ok(())),
+        (
+            0,
+            (101, 1),
+            Says::Announcement(1, 0),
+            Err(Refusal::PastStop),
+        ),
+        (
+            2,
+            (101, 1),
+            Says::Announcement(1, 0),
+            Err(Refusal::NoOrigin),
+        ),
     ];
     for (origin, tag, says, answer) in rows {
         let record = record(&rt, origin, tag, says);
@@ -74,7 +89,7 @@ fn places_and_names(rt: HostRuntime) -> Result<(), Fail> {
     let rows = [
         (1, 1, (7, 0), Says::Event(1, 4)),
         (2, 0, (5, 0), Says::Withdrawal),
-        (3, 0, (9, 0), Says::Announcement),
+        (3, 0, (9, 0), Says::Announcement(1, 0)),
         (4, 0, (5, 0), Says::Event(0, 3)),
         (5, 1, (7, 0), Says::Event(1, -2)),
         (6, 0, (2, 1), Says::Event(0, 1)),
@@ -85,6 +100,7 @@ fn places_and_names(rt: HostRuntime) -> Result<(), Fail> {
     let mut table = Table::new(rt.alloc());
     for (place, origin, tag, says) in rows {
         let record = record(&rt, origin, tag, says);
+        assert!(rt; origin < 32);
         assert_eq!(rt; table.position(&record), None);
         assert!(rt; !table.is_full());
         assert_eq!(rt; table.add(&record)?, place);

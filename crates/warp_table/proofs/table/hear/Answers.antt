@@ -16,7 +16,7 @@ hear_own-requires c =
     let own = looked_up new c.origin_of-origin.result (origin_of c.args.record.now) c.index_mut-announcer.result.now c.index_mut-announcer.ensures.value within c.origin_of-origin.ensures in (
       c.requires.news.0,
       own_news c.requires.news.0 c.args.names.now.entries c.args.announcers.now.items new c.args.record.now c.index_mut-announcer.result.now
-      c.in_ok-keep_up_to.ensures.same own c.requires.news.1,
+          c.in_ok-keep_up_to.ensures.same own c.requires.news.1,
     )
 
 pub returns-clause-ok : goal.returns-clause-ok

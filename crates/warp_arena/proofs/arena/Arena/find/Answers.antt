@@ -18,7 +18,7 @@ use Rattle.warp_arena.proofs.arena.Arena.find.Goals.{else-at-via-then-at+else-is
 pub returns-then-origin-len-clause-handle : goal.returns-then-origin-len-clause-handle
 returns-then-origin-len-clause-handle c =
     sym (ap (λ v. node_of c.args.origin c.args.tag v.places) (sym c.self.view_is)
-    ∙ none_declared c.self.inside c.self.invariant c.args.origin c.args.tag (omega (arith, c.self.inside.origin_ends.ok.0)))
+    ∙ none_declared c.self.inside c.self.invariant c.args.origin c.args.tag (omega (arith, c.self.inside.by_origin.ok.0)))
 
 -- where the walk stopped, as the last of the origin's nodes up to the name
 last_is : (a : Inside) (v : Contents) (o : ℕ) (g : Moment) (at : ℕ) → contents_of (threads a) a.used (vec_capacity a.nodes) ≡ v → at ≡ last_not_after o g (places_of o v.places) → at ≡ last_or NO_NODE (filter (λ i. not (name_before o g ((threads a).entry i))) (owned a o))
@@ -30,7 +30,7 @@ last_is a v o g at is s =
 pub index-requires : goal.index-requires
 index-requires c =
     let a = c.self.inside in
-    let declared : c.args.origin < length a.origin_ends.items = omega (arith, a.origin_ends.ok.0) in
+    let declared : c.args.origin < length a.by_origin.items = omega (arith, a.by_origin.ok.0) in
     let at : ℕ = c.last_of_origin_through-at.result in
     let s = last_is a c.args.self.now c.args.origin c.args.tag at c.self.view_is c.last_of_origin_through-at.ensures in
     omega (arith, a.nodes.ok.0, (node_of-at a c.self.invariant c.args.origin c.args.tag declared at s c.if-at.true).0)
@@ -38,7 +38,7 @@ index-requires c =
 pub returns-then-is_of-clause-handle : goal.returns-then-is_of-clause-handle
 returns-then-is_of-clause-handle c =
     let a = c.self.inside in
-    let declared : c.args.origin < length a.origin_ends.items = omega (arith, a.origin_ends.ok.0) in
+    let declared : c.args.origin < length a.by_origin.items = omega (arith, a.by_origin.ok.0) in
     let at : ℕ = c.last_of_origin_through-at.result in
     let s = last_is a c.args.self.now c.args.origin c.args.tag at c.self.view_is c.last_of_origin_through-at.ensures in
     let r = node_of-at a c.self.invariant c.args.origin c.args.tag declared at s c.if-at.true in
@@ -50,7 +50,7 @@ returns-then-is_of-clause-handle c =
 pub returns-else-at-clause-handle : goal.returns-else-at-clause-handle
 returns-else-at-clause-handle c =
     let a = c.self.inside in
-    let declared : c.args.origin < length a.origin_ends.items = omega (arith, a.origin_ends.ok.0) in
+    let declared : c.args.origin < length a.by_origin.items = omega (arith, a.by_origin.ok.0) in
     let at : ℕ = c.last_of_origin_through-at.result in
     let s = last_is a c.args.self.now c.args.origin c.args.tag at c.self.view_is c.last_of_origin_through-at.ensures in
     let none : node_of c.args.origin c.args.tag (places a) ≡ None =

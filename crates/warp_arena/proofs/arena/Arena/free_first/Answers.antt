@@ -18,7 +18,7 @@ pub index-requires-2 : goal.index-requires-2
 index-requires-2 c =
     let a = c.self.inside in
     let l = leaving_of a c.args.self.now c.self.view_is c.self.invariant c.requires in
-    omega (arith, a.origin_ends.ok.0, first_declared a l c.index.result.now c.index.ensures)
+    omega (arith, a.by_origin.ok.0, first_declared a l c.index.result.now c.index.ensures)
 
 pub unthread_node-requires-clause-tags : goal.unthread_node-requires-clause-tags
 unthread_node-requires-clause-tags c =
@@ -31,13 +31,13 @@ unthread_node-requires-clause-owns c =
     let a = c.self.inside in
     let l = leaving_of a c.args.self.now c.self.view_is c.self.invariant c.requires in
     let r = first_read a l c.index.result.now c.index-2.result.now c.index.ensures c.index-2.ensures in
-    subst (λ (ns : List Node). CanUnthread (length ns) (next_in c.index-2.result.now (of_origin ns)) a.ends.next) (sym c.deref_mut.ensures.value) r.owns
+    subst (λ (ns : List Node). CanUnthread (length ns) (next_in c.index-2.result.now.ends (of_origin ns)) a.ends.next) (sym c.deref_mut.ensures.value) r.owns
 
 pub index_mut-requires : goal.index_mut-requires
 index_mut-requires c =
     let a = c.self.inside in
     let l = leaving_of a c.args.self.now c.self.view_is c.self.invariant c.requires in
-    omega (arith, a.origin_ends.ok.0, first_declared a l c.index.result.now c.index.ensures)
+    omega (arith, a.by_origin.ok.0, first_declared a l c.index.result.now c.index.ensures)
 
 pub invariant_of-self : goal.invariant_of-self
 invariant_of-self c =
@@ -45,11 +45,11 @@ invariant_of-self c =
     let l = leaving_of a c.args.self.now c.self.view_is c.self.invariant c.requires in
     let r = first_read a l c.index.result.now c.index-2.result.now c.index.ensures c.index-2.ensures in
     let o : ℕ = c.index.result.now.entry.origin in
-    let change = subst (λ ns. Unthreaded ns c.unthread_node.new.nodes a.ends c.unthread_node.new.ends c.index-2.result.now c.unthread_node.new.own_ends a.ends.next a.free)
+    let change = subst (λ ns. Unthreaded ns c.unthread_node.new.nodes a.ends c.unthread_node.new.ends c.index-2.result.now.ends c.unthread_node.new.own_ends a.ends.next a.free)
     c.deref_mut.ensures.value c.unthread_node.ensures in
     let items = with_items_is a.nodes c.unthread_node.new.nodes (omega (arith, change.len, a.nodes.ok.0)) in
-    subst (λ ns. IsWhole (threads_of ns (set a.origin_ends.items o c.unthread_node.new.own_ends) c.unthread_node.new.ends a.ends.next) (a.used - 1)) (sym items)
-    (whole_removed a l c.unthread_node.new.nodes c.index-2.result.now c.unthread_node.new.ends c.unthread_node.new.own_ends o r.is_own r.own_is change)
+    subst (λ ns. IsWhole (threads_of ns (set a.by_origin.items o (record { ends = c.unthread_node.new.own_ends; touched = c.touched_without.result })) c.unthread_node.new.ends a.ends.next) (a.used - 1)) (sym items)
+    (whole_removed a l c.unthread_node.new.nodes c.index-2.result.now c.unthread_node.new.ends c.unthread_node.new.own_ends o c.touched_without.result r.is_own r.own_is c.touched_without.ensures change)
 
 pub returns : goal.returns
 returns c =
@@ -57,9 +57,9 @@ returns c =
     let l = leaving_of a c.args.self.now c.self.view_is c.self.invariant c.requires in
     let r = first_read a l c.index.result.now c.index-2.result.now c.index.ensures c.index-2.ensures in
     let o : ℕ = c.index.result.now.entry.origin in
-    let change = subst (λ ns. Unthreaded ns c.unthread_node.new.nodes a.ends c.unthread_node.new.ends c.index-2.result.now c.unthread_node.new.own_ends a.ends.next a.free)
+    let change = subst (λ ns. Unthreaded ns c.unthread_node.new.nodes a.ends c.unthread_node.new.ends c.index-2.result.now.ends c.unthread_node.new.own_ends a.ends.next a.free)
     c.deref_mut.ensures.value c.unthread_node.ensures in
     let items = with_items_is a.nodes c.unthread_node.new.nodes (omega (arith, change.len, a.nodes.ok.0)) in
-    ap (λ ns. contents_of (threads_of ns (set a.origin_ends.items o c.unthread_node.new.own_ends) c.unthread_node.new.ends a.ends.next) (a.used - 1) (vec_capacity a.nodes)) items
-    ∙ contents_removed a l c.unthread_node.new.nodes c.index-2.result.now c.unthread_node.new.ends c.unthread_node.new.own_ends o r.is_own r.own_is change
+    ap (λ ns. contents_of (threads_of ns (set a.by_origin.items o (record { ends = c.unthread_node.new.own_ends; touched = c.touched_without.result })) c.unthread_node.new.ends a.ends.next) (a.used - 1) (vec_capacity a.nodes)) items
+    ∙ contents_removed a l c.unthread_node.new.nodes c.index-2.result.now c.unthread_node.new.ends c.unthread_node.new.own_ends o c.touched_without.result r.is_own r.own_is c.touched_without.ensures change
     ∙ ap (λ v. let w : Contents = record { origins = v.origins; places = drop 1 v.places; free = v.free + 1; room = v.room } in w) c.self.view_is

@@ -1,14 +1,16 @@
-use Rattle.std.proofs.Common.{arith, refl, sym, ap, ◌∙◌}
+use Rattle.std.proofs.Common.{arith, sym, ap, ◌∙◌, subst}
 use Rattle.warp_tag.specs.Table.{name_before}
-use Rattle.warp_arena.specs.Shape.{last_not_after}
+use Rattle.warp_arena.specs.Shape.{last_not_after, IsAfter}
 use Rattle.warp_arena.proofs.Tables.{last_of_places}
-use Rattle.warp_arena.proofs.Walks.{threads, used, Listed-tags, walk_start, walk_below, walk_back, walk_nearer, walk_end, walk_stop}
+use Rattle.warp_arena.proofs.Walks.{threads, used, Listed-tags, walk_below, walk_back, walk_nearer, walk_end, walk_stop}
+use Rattle.warp_arena.proofs.Touching.{starts_by_tag}
 use Rattle.warp_arena.proofs.arena.Arena.last_through.Goals as goal
 
 pub loop-at-init : goal.loop-at-init
 loop-at-init c =
     let a = c.self.inside in
-    walk_start a.nodes.items (λ n. n.by_tag) a.ends (used a) (Listed-tags a c.self.invariant) (name_before c.args.origin c.args.tag) _ refl
+    starts_by_tag a c.self.invariant c.args.origin c.args.tag c.start_of_walk-at.result
+    (λ n. subst (λ v. IsAfter c.args.origin c.args.tag c.start_of_walk-at.result v.places) (sym c.self.view_is) (c.start_of_walk-at.ensures n))
 
 pub index-requires : goal.index-requires
 index-requires c =

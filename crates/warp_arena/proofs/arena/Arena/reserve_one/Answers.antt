@@ -29,8 +29,8 @@ invariant_of-self-then-self c =
     let full = none_free a c.self.invariant c.if-self.true in
     let room : length a.nodes.items < most_names = omega (arith, full, length-places a, ap (λ v. length v.places) c.self.view_is, c.requires) in
     let index : c.len-index.result ≡ length a.nodes.items = omega (arith, c.len-index.ensures, a.nodes.ok.0) in
-    subst (λ ns. IsWhole (threads_of ns a.origin_ends.items a.ends c.len-index.result) a.used) (sym c.in_ok-add_node.ensures.ok)
-    (subst (λ i. IsWhole (threads_of (a.nodes.items ++ no_node ∷ []) a.origin_ends.items a.ends i) a.used) (sym index)
+    subst (λ ns. IsWhole (threads_of ns a.by_origin.items a.ends c.len-index.result) a.used) (sym c.in_ok-add_node.ensures.ok)
+    (subst (λ i. IsWhole (threads_of (a.nodes.items ++ no_node ∷ []) a.by_origin.items a.ends i) a.used) (sym index)
     (whole_grown a c.self.invariant full room))
 
 pub returns-in_ok-add_node-clause-ok : goal.returns-in_ok-add_node-clause-ok
@@ -44,8 +44,8 @@ returns-in_ok-add_node-clause-ok c =
     let none : v.free ≡ 0 = omega (arith, full, ap (λ u. u.free) c.self.view_is) in
     let grown : vec_capacity c.add_node.new.nodes ≡ room_after (length v.places) v.room =
     c.in_ok-add_node.ensures.room ∙ ap (λ n. room_after n (vec_capacity a.nodes)) places ∙ ap (λ u. room_after (length v.places) u.room) c.self.view_is in
-    ap (λ ns. contents_of (threads_of ns a.origin_ends.items a.ends c.len-index.result) a.used (vec_capacity c.add_node.new.nodes)) c.in_ok-add_node.ensures.ok
-    ∙ ap (λ i. contents_of (threads_of (a.nodes.items ++ no_node ∷ []) a.origin_ends.items a.ends i) a.used (vec_capacity c.add_node.new.nodes)) index
+    ap (λ ns. contents_of (threads_of ns a.by_origin.items a.ends c.len-index.result) a.used (vec_capacity c.add_node.new.nodes)) c.in_ok-add_node.ensures.ok
+    ∙ ap (λ i. contents_of (threads_of (a.nodes.items ++ no_node ∷ []) a.by_origin.items a.ends i) a.used (vec_capacity c.add_node.new.nodes)) index
     ∙ contents_grown a c.self.invariant full room (vec_capacity c.add_node.new.nodes)
     ∙ ap (λ u. let w : Contents = record { origins = u.origins; places = u.places; free = 1; room = vec_capacity c.add_node.new.nodes } in w) c.self.view_is
     ∙ ap (λ r. let w : Contents = record { origins = v.origins; places = v.places; free = 1; room = r } in w) grown

@@ -9,13 +9,13 @@ use Rattle.warp_arena.proofs.arena.Arena.set_withdrawn.Goals as goal
 pub index_mut-requires : goal.index_mut-requires
 index_mut-requires c =
     let a = c.self.inside in
-    let h = subst (λ v. IsSome (entry_of c.args.node v.places)) (sym c.self.view_is) c.requires in
+    let h = subst (λ v. IsSome (entry_of c.args.node v.places)) (sym (c.self.view_is ∙ c.touch.ensures)) c.requires in
     omega (arith, a.nodes.ok.0, used_found_below a c.self.invariant c.args.node h, c.index.ensures)
 
 pub invariant_of-self : goal.invariant_of-self
 invariant_of-self c =
     let a = c.self.inside in
-    let h = subst (λ v. IsSome (entry_of c.args.node v.places)) (sym c.self.view_is) c.requires in
+    let h = subst (λ v. IsSome (entry_of c.args.node v.places)) (sym (c.self.view_is ∙ c.touch.ensures)) c.requires in
     let r = changing a c.self.invariant c.args.node c.index.result c.index.ensures h c.index_mut.result.now c.index_mut.ensures.value
     with_withdrawal (λ _. refl) (λ _. refl) c.withdraw.new.self c.withdraw.ensures.entry in
     r.whole
@@ -23,11 +23,11 @@ invariant_of-self c =
 pub returns-clause-places : goal.returns-clause-places
 returns-clause-places c =
     let a = c.self.inside in
-    let h = subst (λ v. IsSome (entry_of c.args.node v.places)) (sym c.self.view_is) c.requires in
+    let h = subst (λ v. IsSome (entry_of c.args.node v.places)) (sym (c.self.view_is ∙ c.touch.ensures)) c.requires in
     let r = changing a c.self.invariant c.args.node c.index.result c.index.ensures h c.index_mut.result.now c.index_mut.ensures.value
     with_withdrawal (λ _. refl) (λ _. refl) c.withdraw.new.self c.withdraw.ensures.entry in
     r.contents
-    ∙ ap (λ v. let w : Contents = record { origins = v.origins; places = with_change with_withdrawal c.args.node v.places; free = v.free; room = v.room } in w) c.self.view_is
+    ∙ ap (λ v. let w : Contents = record { origins = v.origins; places = with_change with_withdrawal c.args.node v.places; free = v.free; room = v.room } in w) (c.self.view_is ∙ c.touch.ensures)
 
 pub returns-clause-entry : goal.returns-clause-entry
 returns-clause-entry c =

@@ -4,6 +4,7 @@ use Rattle.warp_record.specs.declared.line.Query.TheVariants.{Output}
 use Rattle.warp_record.specs.declared.reply.Reply.TheVariants as reply
 use Rattle.warp_replica.specs.Gives.{GivesQuery}
 use Rattle.warp_replica.proofs.Answering.{gives_output, few_outputs}
+use Rattle.warp_replica.proofs.SomeHorizon.{announced_to}
 use Rattle.warp_replica.proofs.replica.Replica.output.Goals as goal
 
 pub returns-in-Some-clause-gives : goal.returns-in-Some-clause-gives
@@ -17,7 +18,8 @@ returns-in-Some-clause-gives g c =
     let item = c.in-Some.ensures.lookup in
     let is = ap (λ l. slice_get l c.args.number) (sym stood.1) ∙ slice_get_read outs (length outs) c.args.number out refl item.3.0 item.1 in
     subst (λ s. GivesQuery s.program s.records (Output c.args.number) (reply.Output log.result out)) c.self.view_is
-    (gives_output r.program r.table done log.result log.ensures.once log.ensures.value stood.0 c.args.number (Some out) is)
+    (gives_output r.program r.table done log.result log.ensures.once log.ensures.value stood.0
+    (announced_to r.program r.table c.valid.ensures) c.args.number (Some out) is)
 
 pub output_in_range-requires : goal.output_in_range-requires
 output_in_range-requires g c =
@@ -39,4 +41,5 @@ returns-in-None-clause-gives g c =
     let none = slice_get_past c.outputs.result.now c.args.number c.in-None.ensures.lookup.3 in
     let is = ap (λ l. slice_get l c.args.number) (sym stood.1) ∙ none in
     subst (λ s. GivesQuery s.program s.records (Output c.args.number) (reply.Nothing log.result)) c.self.view_is
-    (gives_output r.program r.table done log.result log.ensures.once log.ensures.value stood.0 c.args.number None is)
+    (gives_output r.program r.table done log.result log.ensures.once log.ensures.value stood.0
+    (announced_to r.program r.table c.valid.ensures) c.args.number None is)

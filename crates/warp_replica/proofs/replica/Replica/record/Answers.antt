@@ -6,6 +6,7 @@ use Rattle.warp_record.specs.declared.reply.Reply.TheVariants as reply
 use Rattle.warp_table.specs.Table.{table_of}
 use Rattle.warp_replica.specs.Gives.{GivesQuery}
 use Rattle.warp_replica.proofs.Answering.{allowed_at, at_place, at_none, gives_log}
+use Rattle.warp_replica.proofs.SomeHorizon.{announced_to}
 use Rattle.warp_replica.proofs.replica.Replica.record.Goals as goal
 
 pub record_in_range-requires : goal.record_in_range-requires
@@ -20,7 +21,8 @@ returns-in-Some-clause-gives g c =
     let run = exists r.program (live (table_of r.table)) in
     let said = c.in-Some.record in
     subst (λ s. GivesQuery s.program s.records (Log c.args.place) (reply.Log log.result said)) c.self.view_is
-    (gives_log r.program r.table run.0 log.result log.ensures.once log.ensures.value run.1 c.args.place (Some said)
+    (gives_log r.program r.table run.0 log.result log.ensures.once log.ensures.value run.1
+    (announced_to r.program r.table c.valid.ensures) c.args.place (Some said)
     (at_place r.table c.args.place said c.in-Some.ensures.found))
 
 pub returns-in-None-clause-gives : goal.returns-in-None-clause-gives
@@ -29,5 +31,6 @@ returns-in-None-clause-gives g c =
     let log = c.len-log in
     let run = exists r.program (live (table_of r.table)) in
     subst (λ s. GivesQuery s.program s.records (Log c.args.place) (reply.Nothing log.result)) c.self.view_is
-    (gives_log r.program r.table run.0 log.result log.ensures.once log.ensures.value run.1 c.args.place None
+    (gives_log r.program r.table run.0 log.result log.ensures.once log.ensures.value run.1
+    (announced_to r.program r.table c.valid.ensures) c.args.place None
     (at_none r.table c.args.place c.in-None.ensures.none))

@@ -6,6 +6,7 @@ use Rattle.warp_record.specs.declared.reply.Reply.TheVariants as reply
 use Rattle.warp_record.specs.declared.reply.Refusal.TheVariants.{NoVar}
 use Rattle.warp_replica.specs.Gives.{GivesQuery}
 use Rattle.warp_replica.proofs.Answering.{gives_var}
+use Rattle.warp_replica.proofs.SomeHorizon.{announced_to}
 use Rattle.warp_replica.proofs.replica.Replica.variable.Goals as goal
 
 pub returns-in-Some-clause-gives : goal.returns-in-Some-clause-gives
@@ -22,7 +23,8 @@ returns-in-Some-clause-gives g c =
     let fits : FitsSigned w64 value = search rules in
     rw (to_z-of_z w64 value fits)
     (subst (λ s. GivesQuery s.program s.records (Var c.args.number) (reply.Var log.result value)) c.self.view_is
-    (gives_var r.program r.table done log.result log.ensures.once log.ensures.value stood.0 c.args.number (Some value) is))
+    (gives_var r.program r.table done log.result log.ensures.once log.ensures.value stood.0
+    (announced_to r.program r.table c.valid.ensures) c.args.number (Some value) is))
 
 pub returns-in-None-clause-gives : goal.returns-in-None-clause-gives
 returns-in-None-clause-gives g c =
@@ -35,4 +37,5 @@ returns-in-None-clause-gives g c =
     let none = slice_get_past c.vars.result.now c.args.number item.3 in
     let is = ap (λ l. slice_get l c.args.number) (sym vars) ∙ none in
     subst (λ s. GivesQuery s.program s.records (Var c.args.number) (reply.Refused NoVar)) c.self.view_is
-    (gives_var r.program r.table done log.result log.ensures.once log.ensures.value stood.0 c.args.number None is)
+    (gives_var r.program r.table done log.result log.ensures.once log.ensures.value stood.0
+    (announced_to r.program r.table c.valid.ensures) c.args.number None is)

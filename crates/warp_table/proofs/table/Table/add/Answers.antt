@@ -22,7 +22,7 @@ hear-requires-clause-news c =
     let was = c.self.inside in (
       was.records.keys,
       news_to was.records.keys c.args.self.now was.names.entries c.reserve-2.new.self.entries was.announcers.items c.args.record.now c.self.view_is c.in_ok-reserve-2.ensures.entries
-      c.self.invariant.1 c.self.invariant.2 c.requires.new,
+          c.self.invariant.1 c.self.invariant.2 c.requires.new,
     )
 
 pub invariant_of-self-in_err-hear : goal.invariant_of-self-in_err-hear

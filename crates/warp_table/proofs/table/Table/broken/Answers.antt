@@ -8,8 +8,8 @@ use Rattle.warp_table.specs.inner.Heard.{Heard, IsHeard, heard_at, nothing_heard
 use Rattle.warp_table.proofs.Heard.{breaks}
 use Rattle.warp_table.proofs.table.Table.broken.Goals as goal
 
-pub returns-in-Some : goal.returns-in-Some
-returns-in-Some c =
+pub returns : goal.returns
+returns c =
     let origin = c.args.origin in
     let is = c.self.inside in
     let S : Records = set_of is.records.keys in

@@ -1,0 +1,31 @@
+-- The words of a move and of a number of replicas: they are few, and they are plain.
+use Rattle.std.proofs.Common.{◌≡◌, ℕ, ◌+◌, ◌<◌, ◌≤◌, true, List, [], ◌∷◌, length, decimal, refl, arith}
+use Rattle.warp_record.specs.Record.{record_words}
+use Rattle.warp_record.proofs.LineWords.{words_of_record}
+use Rattle.warp_record.proofs.PlainWords.{are_plain, plain_number, plain_record}
+use Rattle.warp_world.specs.Moves.{IsMove, move_words}
+use Rattle.warp_world.specs.Schedule.{IsCount, count_words}
+use Rattle.warp_world.specs.declared.moves.Move.{Move}
+use Rattle.warp_world.specs.declared.moves.Move.TheVariants.{Make, Carry, Collect, Settle, Restart}
+
+-- how many words a move has
+pub few_words : (next : Move) → (0 < length (move_words next)) × (length (move_words next) ≤ 8)
+few_words (Make replica said) = (omega arith, omega (arith, (words_of_record said).1))
+few_words (Carry from place to) = (omega arith, omega arith)
+few_words (Collect replica) = (omega arith, omega arith)
+few_words (Settle replica) = (omega arith, omega arith)
+few_words (Restart replica) = (omega arith, omega arith)
+
+-- the words of a move are plain
+pub plain_move : (next : Move) → IsMove next → are_plain (move_words next) ≡ true
+plain_move (Make replica said) fits = plain_number replica (record_words said) (omega (arith, fits.0)) (plain_record said fits.1)
+plain_move (Carry from place to) fits =
+    plain_number from (decimal place ∷ decimal to ∷ []) (omega (arith, fits.0))
+    (plain_number place (decimal to ∷ []) (omega (arith, fits.1)) (plain_number to [] (omega (arith, fits.2)) refl))
+plain_move (Collect replica) fits = plain_number replica [] (omega (arith, fits)) refl
+plain_move (Settle replica) fits = plain_number replica [] (omega (arith, fits)) refl
+plain_move (Restart replica) fits = plain_number replica [] (omega (arith, fits)) refl
+
+-- the words of a number of replicas are plain
+pub plain_count : (count : ℕ) → IsCount count → are_plain (count_words count) ≡ true
+plain_count count fits = plain_number count [] (omega (arith, fits.1)) refl

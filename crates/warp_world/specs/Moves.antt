@@ -1,0 +1,26 @@
+-- The moves of a schedule: their ranges, and the one spelling of each.
+use Rattle.std.specs.Prelude.{ℕ, ◌<◌, ◌≤◌, List, [], ◌∷◌, codes, decimal}
+use Rattle.warp_tag.specs.Limits.{most_records}
+use Rattle.warp_record.specs.Record.{IsRecord, record_words}
+use Rattle.warp_world.specs.declared.moves.Move.{Move}
+use Rattle.warp_world.specs.declared.moves.Move.TheVariants.{Make, Carry, Collect, Settle, Restart}
+
+-- the most replicas of a world
+abbrev pub most_replicas : ℕ
+most_replicas = 16
+
+-- the ranges of a move
+abbrev pub IsMove : Move → Type 0
+IsMove (Make replica said) = (replica < most_replicas) × IsRecord said
+IsMove (Carry from place to) = (from < most_replicas) × (place ≤ most_records) × (to < most_replicas)
+IsMove (Collect replica) = replica < most_replicas
+IsMove (Settle replica) = replica < most_replicas
+IsMove (Restart replica) = replica < most_replicas
+
+-- the words of a move
+abbrev pub move_words : Move → List (List ℕ)
+move_words (Make replica said) = codes "make" ∷ decimal replica ∷ record_words said
+move_words (Carry from place to) = codes "carry" ∷ decimal from ∷ decimal place ∷ decimal to ∷ []
+move_words (Collect replica) = codes "collect" ∷ decimal replica ∷ []
+move_words (Settle replica) = codes "settle" ∷ decimal replica ∷ []
+move_words (Restart replica) = codes "restart" ∷ decimal replica ∷ []

@@ -1,0 +1,19 @@
+//! Several replicas of one program, and every schedule of what may happen to them.
+//!
+//! A schedule is a list of moves: a record is made at a replica, an entry of one log is carried to another replica, a replica is
+//! collected, settled or restarted. `play` plays one; contracts see the replicas' logs, which are those of `world_after`.
+#![tactic(auto)]
+
+mod fault;
+mod moves;
+mod schedule;
+mod schedule_law;
+mod world;
+mod world_law;
+
+pub use fault::ScheduleFault;
+pub use moves::Move;
+pub use schedule::{MAX_REPLICAS, MAX_SCHEDULE, read_schedule};
+pub use schedule_law::one_schedule;
+pub use world::World;
+pub use world_law::{logs_are_made, worlds_grow};
