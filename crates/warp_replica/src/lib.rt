@@ -10,6 +10,8 @@ mod idle;
 mod law;
 mod local;
 mod release_law;
+#[cfg(test)]
+mod release_tests;
 mod replica;
 #[cfg(test)]
 mod tests;

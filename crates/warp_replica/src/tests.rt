@@ -18,7 +18,7 @@ fn tag(rt: &impl Abort, time: u64, micro: u32) -> Tag {
 }
 
 /// An event with microstep 0.
-fn event(rt: &impl Abort, origin: u32, time: u64, input: u32, value: i64) -> Record {
+pub(crate) fn event(rt: &impl Abort, origin: u32, time: u64, input: u32, value: i64) -> Record {
     let tag = tag(rt, time, 0);
     Record::Event {
         origin,
@@ -46,7 +46,7 @@ fn announce(rt: &impl Abort, origin: u32, time: u64, micro: u32) -> Record {
 }
 
 /// An output of `twice` with microstep 0.
-fn output(rt: &impl Abort, time: u64, value: i64) -> Out {
+pub(crate) fn output(rt: &impl Abort, time: u64, value: i64) -> Out {
     let tag = tag(rt, time, 0);
     Out {
         tag,
@@ -56,13 +56,13 @@ fn output(rt: &impl Abort, time: u64, value: i64) -> Out {
 }
 
 /// A replica of `twice`, over `Plain`.
-fn replica(rt: &impl Abort, alloc: Global) -> Replica<Plain> {
+pub(crate) fn replica(rt: &impl Abort, alloc: Global) -> Replica<Plain> {
     let program = Program::twice(alloc).expect(rt, "memory");
     Replica::new(alloc, program).expect(rt, "memory")
 }
 
 /// A replica that took these records.
-fn replica_of(rt: &impl Abort, alloc: Global, records: &[Record]) -> Replica<Plain> {
+pub(crate) fn replica_of(rt: &impl Abort, alloc: Global, records: &[Record]) -> Replica<Plain> {
     let mut replica = replica(rt, alloc);
     for record in records {
         assert!(rt; replica.take(alloc, record).is_ok());
@@ -86,7 +86,7 @@ fn total<T: Timeline, L: Ledger>(
 }
 
 /// The same over `Plain`, where nobody counts the ticks.
-fn plain_total(rt: &impl Abort, replica: &mut Replica<Plain>, alloc: Global) -> Reply {
+pub(crate) fn plain_total(rt: &impl Abort, replica: &mut Replica<Plain>, alloc: Global) -> Reply {
     total::<Plain, Brand>(rt, replica, alloc, Blank::new(1))
 }
 
@@ -171,6 +171,8 @@ fn lines(rt: HostRuntime) {
         (Line::Put(withdraw(&rt, 0, 4)), Reply::Taken(5)),
         (Line::Ask(Query::Var(0)), Reply::Var { log: 5, value: 3 }),
         (Line::Ask(Query::Lost), Reply::Lost { log: 5, count: 0 }),
+        (Line::Collect, Reply::Collected { log: 5 }),
+        (Line::Ask(Query::Var(0)), Reply::Var { log: 5, value: 3 }),
         (Line::Ask(Query::Log(0)), Reply::Nothing { log: 5 }),
         (
             Line::Ask(Query::Log(3)),
