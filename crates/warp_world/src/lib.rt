@@ -5,6 +5,8 @@
 #![tactic(auto)]
 
 mod convergence;
+#[cfg(test)]
+mod convergence_tests;
 mod fault;
 mod front_law;
 mod moves;
