@@ -1,6 +1,6 @@
 -- What is heard of origins, and of a record's own origin, with one record that is new.
 use Rattle.std.proofs.Common.{◌≡◌, ◌⊎◌, inl, inr, ℕ, ℤ, ◌<◌, ◌≤◌, Bool, true, false, is_some, Option, Some, None, List, [], ◌∷◌, ◌++◌, length, get_or, set, Contains, IsTrue, refl, sym, ap, subst, ◌∙◌, arith}
-use Rattle.std.specs.Prelude.{if◌then◌else◌, ◌↔◌}
+use Rattle.std.specs.Prelude.{◌↔◌}
 use Rattle.std.specs.Map.{lookup}
 use Rattle.std.specs.Option.{unwrap_or}
 use Rattle.std.proofs.lemmas.Bool.{cases_eq, false≢true}
@@ -14,7 +14,7 @@ use Rattle.warp_table.specs.Records.{Records, IsIn, set_of}
 use Rattle.warp_table.specs.Names.{HasEvent, TellsPayload, origin_of}
 use Rattle.warp_table.specs.declared.table.Name.{Name}
 use Rattle.warp_table.specs.declared.table.Known.{Known}
-use Rattle.warp_table.specs.inner.Heard.{Announced, AreHeard, Heard, IsHeard, earlier_of, heard_at, nothing_heard, with_tag}
+use Rattle.warp_table.specs.inner.Heard.{Announced, AreHeard, Heard, IsHeard, heard_at, nothing_heard, with_heard_event, with_tag}
 use Rattle.warp_table.specs.inner.Kept.{Keeps, KeepsNames, is_named, kept_of, unknown}
 use Rattle.warp_table.specs.inner.News.{IsNews, IsNewsOf}
 use Rattle.warp_table.proofs.Heard.{heard_announcement, heard_elsewhere, heard_event, heard_new_payload, heard_withdrawal, with_one}
@@ -50,7 +50,7 @@ event_new records names own origin tag input value news none has =
 -- what is heard of an event's origin with it
 pub own_event : (records : List Record) (names : List (Name × Known)) (own : Heard) (origin : ℕ) (tag : Moment) (input : ℕ) (value : ℤ) (has : Bool) → IsNewsOf records names own (Event origin tag input value) →
     is_some (kept_of (record { origin = origin; tag = tag }) names).entry.event ≡ has →
-    IsHeard (set_of (records ++ Event origin tag input value ∷ [])) origin (if has then record own { doubled = Some (earlier_of own.doubled tag) } else record own { events = with_tag tag own.events })
+    IsHeard (set_of (records ++ Event origin tag input value ∷ [])) origin (with_heard_event has tag own)
 own_event records names own origin tag input value true news is =
     let said : Record = Event origin tag input value in
     let name : Name = record { origin = origin; tag = tag } in

@@ -2,7 +2,7 @@
 //!
 //! Known records and names are found by hash. What an origin announced is kept by its `Announcer`, so that in order of tags no
 //! record costs a pass over all announcements or names. A horizon costs a look at each origin of the program.
-ghost use Rattle.std.specs.Prelude.{◌≡◌, ◌↔◌, ℕ, ℤ, ◌+◌, ◌<◌, ◌≤◌, List, [], ◌∷◌, ◌++◌, None, Some, true, false, is_some, length, slice_get, vec_len, Contains, IsTrue, IfSome, IfNone, IfOk, IsOk, OnOk, OnErr, MatchResult, if◌then◌else◌};
+ghost use Rattle.std.specs.Prelude.{◌≡◌, ◌↔◌, ℕ, ℤ, ◌+◌, ◌<◌, ◌≤◌, List, [], ◌∷◌, ◌++◌, None, Some, true, false, is_some, length, slice_get, vec_len, Contains, IsTrue, IfSome, IfNone, IfOk, IsOk, OnOk, OnErr, MatchResult};
 ghost use Rattle.warp_tag.specs.Limits.{most_origins, most_records};
 ghost use Rattle.warp_step.specs.Events.{is_declared};
 ghost use Rattle.warp_record.specs.declared.record.Record.{Record};
@@ -12,7 +12,7 @@ ghost use Rattle.warp_table.specs.Check.{refusal_of};
 ghost use Rattle.warp_table.specs.Names.{Tells, origin_of};
 ghost use Rattle.warp_table.specs.Records.{set_of};
 ghost use Rattle.warp_table.specs.Table.{names_of};
-ghost use Rattle.warp_table.specs.inner.Heard.{AreHeard, IsHeard, earlier_of, heard_at, with_tag};
+ghost use Rattle.warp_table.specs.inner.Heard.{AreHeard, IsHeard, heard_at, with_heard_event};
 ghost use Rattle.warp_table.specs.inner.Kept.{KeepsNames, after_event, after_withdrawal, kept_of, unknown};
 ghost use Rattle.warp_table.specs.inner.News.{IsNews, IsNewsOf};
 ghost use Rattle.indexmap.specs.IndexMap.{spare};
@@ -333,9 +333,7 @@ fn has_event(names: &IndexMap<Name, Known>, name: &Name) -> bool
 /// `Err` changes nothing.
 fn hear_event(announcer: &mut Announcer, tag: Tag, has_event: bool) -> Result<(), OutOfMemory>
     requires { has_event ≡ false → ¬ Contains announcer.old.events tag }
-    ensures ok { OnOk result (announcer.new ≡ (if has_event
-        then record announcer.old { doubled = Some (earlier_of announcer.old.doubled tag) }
-        else record announcer.old { events = with_tag tag announcer.old.events })) }
+    ensures ok { OnOk result (announcer.new ≡ with_heard_event has_event tag announcer.old) }
     ensures err { OnErr result (announcer.new ≡ announcer.old) }
 {
     if has_event {

@@ -1,5 +1,5 @@
 -- What is kept of one origin, for proofs alone: the tags of its names, and its announcements.
-use Rattle.std.specs.Prelude.{◌≡◌, ◌⊎◌, ℕ, ℤ, ◌<◌, ◌≤◌, ◌↔◌, false, IsTrue, IfSome, Option, Some, None, List, [], ◌∷◌, length, filter, get_or, Contains, AllPairs, if◌then◌else◌}
+use Rattle.std.specs.Prelude.{◌≡◌, ◌⊎◌, ℕ, ℤ, ◌<◌, ◌≤◌, ◌↔◌, Bool, false, IsTrue, IfSome, Option, Some, None, List, [], ◌∷◌, length, filter, get_or, Contains, AllPairs, if◌then◌else◌}
 use Rattle.warp_tag.specs.Limits.{most_origins}
 use Rattle.warp_tag.specs.Moment.{Moment, is_before}
 use Rattle.warp_record.specs.declared.record.Record.{Record}
@@ -43,6 +43,11 @@ count_before end tags = length (filter (λ t. is_before t end) tags)
 abbrev pub earlier_of : Option Moment → Moment → Moment
 earlier_of None tag = tag
 earlier_of (Some t) tag = if is_before tag t then tag else t
+
+-- with one more event, of a name that has one already or of one that has none
+abbrev pub with_heard_event : Bool → Moment → Heard → Heard
+with_heard_event has_event tag heard =
+    if has_event then record heard { doubled = Some (earlier_of heard.doubled tag) } else record heard { events = with_tag tag heard.events }
 
 -- so many names at least are there as the announcement says
 abbrev pub IsReachedBy : Heard → Announced → Type 0
