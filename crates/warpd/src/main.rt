@@ -4,6 +4,8 @@
 mod file_bytes;
 mod local_session;
 #[cfg(test)]
+mod long_schedule;
+#[cfg(test)]
 mod memory;
 mod outcome;
 mod play_text;
@@ -417,8 +419,9 @@ mod tests {
             let count = Cell::new(0);
             let writer = MemoryWriter::new(alloc, &count, 7, sound);
             let (reads, writes) = (Blank::new(1), Blank::new(1));
-            let (ended, written) =
-                play_over_memory::<Brand, Brand>(alloc, schedule, writer, reads, writes)?;
+            let (ended, written) = play_over_memory::<Brand, Brand>(
+                alloc, schedule, writer, reads, writes,
+            )?;
             assert_eq!(rt; ended, outcome, "{schedule}");
             assert_eq!(rt; written.as_slice(), output.as_bytes(), "{schedule}");
         }

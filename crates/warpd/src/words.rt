@@ -51,8 +51,8 @@ standard output, in order.
 
   event ORIGIN TIME MICROSTEP INPUT VALUE   an event: taken P, or known P
   withdraw ORIGIN TIME MICROSTEP            no event of this name counts: the same
-  announce ORIGIN TIME MICROSTEP E W        how many names the origin has before this
-                                            time, with an event and withdrawn: the same
+  announce ORIGIN TIME MICROSTEP E W        before this time the origin has E names with an
+                                            event and W withdrawn, and adds none: the same
   var INDEX                                 a variable: var N VALUE
   outputs                                   how many outputs there are: outputs N COUNT
   output INDEX                              output N TIME MICROSTEP PORT VALUE, or none N
@@ -61,10 +61,17 @@ standard output, in order.
   released                                  how many are released: released N COUNT
   breach ORIGIN                             whether it broke an announcement: breach N 0
                                             or breach N 1
+  horizon                                   outputs before this time are released:
+                                            horizon N TIME MICROSTEP
+  released                                  how many are released: released N COUNT
+  breach ORIGIN                             whether it broke an announcement of its own:
+                                            breach N 1, or breach N 0
   lost                                      how much was lost: lost N COUNT
   log P                                     log N and a record's line, or none N
   collect                                   what is not needed before the horizon may go:
                                             collected N
+  collect                                   lets go of what is not needed before the horizon,
+                                            and changes no answer: collected N
   board, row INDEX                          refused: there is no board here
 
 P is a record's place in the log, from 1, and N the length of the log. The name of an event
@@ -438,7 +445,10 @@ mod tests {
                 "5  the input belongs to another origin",
             ),
             (["warpd", "run"].as_slice(), "<PROGRAM>"),
-            (["warpd", "--help"].as_slice(), "the program or the schedule was refused"),
+            (
+                ["warpd", "--help"].as_slice(),
+                "the program or the schedule was refused",
+            ),
             (
                 ["warpd", "play", "--help"].as_slice(),
                 "Usage: warpd play <PROGRAM> <SCHEDULE>",
