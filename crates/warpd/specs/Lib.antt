@@ -1,6 +1,7 @@
 pub mod Stream
 pub mod Session
 pub mod LocalSession
+pub mod Play
 pub mod Outcome
 pub mod Words
 pub mod inner

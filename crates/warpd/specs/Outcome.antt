@@ -1,5 +1,6 @@
 -- How a run of the program ends.
-use Rattle.std.specs.Prelude.{◌≡◌, ◌≢◌, ◌⊎◌, ◌+◌, ◌<◌, ◌≤◌, ℕ, List, [], ◌++◌, Option, Some, IfSome, codes, decimal, length, take}
+use Rattle.std.specs.Prelude.{◌≡◌, ◌≢◌, ◌⊎◌, ◌<◌, ◌≤◌, ℕ, List, [], ◌++◌, Option, Some, IfSome, codes, decimal, length, take}
+use Rattle.std.specs.Io.KnownBytes.{Appends}
 use Rattle.clap.specs.Words.{IsAmong, Text, fault_of}
 use Rattle.clap.specs.declared.error.kind.ErrorKind.{ErrorKind}
 use Rattle.clap.specs.declared.error.kind.ErrorKind.TheVariants as kind
@@ -7,12 +8,15 @@ use Rattle.warp_tag.specs.Limits.{most_reads}
 use Rattle.warp_step.specs.Program.{Program as ReactorProgram}
 use Rattle.warp_step.specs.Twice.{twice}
 use Rattle.warp_prog.specs.Load.{IsLoaded, IsRefused}
-use Rattle.warp_prog.specs.Reading.{longest_file}
 use Rattle.warp_prog.specs.Refusal.{number_of}
 use Rattle.warp_prog.specs.declared.error.LoadError.{LoadError}
 use Rattle.warp_prog.specs.declared.error.LoadError.TheVariants.{Memory as WantOfMemory}
+use Rattle.warp_world.specs.Schedule.{IsFault}
+use Rattle.warp_world.specs.declared.fault.ScheduleFault.{ScheduleFault}
+use Rattle.warp_world.specs.declared.fault.ScheduleFault.TheVariants as schedule_fault
 use Rattle.warpd.specs.LocalSession.{TranscribesAll, TranscribesSoFar}
-use Rattle.warpd.specs.Words.{program_in, warpd_command}
+use Rattle.warpd.specs.Play.{PlaysSchedule}
+use Rattle.warpd.specs.Words.{Task, RunProgram, PlaySchedule, task_in, warpd_command}
 use Rattle.warpd.specs.declared.session.SessionEnd.{SessionEnd}
 use Rattle.warpd.specs.declared.session.SessionEnd.TheVariants.{End, ReadFault, WriteFault, TooManyReads, NoMemory}
 use Rattle.warpd.specs.declared.outcome.Outcome.{Outcome}
@@ -80,9 +84,9 @@ EndsSo P before after WriteFault = before.failed_writes < after.failed_writes
 EndsSo P before after TooManyReads = IfSome before.left (λ input. most_reads ≤ length input)
 EndsSo P before after NoMemory = after ≡ before
 
--- These bytes begin what a reader tells, if it tells it: all of it, or one byte more than a program file may have.
-abbrev pub IsFrontOf : Option (List ℕ) → List ℕ → Type 0
-IsFrontOf told bytes = IfSome told (λ all. bytes ≡ take (longest_file + 1) all)
+-- these bytes begin what a reader tells, if it tells it: all of it, or the first `most` bytes
+abbrev pub IsFrontOf : ℕ → Option (List ℕ) → List ℕ → Type 0
+IsFrontOf most told bytes = IfSome told (λ all. bytes ≡ take most all)
 
 -- the program of this name: `builtin:twice`, or that of some bytes, which were read of a file
 abbrev pub IsNamed : List ℕ → ReactorProgram → Type 0
@@ -107,10 +111,47 @@ Runs name before after outcome =
     ((P : ReactorProgram) × IsNamed name P × ((end : SessionEnd) × (outcome ≡ end_outcome end) × EndsSo P before after end))
     ⊎ (IsNone name outcome × (after ≡ before))
 
--- the run whose words are these ends so: words with no fault run the program that they name, and of others the
+-- The text was written behind what the sink tells, and the run is done; or a write failed. Nothing was read.
+abbrev pub IsPrinted : List ℕ → Seen → Seen → Outcome → Type 0
+IsPrinted text before after outcome =
+    (after.left ≡ before.left) × (after.failed_reads ≡ before.failed_reads)
+    × (((outcome ≡ Done) × Appends before.written after.written text)
+    ⊎ ((outcome ≡ Output) × (before.failed_writes < after.failed_writes)))
+
+-- the outcome where a schedule was refused so: the line where it was, but for want of memory
+abbrev pub fault_outcome : ScheduleFault → Outcome
+fault_outcome (schedule_fault.Line number) = Schedule number
+fault_outcome schedule_fault.NoMemory = Memory
+
+-- playing these bytes over the program ends so: what the schedule prints is printed; or where it has a fault, nothing is done
+abbrev pub PlaysBytes : ReactorProgram → List ℕ → Seen → Seen → Outcome → Type 0
+PlaysBytes P bytes before after outcome =
+    ((text : List ℕ) × PlaysSchedule P bytes text × IsPrinted text before after outcome)
+    ⊎ (((fault : ScheduleFault) × IsFault bytes fault × (outcome ≡ fault_outcome fault)) × (after ≡ before))
+
+-- the run ends so where the file of the schedule couldn't be read, or memory was wanting for it
+abbrev pub IsUnread : Outcome → Type 0
+IsUnread outcome = (outcome ≡ NoSchedule) ⊎ (outcome ≡ Memory)
+
+-- playing a schedule over the program ends so: it is some bytes that were read of a file; or where they weren't, nothing is done
+abbrev pub PlaysOver : ReactorProgram → Seen → Seen → Outcome → Type 0
+PlaysOver P before after outcome =
+    ((bytes : List ℕ) × PlaysBytes P bytes before after outcome) ⊎ (IsUnread outcome × (after ≡ before))
+
+-- Playing a schedule over the program of this name ends so. Where there is no such program nothing is done, whatever the schedule.
+abbrev pub Plays : List ℕ → Seen → Seen → Outcome → Type 0
+Plays name before after outcome =
+    ((P : ReactorProgram) × IsNamed name P × PlaysOver P before after outcome) ⊎ (IsNone name outcome × (after ≡ before))
+
+-- The run that is asked for this ends so. What the file of a schedule has is not known from its name.
+abbrev pub Does : Task → Seen → Seen → Outcome → Type 0
+Does (RunProgram program) before after outcome = Runs program before after outcome
+Does (PlaySchedule program schedule) before after outcome = Plays program before after outcome
+
+-- the run whose words are these ends so: words with no fault have what they ask for done, and of others the
 -- parser's text is shown; for want of memory nothing is done
 abbrev pub Obeys : List Text → Seen → Seen → Outcome → Type 0
 Obeys words before after outcome =
-    ((fault_of warpd_command words ≡ []) × ((name : Text) × (program_in words ≡ Some name) × Runs name before after outcome))
+    ((fault_of warpd_command words ≡ []) × ((task : Task) × (task_in words ≡ Some task) × Does task before after outcome))
     ⊎ (((fault : ErrorKind) × IsAmong fault (fault_of warpd_command words) × IsShown fault outcome) × (after ≡ before))
     ⊎ ((outcome ≡ Memory) × (after ≡ before))

@@ -1,11 +1,14 @@
 //! The program `warpd`: it reads the words, runs the job, and tells how that ended.
 #![tactic(auto)]
 
+mod file_bytes;
 mod local_session;
 #[cfg(test)]
 mod memory;
 mod outcome;
+mod play_text;
 mod program_file;
+mod schedule_file;
 mod session;
 mod stream;
 mod words;
@@ -17,13 +20,16 @@ ghost use Rattle.std.specs.Process.{exit_status};
 ghost use Rattle.std.specs.declared.io.ErrorKind.TheVariants.{OutOfMemory};
 ghost use Rattle.clap.specs.Words.{kind_of};
 ghost use Rattle.warp_step.specs.Counter.{IsUnused};
-ghost use Rattle.warpd.specs.Outcome.{EndsSo, IsShown, Obeys, Runs, Seen, line_of, status_of};
-ghost use Rattle.warpd.specs.Words.{program_of};
+ghost use Rattle.warpd.specs.Outcome.{Does, EndsSo, IsPrinted, IsShown, Obeys, Plays, PlaysBytes, PlaysOver, Runs, Seen};
+ghost use Rattle.warpd.specs.Outcome.{line_of, status_of};
+ghost use Rattle.warpd.specs.Words.{task_of};
 
 use clap::error::ErrorKind;
 use local_session::run_session;
-use outcome::{Outcome, outcome_of, say, status};
+use outcome::{Outcome, outcome_of, outcome_of_fault, say, status};
+use play_text::play_text;
 use program_file::program_named;
+use schedule_file::schedule_bytes;
 use session::SessionEnd;
 use std::alloc::{AllocError, Global};
 use std::fs::Files;
@@ -32,7 +38,7 @@ use std::marker::{Brand, Model};
 use std::process::ExitCode;
 use std::sync::ledger::{Blank, Ledger};
 use std::{env, io};
-use stream::{Sink, Source, Stream};
+use stream::{Sink, Source, Stream, write_all};
 use warp_step::Program;
 use words::{Job, words};
 
@@ -164,10 +170,11 @@ fn carry_out<F: Files, R: Source, W: Sink>(
     job: Job<'_>,
     streams: &mut Streams<R, W>,
 ) -> Outcome
-    ensures { Runs (program_of job.entry) streams.old streams.new result }
+    ensures { Does (task_of job.entry) streams.old streams.new result }
 {
     match job {
         Job::Run { program } => run(files, alloc, program, streams),
+        Job::Play { program, schedule } => play(files, alloc, program, schedule, streams),
     }
 }
 
@@ -223,6 +230,63 @@ fn answer<R: Source, W: Sink>(
     ensures { EndsSo program streams.old streams.new result }
 {
     run_session(alloc, program, &mut streams.source, &mut streams.sink)
+}
+
+/// Plays the schedule of the file with the second name over the program of the first, and prints what it gives.
+fn play<F: Files, R: Source, W: Sink>(
+    files: &F,
+    alloc: Global,
+    name: &str,
+    schedule: &str,
+    streams: &mut Streams<R, W>,
+) -> Outcome
+    ensures { Plays name.now streams.old streams.new result }
+{
+    match program_named(files, alloc, name) {
+        Ok(program) => play_over(files, alloc, &program, schedule, streams),
+        Err(outcome) => outcome,
+    }
+}
+
+/// Plays the schedule of the file with this name over the program, and prints what it gives.
+fn play_over<F: Files, R: Source, W: Sink>(
+    files: &F,
+    alloc: Global,
+    program: &Program,
+    schedule: &str,
+    streams: &mut Streams<R, W>,
+) -> Outcome
+    ensures { PlaysOver program.now streams.old streams.new result }
+{
+    match schedule_bytes(files, alloc, schedule) {
+        Ok(bytes) => play_bytes(alloc, program, &bytes, streams),
+        Err(outcome) => outcome,
+    }
+}
+
+/// Plays the schedule of these bytes over the program, and prints what it gives.
+fn play_bytes<R: Source, W: Sink>(
+    alloc: Global,
+    program: &Program,
+    schedule: &[u8],
+    streams: &mut Streams<R, W>,
+) -> Outcome
+    ensures { PlaysBytes program.now schedule.now streams.old streams.new result }
+{
+    match play_text(alloc, program, schedule) {
+        Ok(text) => print(&text, streams),
+        Err(fault) => outcome_of_fault(fault),
+    }
+}
+
+/// Writes the text to the sink.
+fn print<R: Source, W: Sink>(text: &[u8], streams: &mut Streams<R, W>) -> Outcome
+    ensures { IsPrinted text.now streams.old streams.new result }
+{
+    match write_all(&mut streams.sink, text) {
+        Ok(()) => Outcome::Done,
+        Err(_) => Outcome::Output,
+    }
 }
 
 #[cfg(test)]
@@ -282,6 +346,21 @@ mod tests {
                 "",
                 "cannot read the program\n",
             ),
+            // The program's fault comes before the schedule's.
+            (
+                ["warpd", "play", "builtin:once", "no.schedule"].as_slice(),
+                None,
+                4,
+                "",
+                "cannot read the program\n",
+            ),
+            (
+                ["warpd", "play", "builtin:twice", "no.schedule"].as_slice(),
+                None,
+                4,
+                "",
+                "cannot read the schedule\n",
+            ),
             (["warpd", "walk"].as_slice(), None, 2, "", ""),
         ];
         let alloc = rt.alloc();
@@ -301,6 +380,51 @@ mod tests {
         Ok(())
     }
 
+    /// How playing a schedule of these bytes over the program `twice` ends, and what it wrote. Its failures are counted in
+    /// these ledgers.
+    fn play_over_memory<L: Ledger, M: Ledger>(
+        alloc: Global,
+        schedule: &str,
+        writer: MemoryWriter<'_>,
+        reads: Blank,
+        writes: Blank,
+    ) -> Result<(Outcome, Vec<u8>), Fail>
+        requires reads { IsUnused reads L.name L.parts }
+        requires writes { IsUnused writes M.name M.parts }
+    {
+        let mut streams = Streams {
+            source: Stream::<_, L>::new(MemoryReader::new(b"", 1, None), reads),
+            sink: Stream::<_, M>::new(writer, writes),
+        };
+        let program = Program::twice(alloc)?;
+        let outcome = play_bytes(alloc, &program, schedule.as_bytes(), &mut streams);
+        let Streams { source: _, sink } = streams;
+        Ok((outcome, sink.into_inner().into_written()))
+    }
+
+    #[test]
+    fn a_schedule_is_printed_or_refused(rt: HostRuntime) -> Result<(), Fail> {
+        let text = "replica 0\nhorizon 0 0 0\noutputs 0 0\nreleased 0 0\nlost 0 0\nvar 0 0\n";
+        let rows = [
+            ("replicas 1\n", None, Outcome::Done, text),
+            ("replicas 1\n", Some(0), Outcome::Output, ""),
+            ("replicas 1\n", Some(1), Outcome::Output, "replica"),
+            ("", None, Outcome::Schedule(1), ""),
+            ("replicas 1\ncollect 00\n", None, Outcome::Schedule(2), ""),
+        ];
+        let alloc = rt.alloc();
+        for (schedule, sound, outcome, output) in rows {
+            let count = Cell::new(0);
+            let writer = MemoryWriter::new(alloc, &count, 7, sound);
+            let (reads, writes) = (Blank::new(1), Blank::new(1));
+            let (ended, written) =
+                play_over_memory::<Brand, Brand>(alloc, schedule, writer, reads, writes)?;
+            assert_eq!(rt; ended, outcome, "{schedule}");
+            assert_eq!(rt; written.as_slice(), output.as_bytes(), "{schedule}");
+        }
+        Ok(())
+    }
+
     #[test]
     fn help_is_done_and_a_wrong_word_is_a_mistake(rt: HostRuntime) -> Result<(), Fail> {
         let rows = [
@@ -308,10 +432,12 @@ mod tests {
             (["warpd", "-h"].as_slice(), Outcome::Done, 0),
             (["warpd", "help", "run"].as_slice(), Outcome::Done, 0),
             (["warpd", "run", "--help"].as_slice(), Outcome::Done, 0),
+            (["warpd", "play", "--help"].as_slice(), Outcome::Done, 0),
             (["warpd"].as_slice(), Outcome::Words, 2),
             (["warpd", "walk"].as_slice(), Outcome::Words, 2),
             (["warpd", "run"].as_slice(), Outcome::Words, 2),
             (["warpd", "run", "a", "b"].as_slice(), Outcome::Words, 2),
+            (["warpd", "play", "a"].as_slice(), Outcome::Words, 2),
         ];
         for (line, wanted, code) in rows {
             match words(rt.alloc(), line) {

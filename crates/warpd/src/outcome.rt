@@ -1,10 +1,11 @@
 //! How a run of the program ends: its exit status, and the line that it says on standard error.
 ghost use Rattle.std.specs.Prelude.{◌≡◌, ◌+◌, ◌++◌, ◌≤◌, [], ◌∷◌, decimal, length};
-ghost use Rattle.warpd.specs.Outcome.{end_outcome, line_of, status_of};
+ghost use Rattle.warpd.specs.Outcome.{end_outcome, fault_outcome, line_of, status_of};
 
 use crate::session::SessionEnd;
 use arrayvec::ArrayString;
 use itoa::Buffer;
+use warp_world::ScheduleFault;
 
 /// The room for a line, in bytes: none is longer.
 pub const LONGEST_LINE: usize = 64;
@@ -102,6 +103,16 @@ pub fn outcome_of(end: SessionEnd) -> Outcome
         SessionEnd::ReadFault | SessionEnd::TooManyReads => Outcome::Input,
         SessionEnd::WriteFault => Outcome::Output,
         SessionEnd::NoMemory => Outcome::Memory,
+    }
+}
+
+/// What a schedule that can't be played makes of the run.
+pub fn outcome_of_fault(fault: ScheduleFault) -> Outcome
+    ensures { result ≡ fault_outcome fault }
+{
+    match fault {
+        ScheduleFault::Line(line) => Outcome::Schedule(line),
+        ScheduleFault::NoMemory => Outcome::Memory,
     }
 }
 

@@ -267,6 +267,7 @@ mod tests {
                     value: i64::from(number),
                 },
                 Line::Ask(_) => Reply::Nothing { log: self.asked },
+                Line::Collect => Reply::Collected { log: self.asked },
                 Line::Look(_) => Reply::NoRow,
             }
         }

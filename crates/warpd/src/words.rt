@@ -1,9 +1,11 @@
 //! The words of the command line.
 ghost use Rattle.std.specs.Prelude.{◌≡◌, [], IfErr, IfOk, Some, map, option_map};
 ghost use Rattle.std.specs.Prelude.{false};
-ghost use Rattle.clap.specs.Words.{app_of, fault_of, first_of, found_of, HasKind, rows_of, subcommand_of, subcommand_rows_of};
+ghost use Rattle.clap.specs.Words.{app_of, fault_of, first_of, found_of, HasKind, new_app, rows_of, subcommand_of, subcommand_rows_of};
+ghost use Rattle.clap.specs.Words.{with_rule, with_subcommand};
 ghost use Rattle.clap.specs.declared.builder.command.Command.TheViews.{out-Command as fields_of};
-ghost use Rattle.warpd.specs.Words.{program_in, program_of, program_value, run_command, top_command, warpd_command};
+ghost use Rattle.warpd.specs.Words.{play_command, play_task, run_command, run_task, task_found, task_in, task_of};
+ghost use Rattle.warpd.specs.Words.{top_command, wanted_word, warpd_command};
 
 use clap::{Arg, ArgMatches, Command, Error};
 use std::alloc::{AllocError, Global};
@@ -15,6 +17,13 @@ pub enum Job<'a> {
     Run {
         /// The word that names the program to run.
         program: &'a str,
+    },
+    /// Print what the replicas of a schedule answer in the end.
+    Play {
+        /// The word that names the program to run.
+        program: &'a str,
+        /// The word that names the file of the schedule.
+        schedule: &'a str,
     },
 }
 
@@ -30,8 +39,8 @@ const STATUSES: &str = "\
 Exit status:
   0  done, or help or the version was asked for
   2  the words were not understood
-  3  the program was refused
-  4  the program couldn't be read, or a standard stream failed
+  3  the program or the schedule was refused
+  4  the program or the schedule couldn't be read, or a standard stream failed
   5  memory ran out";
 
 const RUN_ABOUT: &str = "Answers the lines of standard input on standard output";
@@ -47,8 +56,15 @@ standard output, in order.
   var INDEX                                 a variable: var N VALUE
   outputs                                   how many outputs there are: outputs N COUNT
   output INDEX                              output N TIME MICROSTEP PORT VALUE, or none N
+  horizon                                   the tag before which outputs are released:
+                                            horizon N TIME MICROSTEP
+  released                                  how many are released: released N COUNT
+  breach ORIGIN                             whether it broke an announcement: breach N 0
+                                            or breach N 1
   lost                                      how much was lost: lost N COUNT
   log P                                     log N and a record's line, or none N
+  collect                                   what is not needed before the horizon may go:
+                                            collected N
   board, row INDEX                          refused: there is no board here
 
 P is a record's place in the log, from 1, and N the length of the log. The name of an event
@@ -84,20 +100,68 @@ Why a program file is refused:
 Example:
   printf 'event 0 5 0 0 3\\nvar 0\\n' | warpd run builtin:twice";
 
+const PLAY_ABOUT: &str = "Plays a schedule over replicas, and prints what each answers in the end";
+
+const PLAY_LONG_ABOUT: &str = "\
+Plays the moves of a schedule file over replicas of the program, then settles each replica
+and prints what it answers. Standard input is not read.
+
+The first line of the file says how many replicas there are, 1 to 16, numbered from 0:
+
+  replicas N
+
+Each further line is a move:
+
+  make R RECORD   a record comes from outside to replica R: the line of an event, a
+                  withdraw or an announce, as `warpd run --help` shows them
+  carry F I R     the record at place I of the log of replica F, from 1, comes to replica R
+  collect R       replica R settles, and lets go of what is not needed before its horizon
+  settle R        replica R executes what is not done
+  restart R       replica R starts anew, with an empty log
+
+A move does nothing where the program refuses its record, where the log has that record or
+is full, and where there is no such replica or place.
+
+Of each replica are printed, in order, with N the length of its log:
+
+  replica R
+  horizon N TIME MICROSTEP   the tag before which outputs are released
+  outputs N COUNT            how many outputs there are
+  released N COUNT           how many of them are released
+  lost N COUNT               how much was lost
+  var N VALUE                a line for each variable, from 0";
+
+const PLAY_NOTES: &str = "\
+A schedule is refused where a line is not of this form, is longer than 128 bytes, or has no
+line feed. Nothing is printed then but this, on standard error, for the first such line:
+
+  schedule refused at line K   K counts from 1; 1 too for an empty file, and 0 for a file
+                               of more than 1,048,576 bytes
+
+Why a program file is refused: warpd run --help
+
+Example:
+  printf 'replicas 2\\nmake 0 event 0 5 0 0 3\\ncarry 0 1 1\\n' > two.schedule
+  warpd play builtin:twice two.schedule";
+
 const PROGRAM: &str = "PROGRAM";
 
 const PROGRAM_HELP: &str = "The program to run: the path of a program file, or builtin:twice";
+
+const SCHEDULE: &str = "SCHEDULE";
+
+const SCHEDULE_HELP: &str = "The schedule to play: the path of its file";
 
 /// Reads the words of the command line, of which the first is the program's own name.
 /// An error is a mistake in the words, a request for help or the version, or want of memory; its text is for the user.
 pub fn words<'a>(alloc: Global, line: &'a [&'a str]) -> Result<Job<'a>, Error>
     ensures ok { IfOk result (λ job. (fault_of warpd_command (map (λ word. word.now) line.entry.now) ≡ [])
-        × (program_in (map (λ word. word.now) line.entry.now) ≡ Some (program_of job))) }
+        × (task_in (map (λ word. word.now) line.entry.now) ≡ Some (task_of job))) }
     ensures err { IfErr result (HasKind (fault_of warpd_command (map (λ word. word.now) line.entry.now))) }
 {
     let matches = matches(alloc, line)?;
-    match program(&matches) {
-        Some(program) => Ok(Job::Run { program }),
+    match job_asked(&matches) {
+        Some(job) => Ok(job),
         None => unreachable!(),
     }
 }
@@ -111,14 +175,34 @@ fn matches<'a>(alloc: Global, line: &'a [&'a str]) -> Result<ArgMatches<'a>, Err
     command(alloc)?.try_get_matches_from(line)
 }
 
-/// The word of the subcommand that stands for the program.
-fn program<'a>(matches: &ArgMatches<'a>) -> Option<&'a str>
-    ensures { option_map (λ word. word.now) result ≡ program_value (subcommand_rows_of matches.now) }
+/// What the subcommand asks for.
+fn job_asked<'a>(matches: &ArgMatches<'a>) -> Option<Job<'a>>
+    ensures { option_map task_of result ≡ task_found (subcommand_rows_of matches.now) }
 {
-    match matches.subcommand() {
-        Some((_, run)) => text(run, PROGRAM),
-        None => None,
+    if let Some(found) = matches.subcommand_matches("run") {
+        return run_job(found);
     }
+    if let Some(found) = matches.subcommand_matches("play") {
+        return play_job(found);
+    }
+    None
+}
+
+/// What `run` asks for.
+fn run_job<'a>(found: &ArgMatches<'a>) -> Option<Job<'a>>
+    ensures { option_map task_of result ≡ run_task (rows_of (found_of found.now)) }
+{
+    let program = text(found, PROGRAM)?;
+    Some(Job::Run { program })
+}
+
+/// What `play` asks for.
+fn play_job<'a>(found: &ArgMatches<'a>) -> Option<Job<'a>>
+    ensures { option_map task_of result ≡ play_task (rows_of (found_of found.now)) }
+{
+    let program = text(found, PROGRAM)?;
+    let schedule = text(found, SCHEDULE)?;
+    Some(Job::Play { program, schedule })
 }
 
 /// The first text of the argument with this id.
@@ -131,6 +215,14 @@ fn text<'a>(found: &ArgMatches<'a>, id: &str) -> Option<&'a str>
 /// The command line of `warpd`.
 fn command<'a>(alloc: Global) -> Result<Command<'a>, AllocError>
     ensures { IfOk result (λ c. app_of c ≡ warpd_command) }
+{
+    let play = play(alloc)?;
+    with_run(alloc)?.subcommand(play)
+}
+
+/// `warpd` with `run` alone.
+fn with_run<'a>(alloc: Global) -> Result<Command<'a>, AllocError>
+    ensures { IfOk result (λ c. app_of c ≡ with_subcommand top_command run_command.top) }
 {
     let run = run(alloc)?;
     top(alloc).subcommand(run)
@@ -154,12 +246,38 @@ fn run<'a>(alloc: Global) -> Result<Command<'a>, AllocError>
     ensures shape { IfOk result (λ c. app_of c ≡ run_command) }
     ensures local { IfOk result (λ c. (fields_of c).has_globals ≡ false) }
 {
-    let program = Arg::new(alloc, PROGRAM).help(PROGRAM_HELP).required(true);
-    Command::new(alloc, "run")
+    let run = Command::new(alloc, "run")
         .about(RUN_ABOUT)
         .long_about(RUN_LONG_ABOUT)
-        .after_long_help(RUN_NOTES)
-        .arg(program)
+        .after_long_help(RUN_NOTES);
+    with_word(alloc, run, PROGRAM, PROGRAM_HELP)
+}
+
+/// The subcommand `play`.
+fn play<'a>(alloc: Global) -> Result<Command<'a>, AllocError>
+    ensures shape { IfOk result (λ c. app_of c ≡ play_command) }
+    ensures local { IfOk result (λ c. (fields_of c).has_globals ≡ false) }
+{
+    let play = Command::new(alloc, "play")
+        .about(PLAY_ABOUT)
+        .long_about(PLAY_LONG_ABOUT)
+        .after_long_help(PLAY_NOTES);
+    let play = with_word(alloc, play, PROGRAM, PROGRAM_HELP)?;
+    with_word(alloc, play, SCHEDULE, SCHEDULE_HELP)
+}
+
+/// The command with one more place for a word, which has to be there.
+fn with_word<'a>(
+    alloc: Global,
+    command: Command<'a>,
+    place: &'a str,
+    help: &'a str,
+) -> Result<Command<'a>, AllocError>
+    ensures shape { IfOk result (λ c. app_of c ≡ with_rule (app_of command.entry) (wanted_word place.entry.now)) }
+    ensures local { (fields_of command.entry).has_globals ≡ false → IfOk result (λ c. (fields_of c).has_globals ≡ false) }
+{
+    let word = Arg::new(alloc, place).help(help).required(true);
+    command.arg(word)
 }
 
 #[cfg(test)]
@@ -180,8 +298,34 @@ mod tests {
             (["./warpd", "run", ""].as_slice(), ""),
         ];
         for (line, wanted) in rows {
-            let Job::Run { program } = words(rt.alloc(), line)?;
-            assert_eq!(rt; program, wanted);
+            match words(rt.alloc(), line)? {
+                Job::Run { program } => assert_eq!(rt; program, wanted),
+                job => panic!(rt; "{job:?}"),
+            }
+        }
+        Ok(())
+    }
+
+    #[test]
+    fn reads_the_program_and_the_schedule(rt: HostRuntime) -> Result<(), Fail> {
+        let rows = [
+            (
+                ["warpd", "play", "builtin:twice", "two.schedule"].as_slice(),
+                "builtin:twice",
+                "two.schedule",
+            ),
+            (["warpd", "play", "a", "a"].as_slice(), "a", "a"),
+            (["warpd", "play", "a", "--", "-x"].as_slice(), "a", "-x"),
+            (["./warpd", "play", "", "run"].as_slice(), "", "run"),
+        ];
+        for (line, wanted, file) in rows {
+            match words(rt.alloc(), line)? {
+                Job::Play { program, schedule } => {
+                    assert_eq!(rt; program, wanted);
+                    assert_eq!(rt; schedule, file);
+                }
+                job => panic!(rt; "{job:?}"),
+            }
         }
         Ok(())
     }
@@ -242,6 +386,26 @@ mod tests {
                 ErrorKind::UnknownArgument,
                 2,
             ),
+            (
+                ["warpd", "play", "--help"].as_slice(),
+                ErrorKind::DisplayHelp,
+                0,
+            ),
+            (
+                ["warpd", "play"].as_slice(),
+                ErrorKind::MissingRequiredArgument,
+                2,
+            ),
+            (
+                ["warpd", "play", "a"].as_slice(),
+                ErrorKind::MissingRequiredArgument,
+                2,
+            ),
+            (
+                ["warpd", "play", "a", "b", "c"].as_slice(),
+                ErrorKind::UnknownArgument,
+                2,
+            ),
         ];
         for (line, kind, code) in rows {
             match words(rt.alloc(), line) {
@@ -268,11 +432,23 @@ mod tests {
             ),
             (["warpd", "run", "--help"].as_slice(), "builtin:twice"),
             (["warpd", "run", "--help"].as_slice(), "taken P, or known P"),
+            (["warpd", "run", "--help"].as_slice(), "collected N"),
             (
                 ["warpd", "run", "--help"].as_slice(),
                 "5  the input belongs to another origin",
             ),
             (["warpd", "run"].as_slice(), "<PROGRAM>"),
+            (["warpd", "--help"].as_slice(), "the program or the schedule was refused"),
+            (
+                ["warpd", "play", "--help"].as_slice(),
+                "Usage: warpd play <PROGRAM> <SCHEDULE>",
+            ),
+            (["warpd", "play", "--help"].as_slice(), "carry F I R"),
+            (
+                ["warpd", "play", "--help"].as_slice(),
+                "schedule refused at line K",
+            ),
+            (["warpd", "play", "a"].as_slice(), "<SCHEDULE>"),
             (
                 ["warpd", "walk"].as_slice(),
                 "unrecognized subcommand 'walk'",
