@@ -59,17 +59,10 @@ standard output, in order.
   horizon                                   the tag before which outputs are released:
                                             horizon N TIME MICROSTEP
   released                                  how many are released: released N COUNT
-  breach ORIGIN                             whether it broke an announcement: breach N 0
-                                            or breach N 1
-  horizon                                   outputs before this time are released:
-                                            horizon N TIME MICROSTEP
-  released                                  how many are released: released N COUNT
   breach ORIGIN                             whether it broke an announcement of its own:
                                             breach N 1, or breach N 0
   lost                                      how much was lost: lost N COUNT
   log P                                     log N and a record's line, or none N
-  collect                                   what is not needed before the horizon may go:
-                                            collected N
   collect                                   lets go of what is not needed before the horizon,
                                             and changes no answer: collected N
   board, row INDEX                          refused: there is no board here
