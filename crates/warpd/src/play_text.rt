@@ -86,10 +86,7 @@ fn append_title(text: &mut Vec<u8>, number: usize) -> Result<(), OutOfMemory>
 
 /// Appends the lines with a settled replica's horizon, how many outputs there are and how many are released, and how much was
 /// lost.
-fn append_counts<T: Timeline>(
-    text: &mut Vec<u8>,
-    replica: &Replica<T>,
-) -> Result<(), OutOfMemory>
+fn append_counts<T: Timeline>(text: &mut Vec<u8>, replica: &Replica<T>) -> Result<(), OutOfMemory>
     requires { IsTrue (T.settled replica.now.timeline) }
     ensures { OnOk result (Adds replica.now.program (set_of replica.now.records) count_lines text.old.items text.new.items) }
 {

@@ -438,7 +438,10 @@ mod tests {
                 "5  the input belongs to another origin",
             ),
             (["warpd", "run"].as_slice(), "<PROGRAM>"),
-            (["warpd", "--help"].as_slice(), "the program or the schedule was refused"),
+            (
+                ["warpd", "--help"].as_slice(),
+                "the program or the schedule was refused",
+            ),
             (
                 ["warpd", "play", "--help"].as_slice(),
                 "Usage: warpd play <PROGRAM> <SCHEDULE>",

@@ -13,6 +13,6 @@ returns-clause-text c =
     let moves = c.in_ok-count.moves.items in
     let settled = c.settle.new.self in
     let logs : logs_of settled ≡ (world_after P count moves).logs =
-        c.settle.ensures.logs ∙ c.in_ok-world.ensures.logs ∙ ap (λ list. (world_after P count list).logs) c.deref.ensures.value in
+    c.settle.ensures.logs ∙ c.in_ok-world.ensures.logs ∙ ap (λ list. (world_after P count list).logs) c.deref.ensures.value in
     let programs = run_kept P c.in_ok-world.world settled c.settle.ensures.programs c.in_ok-world.ensures.programs in
     (count, moves, c.in_ok-count.ensures.found, subst (λ list. Prints P 0 list c.in_ok-text.text.items) logs (c.in_ok-text.ensures P programs))
