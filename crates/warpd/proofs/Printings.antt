@@ -1,6 +1,6 @@
 -- What is printed of a world: replica by replica, and of a replica line by line.
-use Rattle.std.proofs.Common.{◌≡◌, ◌∙◌, ◌<◌, ◌≤◌, ◌+◌, ℕ, ℤ, List, [], ◌∷◌, ◌++◌, Option, Some, None, add-one, ap, append_assoc, arith, drop, drop-cons, get_or, length, map, option_map, refl, suc, subst, sym}
-use Rattle.std.specs.Prelude.{All, pos, slice_get, unwrap_or}
+use Rattle.std.proofs.Common.{◌≡◌, ◌∙◌, ◌<◌, ◌≤◌, ◌+◌, ℕ, List, [], ◌∷◌, ◌++◌, Some, add-one, ap, append_assoc, drop, drop-cons, get_or, length, map, option_map, refl, suc, subst, sym}
+use Rattle.std.specs.Prelude.{pos, slice_get, unwrap_or}
 use Rattle.std.specs.List.{flat_map}
 use Rattle.std.proofs.lemmas.List.{append-nil, drop_all, length-map}
 use Rattle.std.proofs.lemmas.Grind.{flat_map-append}

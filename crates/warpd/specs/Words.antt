@@ -1,5 +1,5 @@
 -- The command line of `warpd`, as the parser of the crate `clap` reads it, and what its words ask for.
-use Rattle.std.specs.Prelude.{ℕ, List, true, Option, None, codes, option_and_then, option_map, if◌then◌else◌}
+use Rattle.std.specs.Prelude.{List, true, Option, None, codes, option_and_then, option_map, if◌then◌else◌}
 use Rattle.std.specs.Str.{bytes_eq}
 use Rattle.clap.specs.Words.{App, Row, Rule, Text, first_of, new_app, new_rule, subcommand_of, with_rule, with_subcommand}
 use Rattle.clap.specs.Simple.{on_top}

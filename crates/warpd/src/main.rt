@@ -386,7 +386,7 @@ mod tests {
     /// these ledgers.
     fn play_over_memory<L: Ledger, M: Ledger>(
         alloc: Global,
-        schedule: &str,
+        schedule: &[u8],
         writer: MemoryWriter<'_>,
         reads: Blank,
         writes: Blank,
@@ -399,7 +399,7 @@ mod tests {
             sink: Stream::<_, M>::new(writer, writes),
         };
         let program = Program::twice(alloc)?;
-        let outcome = play_bytes(alloc, &program, schedule.as_bytes(), &mut streams);
+        let outcome = play_bytes(alloc, &program, schedule, &mut streams);
         let Streams { source: _, sink } = streams;
         Ok((outcome, sink.into_inner().into_written()))
     }
@@ -419,8 +419,9 @@ mod tests {
             let count = Cell::new(0);
             let writer = MemoryWriter::new(alloc, &count, 7, sound);
             let (reads, writes) = (Blank::new(1), Blank::new(1));
+            let bytes = schedule.as_bytes();
             let (ended, written) = play_over_memory::<Brand, Brand>(
-                alloc, schedule, writer, reads, writes,
+                alloc, bytes, writer, reads, writes,
             )?;
             assert_eq!(rt; ended, outcome, "{schedule}");
             assert_eq!(rt; written.as_slice(), output.as_bytes(), "{schedule}");

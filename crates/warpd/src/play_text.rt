@@ -1,12 +1,10 @@
 //! What `warpd play` prints of a schedule.
-ghost use Rattle.std.specs.Prelude.{◌≡◌, ◌≤◌, ◌++◌, All, IfErr, IfOk, IsTrue, OnOk, length};
-ghost use Rattle.warp_step.specs.Program.{Program};
+ghost use Rattle.std.specs.Prelude.{◌≡◌, ◌++◌, All, IfErr, IfOk, IsTrue, OnOk, length};
 ghost use Rattle.warp_table.specs.Records.{set_of};
 ghost use Rattle.warp_replica.specs.Answers.{Answers, AreAnswers};
 ghost use Rattle.warp_replica.specs.Gives.{reply_to};
 ghost use Rattle.warp_world.specs.Replicas.{RunAll, logs_of};
 ghost use Rattle.warp_world.specs.Schedule.{IsFault};
-ghost use Rattle.warp_world.specs.declared.fault.ScheduleFault.TheVariants.{NoMemory};
 ghost use Rattle.warpd.specs.Play.{PlaysSchedule, Prints, replica_lines};
 ghost use Rattle.warpd.specs.Session.{reply_line};
 ghost use Rattle.warpd.specs.inner.Printing.{Adds, count_lines, title_line, variable_lines};

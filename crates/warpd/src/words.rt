@@ -1,7 +1,7 @@
 //! The words of the command line.
 ghost use Rattle.std.specs.Prelude.{◌≡◌, [], IfErr, IfOk, Some, map, option_map};
 ghost use Rattle.std.specs.Prelude.{false};
-ghost use Rattle.clap.specs.Words.{app_of, fault_of, first_of, found_of, HasKind, new_app, rows_of, subcommand_of, subcommand_rows_of};
+ghost use Rattle.clap.specs.Words.{app_of, fault_of, first_of, found_of, HasKind, rows_of, subcommand_of, subcommand_rows_of};
 ghost use Rattle.clap.specs.Words.{with_rule, with_subcommand};
 ghost use Rattle.clap.specs.declared.builder.command.Command.TheViews.{out-Command as fields_of};
 ghost use Rattle.warpd.specs.Words.{play_command, play_task, run_command, run_task, task_found, task_in, task_of};

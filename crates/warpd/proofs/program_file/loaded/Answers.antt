@@ -1,4 +1,4 @@
-use Rattle.std.proofs.Common.{inr, sym, subst}
+use Rattle.std.proofs.Common.{inr, subst}
 use Rattle.warp_prog.specs.Load.{IsLoaded, IsRefused}
 use Rattle.warpd.proofs.program_file.loaded.Goals as goal
 

@@ -4,7 +4,7 @@ use Rattle.std.specs.Prelude.{option_and_then}
 use Rattle.clap.specs.Walk.{Row, Text}
 use Rattle.clap.specs.Simple.{App, argument_words, built, help_shape, subcommand_of}
 use Rattle.clap.specs.Faults.{fault_of}
-use Rattle.warpd.specs.Words.{Task, task_found, task_of, warpd_command}
+use Rattle.warpd.specs.Words.{Task, task_found, warpd_command}
 use Rattle.warpd.proofs.GivenArguments.{Gives, entered_gives, level_given}
 use Rattle.warpd.proofs.words.words.Goals as goal
 
