@@ -44,16 +44,16 @@ module _ (a : Inside) (w : IsWhole (threads a) a.used) (o : ℕ) (g : Moment) wh
       (λ i below. other_origin o g ((threads a).entry i) (ne_eqb ((threads a).entry i).origin o (λ e. omega arith))) (used a) w.shape.declared)))
 
   -- the origin's nodes up to the name, and those behind it
-  abbrev own_front : List ℕ
+  abbrev pub own_front : List ℕ
   own_front = filter (λ i. not (name_before o g ((threads a).entry i))) (owned a o)
 
-  abbrev own_back : List ℕ
+  abbrev pub own_back : List ℕ
   own_back = filter (λ i. name_before o g ((threads a).entry i)) (owned a o)
 
   own_sorted : IsTable (map (threads a).entry (owned a o))
   own_sorted = IsTable-members (threads a).entry o (used a) w.shape.sorted
 
-  own_parts : owned a o ≡ own_front ++ own_back
+  pub own_parts : owned a o ≡ own_front ++ own_back
   own_parts = sorted_parts o g (threads a).entry (owned a o) own_sorted
 
   abbrev test : Place → Bool

@@ -1,5 +1,5 @@
 -- The arena after `insert`.
-use Rattle.std.proofs.Common.{◌≡◌, ◌≢◌, ℕ, ◌+◌, ◌-◌, ◌<◌, true, false, cond, List, [], ◌∷◌, ◌++◌, length, refl, sym, ap, ◌∙◌, subst, arith, map, get_or, set, None}
+use Rattle.std.proofs.Common.{◌≡◌, ◌≢◌, ℕ, suc, ◌+◌, ◌-◌, ◌<◌, true, false, cond, List, [], ◌∷◌, ◌++◌, length, refl, sym, ap, ◌∙◌, subst, arith, map, get_or, set, None}
 use Rattle.std.specs.List.{AllByRecursion}
 use Rattle.std.specs.Vec.{vec_capacity}
 use Rattle.std.proofs.lemmas.List.{map-append, length-set, length-append}
@@ -28,6 +28,15 @@ with_place-at p [] (q ∷ qs) a b = ap (λ t. cond t (p ∷ q ∷ qs) (q ∷ wit
 with_place-at p (q ∷ front) back a b =
     ap (λ t. cond t (p ∷ q ∷ (front ++ back)) (q ∷ with_place p (front ++ back))) a.0
     ∙ ap (λ qs. q ∷ qs) (with_place-at p front back a.1 b)
+
+-- one more place is one more
+pub length-with_place : (p : Place) (ps : List Place) → length (with_place p ps) ≡ suc (length ps)
+length-with_place p [] = refl
+length-with_place p (q ∷ qs) =
+    elim (name_before p.entry.origin p.entry.tag q.entry) as (λ b. length (cond b (p ∷ q ∷ qs) (q ∷ with_place p qs)) ≡ suc (suc (length qs))) [
+      | true ↦ refl
+      | false ↦ ap suc (length-with_place p qs)
+    ]
 
 entry_of-off : (entry : ℕ → Entry) (i : ℕ) (is : List ℕ) → IsOff i is → entry_of i (map (place_at entry) is) ≡ None
 entry_of-off entry i [] off = refl

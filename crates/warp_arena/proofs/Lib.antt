@@ -17,3 +17,4 @@ pub mod Finding
 pub mod Touching
 pub mod Handles
 pub mod ByName
+pub mod Beside

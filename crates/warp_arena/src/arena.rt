@@ -1,5 +1,5 @@
 //! The arena: entries of names, in order, each at a handle.
-use crate::links::{add_node, handle, thread_node, unthread_node};
+use crate::links::{add_node, handle, next_of_origin, thread_node, unthread_node};
 use crate::node::{Links, MAX_USED, NO_NODE, Node, NodeId, Origin};
 use std::alloc::Global;
 use std::marker::Model;
@@ -11,10 +11,11 @@ use warp_tag::{Entry, OutOfMemory, Tag};
 ///
 /// Only `start` and `reserve_one` take memory.
 ///
-/// For a name, `find` and `insert` walk back along its origin's list, and `insert` along the tag list as well. A walk starts
-/// at the entry of the origin that `insert`, `set_event` or `set_withdrawn` touched last, where that is after the name,
-/// and else at the list's end. So where names come in order of tags it takes no hop. Where an origin's come newest first
-/// it takes one, and in the tag list one more for each entry of another origin that lies between.
+/// For a name, `find`, `insert` and `enter` walk back along its origin's list: from the entry of the origin that was
+/// touched last (that came in, or got an event or a withdrawal), where that is after the name, and else from the list's end.
+/// Where the name comes in, a walk back along the tag list follows: from the origin's first entry after the name, or from
+/// the end where there is none. It passes entries of other origins alone. So where names come in order of tags no walk takes
+/// a hop. Where an origin's come newest first, the first takes one, and the other one for each entry that lies between.
 #[derive(Drop)]
 pub struct Arena {
     nodes: Vec<Node>,
@@ -93,6 +94,17 @@ impl Arena {
             return None;
         }
         let at = self.last_of_origin_through(origin, tag);
+        self.named_at(origin, tag, at)
+    }
+
+    /// The handle of this name, where it is known which of its origin's nodes is the last that is not after it.
+    fn named_at(&self, origin: u32, tag: Tag, at: u32) -> Option<NodeId>
+        requires origin { origin < self.now.origins }
+        requires at { at ≡ last_not_after origin tag (places_of origin self.now.places) }
+        ensures handle { result ≡ node_of origin tag self.now.places }
+        ensures named { IfSome result
+            (λ node. IsSomeAnd (entry_of node self.now.places) (λ e. IsTrue (has_name origin tag e))) }
+    {
         if at != NO_NODE && self.nodes[at as usize].entry.is_of(origin, tag) {
             Some(NodeId::new(at))
         } else {
@@ -114,8 +126,48 @@ impl Arena {
         ensures entry { entry_of result self.new.places ≡ Some (fresh origin tag) }
         ensures others { (node : ℕ) → node ≢ result → entry_of node self.new.places ≡ entry_of node self.old.places }
     {
-        let before = self.last_through(origin, tag);
         let own_before = self.last_of_origin_through(origin, tag);
+        self.insert_behind(origin, tag, own_before)
+    }
+
+    /// The handle of this name, which comes in where the arena does not hold it: what `find` answers, and else `insert`. It walks
+    /// the list of the origin once.
+    pub fn enter(&mut self, origin: u32, tag: Tag) -> NodeId
+        requires origin { origin < self.old.origins }
+        requires reserved { 0 < self.old.free }
+        ensures known { (node : ℕ) → node_of origin tag self.old.places ≡ Some node → (result ≡ node) × (self.new ≡ self.old) }
+        ensures places { node_of origin tag self.old.places ≡ None → self.new ≡ record self.old {
+          places = with_place (record { node = result; entry = fresh origin tag }) self.old.places;
+          free = self.old.free - 1;
+        } }
+        ensures new_handle { node_of origin tag self.old.places ≡ None → entry_of result self.old.places ≡ None }
+        ensures entry { node_of origin tag self.old.places ≡ None → entry_of result self.new.places ≡ Some (fresh origin tag) }
+        ensures others { node_of origin tag self.old.places ≡ None
+            → (node : ℕ) → node ≢ result → entry_of node self.new.places ≡ entry_of node self.old.places }
+        ensures named { IsSomeAnd (entry_of result self.new.places) (λ e. IsTrue (has_name origin tag e)) }
+    {
+        let own_before = self.last_of_origin_through(origin, tag);
+        if let Some(node) = self.named_at(origin, tag, own_before) {
+            return node;
+        }
+        self.insert_behind(origin, tag, own_before)
+    }
+
+    /// Takes in this name behind the last of the origin's nodes that are not after it.
+    fn insert_behind(&mut self, origin: u32, tag: Tag, own_before: u32) -> NodeId
+        requires origin { origin < self.old.origins }
+        requires reserved { 0 < self.old.free }
+        requires absent { node_of origin tag self.old.places ≡ None }
+        requires own_before { own_before ≡ last_not_after origin tag (places_of origin self.old.places) }
+        ensures places { self.new ≡ record self.old {
+          places = with_place (record { node = result; entry = fresh origin tag }) self.old.places;
+          free = self.old.free - 1;
+        } }
+        ensures new_handle { entry_of result self.old.places ≡ None }
+        ensures entry { entry_of result self.new.places ≡ Some (fresh origin tag) }
+        ensures others { (node : ℕ) → node ≢ result → entry_of node self.new.places ≡ entry_of node self.old.places }
+    {
+        let before = self.last_through(origin, tag, own_before);
         let at = self.free;
         self.free = self.nodes[at as usize].by_tag.next;
         let mut own_ends = self.by_origin[origin as usize].ends;
@@ -305,12 +357,26 @@ impl Arena {
         }
     }
 
-    /// The last node of the tag list whose name is not after this one, or `NO_NODE`.
-    fn last_through(&self, origin: u32, tag: Tag) -> u32
-        requires { origin < self.now.origins }
+    /// Where the walk back along the tag list starts, where it is known which of the origin's nodes is the last that is not
+    /// after the name: at the next one of the origin, since all behind that are after the name too, and else at this end.
+    fn start_beside(&self, origin: u32, tag: Tag, own_before: u32, end: u32) -> u32
+        requires origin { origin < self.now.origins }
+        requires own_before { own_before ≡ last_not_after origin tag (places_of origin self.now.places) }
+        ensures { result ≢ end → IsAfter origin tag result self.now.places }
+    {
+        let own_ends = self.by_origin[origin as usize].ends;
+        let own_after = next_of_origin(&self.nodes, &own_ends, own_before);
+        if own_after == NO_NODE { end } else { own_after }
+    }
+
+    /// The last node of the tag list whose name is not after this one, or `NO_NODE`, where it is known which of the origin's
+    /// nodes is.
+    fn last_through(&self, origin: u32, tag: Tag, own_before: u32) -> u32
+        requires origin { origin < self.now.origins }
+        requires own_before { own_before ≡ last_not_after origin tag (places_of origin self.now.places) }
         ensures { result ≡ last_not_after origin tag self.now.places }
     {
-        let mut at = self.start_of_walk(origin, tag, self.ends.prev);
+        let mut at = self.start_beside(origin, tag, own_before, self.ends.prev);
         while at != NO_NODE && self.nodes[at as usize].entry.comes_after(origin, tag) {
             at = self.nodes[at as usize].by_tag.prev;
         }

@@ -21,14 +21,11 @@ fn named(arena: &mut Arena, alloc: Global, origin: u32, tag: Tag) -> Result<Node
     ensures origins { arena.new.origins ≡ arena.old.origins }
     ensures used { IfOk result (λ node. IsSome (entry_of node arena.new.places)) }
 {
-    if let Some(node) = arena.find(origin, tag) {
-        return Ok(node);
-    }
     if arena.is_full() {
         return Err(AllocError);
     }
     arena.reserve_one(alloc)?;
-    Ok(arena.insert(origin, tag))
+    Ok(arena.enter(origin, tag))
 }
 
 /// Notes an event of the name, which is taken in if it is new: the change of the table of the entries.

@@ -2,3 +2,4 @@ pub mod Presence
 pub mod Term
 pub mod Effect
 pub mod Codes
+pub mod inner

@@ -1,5 +1,5 @@
 //! Expressions: their values, copies and comparison.
-ghost use Rattle.std.specs.Prelude.{◌≡◌, ℕ, length, IsTrue, IfOk, ◌↔◌};
+ghost use Rattle.std.specs.Prelude.{◌≡◌, ℕ, length, IsTrue, IfOk, IfSome, ◌↔◌};
 ghost use Rattle.warp_body.specs.Term.{Term, term_of, value_of, term_fits, sizes_of};
 
 use crate::operator::{BinaryOperator, UnaryOperator, as_number, is_true};
@@ -38,7 +38,15 @@ pub fn eval(expr: &Expr, vars: &Vars, present: &Present) -> i64
         Expr::Present(target) => as_number(present.get(*target).is_some()),
         Expr::Unary(operator, a) => operator.apply(eval(a, vars, present)),
         Expr::Binary(operator, a, b) => {
-            operator.apply(eval(a, vars, present), eval(b, vars, present))
+            let left = match leaf(a, vars, present) {
+                Some(value) => value,
+                None => eval(a, vars, present),
+            };
+            let right = match leaf(b, vars, present) {
+                Some(value) => value,
+                None => eval(b, vars, present),
+            };
+            operator.apply(left, right)
         }
         Expr::If(condition, a, b) => {
             if is_true(eval(condition, vars, present)) {
@@ -47,6 +55,20 @@ pub fn eval(expr: &Expr, vars: &Vars, present: &Present) -> i64
                 eval(b, vars, present)
             }
         }
+    }
+}
+
+/// The value of a number, a variable or a target, which most operands are; `None` for any other expression. It spares a
+/// call of `eval` for them.
+fn leaf(expr: &Expr, vars: &Vars, present: &Present) -> Option<i64>
+    requires { IsTrue (term_fits (sizes_of vars.now present.now) (term_of expr.now)) }
+    ensures { IfSome result (λ value. value ≡ value_of (term_of expr.now) vars.now present.now) }
+{
+    match expr {
+        Expr::Number(n) => Some(*n),
+        Expr::Variable(k) => Some(vars.get(*k)),
+        Expr::Value(target) => Some(present.get(*target).unwrap_or(0)),
+        _ => None,
     }
 }
 

@@ -8,6 +8,7 @@
 mod expr;
 mod operator;
 mod place;
+mod slots;
 mod stmt;
 #[cfg(test)]
 mod tests;

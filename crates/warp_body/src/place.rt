@@ -3,6 +3,7 @@ ghost use Rattle.std.specs.Prelude.{◌≡◌, ℕ, ℤ, ◌<◌, List, length, 
 ghost use Rattle.std.specs.List.{list_all};
 ghost use Rattle.warp_body.specs.Presence.{Presence, places_of, target_fits, nothing_present, present_at, with_value, kind_of, number_of, target_before, is_target};
 
+use crate::slots::Slots;
 use std::alloc::Global;
 use std::marker::Model;
 use warp_tag::OutOfMemory;
@@ -167,9 +168,9 @@ impl Vars {
 #[derive(Debug, Drop)]
 pub struct Present {
     startup: Option<i64>,
-    timers: Vec<Option<i64>>,
-    actions: Vec<Option<i64>>,
-    ports: Vec<Option<i64>>,
+    timers: Slots,
+    actions: Slots,
+    ports: Slots,
     sources: Vec<u32>,
 }
 
@@ -179,9 +180,9 @@ impl Model for Present {
 
     ghost Value = { Presence };
 
-    ghost view = { λ p. record { startup = p.startup; timers = p.timers.items; actions = p.actions.items; ports = p.ports.items; sources = p.sources.items } };
+    ghost view = { λ p. record { startup = p.startup; timers = p.timers; actions = p.actions; ports = p.ports; sources = p.sources.items } };
 
-    ghost invariant = { λ p. IsTrue (are_sources p.ports.items p.sources.items) };
+    ghost invariant = { λ p. IsTrue (are_sources p.ports p.sources.items) };
 }
 
 impl Present {
@@ -191,9 +192,9 @@ impl Present {
         requires ports { IsTrue (list_all (λ p. nat_lt p places.ports) sources.items) }
         ensures { IfOk result (λ p. p ≡ nothing_present places sources.items) }
     {
-        let timers = vec![in alloc; None; places.timers]?;
-        let actions = vec![in alloc; None; places.actions]?;
-        let ports = vec![in alloc; None; places.ports]?;
+        let timers = Slots::new(alloc, places.timers)?;
+        let actions = Slots::new(alloc, places.actions)?;
+        let ports = Slots::new(alloc, places.ports)?;
         Ok(Present {
             startup: None,
             timers,
@@ -221,9 +222,9 @@ impl Present {
     {
         match target {
             Target::Startup => self.startup,
-            Target::Timer(n) => self.timers[n as usize],
-            Target::Action(n) => self.actions[n as usize],
-            Target::Port(n) => self.ports[self.sources[n as usize] as usize],
+            Target::Timer(n) => self.timers.get(n),
+            Target::Action(n) => self.actions.get(n),
+            Target::Port(n) => self.ports.get(self.sources[n as usize]),
         }
     }
 
@@ -235,9 +236,9 @@ impl Present {
     {
         match target {
             Target::Startup => self.startup = Some(value),
-            Target::Timer(n) => self.timers[n as usize] = Some(value),
-            Target::Action(n) => self.actions[n as usize] = Some(value),
-            Target::Port(n) => self.ports[n as usize] = Some(value),
+            Target::Timer(n) => self.timers.put(n, value),
+            Target::Action(n) => self.actions.put(n, value),
+            Target::Port(n) => self.ports.put(n, value),
         }
     }
 
@@ -246,8 +247,8 @@ impl Present {
         ensures { self.new ≡ nothing_present (places_of self.old) self.old.sources }
     {
         self.startup = None;
-        self.timers.fill(None);
-        self.actions.fill(None);
-        self.ports.fill(None);
+        self.timers.clear();
+        self.actions.clear();
+        self.ports.clear();
     }
 }

@@ -6,3 +6,4 @@ pub mod PlainLemmas
 pub mod NextLemmas
 pub mod TableLemmas
 pub mod ReworkLemmas
+pub mod Begins

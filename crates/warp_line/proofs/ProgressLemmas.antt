@@ -100,7 +100,7 @@ given_stands t [] at some = let never : false ≡ true = grind (arith, nat_tests
 given_stands t (e ∷ G) at some = grind (arith, nat_tests)
 
 -- sameness read from the other side
-turned : (t : Moment) (ws : List Waiting) → list_any (λ w. is_same w.tag t) ws ≡ pends t ws
+pub turned : (t : Moment) (ws : List Waiting) → list_any (λ w. is_same w.tag t) ws ≡ pends t ws
 turned t [] = refl
 turned t (w ∷ ws) = let rest = turned t ws in grind (arith, nat_tests)
 

@@ -1,5 +1,5 @@
 -- What the parts of a step make, one after another, is the step.
-use Rattle.std.proofs.Common.{◌≡◌, ℕ, ℤ, ◌+◌, List, [], ◌∷◌, IsTrue, refl, sym, ap, ◌∙◌, subst}
+use Rattle.std.proofs.Common.{◌≡◌, ℕ, zero, suc, replicate, ℤ, ◌+◌, List, [], ◌∷◌, IsTrue, refl, sym, ap, ◌∙◌, subst}
 use Rattle.std.specs.Prelude.{pos, if◌then◌else◌}
 use Rattle.std.specs.List.{list_all}
 use Rattle.warp_tag.specs.Moment.{Moment, is_before}
@@ -20,6 +20,11 @@ use Rattle.warp_step.proofs.TargetsOfStep.{step_is}
 -- what is cleared, of the program's places and sources, is absent
 pub cleared : (P : Program) (places : Places) (sources : List ℕ) → places ≡ program_places P → sources ≡ sources_of P → nothing_present places sources ≡ absent P
 cleared P places sources h k = rw (h, k) refl
+
+-- where no list has a wish, none is entered
+pub none_enter : (P : Program) (t : Moment) (n : ℕ) (s : Snapshot) → with_all_wishes P t (replicate n []) s ≡ s
+none_enter P t zero s = refl
+none_enter P t (suc n) s = none_enter P t n s
 
 -- timers that repeat leave the variables
 pub repeats_vars : (P : Program) (t : Moment) (present : Presence) (number : ℕ) (ts : List Timer) (s : Snapshot) → (with_repeats P t present number ts s).vars ≡ s.vars

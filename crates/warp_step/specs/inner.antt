@@ -1,2 +1,3 @@
 -- What follows a loop of the code and no public contract cites.
 pub mod Front
+pub mod Flagged

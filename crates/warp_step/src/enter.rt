@@ -7,6 +7,7 @@ ghost use Rattle.warp_body.specs.declared.place.Target.TheVariants as to;
 ghost use Rattle.warp_body.specs.Effect.{wish_fits};
 ghost use Rattle.warp_step.specs.Valid.{link_fits, program_places, program_sizes};
 ghost use Rattle.warp_step.specs.Snapshot.{landed};
+ghost use Rattle.warp_step.specs.inner.Flagged.{HasNone};
 ghost use Rattle.warp_step.specs.Step.{repeats, with_repeats, with_wishes, with_all_wishes, with_links, delivered, lists_of};
 
 use crate::parts::{Link, Timer};
@@ -50,26 +51,40 @@ impl State {
         }
     }
 
-    /// Enters the wishes of the reactions, then what links with a delay deliver.
+    /// Enters the wishes of the reactions, then what links with a delay deliver. The flag says whether there may be wishes.
     pub(crate) fn enter_later(
         &mut self,
         program: &Program,
         tag: Tag,
         present: &Present,
         wishes: &[Wishes],
+        wished: bool,
     )
         requires time { tag.time ≤ program.now.stop }
         requires places { places_of present.now ≡ program_places program.now }
         requires wishes { IsTrue (list_all (list_all (wish_fits (program_sizes program.now))) (lists_of wishes.now)) }
+        requires none { HasNone wished (lists_of wishes.now) }
         ensures { self.new ≡ with_links program.now tag present.now program.now.links
             (with_all_wishes program.now tag (lists_of wishes.now) self.old) }
     {
-        self.enter_wishes(program, tag, wishes);
+        self.enter_wishes(program, tag, wishes, wished);
         self.deliver(program, tag, present);
     }
 
+    /// Enters the wishes of the reactions, of which there may be some where the flag says so.
+    fn enter_wishes(&mut self, program: &Program, tag: Tag, wishes: &[Wishes], wished: bool)
+        requires time { tag.time ≤ program.now.stop }
+        requires wishes { IsTrue (list_all (list_all (wish_fits (program_sizes program.now))) (lists_of wishes.now)) }
+        requires none { HasNone wished (lists_of wishes.now) }
+        ensures { self.new ≡ with_all_wishes program.now tag (lists_of wishes.now) self.old }
+    {
+        if wished {
+            self.enter_lists(program, tag, wishes);
+        }
+    }
+
     /// Enters the wishes of each reaction, in the order of the file.
-    fn enter_wishes(&mut self, program: &Program, tag: Tag, wishes: &[Wishes])
+    fn enter_lists(&mut self, program: &Program, tag: Tag, wishes: &[Wishes])
         requires time { tag.time ≤ program.now.stop }
         requires wishes { IsTrue (list_all (list_all (wish_fits (program_sizes program.now))) (lists_of wishes.now)) }
         ensures { self.new ≡ with_all_wishes program.now tag (lists_of wishes.now) self.old }
@@ -110,8 +125,8 @@ impl State {
         requires link { IsTrue (link_fits program.now link.now) }
         ensures { self.new ≡ delivered program.now tag link.now.target (present_at present.now (to.Port link.now.source)) link.now.delay self.old }
     {
-        if let Some(value) = present.get(Target::Port(link.source))
-            && let Some(delay) = link.delay
+        if let Some(delay) = link.delay
+            && let Some(value) = present.get(Target::Port(link.source))
         {
             self.land(program, tag, delay, Target::Port(link.target), value);
         }

@@ -1,11 +1,12 @@
 //! One step of a program, and the room that it works in.
-ghost use Rattle.std.specs.Prelude.{◌≡◌, ℕ, ◌+◌, ◌≤◌, ◌++◌, IfOk, IsTrue, List, length, vec_len, vec_capacity};
+ghost use Rattle.std.specs.Prelude.{◌≡◌, ℕ, ◌+◌, ◌≤◌, ◌++◌, IfOk, IsTrue, List, [], length, replicate, vec_len, vec_capacity};
 ghost use Rattle.std.specs.List.{list_all};
 ghost use Rattle.warp_tag.specs.Moment.{is_before};
 ghost use Rattle.warp_body.specs.Presence.{places_of};
 ghost use Rattle.warp_step.specs.Valid.{program_places};
 ghost use Rattle.warp_step.specs.Snapshot.{Snapshot, IsStateOf};
-ghost use Rattle.warp_step.specs.Step.{CanStep, Step, Room, reacted, room_of, source_of, sources_of, state_after};
+ghost use Rattle.warp_step.specs.inner.Flagged.{HasNone};
+ghost use Rattle.warp_step.specs.Step.{CanStep, Step, Room, lists_of, reacted, room_of, source_of, sources_of, state_after};
 
 use crate::arrive::arrive;
 use crate::meter::Meter;
@@ -25,6 +26,8 @@ use warp_tag::{OutOfMemory, Tag};
 pub struct Scratch {
     present: Present,
     wishes: Vec<Wishes>,
+    /// Whether a list of wishes may have some. Nearly always none has, and then nothing goes over them.
+    wished: bool,
 }
 
 impl Model for Scratch {
@@ -35,6 +38,11 @@ impl Model for Scratch {
     ghost Value = { Room };
 
     ghost view = { λ s. record { places = places_of s.present; sources = s.present.sources; bodies = length s.wishes.items } };
+
+    ghost use Rattle.warp_step.specs.Step.{lists_of};
+    ghost use Rattle.warp_step.specs.inner.Flagged.{HasNone};
+
+    ghost invariant = { λ s. HasNone s.wished (lists_of s.wishes.items) };
 }
 
 impl Scratch {
@@ -51,7 +59,11 @@ impl Scratch {
         let sources = sources(alloc, program)?;
         let present = Present::new(alloc, places, sources)?;
         let wishes = empty_wishes(alloc, program.reactions().len())?;
-        Ok(Scratch { present, wishes })
+        Ok(Scratch {
+            present,
+            wishes,
+            wished: false,
+        })
     }
 }
 
@@ -82,7 +94,8 @@ fn source(links: &[Link], port: u32) -> u32
 
 /// So many lists of wishes, all empty.
 fn empty_wishes(alloc: Global, count: usize) -> Result<Vec<Wishes>, OutOfMemory>
-    ensures { IfOk result (λ lists. length lists.items ≡ count) }
+    ensures none { IfOk result (λ lists. lists_of lists.items ≡ replicate count []) }
+    ensures len { IfOk result (λ lists. length lists.items ≡ count) }
 {
     let mut lists = Vec::with_capacity(alloc, count)?;
     for _ in 0..count {
@@ -116,30 +129,34 @@ pub fn step<M: Meter>(
     ensures ticks { M.ticks meter.new ≡ M.ticks meter.old + 1 }
 {
     meter.tick();
-    advance(
+    scratch.wished = advance(
         program,
         state,
         &mut scratch.present,
         &mut scratch.wishes,
+        scratch.wished,
         tag,
         given,
     );
     put_outputs(program, tag, &scratch.present, out);
 }
 
-/// Takes the state through the step, and leaves what is present after the reactions.
+/// Takes the state through the step, and leaves what is present after the reactions. The flag says whether there may be
+/// wishes of the step before, and the answer whether there are some of this one.
 fn advance(
     program: &Program,
     state: &mut State,
     present: &mut Present,
     wishes: &mut [Wishes],
+    wished: bool,
     tag: Tag,
     given: &[Given],
-)
+) -> bool
     requires can { CanStep program.now state.old tag given.now }
     requires places { places_of present.old ≡ program_places program.now }
     requires sources { present.old.sources ≡ sources_of program.now }
     requires bodies { length wishes.old ≡ length program.now.reactions }
+    requires none { HasNone wished (lists_of wishes.old) }
     ensures state { state.new ≡ state_after program.now state.old tag given.now }
     ensures present { present.new ≡ (reacted program.now state.old tag given.now).present }
     ensures of_program { IsStateOf program.now state.new }
@@ -147,13 +164,15 @@ fn advance(
     ensures places { places_of present.new ≡ places_of present.old }
     ensures sources { present.new.sources ≡ present.old.sources }
     ensures bodies { length wishes.new ≡ length wishes.old }
+    ensures none { HasNone result (lists_of wishes.new) }
 {
     program.valid();
     present.clear();
-    clear_wishes(wishes);
+    clear_wishes(wishes, wished);
     state.take_entries(program, tag, present);
     arrive(program, given, present);
     state.repeat_timers(program, tag, present);
-    run_reactions(program, &mut state.vars, present, wishes);
-    state.enter_later(program, tag, present, wishes);
+    let wished = run_reactions(program, &mut state.vars, present, wishes);
+    state.enter_later(program, tag, present, wishes, wished);
+    wished
 }

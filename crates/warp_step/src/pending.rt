@@ -105,5 +105,9 @@ pub(crate) fn drop_front(entries: &mut Entries, count: usize)
     requires { count ≤ length entries.old.items }
     ensures { entries.new.items ≡ drop count entries.old.items }
 {
-    let _ = entries.drain(..count);
+    if count > 0 {
+        let kept = entries.len() - count;
+        entries.as_mut_slice().copy_within(count.., 0);
+        entries.truncate(kept);
+    }
 }

@@ -1,6 +1,6 @@
 //! The reactions of a step, and the outputs that it puts.
-ghost use Rattle.std.specs.Prelude.{◌≡◌, ℕ, ◌+◌, ◌≤◌, ◌<◌, ◌++◌, IsTrue, List, [], map, replicate, length, slice_index_or, vec_len, vec_capacity};
-ghost use Rattle.std.specs.List.{list_all};
+ghost use Rattle.std.specs.Prelude.{◌≡◌, ℕ, ◌+◌, ◌≤◌, ◌<◌, ◌++◌, IsTrue, is_some, false, List, [], map, replicate, length, slice_index_or, vec_len, vec_capacity};
+ghost use Rattle.std.specs.List.{list_all, list_any};
 ghost use Rattle.warp_tag.specs.Limits.{most_wishes};
 ghost use Rattle.warp_body.specs.Presence.{Presence, places_of, present_at, target_fits};
 ghost use Rattle.warp_body.specs.declared.place.Target.TheVariants as to;
@@ -8,6 +8,7 @@ ghost use Rattle.warp_body.specs.Effect.{body_fits, schedules_of, wish_fits};
 ghost use Rattle.warp_body.specs.Term.{sizes_of};
 ghost use Rattle.warp_step.specs.Program.{rule_of};
 ghost use Rattle.warp_step.specs.Valid.{program_places, program_sizes};
+ghost use Rattle.warp_step.specs.inner.Flagged.{HasNone};
 ghost use Rattle.warp_step.specs.Step.{Reacting, after_reactions, is_triggered, lists_of, no_wishes, order_of, outputs_from, react, with_output};
 
 use crate::out::Out;
@@ -21,7 +22,19 @@ fn triggered(reaction: &Reaction, present: &Present) -> bool
     requires { IsTrue (list_all (target_fits (places_of present.now)) (rule_of reaction.now).triggers) }
     ensures { result ≡ is_triggered (rule_of reaction.now) present.now }
 {
-    for target in &reaction.triggers {
+    // Nearly always there is one, and a loop would cost more than it.
+    match reaction.triggers.as_slice() {
+        [] => false,
+        [first, rest @ ..] => present.get(*first).is_some() || is_one_present(rest, present),
+    }
+}
+
+/// Whether one of the targets is present.
+fn is_one_present(targets: &[Target], present: &Present) -> bool
+    requires { IsTrue (list_all (target_fits (places_of present.now)) targets.now) }
+    ensures { result ≡ list_any (λ target. is_some (present_at present.now target)) targets.now }
+{
+    for target in targets {
         if present.get(*target).is_some() {
             return true;
         }
@@ -29,14 +42,14 @@ fn triggered(reaction: &Reaction, present: &Present) -> bool
     false
 }
 
-/// Runs the reaction with this number if it is triggered.
+/// Runs the reaction with this number if it is triggered, and says whether it has wishes then.
 fn run_reaction(
     number: usize,
     reaction: &Reaction,
     vars: &mut Vars,
     present: &mut Present,
     wishes: &mut [Wishes],
-)
+) -> bool
     requires number { number < length wishes.old }
     requires triggers { IsTrue (list_all (target_fits (places_of present.old)) (rule_of reaction.now).triggers) }
     requires body { IsTrue (body_fits (sizes_of vars.old present.old) (rule_of reaction.now).body) }
@@ -49,19 +62,22 @@ fn run_reaction(
     ensures sources { present.new.sources ≡ present.old.sources }
     ensures wishes { IsTrue (list_all (list_all (wish_fits (sizes_of vars.old present.old))) (lists_of wishes.old)) →
         IsTrue (list_all (list_all (wish_fits (sizes_of vars.old present.old))) (lists_of wishes.new)) }
+    ensures none { result ≡ false → lists_of wishes.new ≡ lists_of wishes.old }
 {
     if triggered(reaction, present) {
         run_body(&reaction.body, vars, present, &mut wishes[number]);
+        return !wishes[number].is_empty();
     }
+    false
 }
 
-/// Runs the reactions that are triggered, in their order.
+/// Runs the reactions that are triggered, in their order, and says whether one has wishes then.
 pub(crate) fn run_reactions(
     program: &Program,
     vars: &mut Vars,
     present: &mut Present,
     wishes: &mut [Wishes],
-)
+) -> bool
     requires vars { length vars.old ≡ length program.now.variables }
     requires places { places_of present.old ≡ program_places program.now }
     requires wishes { lists_of wishes.old ≡ no_wishes program.now }
@@ -72,15 +88,28 @@ pub(crate) fn run_reactions(
     ensures sources { present.new.sources ≡ present.old.sources }
     ensures wishes { IsTrue (list_all (list_all (wish_fits (program_sizes program.now))) (lists_of wishes.new)) }
     ensures bodies { length wishes.new ≡ length wishes.old }
+    ensures none { HasNone result (lists_of wishes.new) }
 {
     program.valid();
+    let mut wished = false;
     for (number, reaction) in program.reactions().iter().enumerate() {
-        run_reaction(number, reaction, vars, present, wishes);
+        wished |= run_reaction(number, reaction, vars, present, wishes);
+    }
+    wished
+}
+
+/// Forgets all wishes; the flag says whether there may be some.
+pub(crate) fn clear_wishes(wishes: &mut [Wishes], wished: bool)
+    requires { HasNone wished (lists_of wishes.old) }
+    ensures { lists_of wishes.new ≡ replicate (length wishes.old) [] }
+{
+    if wished {
+        clear_lists(wishes);
     }
 }
 
-/// Forgets all wishes.
-pub(crate) fn clear_wishes(wishes: &mut [Wishes])
+/// Empties all lists.
+fn clear_lists(wishes: &mut [Wishes])
     ensures { lists_of wishes.new ≡ replicate (length wishes.old) [] }
 {
     for list in wishes.iter_mut() {

@@ -8,14 +8,15 @@ use Rattle.std.proofs.lemmas.List.{get_or-set_other, get_or-set_same, get_or_def
 use Rattle.std.proofs.Math.ListN.{length-set}
 use Rattle.warp_tag.specs.Limits.{most_origins}
 use Rattle.warp_tag.specs.Moment.{Moment}
+use Rattle.warp_tag.specs.Table.{fresh}
+use Rattle.warp_tag.specs.declared.entry.Entry.{Entry}
 use Rattle.warp_record.specs.declared.record.Record.{Record}
 use Rattle.warp_record.specs.declared.record.Record.TheVariants.{Event, Withdraw, Announce}
 use Rattle.warp_table.specs.Records.{Records, IsIn, set_of}
-use Rattle.warp_table.specs.Names.{HasEvent, TellsPayload, origin_of}
+use Rattle.warp_table.specs.Names.{HasEvent, Tells, TellsPayload, origin_of}
 use Rattle.warp_table.specs.declared.table.Name.{Name}
-use Rattle.warp_table.specs.declared.table.Known.{Known}
 use Rattle.warp_table.specs.inner.Heard.{Announced, AreHeard, Heard, IsHeard, heard_at, nothing_heard, with_heard_event, with_tag}
-use Rattle.warp_table.specs.inner.Kept.{Keeps, KeepsNames, is_named, kept_of, unknown}
+use Rattle.warp_table.specs.inner.Kept.{KeepsNames, is_named, kept_of}
 use Rattle.warp_table.specs.inner.News.{IsNews, IsNewsOf}
 use Rattle.warp_table.proofs.Heard.{heard_announcement, heard_elsewhere, heard_event, heard_new_payload, heard_withdrawal, with_one}
 use Rattle.warp_table.proofs.Sets.{in_set}
@@ -28,10 +29,10 @@ payload_told S origin tag None told = (λ h. absurd (false≢true h), λ h. absu
 payload_told S origin tag (Some p) told = (λ h. (p, told.0), λ h. refl)
 
 -- what is kept of a name has an event exactly if the set has one
-event_kept : (S : Records) (name : Name) (known : Option Known) → Keeps S name.origin name.tag known →
-    IsTrue (is_some (unwrap_or known (unknown name)).entry.event) ↔ ((p : ℕ × ℤ) × HasEvent S name.origin name.tag p)
+event_kept : (S : Records) (name : Name) (known : Option Entry) → Tells S name.origin name.tag known →
+    IsTrue (is_some (unwrap_or known (fresh name.origin name.tag)).event) ↔ ((p : ℕ × ℤ) × HasEvent S name.origin name.tag p)
 event_kept S name None keeps = (λ h. absurd (false≢true h), λ h. absurd (keeps (Event name.origin name.tag h.0.0 h.0.1) h.1 (refl, refl)))
-event_kept S name (Some known) keeps = payload_told S name.origin name.tag known.entry.event keeps.0.payload
+event_kept S name (Some known) keeps = payload_told S name.origin name.tag known.event keeps.payload
 
 -- a record that a list lacks is not in its set
 not_in_set : (records : List Record) (said : Record) → (Contains records said → ⊥) → IsIn (set_of records) said → ⊥
@@ -40,16 +41,16 @@ not_in_set records said new is = new ((in_set records said).1 is)
 -- The record's own origin
 
 -- an event of a name that has none, by what is kept of the name, is new to its origin
-pub event_new : (records : List Record) (names : List (Name × Known)) (own : Heard) (origin : ℕ) (tag : Moment) (input : ℕ) (value : ℤ) → IsNewsOf records names own (Event origin tag input value) →
-    is_some (kept_of (record { origin = origin; tag = tag }) names).entry.event ≡ false → Contains own.events tag → ⊥
+pub event_new : (records : List Record) (names : List (Name × Entry)) (own : Heard) (origin : ℕ) (tag : Moment) (input : ℕ) (value : ℤ) → IsNewsOf records names own (Event origin tag input value) →
+    is_some (kept_of (record { origin = origin; tag = tag }) names).event ≡ false → Contains own.events tag → ⊥
 event_new records names own origin tag input value news none has =
     let name : Name = record { origin = origin; tag = tag } in
     let there = (event_kept (set_of records) name (lookup (is_named origin tag) names) (news.kept.each origin tag)).1 ((news.heard.events tag).0 has) in
     false≢true (sym none ∙ there)
 
 -- what is heard of an event's origin with it
-pub own_event : (records : List Record) (names : List (Name × Known)) (own : Heard) (origin : ℕ) (tag : Moment) (input : ℕ) (value : ℤ) (has : Bool) → IsNewsOf records names own (Event origin tag input value) →
-    is_some (kept_of (record { origin = origin; tag = tag }) names).entry.event ≡ has →
+pub own_event : (records : List Record) (names : List (Name × Entry)) (own : Heard) (origin : ℕ) (tag : Moment) (input : ℕ) (value : ℤ) (has : Bool) → IsNewsOf records names own (Event origin tag input value) →
+    is_some (kept_of (record { origin = origin; tag = tag }) names).event ≡ has →
     IsHeard (set_of (records ++ Event origin tag input value ∷ [])) origin (with_heard_event has tag own)
 own_event records names own origin tag input value true news is =
     let said : Record = Event origin tag input value in
@@ -62,17 +63,17 @@ own_event records names own origin tag input value false news is =
     heard_event (set_of records) origin tag input value (set_of (records ++ said ∷ [])) own (with_one records said) (event_new records names own origin tag input value news is) news.heard
 
 -- a withdrawal that a list lacks is new to its origin
-pub withdrawal_new : (records : List Record) (names : List (Name × Known)) (own : Heard) (origin : ℕ) (tag : Moment) → IsNewsOf records names own (Withdraw origin tag) → Contains own.withdrawn tag → ⊥
+pub withdrawal_new : (records : List Record) (names : List (Name × Entry)) (own : Heard) (origin : ℕ) (tag : Moment) → IsNewsOf records names own (Withdraw origin tag) → Contains own.withdrawn tag → ⊥
 withdrawal_new records names own origin tag news has = not_in_set records (Withdraw origin tag) news.new ((news.heard.withdrawn tag).0 has)
 
 -- what is heard of a withdrawal's origin with it
-pub own_withdrawal : (records : List Record) (names : List (Name × Known)) (own : Heard) (origin : ℕ) (tag : Moment) → IsNewsOf records names own (Withdraw origin tag) →
+pub own_withdrawal : (records : List Record) (names : List (Name × Entry)) (own : Heard) (origin : ℕ) (tag : Moment) → IsNewsOf records names own (Withdraw origin tag) →
     IsHeard (set_of (records ++ Withdraw origin tag ∷ [])) origin (record own { withdrawn = with_tag tag own.withdrawn })
 own_withdrawal records names own origin tag news =
     heard_withdrawal (set_of records) origin tag (set_of (records ++ Withdraw origin tag ∷ [])) own (with_one records (Withdraw origin tag)) (withdrawal_new records names own origin tag news) news.heard
 
 -- what is heard of an announcement's origin with it
-pub own_announcement : (records : List Record) (names : List (Name × Known)) (own : Heard) (origin : ℕ) (tag : Moment) (events withdrawn : ℕ) (announced : List Announced) → IsNewsOf records names own (Announce origin tag events withdrawn) →
+pub own_announcement : (records : List Record) (names : List (Name × Entry)) (own : Heard) (origin : ℕ) (tag : Moment) (events withdrawn : ℕ) (announced : List Announced) → IsNewsOf records names own (Announce origin tag events withdrawn) →
     ((a : Announced) → Contains announced a ↔ Contains own.announced a ⊎ (a ≡ record { tag = tag; events = events; withdrawn = withdrawn })) →
     IsHeard (set_of (records ++ Announce origin tag events withdrawn ∷ [])) origin (record own { announced = announced })
 own_announcement records names own origin tag events withdrawn announced news adds =
@@ -82,9 +83,9 @@ own_announcement records names own origin tag events withdrawn announced news ad
 -- All origins
 
 -- a record that a table lacks is news to what it keeps
-pub news_to : (keys records : List Record) (kept names : List (Name × Known)) (heards : List Heard) (said : Record) → keys ≡ records → names ≡ kept → KeepsNames keys kept → AreHeard keys heards → (Contains records said → ⊥) → IsNews keys names heards said
+pub news_to : (keys records : List Record) (kept names : List (Name × Entry)) (heards : List Heard) (said : Record) → keys ≡ records → names ≡ kept → KeepsNames keys kept → AreHeard keys heards → (Contains records said → ⊥) → IsNews keys names heards said
 news_to keys records kept names heards said same alike keeps heard new = record {
-  kept = subst (λ (ns : List (Name × Known)). KeepsNames keys ns) (sym alike) keeps;
+  kept = subst (λ (ns : List (Name × Entry)). KeepsNames keys ns) (sym alike) keeps;
   heard = heard;
   new = λ has. new (subst (λ (rs : List Record). Contains rs said) same has);
 }
@@ -94,7 +95,7 @@ pub looked_up : (heards : List Heard) (index origin : ℕ) (own : Heard) → own
 looked_up heards index origin own here within same = here ∙ get_or_default heards index own nothing_heard within ∙ ap (heard_at heards) same
 
 -- a new record is news to its own origin
-pub own_news : (records : List Record) (names : List (Name × Known)) (old new : List Heard) (said : Record) (own : Heard) → ((origin : ℕ) → heard_at new origin ≡ heard_at old origin) → own ≡ heard_at new (origin_of said) →
+pub own_news : (records : List Record) (names : List (Name × Entry)) (old new : List Heard) (said : Record) (own : Heard) → ((origin : ℕ) → heard_at new origin ≡ heard_at old origin) → own ≡ heard_at new (origin_of said) →
     IsNews records names old said → IsNewsOf records names own said
 own_news records names old new said own same at news = record {
   kept = news.kept;
@@ -103,7 +104,7 @@ own_news records names old new said own same at news = record {
 }
 
 -- with what is heard of its own origin, a record is heard
-pub news_heard : (records : List Record) (names : List (Name × Known)) (old new : List Heard) (said : Record) (own : Heard) → ((origin : ℕ) → heard_at new origin ≡ heard_at old origin) → length new ≤ most_origins → origin_of said < length new →
+pub news_heard : (records : List Record) (names : List (Name × Entry)) (old new : List Heard) (said : Record) (own : Heard) → ((origin : ℕ) → heard_at new origin ≡ heard_at old origin) → length new ≤ most_origins → origin_of said < length new →
     IsNews records names old said → IsHeard (set_of (records ++ said ∷ [])) (origin_of said) own → AreHeard (records ++ said ∷ []) (set new (origin_of said) own)
 news_heard records names old new said own same few within news heard = record {
   few = omega (arith, length-set new (origin_of said) own);

@@ -1,8 +1,7 @@
 -- Lists in order of tags: the place of a tag, and the counts of tags before one.
 use Rattle.std.proofs.Common.{◌≡◌, ◌⊎◌, ℕ, zero, suc, ◌+◌, ◌<◌, ◌≤◌, Bool, true, false, List, [], ◌∷◌, length, filter, get_or, Contains, IsTrue, inl, inr, sym, subst, ap, refl, arith, below_more}
 use Rattle.std.specs.List.{All, AllPairs, insert, position_or_len}
-use Rattle.std.specs.List.Sorted.{IsPartitionedBy}
-use Rattle.std.proofs.lemmas.Bool.{cases_Bool, cases_eq}
+use Rattle.std.proofs.lemmas.Bool.{cases_Bool}
 use Rattle.std.proofs.lemmas.Bool.Decides.{nat_tests}
 use Rattle.std.proofs.lemmas.List.{get_or_read}
 use Rattle.std.proofs.lemmas.List.Elements.{All-cons, All-weaker}
@@ -29,13 +28,6 @@ front_passes {X} tag_of tag xs n x ordered within read h k d l =
     below_more (λ i. is_before tag (tag_of (get_or xs i d)) ≡ false) n
     (λ i below. not_beyond tag (tag_of (get_or xs i d)) (tag_of (get_or xs n d)) (ordered i n d below within) here) here k l
 
--- of ascending tags those before one are a front
-pub before_is_front : (end : Moment) (tags : List Moment) → AreAscending tags → IsPartitionedBy (λ t. is_before t end) tags
-before_is_front end tags ascending i j d le within h = elim (cases_eq i j) [
-  | inl same ↦ rw same h
-  | inr other ↦ before_trans (get_or tags i d) (get_or tags j d) end (ascending i j d (omega arith) within) h
-]
-
 -- what passes a test is as many as the front that passes, where the rest does not
 pub filter_front : {X : Type 0} (p : X → Bool) (xs : List X) (n : ℕ) → n ≤ length xs → ((k : ℕ) (d : X) → k < n → p (get_or xs k d) ≡ true) → ((k : ℕ) (d : X) → n ≤ k → k < length xs → p (get_or xs k d) ≡ false) → length (filter p xs) ≡ n
 filter_front p [] n le front rest = omega arith
@@ -48,9 +40,6 @@ filter_front p (x ∷ xs) (suc n) le front rest =
 -- a tag that is before another is not behind it
 pub before_not_behind : (t u : Moment) → is_before t u ≡ true → is_before u t ≡ false
 before_not_behind t u h = grind (arith, nat_tests)
-
-pub ascending_in_order : (tags : List Moment) → AreAscending tags → AllPairs (λ a b. is_before b a ≡ false) tags
-ascending_in_order tags ascending = λ i j d lt l. before_not_behind (get_or tags i d) (get_or tags j d) (ascending i j d lt l)
 
 -- a tag comes in at its place
 pub insert-place : (tag : Moment) (tags : List Moment) (n : ℕ) → n ≡ position_or_len (λ t. is_before tag t) tags → insert tags n tag ≡ with_tag tag tags

@@ -15,6 +15,7 @@ pub mod Announcements
 pub mod Horizons
 pub mod BelowHorizon
 pub mod InOrder
+pub mod KeptTags
 pub mod Tallies
 pub mod Heard
 pub mod HeardNews

@@ -254,13 +254,13 @@ kept_withdrawal tag names gone doubled xs v was new = record {
 }
 
 -- the counts are no more than there are names
-pub room_event : (names gone : List Moment) (doubled : Option Moment) (xs : List Tally) (v : Verdict) → AreKept names gone doubled xs v → length names < 2 ^ 63 → All (λ c. before_of Event c + 1 < 2 ^ 64) xs
+pub room_event : (names gone : List Moment) (doubled : Option Moment) (xs : List Tally) (v : Verdict) → AreKept names gone doubled xs v → length names + 1 < 2 ^ 64 → All (λ c. before_of Event c + 1 < 2 ^ 64) xs
 room_event names gone doubled xs v kept few = λ k d l.
     let c = get_or xs k d in
     let counts = kept.counts k d l in
     omega (arith, counts.events, count_before-le c.tag names)
 
-pub room_withdrawal : (names gone : List Moment) (doubled : Option Moment) (xs : List Tally) (v : Verdict) → AreKept names gone doubled xs v → length gone < 2 ^ 63 → All (λ c. before_of Withdrawal c + 1 < 2 ^ 64) xs
+pub room_withdrawal : (names gone : List Moment) (doubled : Option Moment) (xs : List Tally) (v : Verdict) → AreKept names gone doubled xs v → length gone + 1 < 2 ^ 64 → All (λ c. before_of Withdrawal c + 1 < 2 ^ 64) xs
 room_withdrawal names gone doubled xs v kept few = λ k d l.
     let c = get_or xs k d in
     let counts = kept.counts k d l in

@@ -1,4 +1,5 @@
 pub mod Kept
 pub mod Heard
+pub mod Tags
 pub mod Tally
 pub mod News

@@ -2,12 +2,11 @@
 //!
 //! Each announcement keeps how many names are before its tag. A new name is counted in the announcements beyond it, from
 //! the newest end, so that what comes in order of tag costs no pass over what came before.
-ghost use Rattle.std.specs.Prelude.{◌≡◌, ◌↔◌, ◌⊎◌, ◌+◌, ◌<◌, ◌≤◌, ◌^◌, ◌||◌, false, All, AllPairs, Contains, IsTrue, OnOk, OnErr, fold, length, map};
-ghost use Rattle.std.specs.List.{position_or_len};
-ghost use Rattle.warp_tag.specs.Moment.{Moment, is_before};
-ghost use Rattle.warp_table.specs.inner.Heard.{Announced, AreAscending, IsExceeded, IsHeardTo, count_before as tags_before, earlier_of, nothing_heard, with_tag};
+ghost use Rattle.std.specs.Prelude.{◌≡◌, ◌↔◌, ◌⊎◌, ◌+◌, ◌<◌, ◌^◌, ◌||◌, All, Contains, IsTrue, OnOk, OnErr, fold, map};
+ghost use Rattle.warp_table.specs.inner.Heard.{Announced, IsExceeded, IsHeardTo, earlier_of, nothing_heard, with_tag};
 ghost use Rattle.warp_table.specs.inner.Tally.{AreInOrder, before_of, beyond, counted, has_doubled, is_exceeded, is_met, with_name, with_tally};
 
+use crate::tags::{Tagged, Tags, place};
 use std::alloc::{AllocError, Global};
 use std::marker::Model;
 use warp_tag::Tag;
@@ -99,57 +98,12 @@ impl Verdict {
     }
 }
 
-/// What stands in order of tags.
-trait Tagged {
-    ghost tag_of: { Self → Moment };
-
-    /// Its tag.
-    fn tag(&self) -> Tag
-        ensures { result ≡ tag_of self.now };
-
-    /// Whether it is beyond the other tag.
-    fn is_beyond(&self, other: Tag) -> bool
-        ensures { result ≡ is_before other (tag_of self.now) }
-    {
-        other.is_before(self.tag())
-    }
-}
-
-impl Tagged for Tag {
-    ghost tag_of = { λ t. t };
-
-    fn tag(&self) -> Tag {
-        *self
-    }
-}
-
 impl Tagged for Tally {
     ghost tag_of = { λ t. t.tag };
 
     fn tag(&self) -> Tag {
         self.tag
     }
-}
-
-/// The place of the first one beyond the tag, sought from the newest end, where what comes in order of tag lands.
-fn place<T: Tagged>(items: &[T], tag: Tag) -> usize
-    requires { AllPairs (λ a b. is_before (T.tag_of b) (T.tag_of a) ≡ false) items.now }
-    ensures place { result ≡ position_or_len (λ a. is_before tag (T.tag_of a)) items.now }
-    ensures within { result ≤ length items.now }
-{
-    let mut at = items.len();
-    while at > 0 && items[at - 1].is_beyond(tag) {
-        at -= 1;
-    }
-    at
-}
-
-/// How many of the tags are before this one.
-fn count_before(tags: &[Tag], tag: Tag) -> usize
-    requires { AreAscending tags.now }
-    ensures { result ≡ tags_before tag tags.now }
-{
-    tags.partition_point(|t| t.is_before(tag))
 }
 
 /// Counts one more name in each of these announcements, and adds them to the verdict.
@@ -186,22 +140,11 @@ fn earlier(one: Option<Tag>, other: Tag) -> Tag
     }
 }
 
-/// Puts a tag in its place. An `Err` changes nothing.
-fn put_in(tags: &mut Vec<Tag>, tag: Tag) -> Result<(), AllocError>
-    requires { AreAscending tags.old.items }
-    ensures ok { OnOk result (tags.new.items ≡ with_tag tag tags.old.items) }
-    ensures err { OnErr result (tags.new.items ≡ tags.old.items) }
-{
-    let at = place(tags, tag);
-    tags.insert(at, tag)?;
-    Ok(())
-}
-
 /// What is kept of one origin. It is seen as what is heard of it: the tags of its names, and its announcements.
 #[derive(Drop)]
 pub(crate) struct Announcer {
-    events: Vec<Tag>,
-    withdrawn: Vec<Tag>,
+    events: Tags,
+    withdrawn: Tags,
     doubled: Option<Tag>,
     announced: Vec<Tally>,
     verdict: Verdict,
@@ -214,9 +157,9 @@ impl Model for Announcer {
 
     ghost Value = { Heard };
 
-    ghost view = { λ a. record { events = a.events.items; withdrawn = a.withdrawn.items; doubled = a.doubled; announced = map announcement_of a.announced.items } };
+    ghost view = { λ a. record { events = a.events; withdrawn = a.withdrawn; doubled = a.doubled; announced = map announcement_of a.announced.items } };
 
-    ghost invariant = { λ a. AreKept a.events.items a.withdrawn.items a.doubled a.announced.items a.verdict };
+    ghost invariant = { λ a. AreKept a.events a.withdrawn a.doubled a.announced.items a.verdict };
 }
 
 impl Announcer {
@@ -225,8 +168,8 @@ impl Announcer {
         ensures { result ≡ nothing_heard }
     {
         Announcer {
-            events: Vec::new(alloc),
-            withdrawn: Vec::new(alloc),
+            events: Tags::new(alloc),
+            withdrawn: Tags::new(alloc),
             doubled: None,
             announced: Vec::new(alloc),
             verdict: Verdict {
@@ -242,7 +185,7 @@ impl Announcer {
         ensures ok { OnOk result (self.new ≡ record self.old { events = with_tag tag self.old.events }) }
         ensures err { OnErr result (self.new ≡ self.old) }
     {
-        put_in(&mut self.events, tag)?;
+        self.events.insert(tag)?;
         self.verdict = count_name(&mut self.announced, tag, Kind::Event, self.verdict);
         Ok(())
     }
@@ -253,7 +196,7 @@ impl Announcer {
         ensures ok { OnOk result (self.new ≡ record self.old { withdrawn = with_tag tag self.old.withdrawn }) }
         ensures err { OnErr result (self.new ≡ self.old) }
     {
-        put_in(&mut self.withdrawn, tag)?;
+        self.withdrawn.insert(tag)?;
         self.verdict = count_name(&mut self.announced, tag, Kind::Withdrawal, self.verdict);
         Ok(())
     }
@@ -286,8 +229,8 @@ impl Announcer {
             tag,
             events,
             withdrawn,
-            events_before: count_before(&self.events, tag),
-            withdrawn_before: count_before(&self.withdrawn, tag),
+            events_before: self.events.count_before(tag),
+            withdrawn_before: self.withdrawn.count_before(tag),
         };
         let at = place(&self.announced, tag);
         self.announced.insert(at, tally)?;

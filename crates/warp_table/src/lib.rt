@@ -11,6 +11,7 @@ mod announcer;
 mod honest_law;
 mod law;
 mod table;
+mod tags;
 #[cfg(test)]
 mod tests;
 

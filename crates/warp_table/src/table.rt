@@ -4,6 +4,7 @@
 //! record costs a pass over all announcements or names. A horizon costs a look at each origin of the program.
 ghost use Rattle.std.specs.Prelude.{◌≡◌, ◌↔◌, ℕ, ℤ, ◌+◌, ◌<◌, ◌≤◌, List, [], ◌∷◌, ◌++◌, None, Some, true, false, is_some, length, slice_get, vec_len, Contains, IsTrue, IfSome, IfNone, IfOk, IsOk, OnOk, OnErr, MatchResult};
 ghost use Rattle.warp_tag.specs.Limits.{most_origins, most_records};
+ghost use Rattle.warp_tag.specs.Table.{with_event, with_withdrawal};
 ghost use Rattle.warp_step.specs.Events.{is_declared};
 ghost use Rattle.warp_record.specs.declared.record.Record.{Record};
 ghost use Rattle.warp_record.specs.declared.reply.Refusal.{Refusal};
@@ -13,7 +14,7 @@ ghost use Rattle.warp_table.specs.Names.{Tells, origin_of};
 ghost use Rattle.warp_table.specs.Records.{set_of};
 ghost use Rattle.warp_table.specs.Table.{names_of};
 ghost use Rattle.warp_table.specs.inner.Heard.{AreHeard, IsHeard, heard_at, with_heard_event};
-ghost use Rattle.warp_table.specs.inner.Kept.{KeepsNames, after_event, after_withdrawal, kept_of, unknown};
+ghost use Rattle.warp_table.specs.inner.Kept.{KeepsNames, kept_of};
 ghost use Rattle.warp_table.specs.inner.News.{IsNews, IsNewsOf};
 ghost use Rattle.indexmap.specs.IndexMap.{spare};
 
@@ -35,20 +36,13 @@ struct Name {
     tag: Tag,
 }
 
-/// What is known of a name: what its records say, and whether they have two different payloads.
-#[derive(Clone, Copy)]
-struct Known {
-    entry: Entry,
-    has_two_payloads: bool,
-}
-
 /// Records in the order of taking, each once, at most `MAX_RECORDS`. It is seen as their list. Beside them it keeps what is
 /// known of each name, and for each origin up to the greatest of a record an `Announcer`: which of its names came, what it
 /// announced, and how far that is reached.
 #[derive(Drop)]
 pub struct Table {
     records: IndexSet<Record>,
-    names: IndexMap<Name, Known>,
+    names: IndexMap<Name, Entry>,
     announcers: Vec<Announcer>,
 }
 
@@ -159,7 +153,7 @@ impl Table {
         ensures none { IfNone result (length (names_of self.now) ≤ number) }
     {
         let (_, known) = self.names.get_index(number as usize)?;
-        Some(known.entry)
+        Some(*known)
     }
 
     /// Up to which tag the announcements of all origins of the program are reached: the least, over its origins, of the greatest
@@ -201,59 +195,37 @@ impl Table {
     }
 }
 
-impl Known {
-    /// What is known of a name of which no record came.
-    fn new(name: Name) -> Known
-        ensures { result ≡ unknown name }
-    {
-        Known {
-            entry: Entry::fresh(name.origin, name.tag),
-            has_two_payloads: false,
-        }
-    }
+/// What is known after an event.
+fn with_event(known: Entry, input: u32, value: i64) -> Entry
+    ensures { result ≡ with_event input value known }
+{
+    let mut entry = known;
+    entry.note_event(input, value);
+    entry
+}
 
-    /// What is known after an event.
-    fn with_event(self, input: u32, value: i64) -> Known
-        ensures { result ≡ after_event input value self }
-    {
-        let differs = match self.entry.event {
-            Some((of, known)) => of != input || known != value,
-            None => false,
-        };
-        let mut entry = self.entry;
-        entry.note_event(input, value);
-        Known {
-            entry,
-            has_two_payloads: self.has_two_payloads || differs,
-        }
-    }
-
-    /// What is known after a withdrawal.
-    fn with_withdrawal(self) -> Known
-        ensures { result ≡ after_withdrawal self }
-    {
-        let mut entry = self.entry;
-        entry.withdraw();
-        Known {
-            entry,
-            has_two_payloads: self.has_two_payloads,
-        }
-    }
+/// What is known after a withdrawal.
+fn with_withdrawal(known: Entry) -> Entry
+    ensures { result ≡ with_withdrawal known }
+{
+    let mut entry = known;
+    entry.withdraw();
+    entry
 }
 
 /// What is known of the name.
-fn known_of(names: &IndexMap<Name, Known>, name: &Name) -> Known
+fn known_of(names: &IndexMap<Name, Entry>, name: &Name) -> Entry
     ensures { result ≡ kept_of name.now names.now.entries }
 {
     match names.get(name) {
         Some(known) => *known,
-        None => Known::new(*name),
+        None => Entry::fresh(name.origin, name.tag),
     }
 }
 
 /// Notes an event of the name. Where there is room for a name it succeeds.
 fn note_event(
-    names: &mut IndexMap<Name, Known>,
+    names: &mut IndexMap<Name, Entry>,
     name: Name,
     input: u32,
     value: i64,
@@ -262,24 +234,24 @@ fn note_event(
         → OnOk result (KeepsNames (records ++ Record.Event name.origin name.tag input value ∷ []) names.new.entries) }
     ensures succeeds { 0 < spare names.old → IsOk result }
 {
-    let known = known_of(names, &name).with_event(input, value);
+    let known = with_event(known_of(names, &name), input, value);
     names.insert(name, known)?;
     Ok(())
 }
 
 /// Notes a withdrawal of the name. Where there is room for a name it succeeds.
-fn note_withdrawal(names: &mut IndexMap<Name, Known>, name: Name) -> Result<(), OutOfMemory>
+fn note_withdrawal(names: &mut IndexMap<Name, Entry>, name: Name) -> Result<(), OutOfMemory>
     ensures ok { (records : List Record) → KeepsNames records names.old.entries
         → OnOk result (KeepsNames (records ++ Record.Withdraw name.origin name.tag ∷ []) names.new.entries) }
     ensures succeeds { 0 < spare names.old → IsOk result }
 {
-    let known = known_of(names, &name).with_withdrawal();
+    let known = with_withdrawal(known_of(names, &name));
     names.insert(name, known)?;
     Ok(())
 }
 
 /// Notes what a record says of its name; an announcement speaks of none. Where there is room for a name it succeeds.
-fn note(names: &mut IndexMap<Name, Known>, record: &Record) -> Result<(), OutOfMemory>
+fn note(names: &mut IndexMap<Name, Entry>, record: &Record) -> Result<(), OutOfMemory>
     ensures ok { (records : List Record) → KeepsNames records names.old.entries
         → OnOk result (KeepsNames (records ++ «record».now ∷ []) names.new.entries) }
     ensures succeeds { 0 < spare names.old → IsOk result }
@@ -323,10 +295,10 @@ fn keep_up_to(announcers: &mut Vec<Announcer>, origin: u32) -> Result<(), OutOfM
 }
 
 /// Whether the name has an event.
-fn has_event(names: &IndexMap<Name, Known>, name: &Name) -> bool
-    ensures { result ≡ is_some (kept_of name.now names.now.entries).entry.event }
+fn has_event(names: &IndexMap<Name, Entry>, name: &Name) -> bool
+    ensures { result ≡ is_some (kept_of name.now names.now.entries).event }
 {
-    known_of(names, name).entry.event.is_some()
+    known_of(names, name).event.is_some()
 }
 
 /// Notes a new event to its origin: that its name has two payloads where it has an event already, and else a new name. An
@@ -346,7 +318,7 @@ fn hear_event(announcer: &mut Announcer, tag: Tag, has_event: bool) -> Result<()
 /// Notes a new record to its origin. An `Err` changes nothing.
 fn hear_own(
     announcer: &mut Announcer,
-    names: &IndexMap<Name, Known>,
+    names: &IndexMap<Name, Entry>,
     record: &Record,
 ) -> Result<(), OutOfMemory>
     requires { (records : List Record) × IsNewsOf records names.now.entries announcer.old «record».now }
@@ -372,7 +344,7 @@ fn hear_own(
 /// Notes a new record to its origin. What is heard stays on an `Err`.
 fn hear(
     announcers: &mut Vec<Announcer>,
-    names: &IndexMap<Name, Known>,
+    names: &IndexMap<Name, Entry>,
     record: &Record,
 ) -> Result<(), OutOfMemory>
     requires origin { origin_of «record».now < most_origins }

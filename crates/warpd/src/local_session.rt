@@ -7,8 +7,8 @@ ghost use Rattle.warpd.specs.LocalSession.{TranscribesAll, TranscribesSoFar};
 use crate::session::{SessionEnd, session};
 use crate::stream::{Sink, Source};
 use std::alloc::Global;
-use warp_line::Plain;
 use warp_replica::{Local, Replica};
+use warp_run::Warp;
 use warp_step::Program;
 
 /// A session of a replica of this program that has taken no record yet.
@@ -30,7 +30,7 @@ pub fn run_session<R: Source, W: Sink>(
     // Without memory nothing was read or written.
     ensures memory { result ≡ SessionEnd.NoMemory → (source.new ≡ source.old) × (sink.new ≡ sink.old) }
 {
-    match Replica::<Plain>::new(alloc, program) {
+    match Replica::<Warp>::new(alloc, program) {
         Ok(replica) => session(alloc, source, sink, &mut Local::new(alloc, replica)),
         Err(_) => SessionEnd::NoMemory,
     }
@@ -40,6 +40,7 @@ pub fn run_session<R: Source, W: Sink>(
 mod tests {
     use super::*;
     use crate::memory::{MemoryReader, MemoryWriter};
+    use crate::programs::{ECHO, FLOOD, PAIR, PULSE};
     use crate::stream::Stream;
     use std::cell::Cell;
     use std::io::Read;
@@ -47,44 +48,6 @@ mod tests {
     use std::sync::ledger::{Blank, Ledger};
     use std::test::Fail;
     use warp_prog::load;
-
-    /// An action that lands at the next microstep.
-    const ECHO: &str =
-        r#"{"version":1,"stop":100,"origins":1,"reactors":[{"name":"e","vars":[["n",0]],
-"inputs":["a"],"outputs":["y"],"actions":[["c",0]],"reactions":[
-{"on":["a"],"writes":["c"],"body":[["schedule","c",0,"a"]]},
-{"on":["c"],"writes":["y"],"body":[["set","n",["+","n","c"]],["put","y","n"]]}]}],
-"inputs":[[0,"e.a"]],"outputs":["e.y"]}"#;
-
-    /// A link at the same tag.
-    const PAIR: &str = r#"{"version":1,"stop":100,"origins":2,"reactors":[
-{"name":"f","inputs":["a"],"outputs":["y"],"reactions":[
-{"on":["a"],"writes":["y"],"body":[["if",["<",0,"a"],[["put","y",["*","a","a"]]],[]]]}]},
-{"name":"g","vars":[["k",0]],"inputs":["x","b"],"outputs":["z"],"reactions":[
-{"on":["x","b"],"writes":["z"],"body":[
-["set","k",["+",["+","k","x"],["*",100,["present","b"]]]],["put","z","k"]]}]}],
-"links":[["f.y","g.x"]],"inputs":[[0,"f.a"],[1,"g.b"]],"outputs":["g.z"]}"#;
-
-    /// Startup, a timer and a link with a delay.
-    const PULSE: &str = r#"{"version":1,"stop":10,"origins":1,"reactors":[
-{"name":"p","vars":[["k",10]],"outputs":["y"],"timers":[["t",2,3]],"reactions":[
-{"on":["startup"],"body":[["set","k",100]]},
-{"on":["t"],"writes":["y"],"body":[["set","k",["+","k",1]],["put","y","k"]]}]},
-{"name":"q","vars":[["s",0]],"inputs":["a"],"outputs":["z"],"reactions":[
-{"on":["a"],"writes":["z"],"body":[["set","s",["+","s","a"]],["put","z","s"]]}]}],
-"links":[["p.y","q.a",4]],"outputs":["p.y","q.z"]}"#;
-
-    /// More pending entries than there may be.
-    const FLOOD: &str =
-        r#"{"version":1,"stop":2000,"origins":1,"reactors":[{"name":"w","vars":[["n",0]],
-"inputs":["a"],"actions":[["c",0]],"reactions":[
-{"on":["a"],"writes":["c"],"body":[
-["schedule","c",100,1],["schedule","c",200,1],["schedule","c",300,1],["schedule","c",400,1],
-["schedule","c",500,1],["schedule","c",600,1],["schedule","c",700,1],["schedule","c",800,1],
-["schedule","c",900,1],["schedule","c",1000,1],["schedule","c",1100,1],["schedule","c",1200,1],
-["schedule","c",1300,1],["schedule","c",1400,1],["schedule","c",1500,1],["schedule","c",1600,1]]},
-{"on":["c"],"body":[["set","n",["+","n",1]]]}]}],
-"inputs":[[0,"w.a"]]}"#;
 
     /// Lines that are refused, of which the last has no line feed.
     const REFUSED: &str = "event 00 5 0 0 3\nevent 0 5 0 1 3\nevent 2 5 0 0 3\nevent 0 5 0 2 3\n\

@@ -1,33 +1,17 @@
 //! A long schedule of sixteen replicas, by a fixed seed: replicas that hold the same records print the same text.
+use crate::dice::Dice;
 use crate::play_text::play_text;
 use std::alloc::Global;
 use std::process::Abort;
 use std::test::Fail;
-use warp_line::Plain;
 use warp_record::Record;
 use warp_replica::Replica;
+use warp_run::Warp;
 use warp_step::Program;
 use warp_world::{World, play, read_schedule};
 
 /// How many replicas are made equal in the end: the first ones.
 const EQUAL: u64 = 8;
-
-/// Numbers that look random, from a fixed seed.
-#[derive(Drop)]
-struct Dice {
-    state: u64,
-}
-
-impl Dice {
-    /// A number below 2 to the power of 31.
-    fn roll(&mut self) -> u64 {
-        self.state = self
-            .state
-            .wrapping_mul(6_364_136_223_846_793_005)
-            .wrapping_add(1_442_695_040_888_963_407);
-        self.state >> 33
-    }
-}
 
 /// Appends a line.
 fn append(rt: &impl Abort, text: &mut String, line: &str) {
@@ -90,7 +74,7 @@ fn schedule(rt: &impl Abort, alloc: Global) -> String {
 }
 
 /// Whether the replica's log has the record.
-fn has(replica: &Replica<Plain>, said: &Record) -> bool {
+fn has(replica: &Replica<Warp>, said: &Record) -> bool {
     for place in 1..=replica.len() {
         if replica.entry(place) == Some(*said) {
             return true;
@@ -100,7 +84,7 @@ fn has(replica: &Replica<Plain>, said: &Record) -> bool {
 }
 
 /// Whether each record of the one log is in the other.
-fn is_within(one: &Replica<Plain>, other: &Replica<Plain>) -> bool {
+fn is_within(one: &Replica<Warp>, other: &Replica<Warp>) -> bool {
     for place in 1..=one.len() {
         if let Some(said) = one.entry(place)
             && !has(other, &said)
@@ -112,7 +96,7 @@ fn is_within(one: &Replica<Plain>, other: &Replica<Plain>) -> bool {
 }
 
 /// The replicas after the schedule.
-fn world(rt: &impl Abort, alloc: Global, program: &Program, schedule: &str) -> World<Plain> {
+fn world(rt: &impl Abort, alloc: Global, program: &Program, schedule: &str) -> World<Warp> {
     let (count, moves) = read_schedule(alloc, schedule.as_bytes()).expect(rt, "a schedule");
     play(alloc, program, count, &moves).expect(rt, "memory")
 }
@@ -131,7 +115,7 @@ fn texts<'a>(rt: &impl Abort, alloc: Global, text: &'a str) -> Vec<&'a str> {
 /// Whether two replicas hold the same records; then they have to print the same.
 fn are_equal(
     rt: &impl Abort,
-    world: &World<Plain>,
+    world: &World<Warp>,
     texts: &[&str],
     one: usize,
     other: usize,

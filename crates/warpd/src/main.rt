@@ -1,6 +1,8 @@
 //! The program `warpd`: it reads the words, runs the job, and tells how that ended.
 #![tactic(auto)]
 
+#[cfg(test)]
+mod dice;
 mod file_bytes;
 mod local_session;
 #[cfg(test)]
@@ -10,9 +12,13 @@ mod memory;
 mod outcome;
 mod play_text;
 mod program_file;
+#[cfg(test)]
+mod programs;
 mod schedule_file;
 mod session;
 mod stream;
+#[cfg(test)]
+mod twins;
 mod words;
 
 ghost use Rattle.std.specs.Prelude.{◌≡◌, ◌≢◌, ◌<◌, ◌⊎◌, IfErr, IfOk, MatchResult, OnOk, codes, map, string_bytes};

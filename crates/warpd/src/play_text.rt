@@ -11,9 +11,10 @@ ghost use Rattle.warpd.specs.inner.Printing.{Adds, count_lines, title_line, vari
 
 use itoa::Buffer;
 use std::alloc::Global;
-use warp_line::{Plain, Timeline};
+use warp_line::Timeline;
 use warp_record::{Query, REPLY_ROOM, Reply, write_reply};
 use warp_replica::{Replica, one_answer};
+use warp_run::Warp;
 use warp_step::Program;
 use warp_tag::OutOfMemory;
 use warp_world::{ScheduleFault, World, play, read_schedule};
@@ -30,7 +31,7 @@ pub fn play_text(
     ensures refused { IfErr result (IsFault schedule.now) }
 {
     let (count, moves) = read_schedule(alloc, schedule)?;
-    let mut world = play::<Plain>(alloc, program, count, &moves)?;
+    let mut world = play::<Warp>(alloc, program, count, &moves)?;
     world.settle(alloc)?;
     let text = world_text(alloc, &world)?;
     Ok(text)

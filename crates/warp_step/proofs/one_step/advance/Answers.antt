@@ -7,8 +7,8 @@ use Rattle.warp_step.specs.Step.{Reacting, absent, lists_of, with_repeats, with_
 use Rattle.warp_step.proofs.StepLemmas.{cleared, repeats_vars, Made, reacts_are, state_is, made_later, made_of}
 use Rattle.warp_step.proofs.one_step.advance.Goals as goal
 
-pub run_reactions-requires-clause-vars : goal.run_reactions-requires-clause-vars
-run_reactions-requires-clause-vars c =
+pub run_reactions-wished-requires-clause-vars : goal.run_reactions-wished-requires-clause-vars
+run_reactions-wished-requires-clause-vars c =
     let view : c.state.inside.vars ≡ c.repeat_timers.new.self.vars = ap (λ (s : Snapshot). s.vars) c.state.view_is in
     let timers : c.repeat_timers.new.self.vars ≡ c.take_entries.new.self.vars =
     ap (λ (s : Snapshot). s.vars) c.repeat_timers.ensures
@@ -18,7 +18,7 @@ run_reactions-requires-clause-vars c =
 
 -- what the reactions make
 abbrev reacting : goal.After-enter_later → Reacting
-reacting c = record { vars = c.run_reactions.new.vars; present = c.run_reactions.new.present; wishes = lists_of c.run_reactions.new.wishes }
+reacting c = record { vars = c.run_reactions-wished.new.vars; present = c.run_reactions-wished.new.present; wishes = lists_of c.run_reactions-wished.new.wishes }
 
 made : (c : goal.After-enter_later) → Made c.args.program.now c.args.state.now c.args.tag c.args.given.now c.arrive.new.present c.repeat_timers.new.self (reacting c) c.enter_later.new.self
 made c =
@@ -32,11 +32,11 @@ made c =
           ∙ ap (arrived_entries (filter (λ w. is_same w.tag t) c.args.state.now.pending)) clear);
       repeated_is = c.repeat_timers.ensures ∙ ap (with_repeats P t c.arrive.new.present 0 P.timers) c.take_entries.ensures.state;
       reacts =
-          c.run_reactions.ensures.effect
+          c.run_reactions-wished.ensures.effect
           ∙ ap (λ (s : Snapshot). after_reactions P (order_of P) (record { vars = s.vars; present = c.arrive.new.present; wishes = no_wishes P })) c.state.view_is;
       enters =
           c.enter_later.ensures
-          ∙ ap (λ (s : Snapshot). with_links P t c.run_reactions.new.present P.links (with_all_wishes P t (lists_of c.run_reactions.new.wishes) (record s { vars = c.run_reactions.new.vars }))) c.state.view_is;
+          ∙ ap (λ (s : Snapshot). with_links P t c.run_reactions-wished.new.present P.links (with_all_wishes P t (lists_of c.run_reactions-wished.new.wishes) (record s { vars = c.run_reactions-wished.new.vars }))) c.state.view_is;
     }
 
 pub returns-clause-state : goal.returns-clause-state
@@ -50,7 +50,7 @@ returns-clause-present c =
 pub returns-clause-of_program : goal.returns-clause-of_program
 returns-clause-of_program c =
     made_of c.args.program.now c.args.state.now c.args.tag c.args.given.now c.arrive.new.present c.repeat_timers.new.self (reacting c) c.enter_later.new.self (made c)
-    c.valid.ensures c.run_reactions.ensures.wishes c.requires.can
+    c.valid.ensures c.run_reactions-wished.ensures.wishes c.requires.can
 
 pub returns-clause-later : goal.returns-clause-later
 returns-clause-later c =

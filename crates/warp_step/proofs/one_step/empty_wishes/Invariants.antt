@@ -1,6 +1,10 @@
--- as many lists as turns
-use Rattle.std.proofs.Common.{◌≡◌, vec_len}
+-- the lists so far are empty, as many as turns
+use Rattle.std.proofs.Common.{◌≡◌, [], replicate, vec_len}
+use Rattle.warp_step.specs.Step.{lists_of}
 use Rattle.warp_step.proofs.one_step.empty_wishes.Given as goal
 
 abbrev pub invariant-loop : goal.invariant-loop
-invariant-loop l = vec_len l.lists ≡ l.counter
+invariant-loop l = record {
+  none : lists_of l.lists.items ≡ replicate l.counter [];
+  len : vec_len l.lists ≡ l.counter;
+}

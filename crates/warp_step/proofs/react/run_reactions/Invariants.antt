@@ -5,6 +5,7 @@ use Rattle.warp_body.specs.Effect.{wish_fits}
 use Rattle.warp_body.specs.Presence.{places_of}
 use Rattle.warp_step.specs.Valid.{program_sizes}
 use Rattle.warp_step.specs.Step.{after_reactions, lists_of, no_wishes, numbers, order_of}
+use Rattle.warp_step.specs.inner.Flagged.{HasNone}
 use Rattle.warp_step.proofs.react.run_reactions.Given as goal
 
 abbrev pub invariant-loop-number : goal.invariant-loop-number
@@ -18,4 +19,5 @@ invariant-loop-number l = record {
   sources : l.present.sources ≡ l.fn.present.sources;
   none : (k : ℕ) → l.number ≤ k → get_or (lists_of l.wishes) k [] ≡ [];
   wishes : IsTrue (list_all (list_all (wish_fits (program_sizes l.program))) (lists_of l.wishes));
+  unwished : HasNone l.wished (lists_of l.wishes);
 }

@@ -20,3 +20,6 @@ returns-in-Ok-clause-lines g c = λ ended.
     (g.W.Sink.written c.args.sink.now) (g.W.Sink.written c.session.new.sink)
     (ap (λ r. r.program) new ∙ c.in-Ok.ensures.program) (ap (λ r. r.records) new ∙ c.in-Ok.ensures.records)
     (c.session.ensures.lines ended)
+
+pub returns-in-Ok-clause-memory : goal.returns-in-Ok-clause-memory
+returns-in-Ok-clause-memory g c = λ ended. let kept = c.session.ensures.memory ended in (kept.0, kept.1)

@@ -9,8 +9,8 @@ use Rattle.warp_arena.proofs.arena.Arena.last_through.Goals as goal
 pub loop-at-init : goal.loop-at-init
 loop-at-init c =
     let a = c.self.inside in
-    starts_by_tag a c.self.invariant c.args.origin c.args.tag c.start_of_walk-at.result
-    (λ n. subst (λ v. IsAfter c.args.origin c.args.tag c.start_of_walk-at.result v.places) (sym c.self.view_is) (c.start_of_walk-at.ensures n))
+    starts_by_tag a c.self.invariant c.args.origin c.args.tag c.start_beside-at.result
+    (λ n. subst (λ v. IsAfter c.args.origin c.args.tag c.start_beside-at.result v.places) (sym c.self.view_is) (c.start_beside-at.ensures n))
 
 pub index-requires : goal.index-requires
 index-requires c =

@@ -15,5 +15,5 @@ get-requires c =
 pub land-requires-clause-delay : goal.land-requires-clause-delay
 land-requires-clause-delay c =
     let delay = link_delay c.args.program.now c.args.link.now c.requires.link in
-    let here : IfSome (Some c.in-Some-delay.delay) (λ d. d ≤ longest_period) = rw c.in-Some-delay.is at delay in
+    let here : IfSome (Some c.in-Some.delay) (λ d. d ≤ longest_period) = rw c.in-Some.is at delay in
     omega (arith, here)

@@ -3,7 +3,7 @@ use Rattle.std.proofs.Common.{◌≡◌, ◌||◌, List, Contains, map, ap, sym,
 use Rattle.std.specs.Prelude.{◌⊎◌, ◌↔◌}
 use Rattle.std.specs.List.{insert}
 use Rattle.warp_tag.specs.Moment.{Moment}
-use Rattle.warp_table.specs.inner.Heard.{Announced, Heard, count_before}
+use Rattle.warp_table.specs.inner.Heard.{Announced, Heard}
 use Rattle.warp_table.specs.inner.Tally.{AreKept, Counts, announcement_of, place_of}
 use Rattle.warp_table.specs.declared.announcer.Tally.{Tally}
 use Rattle.warp_table.specs.declared.announcer.Verdict.{Verdict}
@@ -18,12 +18,12 @@ pub invariant_of-self-2 : goal.invariant_of-self-2
 unfolding tally
 invariant_of-self-2 c =
     let was = c.self.inside in
-    let names : List Moment = was.events.items in
-    let gone : List Moment = was.withdrawn.items in
-    let place : c.place-at.result ≡ place_of c.args.tag was.announced.items = c.place-at.ensures.place ∙ ap (place_of c.args.tag) c.deref-3.ensures.value in
+    let names : List Moment = was.events in
+    let gone : List Moment = was.withdrawn in
+    let place : c.place-at.result ≡ place_of c.args.tag was.announced.items = c.place-at.ensures.place ∙ ap (place_of c.args.tag) c.deref.ensures.value in
     let counts : Counts names gone (tally c) = record {
-      events = c.count_before.ensures ∙ ap (count_before c.args.tag) c.deref.ensures.value;
-      withdrawn = c.count_before-2.ensures ∙ ap (count_before c.args.tag) c.deref-2.ensures.value;
+      events = c.count_before.ensures;
+      withdrawn = c.count_before-2.ensures;
     } in
     let judged = c.broken_where-self-inside.ensures
     ∙ (λ i. record { reached = (c.with.ensures i).reached; is_broken = (c.with.ensures i).is_broken || c.has_doubled-has_doubled.ensures i }) in

@@ -1,5 +1,5 @@
 -- the name comes in at its place and is counted beyond it
-use Rattle.std.proofs.Common.{◌≡◌, ◌+◌, ◌<◌, ◌^◌, List, Contains, fold, length, map, ap, sym, subst, ◌∙◌, arith}
+use Rattle.std.proofs.Common.{◌≡◌, ◌+◌, ◌<◌, ◌^◌, List, Contains, fold, length, map, ap, sym, subst, ◌∙◌}
 use Rattle.std.specs.List.{All}
 use Rattle.std.specs.Vec.{with_items}
 use Rattle.std.proofs.lemmas.List.{with_items_is}
@@ -14,9 +14,9 @@ use Rattle.warp_table.proofs.announcer.Announcer.note_event.Goals as goal
 
 pub count_name-self-inside-requires-clause-room : goal.count_name-self-inside-requires-clause-room
 count_name-self-inside-requires-clause-room c =
-    let few : length c.self.inside.events.items < 2 ^ 63 = omega (arith, c.self.inside.events.ok.0, c.self.inside.events.ok.1, c.self.inside.events.small) in
+    let few : length c.self.inside.events + 1 < 2 ^ 64 = c.in_ok-insert.ensures.room in
     subst (λ (ts : List Tally). All (λ t. before_of Event t + 1 < 2 ^ 64) ts) (sym c.deref_mut.ensures.value)
-    (room_event c.self.inside.events.items c.self.inside.withdrawn.items c.self.inside.doubled c.self.inside.announced.items c.self.inside.verdict c.self.invariant few)
+    (room_event c.self.inside.events c.self.inside.withdrawn c.self.inside.doubled c.self.inside.announced.items c.self.inside.verdict c.self.invariant few)
 
 -- the announcements are those of before, counted
 now : (c : goal.After-self-2-1) →
@@ -31,22 +31,22 @@ now c =
 pub invariant_of-self-2 : goal.invariant_of-self-2
 invariant_of-self-2 c =
     let was = c.self.inside in
-    let gone : List Moment = was.withdrawn.items in
+    let gone : List Moment = was.withdrawn in
     let old : List Tally = was.announced.items in
-    let names : List Moment = with_tag c.args.tag was.events.items in
+    let names : List Moment = with_tag c.args.tag was.events in
     let tallies : List Tally = counted Event c.args.tag old in
     let verdict : Verdict = fold with_tally was.verdict (map (with_name Event) (beyond c.args.tag old)) in
-    let new : Contains was.events.items c.args.tag → ⊥ = subst (λ (h : Heard). Contains h.events c.args.tag → ⊥) (sym c.self.view_is) c.requires in
+    let new : Contains was.events c.args.tag → ⊥ = subst (λ (h : Heard). Contains h.events c.args.tag → ⊥) (sym c.self.view_is) c.requires in
     let judged : c.count_name-self-inside.result ≡ verdict =
     c.count_name-self-inside.ensures.judged ∙ ap (λ ts. fold with_tally was.verdict (map (with_name Event) (beyond c.args.tag ts))) c.deref_mut.ensures.value in
-    subst (λ (es : List Moment). AreKept es gone was.doubled (with_items was.announced c.count_name-self-inside.new.announced).items c.count_name-self-inside.result) (sym c.in_ok-put_in.ensures.ok)
+    subst (λ (es : List Moment). AreKept es gone was.doubled (with_items was.announced c.count_name-self-inside.new.announced).items c.count_name-self-inside.result) (sym c.in_ok-insert.ensures.ok)
     (subst (λ (ts : List Tally). AreKept names gone was.doubled ts c.count_name-self-inside.result) (sym (now c))
     (subst (λ (v : Verdict). AreKept names gone was.doubled tallies v) (sym judged)
-    (kept_event c.args.tag was.events.items gone was.doubled old was.verdict c.self.invariant new)))
+    (kept_event c.args.tag was.events gone was.doubled old was.verdict c.self.invariant new)))
 
 pub returns-clause-ok : goal.returns-clause-ok
 returns-clause-ok c =
     let was = c.self.inside in
     let told = ap (map announcement_of) (now c) ∙ announced-counted Event c.args.tag was.announced.items in
-    (λ i. record { events = c.in_ok-put_in.ensures.ok i; withdrawn = was.withdrawn.items; doubled = was.doubled; announced = told i })
+    (λ i. record { events = c.in_ok-insert.ensures.ok i; withdrawn = was.withdrawn; doubled = was.doubled; announced = told i })
     ∙ ap (λ (h : Heard). record h { events = with_tag c.args.tag h.events }) c.self.view_is

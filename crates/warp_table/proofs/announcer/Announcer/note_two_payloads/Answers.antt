@@ -17,6 +17,6 @@ invariant_of-self c =
     subst (λ (ts : List Tally). get_or ts (length ts - 1) last ≡ last) c.deref.ensures.value (sym c.in-Some.ensures.item.1) in
     let judged = c.broken_where-self-inside.ensures
     ∙ (λ i. record was.verdict { is_broken = was.verdict.is_broken || (c.has_doubled-is_before.ensures ∙ ap (λ t. is_before t last.tag) c.earlier.ensures) i }) in
-    subst (λ (t : Moment). AreKept was.events.items was.withdrawn.items (Some t) was.announced.items c.broken_where-self-inside.result) (sym c.earlier.ensures)
-    (subst (λ (v : Verdict). AreKept was.events.items was.withdrawn.items (Some (earlier_of was.doubled c.args.tag)) was.announced.items v) (sym judged)
-    (kept_doubled c.args.tag last was.events.items was.withdrawn.items was.doubled was.announced.items was.verdict c.self.invariant some is_last))
+    subst (λ (t : Moment). AreKept was.events was.withdrawn (Some t) was.announced.items c.broken_where-self-inside.result) (sym c.earlier.ensures)
+    (subst (λ (v : Verdict). AreKept was.events was.withdrawn (Some (earlier_of was.doubled c.args.tag)) was.announced.items v) (sym judged)
+    (kept_doubled c.args.tag last was.events was.withdrawn was.doubled was.announced.items was.verdict c.self.invariant some is_last))

@@ -1,5 +1,5 @@
 -- the name comes in at its place and is counted beyond it
-use Rattle.std.proofs.Common.{◌≡◌, ◌+◌, ◌<◌, ◌^◌, List, Contains, fold, length, map, ap, sym, subst, ◌∙◌, arith}
+use Rattle.std.proofs.Common.{◌≡◌, ◌+◌, ◌<◌, ◌^◌, List, Contains, fold, length, map, ap, sym, subst, ◌∙◌}
 use Rattle.std.specs.List.{All}
 use Rattle.std.specs.Vec.{with_items}
 use Rattle.std.proofs.lemmas.List.{with_items_is}
@@ -14,9 +14,9 @@ use Rattle.warp_table.proofs.announcer.Announcer.note_withdrawal.Goals as goal
 
 pub count_name-self-inside-requires-clause-room : goal.count_name-self-inside-requires-clause-room
 count_name-self-inside-requires-clause-room c =
-    let few : length c.self.inside.withdrawn.items < 2 ^ 63 = omega (arith, c.self.inside.withdrawn.ok.0, c.self.inside.withdrawn.ok.1, c.self.inside.withdrawn.small) in
+    let few : length c.self.inside.withdrawn + 1 < 2 ^ 64 = c.in_ok-insert.ensures.room in
     subst (λ (ts : List Tally). All (λ t. before_of Withdrawal t + 1 < 2 ^ 64) ts) (sym c.deref_mut.ensures.value)
-    (room_withdrawal c.self.inside.events.items c.self.inside.withdrawn.items c.self.inside.doubled c.self.inside.announced.items c.self.inside.verdict c.self.invariant few)
+    (room_withdrawal c.self.inside.events c.self.inside.withdrawn c.self.inside.doubled c.self.inside.announced.items c.self.inside.verdict c.self.invariant few)
 
 -- the announcements are those of before, counted
 now : (c : goal.After-self-2-1) →
@@ -31,22 +31,22 @@ now c =
 pub invariant_of-self-2 : goal.invariant_of-self-2
 invariant_of-self-2 c =
     let was = c.self.inside in
-    let names : List Moment = was.events.items in
+    let names : List Moment = was.events in
     let old : List Tally = was.announced.items in
-    let gone : List Moment = with_tag c.args.tag was.withdrawn.items in
+    let gone : List Moment = with_tag c.args.tag was.withdrawn in
     let tallies : List Tally = counted Withdrawal c.args.tag old in
     let verdict : Verdict = fold with_tally was.verdict (map (with_name Withdrawal) (beyond c.args.tag old)) in
-    let new : Contains was.withdrawn.items c.args.tag → ⊥ = subst (λ (h : Heard). Contains h.withdrawn c.args.tag → ⊥) (sym c.self.view_is) c.requires in
+    let new : Contains was.withdrawn c.args.tag → ⊥ = subst (λ (h : Heard). Contains h.withdrawn c.args.tag → ⊥) (sym c.self.view_is) c.requires in
     let judged : c.count_name-self-inside.result ≡ verdict =
     c.count_name-self-inside.ensures.judged ∙ ap (λ ts. fold with_tally was.verdict (map (with_name Withdrawal) (beyond c.args.tag ts))) c.deref_mut.ensures.value in
-    subst (λ (ws : List Moment). AreKept names ws was.doubled (with_items was.announced c.count_name-self-inside.new.announced).items c.count_name-self-inside.result) (sym c.in_ok-put_in.ensures.ok)
+    subst (λ (ws : List Moment). AreKept names ws was.doubled (with_items was.announced c.count_name-self-inside.new.announced).items c.count_name-self-inside.result) (sym c.in_ok-insert.ensures.ok)
     (subst (λ (ts : List Tally). AreKept names gone was.doubled ts c.count_name-self-inside.result) (sym (now c))
     (subst (λ (v : Verdict). AreKept names gone was.doubled tallies v) (sym judged)
-    (kept_withdrawal c.args.tag names was.withdrawn.items was.doubled old was.verdict c.self.invariant new)))
+    (kept_withdrawal c.args.tag names was.withdrawn was.doubled old was.verdict c.self.invariant new)))
 
 pub returns-clause-ok : goal.returns-clause-ok
 returns-clause-ok c =
     let was = c.self.inside in
     let told = ap (map announcement_of) (now c) ∙ announced-counted Withdrawal c.args.tag was.announced.items in
-    (λ i. record { events = was.events.items; withdrawn = c.in_ok-put_in.ensures.ok i; doubled = was.doubled; announced = told i })
+    (λ i. record { events = was.events; withdrawn = c.in_ok-insert.ensures.ok i; doubled = was.doubled; announced = told i })
     ∙ ap (λ (h : Heard). record h { withdrawn = with_tag c.args.tag h.withdrawn }) c.self.view_is

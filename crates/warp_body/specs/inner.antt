@@ -1,0 +1,2 @@
+-- What the code keeps inside and no public contract cites.
+pub mod Slots

@@ -1,0 +1,109 @@
+-- What a `Warp` stands for after a change of one name.
+use Rattle.std.proofs.Common.{◌≡◌, inl, inr, ℕ, ◌≤◌, true, false, IsTrue, IsSomeAnd, List, length, take, ap, sym, subst, ◌∙◌, refl, arith, Some, unwrap_or}
+use Rattle.std.specs.List.{list_all}
+use Rattle.std.specs.Option.{option_map}
+use Rattle.std.proofs.lemmas.List.{length-take-le}
+use Rattle.warp_tag.specs.Moment.{Moment}
+use Rattle.warp_tag.specs.Table.{Event, IsTable, changed, fresh, known, live, live_event}
+use Rattle.warp_tag.specs.declared.entry.Entry.{Entry}
+use Rattle.warp_tag.proofs.Known.{before_change_known}
+use Rattle.warp_tag.proofs.Lists.{same_some}
+use Rattle.warp_tag.proofs.Tables.{KeepsNames, before_change, live_shows_at, live_stays_at}
+use Rattle.warp_tag.proofs.Tags.{not_before_self}
+use Rattle.warp_step.specs.Program.{Program}
+use Rattle.warp_step.specs.Run.{Row, Run}
+use Rattle.warp_step.specs.Events.{event_fits}
+use Rattle.warp_arena.specs.Places.{Contents, Reaches, entries_of, entry_of, with_change}
+use Rattle.warp_arena.proofs.Handles.{entry_of-with_change_same}
+use Rattle.warp_line.specs.Timeline.{Standing, NowStands}
+use Rattle.warp_run.specs.Front.{GoesBack, IsAt, spacing}
+use Rattle.warp_run.specs.Walk.{AreThrough, ahead}
+use Rattle.warp_run.specs.Warp.{NamesAt, StandsFor, latest_with}
+use Rattle.warp_run.specs.declared.warp.Warp.{Warp}
+use Rattle.warp_run.proofs.ChangesEvents.{early_stay, known_tag}
+use Rattle.warp_run.proofs.ChangesPlaces.{ahead_stays}
+use Rattle.warp_run.proofs.ChangesRows.{keeps_done}
+use Rattle.warp_run.proofs.RowsMoved.{moved}
+
+-- a handle that names a name, and the arena with a change of its entry
+module _ (f : Entry → Entry) (names : KeepsNames f) {origin : ℕ} {tag : Moment} {old new : Warp} {node : ℕ} (is : NamesAt old new origin tag node)
+    {arena : Contents} (made : arena ≡ record new.arena { places = with_change f node new.arena.places }) where
+  -- the handle's entry is of the tag
+  pub named_after : IsSomeAnd (entry_of node arena.places) (λ e. e.tag ≡ tag)
+  named_after =
+      let e : Entry = unwrap_or (known origin tag (entries_of old.arena.places)) (fresh origin tag) in
+      let there : entry_of node arena.places ≡ Some (f e) =
+      ap (λ a. entry_of node a.places) made ∙ entry_of-with_change_same f node new.arena.places ∙ ap (option_map f) is.entry in
+      subst (λ o. IsSomeAnd o (λ d. d.tag ≡ tag)) (sym there) ((names e).1 ∙ known_tag origin tag (entries_of old.arena.places))
+
+  -- the cursor stays at the first place after the last row
+  cursor_stays : Reaches arena.places (ahead new.front.last arena.places) new.cursor
+  cursor_stays =
+      subst (λ ps. Reaches ps (ahead new.front.last ps) new.cursor) (sym (ap (λ a. a.places) made))
+      (ahead_stays f node names new.front.last new.arena.places new.cursor is.cursor)
+
+  -- of what is known of the name, before and after the change
+  module _ (ordered : IsTable (entries_of old.arena.places)) {e d : Entry} (found : entry_of node new.arena.places ≡ Some e) (after : d ≡ f e)
+      {m : Standing} (h : StandsFor old m) where
+    origins_are : arena.origins ≡ m.program.origins
+    origins_are = ap (λ a. a.origins) made ∙ is.origins ∙ h.origins
+
+    table_is : entries_of arena.places ≡ changed f origin tag m.table
+    table_is = ap (λ a. entries_of a.places) made ∙ is.change f ∙ ap (changed f origin tag) h.table
+
+    front_at : IsAt m.program (live m.table) new.front m.done
+    front_at = subst (λ x. IsAt m.program (live m.table) x m.done) (sym (ap (λ w. w.front) is.others)) h.front
+
+    change_from : before_change origin tag m.table ≡ e
+    change_from =
+        subst (λ es. before_change origin tag es ≡ e) h.table
+        (before_change_known origin tag (entries_of old.arena.places) ordered ∙ same_some _ _ (sym is.entry ∙ found))
+
+    -- where what counts of it changed, what a `Warp` that went back has left is done
+    pub undone_stands : (live_event d ≡ live_event e → ⊥) → IsTrue (list_all (event_fits m.program) (live (changed f origin tag m.table)))
+        → AreThrough (latest_with tag old.latest) (live (changed f origin tag m.table))
+        → (w : Warp) → w.arena ≡ arena → w.latest ≡ latest_with tag new.latest → w.settled ≡ false
+        → ((P : Program) (E : List Event) (done : List Row) → IsAt P E new.front done → GoesBack P E tag done w.front)
+        → (Reaches arena.places (ahead new.front.last arena.places) new.cursor → Reaches w.arena.places (ahead w.front.last w.arena.places) w.cursor)
+        → NowStands StandsFor spacing tag w m (changed f origin tag m.table)
+    undone_stands differs fits through w kept latest unsettled back cursor =
+        let E : List Event = live (changed f origin tag m.table) in
+        let goes = back m.program (live m.table) m.done front_at in
+        let early = early_stay f names origin tag m.table in
+        let lengths : length (take goes.left m.done) ≡ goes.left = length-take-le goes.left m.done goes.within in
+        let within : length (take goes.left m.done) ≤ length m.done = omega arith in (
+          take goes.left m.done,
+          record {
+            program = h.program;
+            origins = ap (λ a. a.origins) kept ∙ origins_are;
+            table = ap (λ a. entries_of a.places) kept ∙ table_is;
+            events = fits;
+            front = moved m.program (live m.table) E tag w.front (take goes.left m.done) (early tag (not_before_self tag)) goes.before goes.at;
+            cursor = cursor cursor_stays;
+            latest = subst (λ l. AreThrough l E) (sym (latest ∙ ap (λ v. latest_with tag v.latest) is.others)) through;
+            settled = λ yes. let no : true ≡ false = sym yes ∙ unsettled in cc;
+          },
+          keeps_done m tag (changed f origin tag m.table) (take goes.left m.done) early within
+              (elim goes.near [ inl all ↦ inl (lengths ∙ all) | inr few ↦ inr (λ trace run. let most = few trace run in omega arith) ])
+              (λ same. absurd (differs (ap live_event after ∙ live_shows_at f origin tag m.table e change_from same))),
+        )
+
+    -- where it stayed, what was done stays done
+    pub same_stands : live_event d ≡ live_event e → NowStands StandsFor spacing tag (record new { arena = arena }) m (changed f origin tag m.table)
+    same_stands same =
+        let lives : live m.table ≡ live (changed f origin tag m.table) =
+        sym (live_stays_at f origin tag m.table e change_from (ap live_event (sym after) ∙ same)) in (
+          m.done,
+          record {
+            program = h.program;
+            origins = origins_are;
+            table = table_is;
+            events = subst (λ E. IsTrue (list_all (event_fits m.program) E)) lives h.events;
+            front = subst (λ E. IsAt m.program E new.front m.done) lives front_at;
+            cursor = cursor_stays;
+            latest = subst (AreThrough new.latest) lives (subst (λ l. AreThrough l (live m.table)) (sym (ap (λ w. w.latest) is.others)) h.latest);
+            settled = λ yes. subst (λ E. Run m.program E m.done) lives (h.settled (sym (ap (λ w. w.settled) is.others) ∙ yes));
+          },
+          keeps_done m tag (changed f origin tag m.table) m.done (early_stay f names origin tag m.table) (omega arith) (inl refl)
+              (λ kept. omega arith),
+        )

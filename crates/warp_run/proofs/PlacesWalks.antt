@@ -1,0 +1,120 @@
+-- Walks on along an arena's places.
+use Rattle.std.proofs.Common.{◌≡◌, ℕ, Bool, true, List, [], ◌∷◌, ◌++◌, refl, sym, ap, ◌∙◌, subst, inl, inr, Option, Some, None}
+use Rattle.std.specs.List.{AllByRecursion, cons_option}
+use Rattle.std.proofs.lemmas.Bool.{cases_eq, eq-eqb, ne_eqb, false≢true}
+use Rattle.std.proofs.lemmas.List.{append-nil}
+use Rattle.warp_tag.specs.Moment.{Moment, is_before}
+use Rattle.warp_tag.specs.Table.{Event, IsTable, fresh, live_event, name_before}
+use Rattle.warp_tag.specs.declared.entry.Entry.{Entry}
+use Rattle.warp_tag.proofs.Lists.{All-weaker}
+use Rattle.warp_tag.proofs.Names.{before_tag}
+use Rattle.warp_step.specs.Run.{is_after}
+use Rattle.warp_step.specs.declared.out.Given.{Given}
+use Rattle.warp_arena.specs.Places.{Place, Reaches, entries_of, left_at, places_from, places_after}
+use Rattle.warp_arena.proofs.Tables.{Precedes, All-unmap, filter_front, filter_back}
+use Rattle.warp_line.proofs.ReplayLemmas.{live_name}
+use Rattle.warp_run.specs.Walk.{AreThrough, ahead, first_tag, given_by, live_of, through}
+
+-- the place of an entry at a handle
+abbrev pub place : ℕ → Entry → Place
+place node e = record { node = node; entry = e }
+
+-- the handle's place is the first of those from it on
+abbrev pub Heads : List Place → ℕ → Entry → Type 0
+Heads ps node e = places_from node ps ≡ place node e ∷ places_after node ps
+
+-- all these places are after the last row
+abbrev pub AreLater : Option Moment → List Place → Type 0
+AreLater last ps = AllByRecursion (λ p. is_after last p.entry.tag ≡ true) ps
+
+-- what comes after a name that is after the last row is after it
+pub after_name : (last : Option Moment) (o : ℕ) (g : Moment) (e : Entry)
+    → is_after last g ≡ true → name_before o g e ≡ true → is_after last e.tag ≡ true
+after_name None o g e h before = refl
+after_name (Some last) o g e h before = before_tag last (fresh o g) e h before
+
+-- the places from a handle's on are in order
+pub table_from : (node : ℕ) (ps : List Place) → IsTable (entries_of ps) → IsTable (entries_of (places_from node ps))
+table_from node [] t = tt
+table_from node (p ∷ ps) t =
+    elim (cases_eq p.node node) [
+      | inl same ↦ rw (eq-eqb p.node node same) t
+      | inr other ↦ rw (ne_eqb p.node node other) (table_from node ps t.1)
+    ]
+
+-- in order, all places are after the last row where the first is
+pub later_behind : (last : Option Moment) (p : Place) (ps : List Place)
+    → IsTable (entries_of (p ∷ ps)) → is_after last p.entry.tag ≡ true → AreLater last (p ∷ ps)
+later_behind last p ps t h = (
+  h,
+  All-weaker (λ (q : Place). Precedes p.entry q.entry) (λ q. is_after last q.entry.tag ≡ true)
+      (λ q k. after_name last p.entry.origin p.entry.tag q.entry h k) ps
+      (All-unmap (λ x. Precedes p.entry x) (λ (q : Place). q.entry) ps t.0),
+)
+
+-- and so from a handle's place on
+pub later_from : (last : Option Moment) (ps : List Place) (node : ℕ) (e : Entry)
+    → IsTable (entries_of ps) → Heads ps node e → is_after last e.tag ≡ true → AreLater last (places_from node ps)
+later_from last ps node e t head h =
+    subst (AreLater last) (sym head)
+    (later_behind last (place node e) (places_after node ps) (subst (λ qs. IsTable (entries_of qs)) head (table_from node ps t)) h)
+
+-- ---- gathering what is given
+
+-- What was gathered so far and what is left to gather is all there was at the start, and what is after the tag is left.
+pub record Gathers (tag : Moment) (ps start : List Place) (at : Option ℕ) (items : List Given) : Type 0 where
+  pub reaches : Reaches ps (left_at at ps) at
+  pub given : items ++ given_by (through tag (left_at at ps)) ≡ given_by (through tag start)
+  pub past : ahead (Some tag) (left_at at ps) ≡ ahead (Some tag) start
+
+-- what a walk that gathers ends with
+abbrev pub HasGathered : Moment → List Place → Option ℕ → Option ℕ → List Given → Type 0
+HasGathered tag ps cursor at items =
+    (rest : List Place) → Reaches ps rest cursor → Reaches ps (ahead (Some tag) rest) at × (items ≡ given_by (through tag rest))
+
+-- it ends where all that is left is after the tag
+pub gathers_all : (tag : Moment) (ps : List Place) (cursor at : Option ℕ) (items : List Given)
+    → Gathers tag ps (left_at cursor ps) at items → (end to : Option ℕ) → at ≡ end → to ≡ end → AreLater (Some tag) (left_at end ps)
+    → HasGathered tag ps cursor to items
+gathers_all tag ps cursor at items g end to is_end to_end later =
+    subst (λ o. HasGathered tag ps cursor o items) (is_end ∙ sym to_end) (λ rest r.
+    let q : Place → Bool = λ p. is_before tag p.entry.tag in
+    let now : List Place = left_at at ps in
+    let all : AreLater (Some tag) now = subst (λ o. AreLater (Some tag) (left_at o ps)) (sym is_end) later in (
+      subst (λ qs. Reaches ps qs at) (sym (filter_back q [] now tt all) ∙ g.past ∙ ap (ahead (Some tag)) r.left) g.reaches,
+      sym (append-nil items) ∙ ap (λ qs. items ++ given_by qs) (sym (filter_front q [] now tt all)) ∙ g.given
+          ∙ ap (λ qs. given_by (through tag qs)) r.left,
+    ))
+
+-- ---- the first live event
+
+-- What is left to seek in has the live events that there were at the start.
+pub record Seeks (ps start : List Place) (at : Option ℕ) : Type 0 where
+  pub reaches : Reaches ps (left_at at ps) at
+  pub events : live_of (left_at at ps) ≡ live_of start
+
+-- what a walk that seeks answers
+abbrev pub HasFound : List Place → Option ℕ → Option Moment → Option Moment → Type 0
+HasFound ps cursor latest result =
+    (rest : List Place) → Reaches ps rest cursor → AreThrough latest (live_of rest) → result ≡ first_tag (live_of rest)
+
+-- of places after the latest tag none has an event that counts
+none_later : (latest : Moment) (ps : List Place) → AreLater (Some latest) ps → AreThrough (Some latest) (live_of ps) → live_of ps ≡ []
+none_later latest [] later h = refl
+none_later latest (p ∷ ps) later h =
+    none (live_event p.entry) (live_of ps) (none_later latest ps later.1) (λ v k. ap (is_before latest) (live_name p.entry v k).1 ∙ later.0) h
+  where
+    none : (o : Option Event) (E : List Event) → (AreThrough (Some latest) E → E ≡ [])
+        → ((v : Event) → o ≡ Some v → is_before latest v.tag ≡ true) → AreThrough (Some latest) (cons_option o E) → cons_option o E ≡ []
+    none None E rest tags h = rest h
+    none (Some v) E rest tags h = absurd (false≢true (rw (tags v refl) at h))
+
+-- behind the latest tag nothing is found
+pub found_past : (ps : List Place) (cursor at : Option ℕ) (latest : Moment) (node : ℕ) (e : Entry)
+    → IsTable (entries_of ps) → Seeks ps (left_at cursor ps) at → at ≡ Some node → Heads ps node e → is_before latest e.tag ≡ true
+    → HasFound ps cursor (Some latest) None
+found_past ps cursor at latest node e t s is head h rest r past =
+    let same : live_of (left_at at ps) ≡ live_of rest = s.events ∙ ap live_of r.left in
+    let later : AreLater (Some latest) (left_at at ps) =
+    subst (λ o. AreLater (Some latest) (left_at o ps)) (sym is) (later_from (Some latest) ps node e t head h) in
+    sym (ap first_tag (sym same ∙ none_later latest (left_at at ps) later (subst (AreThrough (Some latest)) (sym same) past)))

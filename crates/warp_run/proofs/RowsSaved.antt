@@ -1,0 +1,58 @@
+-- Checkpoints of rows: they stay those of a front of the rows and of more rows.
+use Rattle.std.proofs.Common.{◌≡◌, ℕ, ◌+◌, ◌*◌, ◌≤◌, List, [], ◌∷◌, ◌++◌, length, take, ap, sym, ◌∙◌, length-append, refl, arith, Option, Some, None}
+use Rattle.std.specs.List.{AllByRecursion}
+use Rattle.std.proofs.lemmas.List.{take-append-le}
+use Rattle.warp_tag.specs.Moment.{Moment}
+use Rattle.warp_step.specs.Program.{Program}
+use Rattle.warp_step.specs.Snapshot.{Snapshot, start_state}
+use Rattle.warp_step.specs.Run.{Row, state_at_end, outputs_of}
+use Rattle.warp_line.specs.Begin.{last_after}
+use Rattle.warp_run.specs.History.{Saved}
+use Rattle.warp_run.specs.Front.{AreSaved, IsSaved, spacing}
+
+-- the last tag and the state after one more row
+pub last_more : (last : Option Moment) (rows : List Row) (row : Row) → last_after last (rows ++ row ∷ []) ≡ Some row.tag
+last_more last [] row = refl
+last_more last (r ∷ rows) row = last_more (Some r.tag) rows row
+
+pub state_more : (s : Snapshot) (rows : List Row) (row : Row) → state_at_end s (rows ++ row ∷ []) ≡ row.state
+state_more s [] row = refl
+state_more s (r ∷ rows) row = state_more r.state rows row
+
+-- a checkpoint of some rows is one of other rows that begin with the same
+saved_same : (P : Program) (a b : List Row) (c : Saved) → c.done.rows ≤ length b → take c.done.rows a ≡ take c.done.rows b
+    → IsSaved P a c → IsSaved P b c
+saved_same P a b c within same h = record {
+  within = within;
+  last = h.last ∙ ap (last_after None) same;
+  state = h.state ∙ ap (state_at_end (start_state P)) same;
+  outputs = h.outputs ∙ ap (λ (rows : List Row). length (outputs_of rows)) same;
+  ready = h.ready;
+}
+
+-- so are checkpoints of which none has more rows than begin both
+pub saved_on : (P : Program) (a b : List Row) (n : ℕ) (cs : List Saved) → n ≤ length b → ((k : ℕ) → k ≤ n → take k a ≡ take k b)
+    → AllByRecursion (λ c. c.done.rows ≤ n) cs → AreSaved P a cs → AreSaved P b cs
+saved_on P a b n [] within same few h = tt
+saved_on P a b n (c ∷ cs) within same few h =
+    let less = few.0 in
+    let there : c.done.rows ≤ length b = omega arith in
+    (saved_same P a b c there (same c.done.rows few.0) h.0, h.1, saved_on P a b n cs within same few.1 h.2)
+
+-- none has more rows than there are, nor more than the newest
+pub all_within : (P : Program) (rows : List Row) (cs : List Saved) → AreSaved P rows cs → AllByRecursion (λ c. c.done.rows ≤ length rows) cs
+all_within P rows [] h = tt
+all_within P rows (c ∷ cs) h = (h.0.within, all_within P rows cs h.2)
+
+pub all_older : (P : Program) (rows : List Row) (n : ℕ) (cs : List Saved) → spacing * length cs ≤ n + spacing → AreSaved P rows cs
+    → AllByRecursion (λ c. c.done.rows ≤ n) cs
+all_older P rows n [] few h = tt
+all_older P rows n (c ∷ cs) few h =
+    let here = h.1 in
+    (omega arith, all_older P rows n cs (omega arith) h.2)
+
+-- they stay where one more row is executed
+pub saved_more : (P : Program) (rows : List Row) (row : Row) (cs : List Saved) → AreSaved P rows cs → AreSaved P (rows ++ row ∷ []) cs
+saved_more P rows row cs h =
+    saved_on P rows (rows ++ row ∷ []) (length rows) cs (omega (arith, length-append rows (row ∷ [])))
+    (λ k few. sym (take-append-le k rows (row ∷ []) few)) (all_within P rows cs h) h

@@ -1,0 +1,64 @@
+-- What a `Warp` stands for, and the next tag that waits.
+use Rattle.std.proofs.Common.{◌≡◌, false, not, ap, sym, subst, ◌∙◌, refl, filter, IsTrue, IfSome, Option, Some, None}
+use Rattle.warp_tag.specs.Moment.{Moment}
+use Rattle.warp_tag.specs.Table.{Event, live}
+use Rattle.warp_step.specs.Snapshot.{least_pending, start_state}
+use Rattle.warp_step.specs.Run.{is_after, waits, state_at_end}
+use Rattle.warp_line.specs.Timeline.{Standing, IsDone}
+use Rattle.warp_line.proofs.RunLemmas.{past, none_waits}
+use Rattle.warp_line.proofs.NextLemmas.{none_pending}
+use Rattle.warp_arena.specs.Places.{IsOrdered}
+use Rattle.warp_run.specs.Walk.{AreThrough, ahead, first_tag, live_of}
+use Rattle.warp_run.specs.Warp.{StandsFor}
+use Rattle.warp_run.specs.declared.warp.Warp.{Warp}
+use Rattle.warp_run.proofs.TurnsLive.{all_kept, live_places}
+use Rattle.warp_run.proofs.TurnsNext.{AreSorted, IsFirst, IsLeast, first_is, first_none, least_is, live_sorted}
+use Rattle.warp_run.proofs.TurnsRuns.{begin_whole}
+
+module _ (w : Warp) (m : Standing) (h : StandsFor w m) where
+  -- the live events after the last row
+  pub ahead_events : live_of (ahead w.front.last w.arena.places) ≡ filter (λ e. is_after w.front.last e.tag) (live m.table)
+  ahead_events =
+      live_places (is_after w.front.last) w.arena.places
+      ∙ ap (filter (λ (e : Event). is_after w.front.last e.tag)) (ap live h.table)
+
+  -- none is after the latest tag
+  pub ahead_through : AreThrough w.latest (live_of (ahead w.front.last w.arena.places))
+  ahead_through =
+      subst (AreThrough w.latest) (sym ahead_events)
+      (all_kept (λ (e : Event). is_after w.front.last e.tag) (λ e. not (is_after w.latest e.tag)) (live m.table) h.latest)
+
+  sorted : IsOrdered w.arena → AreSorted (live m.table)
+  sorted ordered = subst (λ es. AreSorted (live es)) h.table (live_sorted _ ordered.table)
+
+  -- the first of them, where there is one
+  pub first_event : (o : Option Moment) (a : Moment) → IsOrdered w.arena → o ≡ first_tag (live_of (ahead w.front.last w.arena.places)) → o ≡ Some a
+      → IsFirst w.front.last (live m.table) a
+  first_event o a ordered is some =
+      first_is w.front.last (live m.table) a (sorted ordered) (sym (ap first_tag ahead_events) ∙ sym is ∙ some)
+
+  -- all are past, where there is none
+  pub no_event : (o : Option Moment) → o ≡ first_tag (live_of (ahead w.front.last w.arena.places)) → o ≡ None
+      → IsTrue (past w.front.last (live m.table))
+  no_event o is none = first_none w.front.last (live m.table) (sym (ap first_tag ahead_events) ∙ sym is ∙ none)
+
+  -- the least that is pending
+  pub least_entry : (o : Option Moment) (b : Moment) → o ≡ least_pending w.front.state.pending → o ≡ Some b
+      → IsLeast w.front.last w.front.state.pending b
+  least_entry o b is some = least_is w.front.last w.front.state.pending b h.front.ready.later (sym is ∙ some)
+
+  -- where nothing waits all rows are done
+  pub all_done : ((t : Moment) → waits (live m.table) w.front.last w.front.state t ≡ false) → IsDone m
+  all_done none =
+      begin_whole m.program (live m.table) None (start_state m.program) m.done h.front.begin
+      (λ t. ap (λ l. waits (live m.table) l (state_at_end (start_state m.program) m.done) t) (sym h.front.last)
+      ∙ ap (λ s. waits (live m.table) w.front.last s t) (sym h.front.state) ∙ none t)
+
+  -- so it is where no event is left and nothing is pending
+  pub all_done_there : IsTrue (past w.front.last (live m.table)) → least_pending w.front.state.pending ≡ None → IsDone m
+  all_done_there gone none = all_done (none_waits w.front.last w.front.state (live m.table) gone (none_pending w.front.state.pending none))
+
+-- a fact of what is there, by cases
+pub by_some : {X : Type 0} (Q : X → Type 0) (o : Option X) → ((x : X) → o ≡ Some x → Q x) → IfSome o Q
+by_some Q None h = tt
+by_some Q (Some x) h = h x refl

@@ -1,0 +1,23 @@
+use Rattle.std.proofs.Common.{refl, sym, ◌∙◌, ap}
+use Rattle.warp_run.specs.History.{Saves, newest}
+use Rattle.warp_run.proofs.RowsBack.{always_left, goes_back}
+use Rattle.warp_run.proofs.front.Front.go_back.Goals as goal
+
+pub returns-in-Some : goal.returns-in-Some
+returns-in-Some c = λ P E done at.
+    goes_back P E c.args.tag c.args.self.now _ c.in-Some.done done
+    (record {
+      history = c.drop_from.ensures;
+      newest = sym c.in-Some.ensures;
+      state = c.restore.ensures;
+      outputs = c.truncate.ensures.items;
+      rows = refl;
+      last = refl;
+      scratch = refl;
+    })
+    at c.requires.late
+
+pub returns-in_default : goal.returns-in_default
+returns-in_default c = λ P E done at.
+    absurd (always_left P E c.args.tag c.args.self.now done at c.requires.late
+    (ap (λ (h : Saves). newest h.saves) (sym c.drop_from.ensures) ∙ sym c.in_default.ensures))

@@ -1,0 +1,10 @@
+use Rattle.std.proofs.Common.{sym, ◌∙◌, subst, None}
+use Rattle.warp_run.proofs.PlacesWalks.{HasFound, found_past}
+use Rattle.warp_run.proofs.walk.next_event.Goals as goal
+
+pub returns-then-is_before : goal.returns-then-is_before
+returns-then-is_before c =
+    let ps = c.args.arena.now.places in
+    subst (λ latest. HasFound ps c.args.cursor latest None) (sym c.in_ok-latest.was)
+    (found_past ps c.args.cursor c.loop-at.at c.in_ok-latest.latest c.in-Some.node c.entry-entry.result
+    c.ordered.ensures.order.table c.loop-at.invariant c.in-Some.is c.entry-entry.ensures.head (sym c.is_before.ensures ∙ c.if-is_before.true))

@@ -1,0 +1,48 @@
+-- Checkpoints: what they hold, and how they stand in lists that they share.
+use Rattle.std.specs.Prelude.{◌≡◌, ℕ, ℤ, ◌≤◌, List, [], ◌∷◌, length, take, drop, Option, Some, None, if◌then◌else◌}
+use Rattle.warp_tag.specs.Limits.{most_pending}
+use Rattle.warp_tag.specs.Moment.{Moment}
+use Rattle.warp_step.specs.Snapshot.{Snapshot, AreInOrder}
+use Rattle.warp_step.specs.Run.{is_after}
+use Rattle.warp_step.specs.declared.pending.Waiting.{Waiting}
+use Rattle.warp_run.specs.declared.history.Done.{Done}
+use Rattle.warp_run.specs.declared.history.Mark.{Mark}
+
+-- a checkpoint: how far the run was, and its state there
+pub record Saved : Type 0 where
+  pub done : Done
+  pub state : Snapshot
+
+-- of how many variables each has values, and the checkpoints, the newest first
+pub record Saves : Type 0 where
+  pub width : ℕ
+  pub saves : List Saved
+
+-- the checkpoint of a state that is reached
+abbrev pub saved_at : Done → Snapshot → Saved
+saved_at done state = record { done = done; state = state }
+
+-- how far the newest is
+abbrev pub newest : List Saved → Option Done
+newest [] = None
+newest (c ∷ cs) = Some c.done
+
+-- from the newest on that is before the tag
+abbrev pub before : Moment → List Saved → List Saved
+before tag [] = []
+before tag (c ∷ cs) = if is_after c.done.last tag then c ∷ cs else before tag cs
+
+-- these checkpoints, and in front of them those of the marks, the last first: each takes its values and entries off the front of what is left
+abbrev pub saves_of : ℕ → List Saved → List Mark → List ℤ → List Waiting → List Saved
+saves_of width saves [] values entries = saves
+saves_of width saves (m ∷ ms) values entries =
+    saves_of width
+    (saved_at m.done (record { vars = take width values; pending = take m.pending entries; lost = m.lost }) ∷ saves)
+    ms (drop width values) (drop m.pending entries)
+
+-- the lists hold just what the marks say, and each checkpoint's entries may be pending
+abbrev pub AreKept : ℕ → List Mark → List ℤ → List Waiting → Type 0
+AreKept width [] values entries = (values ≡ []) × (entries ≡ [])
+AreKept width (m ∷ ms) values entries =
+    (width ≤ length values) × (m.pending ≤ length entries) × (m.pending ≤ most_pending) × AreInOrder (take m.pending entries)
+    × AreKept width ms (drop width values) (drop m.pending entries)

@@ -1,0 +1,4 @@
+pub mod History
+pub mod Front
+pub mod Walk
+pub mod Warp

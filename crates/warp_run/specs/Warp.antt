@@ -1,0 +1,50 @@
+-- What a `Warp` stands for.
+use Rattle.std.specs.Prelude.{◌≡◌, ℕ, ◌<◌, ◌++◌, IsTrue, List, length, Option, Some, unwrap_or, if◌then◌else◌}
+use Rattle.std.specs.List.{list_all}
+use Rattle.warp_tag.specs.Moment.{Moment}
+use Rattle.warp_tag.specs.Table.{fresh, known, changed, live}
+use Rattle.warp_tag.specs.declared.entry.Entry.{Entry}
+use Rattle.warp_step.specs.Program.{Program}
+use Rattle.warp_step.specs.Run.{Row, is_after}
+use Rattle.warp_step.specs.Valid.{is_valid}
+use Rattle.warp_step.specs.Events.{event_fits}
+use Rattle.warp_arena.specs.Places.{Reaches, entries_of, entry_of, with_change}
+use Rattle.warp_line.specs.Timeline.{Standing, IsDone}
+use Rattle.warp_run.specs.Front.{IsAt}
+use Rattle.warp_run.specs.Walk.{AreThrough, ahead}
+use Rattle.warp_run.specs.declared.warp.Warp.{Warp}
+
+-- The program is valid; the arena holds the table, with events that the program takes; what is executed are the done rows;
+-- the cursor is at the first place after the last of them; and no live event is after the latest tag.
+pub record StandsFor (w : Warp) (m : Standing) : Type 0 where
+  pub program : IsTrue (is_valid m.program)
+  pub origins : w.arena.origins ≡ m.program.origins
+  pub table : entries_of w.arena.places ≡ m.table
+  pub events : IsTrue (list_all (event_fits m.program) (live m.table))
+  pub front : IsAt m.program (live m.table) w.front m.done
+  pub cursor : Reaches w.arena.places (ahead w.front.last w.arena.places) w.cursor
+  pub latest : AreThrough w.latest (live m.table)
+  pub settled : IsTrue w.settled → IsDone m
+
+-- from what a timeline of this program stands for, so many more rows are executed
+abbrev pub Goes : Program → Warp → Warp → ℕ → Type 0
+Goes P old new count =
+    (m : Standing) → StandsFor old m → m.program ≡ P
+    → (rows : List Row) × StandsFor new (record m { done = m.done ++ rows }) × (length rows ≡ count)
+
+-- The handle names what the table knows of a name, where nothing is known the name that came in; a change there is the
+-- table's change of the name, and the cursor stays at the first place after the last row.
+pub record NamesAt (old new : Warp) (origin : ℕ) (tag : Moment) (node : ℕ) : Type 0 where
+  pub others : new ≡ record old { arena = new.arena; cursor = new.cursor }
+  pub origins : new.arena.origins ≡ old.arena.origins
+  pub entry : entry_of node new.arena.places ≡ Some (unwrap_or (known origin tag (entries_of old.arena.places)) (fresh origin tag))
+  pub change : (f : Entry → Entry) → entries_of (with_change f node new.arena.places) ≡ changed f origin tag (entries_of old.arena.places)
+  pub cursor : Reaches new.arena.places (ahead new.front.last new.arena.places) new.cursor
+
+-- a tag after which no event is, with one more tag
+abbrev pub latest_with : Moment → Option Moment → Option Moment
+latest_with tag latest = if is_after latest tag then Some tag else latest
+
+-- a node is free
+abbrev pub HasRoom : Warp → Type 0
+HasRoom w = 0 < w.arena.free

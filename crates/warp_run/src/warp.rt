@@ -1,0 +1,223 @@
+//! The timeline with rollback.
+ghost use Rattle.std.specs.Prelude.{◌≡◌, ◌+◌, ◌-◌, ◌≤◌, false, true, IsTrue, List, None, IfSome, OnOk, OnErr, IsSomeAnd};
+ghost use Rattle.warp_tag.specs.Table.{Event, live};
+ghost use Rattle.warp_step.specs.Program.{Program};
+ghost use Rattle.warp_step.specs.Events.{IsNameOf};
+ghost use Rattle.warp_step.specs.Run.{Row, IsNext, is_after};
+ghost use Rattle.warp_arena.specs.Places.{Reaches, entry_of};
+ghost use Rattle.warp_line.specs.Timeline.{Standing, IsDone};
+ghost use Rattle.warp_run.specs.Walk.{ahead};
+ghost use Rattle.warp_run.specs.Front.{GoesBack, IsAt};
+ghost use Rattle.warp_run.specs.Warp.{Goes, HasRoom, NamesAt, StandsFor, latest_with};
+
+use crate::front::Front;
+use crate::walk::{first_after, gather, is_after, next_event};
+use std::alloc::Global;
+use warp_arena::law::{changes_found, changes_new, finds_known};
+use warp_arena::{Arena, NodeId};
+use warp_line::Timeline;
+use warp_step::{Given, Meter, Out, Program, State};
+use warp_tag::{OutOfMemory, Tag};
+
+/// The timeline that executes at once what it has, and after a change at a tag that is executed already goes back to the
+/// newest checkpoint before that tag.
+#[derive(Drop)]
+pub struct Warp {
+    arena: Arena,
+    /// The first place after the last row.
+    cursor: Option<NodeId>,
+    /// A tag after which no live event is.
+    latest: Option<Tag>,
+    front: Front,
+    /// Room for what is given to a step.
+    given: Vec<Given>,
+    settled: bool,
+}
+
+impl Timeline for Warp {
+    ghost use Rattle.warp_run.specs.Warp.{HasRoom, StandsFor};
+
+    ghost stands_for = { StandsFor };
+
+    ghost is_prepared = { HasRoom };
+
+    ghost settled = { λ w. w.settled };
+
+    ghost SLACK = { 16 };
+
+    ghost use Rattle.warp_tag.specs.Table.{live};
+    ghost use Rattle.warp_line.proofs.Begins.{front_begins};
+
+    ghost done_is_front = { λ w m h trace run. front_begins m.program (live m.table) m.done trace h.front.begin run };
+
+    /// A checkpoint stands before each sixteenth row.
+    const SLACK: u64 = 16;
+
+    fn start(alloc: Global, program: &Program) -> Result<Warp, OutOfMemory> {
+        program.valid();
+        Ok(Warp {
+            arena: Arena::start(alloc, program.origins())?,
+            cursor: None,
+            latest: None,
+            front: Front::start(alloc, program)?,
+            given: Vec::new(alloc),
+            settled: false,
+        })
+    }
+
+    fn prepare(&mut self, alloc: Global) -> Result<(), OutOfMemory> {
+        self.arena.reserve_one(alloc)
+    }
+
+    fn put(&mut self, origin: u32, tag: Tag, input: u32, value: i64) {
+        self.arena.ordered();
+        let node = self.node(origin, tag);
+        let changes = self.arena.entry(node).note_event(input, value);
+        self.arena.set_event(node, input, value);
+        if changes {
+            self.undo_from(node, tag);
+        }
+    }
+
+    fn withdraw(&mut self, origin: u32, tag: Tag) {
+        self.arena.ordered();
+        let node = self.node(origin, tag);
+        let changes = self.arena.entry(node).withdraw();
+        self.arena.set_withdrawn(node);
+        if changes {
+            self.undo_from(node, tag);
+        }
+    }
+
+    fn settle<M: Meter>(
+        &mut self,
+        _alloc: Global,
+        program: &Program,
+        meter: &mut M,
+    ) -> Result<(), OutOfMemory> {
+        if !self.settled {
+            self.catch_up(program, meter)?;
+            self.latest = self.front.last();
+            self.settled = true;
+        }
+        Ok(())
+    }
+
+    /// It keeps everything.
+    fn collect(&mut self, _below: Tag) {}
+
+    fn is_settled(&self) -> bool {
+        self.settled
+    }
+
+    fn state(&self) -> &State {
+        self.front.state()
+    }
+
+    fn outputs(&self) -> &[Out] {
+        self.front.outputs()
+    }
+}
+
+impl Warp {
+    /// Executes rows until none waits.
+    fn catch_up<M: Meter>(&mut self, program: &Program, meter: &mut M) -> Result<(), OutOfMemory>
+        requires stands { (m : Standing) × StandsFor self.old m × (m.program ≡ program.now) }
+        requires unsettled { self.old.settled ≡ false }
+        ensures goes { Goes program.now self.old self.new (M.ticks meter.new - M.ticks meter.old) }
+        ensures ticked { M.ticks meter.old ≤ M.ticks meter.new }
+        ensures unsettled { self.new.settled ≡ false }
+        ensures done { OnOk result ((m : Standing) → StandsFor self.new m → m.program ≡ program.now → IsDone m) }
+    {
+        while let Some(tag) = self.next_tag() {
+            self.turn(program, tag, meter)?;
+        }
+        Ok(())
+    }
+
+    /// The next tag that waits: of a live event or a pending entry.
+    fn next_tag(&self) -> Option<Tag>
+        requires { (m : Standing) × StandsFor self.now m }
+        ensures none { result ≡ None → (m : Standing) → StandsFor self.now m → IsDone m }
+        ensures some { IfSome result (λ t. (m : Standing) → StandsFor self.now m → IsNext (live m.table) self.now.front.last self.now.front.state t) }
+    {
+        self.arena.ordered();
+        let event = next_event(&self.arena, self.cursor, self.latest);
+        let Some(pending) = self.front.state().next() else {
+            return event;
+        };
+        match event {
+            Some(event) if event.is_before(pending) => Some(event),
+            _ => Some(pending),
+        }
+    }
+
+    /// Executes the row at the next tag. An `Err` leaves what is executed as it was.
+    fn turn<M: Meter>(
+        &mut self,
+        program: &Program,
+        tag: Tag,
+        meter: &mut M,
+    ) -> Result<(), OutOfMemory>
+        requires next { (m : Standing) × StandsFor self.old m × (m.program ≡ program.now) × IsNext (live m.table) self.old.front.last self.old.front.state tag }
+        requires unsettled { self.old.settled ≡ false }
+        ensures goes { Goes program.now self.old self.new (M.ticks meter.new - M.ticks meter.old) }
+        ensures ticked { OnOk result (M.ticks meter.new ≡ M.ticks meter.old + 1) }
+        ensures stays { OnErr result (M.ticks meter.new ≡ M.ticks meter.old) }
+        ensures unsettled { self.new.settled ≡ false }
+    {
+        self.arena.ordered();
+        let cursor = gather(&self.arena, self.cursor, tag, &mut self.given)?;
+        self.front.step(program, tag, &self.given, meter)?;
+        self.cursor = cursor;
+        Ok(())
+    }
+
+    /// The handle of a name: one of which nothing is known comes in.
+    fn node(&mut self, origin: u32, tag: Tag) -> NodeId
+        requires room { HasRoom self.old }
+        requires name { (m : Standing) × StandsFor self.old m × IsNameOf m.program origin tag }
+        ensures { NamesAt self.old self.new origin tag result }
+    {
+        finds_known(&self.arena, origin, tag);
+        changes_found(&self.arena, origin, tag);
+        changes_new(&self.arena, origin, tag);
+        let known = self.arena.len();
+        let node = self.arena.enter(origin, tag);
+        if self.arena.len() == known {
+            return node;
+        }
+        self.arena.ordered();
+        if is_after(self.front.last(), tag) {
+            match self.cursor {
+                Some(cursor) if self.arena.entry(cursor).comes_before(origin, tag) => {}
+                _ => self.cursor = Some(node),
+            }
+        }
+        node
+    }
+
+    /// Goes back behind a tag at which the live events changed, if it is executed.
+    fn undo_from(&mut self, node: NodeId, tag: Tag)
+        requires named { IsSomeAnd (entry_of node self.old.arena.places) (λ e. e.tag ≡ tag) }
+        requires front { (P : Program) × (E : List Event) × (done : List Row) × IsAt P E self.old.front done }
+        ensures arena { self.new.arena ≡ self.old.arena }
+        ensures latest { self.new.latest ≡ latest_with tag self.old.latest }
+        ensures unsettled { self.new.settled ≡ false }
+        ensures given { self.new.given ≡ self.old.given }
+        // A change after the last row leaves what is executed.
+        ensures ahead { is_after self.old.front.last tag ≡ true → self.new.front ≡ self.old.front }
+        ensures front { (P : Program) (E : List Event) (done : List Row) → IsAt P E self.old.front done → GoesBack P E tag done self.new.front }
+        ensures cursor { Reaches self.old.arena.places (ahead self.old.front.last self.old.arena.places) self.old.cursor →
+            Reaches self.new.arena.places (ahead self.new.front.last self.new.arena.places) self.new.cursor }
+    {
+        self.settled = false;
+        if is_after(self.latest, tag) {
+            self.latest = Some(tag);
+        }
+        if !is_after(self.front.last(), tag) {
+            self.front.go_back(tag);
+            self.cursor = first_after(&self.arena, node, self.front.last());
+        }
+    }
+}

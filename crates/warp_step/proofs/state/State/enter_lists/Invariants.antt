@@ -1,0 +1,13 @@
+-- the lists that are left come in as all do at the start
+use Rattle.std.proofs.Common.{◌≡◌, drop, IsTrue}
+use Rattle.std.specs.List.{list_all}
+use Rattle.warp_body.specs.Effect.{wish_fits}
+use Rattle.warp_step.specs.Valid.{program_sizes}
+use Rattle.warp_step.specs.Step.{with_all_wishes, lists_of}
+use Rattle.warp_step.proofs.state.State.enter_lists.Given as goal
+
+abbrev pub invariant-loop-list : goal.invariant-loop-list
+invariant-loop-list l = record {
+  rest : with_all_wishes l.program l.tag (lists_of (drop l.list-index l.wishes)) l.self ≡ with_all_wishes l.program l.tag (lists_of l.wishes) l.fn.self;
+  fits : IsTrue (list_all (list_all (wish_fits (program_sizes l.program))) (lists_of (drop l.list-index l.wishes)));
+}

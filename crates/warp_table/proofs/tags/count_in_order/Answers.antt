@@ -1,0 +1,14 @@
+-- the tags before one are a front, and the point of the partition is its length
+use Rattle.std.proofs.Common.{sym, rules, arith}
+use Rattle.std.proofs.lemmas.List.Sorted.{IsPartitionPoint-from_clause}
+use Rattle.warp_tag.specs.Moment.{is_before}
+use Rattle.warp_table.proofs.InOrder.{filter_front}
+use Rattle.warp_table.proofs.KeptTags.{before_in_order}
+use Rattle.warp_table.proofs.tags.count_in_order.Goals as goal
+
+pub returns-clause-count : goal.returns-clause-count
+returns-clause-count c =
+    let parted = before_in_order c.args.tag c.args.tags.now c.requires in
+    let point = IsPartitionPoint-from_clause (λ t. is_before t c.args.tag) _ _ c.partition_point.ensures.partitioned parted (λ a r q k. search rules) in
+    sym (filter_front (λ t. is_before t c.args.tag) c.args.tags.now c.partition_point.result c.partition_point.ensures.bound
+    (λ k d l. point.0 k d (omega arith) l) (λ k d l within. point.1 k d l within))
