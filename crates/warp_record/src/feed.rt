@@ -2,7 +2,9 @@
 ghost use Rattle.std.specs.Prelude.{◌≡◌, ℕ, ◌+◌, ◌<◌, ◌≤◌, ◌↔◌, [], ◌++◌, List, take, length, min, IsSome, IfSome, IfNone, OnSome, position};
 ghost use Rattle.std.specs.Option.{option_map};
 ghost use Rattle.std.specs.List.{before_first};
+ghost use Rattle.warp_tag.specs.Limits.{longest_line};
 ghost use Rattle.warp_record.specs.Lines.{ended, unended, kept_of, piece_of, first_end, is_end};
+ghost use Rattle.warp_record.specs.Lines.Piece.{Whole};
 
 use arrayvec::ArrayVec;
 use std::marker::Model;
@@ -89,6 +91,28 @@ impl Feed {
             Fed::Text(whole.kept)
         };
         (end + 1, Some(fed))
+    }
+
+    /// The line that these bytes begin with, without its line feed, where nothing is kept of it and it is no longer than
+    /// `MAX_LINE`; `None` else. It takes nothing: the caller goes on behind the line feed.
+    #[tactic(auto, using(crate::proofs::LineCuts::found_end, crate::proofs::LineCuts::no_end))]
+    pub fn whole<'p>(&self, piece: &'p [u8]) -> Option<&'p [u8]>
+        ensures found { IfSome result (λ text. (text.now ≡ before_first is_end piece.now)
+            × (length text.now ≡ first_end piece.now) × (first_end piece.now < length piece.now)) }
+        ensures line { IfSome result (λ text. (line : List ℕ) → self.now ≡ kept_of line →
+            Whole text.now ≡ ended (line ++ before_first is_end piece.now)) }
+        ensures fresh { OnSome result (self.now ≡ kept_of []) }
+        ensures none { IfNone result (self.now ≡ kept_of [] → first_end piece.now < length piece.now →
+            longest_line < first_end piece.now) }
+    {
+        if self.is_long || !self.kept.is_empty() {
+            return None;
+        }
+        let end = find_end(piece)?;
+        if end > MAX_LINE {
+            return None;
+        }
+        Some(&piece[..end])
     }
 
     /// The last line, which has no line feed; `None` after a whole line.
