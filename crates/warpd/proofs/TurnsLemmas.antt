@@ -82,16 +82,16 @@ module _ {S : Type 0} (gives : S → Line → Reply → S → Type 0) where
       → Answered gives ps (record a { held = record { kept = kept; gathered = a.held.gathered } }) b → Answered gives ps a b
   Answered-from ps a b kept was = record { text = was.text; sent = was.sent; given = was.given; out = was.out; rest = was.rest }
 
-  -- the reply to a piece came behind what was gathered, of which a front had gone out
-  pub Answered-reply : (piece : Piece) (said : Reply) (a b : At S) (sent mid : List ℕ) → GivesPiece gives a.state piece said b.state
-      → Appends a.written b.written sent → sent ++ mid ≡ a.held.gathered → b.held.gathered ≡ mid ++ reply_line said
+  -- the reply to a piece came behind what was gathered, of which a front went out
+  pub Answered-gathered : (piece : Piece) (said : Reply) (a b : At S) → GivesPiece gives a.state piece said b.state
+      → (sent : List ℕ) × Appends a.written b.written sent × (sent ++ b.held.gathered ≡ a.held.gathered ++ reply_line said)
       → Answered gives (piece ∷ []) a b
-  Answered-reply piece said a b sent mid gives out before behind = record {
+  Answered-gathered piece said a b gives was = record {
     text = reply_line said;
-    sent = sent;
+    sent = was.0;
     given = (said ∷ [], (b.state, gives, refl), sym (append-nil (reply_line said)));
-    out = out;
-    rest = ap (λ (l : List ℕ). sent ++ l) behind ∙ sym (append_assoc sent mid (reply_line said)) ∙ ap (λ (l : List ℕ). l ++ reply_line said) before;
+    out = was.1;
+    rest = was.2;
   }
 
   -- all that was gathered went out
@@ -141,7 +141,7 @@ module _ {S : Type 0} (gives : S → Line → Reply → S → Type 0) where
       (Takes-append (take front bytes) (take n (take (length bytes - front) (drop front bytes))) a b c first second)
 
   -- a line feed ended the unfinished line, which was answered
-  Takes-line : (a b : At S) (piece : List ℕ) (given : Piece) → first_end piece < length piece
+  pub Takes-line : (a b : At S) (piece : List ℕ) (given : Piece) → first_end piece < length piece
       → ((line : List ℕ) → a.held.kept ≡ kept_of line → given ≡ ended (line ++ before_first is_end piece))
       → b.held.kept ≡ kept_of [] → Answered gives (given ∷ []) a b → Takes gives (take (first_end piece + 1) piece) a b
   Takes-line a b piece given some is_line fresh answers start seen was =

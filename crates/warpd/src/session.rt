@@ -1,12 +1,13 @@
 //! A session: lines come in as bytes, in any pieces, and their replies go out as bytes.
 //!
 //! It knows neither who answers them, a `Desk`, nor where bytes come from and go to, a `Source` and a `Sink`.
-ghost use Rattle.std.specs.Prelude.{◌≡◌, ℕ, ◌+◌, ◌<◌, ◌≤◌, List, [], ◌∷◌, Option, IfOk, OnOk, IfSome, length, take, vec_len};
+ghost use Rattle.std.specs.Prelude.{◌≡◌, ℕ, ◌+◌, ◌<◌, ◌≤◌, List, [], ◌∷◌, ◌++◌, Option, IfOk, OnOk, IfSome, length, take, vec_len};
 ghost use Rattle.std.specs.Io.KnownBytes.{Appends};
 ghost use Rattle.warp_tag.specs.Limits.{most_reads};
 ghost use Rattle.warp_step.specs.Counter.{IsUnused};
 ghost use Rattle.warp_record.specs.Lines.{piece_of};
-ghost use Rattle.warpd.specs.Session.{GivesPiece, Transcribes, TranscribesLines};
+ghost use Rattle.warp_record.specs.Lines.Piece.{Whole};
+ghost use Rattle.warpd.specs.Session.{GivesPiece, Transcribes, TranscribesLines, reply_line};
 ghost use Rattle.warpd.specs.Stream.{Counts};
 ghost use Rattle.warpd.specs.inner.Turns.{Answered, Turn, Takes, Ends, at, nothing, pieces_fed};
 
@@ -41,15 +42,22 @@ pub enum SessionEnd {
     NoMemory,
 }
 
+/// The reply to a whole line, without its line feed.
+fn reply_to_text<D: Desk>(desk: &mut D, text: &[u8]) -> Reply
+    ensures { GivesPiece D.gives (D.state desk.old) (Whole text.now) result (D.state desk.new) }
+{
+    match read_line(text) {
+        Some(line) => desk.ask(line),
+        None => Reply::Refused(Refusal::Syntax),
+    }
+}
+
 /// The reply to a line that was cut from the stream.
 fn reply_to<D: Desk>(desk: &mut D, fed: Fed) -> Reply
     ensures { GivesPiece D.gives (D.state desk.old) (piece_of fed) result (D.state desk.new) }
 {
     match fed {
-        Fed::Text(bytes) => match read_line(&bytes) {
-            Some(line) => desk.ask(line),
-            None => Reply::Refused(Refusal::Syntax),
-        },
+        Fed::Text(bytes) => reply_to_text(desk, &bytes),
         Fed::TooLong => Reply::Refused(Refusal::TooLong),
         Fed::Torn => Reply::Refused(Refusal::Syntax),
     }
@@ -98,7 +106,23 @@ impl Transcriber {
         Ok(())
     }
 
-    /// Answers a line, if there is one: gathers the reply behind the others, which are written where it has no room.
+    /// Gathers a reply behind the others, which are written where it has no room.
+    fn gather<W: Sink>(&mut self, sink: &mut W, reply: &Reply) -> Result<(), Failed>
+        ensures gathered { OnOk result ((sent : List ℕ) × Appends (W.written sink.old) (W.written sink.new) sent
+            × (sent ++ self.new.gathered ≡ self.old.gathered ++ reply_line «reply».now)) }
+        ensures kept { self.new.kept ≡ self.old.kept }
+        ensures failures { Counts (W.failures sink.old) (W.failures sink.new) result }
+    {
+        let is_full = self.gathered.len() + REPLY_ROOM > ROOM;
+        if is_full {
+            self.flush(sink)?;
+        }
+        write_reply(&mut self.gathered, reply);
+        self.gathered.push_reserved(b'\n');
+        Ok(())
+    }
+
+    /// Answers a line, if there is one, and gathers the reply.
     fn answer<D: Desk, W: Sink>(
         &mut self,
         desk: &mut D,
@@ -114,12 +138,7 @@ impl Transcriber {
             return Ok(());
         };
         let reply = reply_to(desk, fed);
-        let is_full = self.gathered.len() + REPLY_ROOM > ROOM;
-        if is_full {
-            self.flush(sink)?;
-        }
-        write_reply(&mut self.gathered, &reply);
-        self.gathered.push_reserved(b'\n');
+        self.gather(sink, &reply)?;
         Ok(())
     }
 
@@ -137,6 +156,12 @@ impl Transcriber {
             (at (D.state desk.old) self.old (W.written sink.old) (W.failures sink.old))
             (at (D.state desk.new) self.new (W.written sink.new) (W.failures sink.new)) result }
     {
+        // A line of which nothing came before is read where it stands.
+        if let Some(text) = self.feed.whole(bytes) {
+            let reply = reply_to_text(desk, text);
+            self.gather(sink, &reply)?;
+            return Ok(text.len() + 1);
+        }
         let (count, fed) = self.feed.push(bytes);
         self.answer(desk, sink, fed)?;
         Ok(count)

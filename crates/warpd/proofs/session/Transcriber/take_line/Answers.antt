@@ -1,5 +1,27 @@
-use Rattle.warpd.proofs.TurnsLemmas.{Takes-pushed}
+use Rattle.std.proofs.Common.{◌≡◌, ℕ, ◌+◌, ap, sym, subst, ◌∙◌, refl, take, List}
+use Rattle.warp_record.specs.Lines.{first_end}
+use Rattle.warp_record.specs.Lines.Piece.{Whole}
+use Rattle.warpd.specs.inner.Turns.{Held, Takes, at}
+use Rattle.warpd.proofs.TurnsLemmas.{Answered-gathered, Takes-line, Takes-pushed}
 use Rattle.warpd.proofs.session.Transcriber.take_line.Goals as goal
+
+-- the line stands whole among the bytes, and nothing of it came before
+pub returns-in-Some-clause-turn : goal.returns-in-Some-clause-turn
+returns-in-Some-clause-turn g c =
+    let text = c.in-Some.text.now in
+    let bytes = c.args.bytes.now in
+    let found = c.in-Some.ensures.found in
+    let view : c.self.inside.feed ≡ c.args.self.now.kept = ap (λ (h : Held). h.kept) c.self.view_is in
+    let a = at (g.D.Desk.state c.args.desk.now) c.args.self.now (g.W.Sink.written c.args.sink.now) (g.W.Sink.failures c.args.sink.now) in
+    let b = at (g.D.Desk.state c.reply_to_text-reply.new.desk) c.gather.new.self (g.W.Sink.written c.gather.new.sink) (g.W.Sink.failures c.gather.new.sink) in
+    let answered = Answered-gathered g.D.Desk.gives (Whole text) c.reply_to_text-reply.result a b c.reply_to_text-reply.ensures c.in_ok-gather.ensures.gathered in
+    let takes : Takes g.D.Desk.gives (take (first_end bytes + 1) bytes) a b =
+    Takes-line g.D.Desk.gives a b bytes (Whole text) found.2
+    (λ line is. c.in-Some.ensures.line line (view ∙ is)) (c.gather.ensures.kept ∙ sym view ∙ c.in-Some.ensures.fresh) answered in
+    record {
+      does = subst (λ (n : ℕ). Takes g.D.Desk.gives (take (n + 1) bytes) a b) (sym found.1) takes;
+      failures = c.in_ok-gather.ensures.failures;
+    }
 
 pub returns-clause-turn : goal.returns-clause-turn
 returns-clause-turn g c = record {
