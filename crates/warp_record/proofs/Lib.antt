@@ -4,4 +4,5 @@ pub mod Numerals
 pub mod PlainWords
 pub mod ReplyLemmas
 pub mod WordCuts
+pub mod WordFronts
 pub mod WordReadings

@@ -4,6 +4,7 @@
 #![tactic(auto)]
 
 mod count;
+mod cut;
 mod feed;
 mod law;
 mod line;
