@@ -77,6 +77,17 @@ pub(crate) fn cut_number(text: &[u8], max: u64) -> Option<(u64, &[u8])>
     Some((number, &bytes[count..]))
 }
 
+/// The number up to `max` that is the next word and fits 32 bits, and what is left behind it.
+#[inline(always)]
+pub(crate) fn cut_u32(text: &[u8], max: u32) -> Option<(u32, &[u8])>
+    ensures found { IfSome result (λ cut. (cut.0 ≤ max) × (words_behind text.now ≡ decimal cut.0 ∷ words_behind cut.1.now)) }
+    ensures none { IfNone result ((number : ℕ) (words : List (List ℕ)) → number ≤ max →
+        words_behind text.now ≡ decimal number ∷ words → ⊥) }
+{
+    let (number, rest) = cut_number(text, u64::from(max))?;
+    Some((number as u32, rest))
+}
+
 /// The signed number that is the next word and the last one.
 #[inline(always)]
 pub(crate) fn cut_last_int(text: &[u8]) -> Option<i64>

@@ -10,6 +10,7 @@ mod law;
 mod line;
 mod number;
 mod record;
+mod record_text;
 mod reply;
 mod room;
 mod words;

@@ -13,8 +13,7 @@ returns-in_err-number-clause-none c =
 pub returns-clause-found : goal.returns-clause-found
 returns-clause-found c =
     let text = c.args.text.now in
-    let front = c.in_ok-number.ensures.found in
-    (
+    let front = c.in_ok-number.ensures.found in (
       front.0,
       behind_first text c.in-len1-up.len_at_least
           ∙ cut_front (take (length text - 1) (drop 1 text)) _ c.in_ok-number.count front.1 front.2,
