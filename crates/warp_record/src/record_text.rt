@@ -16,10 +16,20 @@ use warp_tag::{LAST_MICROSTEP, MAX_TIME, Tag};
 #[inline(always)]
 pub(crate) fn behind_event(bytes: &[u8]) -> Option<&[u8]>
     ensures found { IfSome result (λ text. slice_split is_space bytes.now ≡ codes "event" ∷ words_behind text.now) }
+    ensures none { IfNone result ((word : List ℕ) (words : List (List ℕ)) →
+        slice_split is_space bytes.now ≡ codes "event" ∷ word ∷ words → ⊥) }
 {
-    match bytes {
-        [b'e', b'v', b'e', b'n', b't', b' ', ..] => Some(&bytes[5..]),
-        _ => None,
+    if bytes.len() > 5
+        && bytes[0] == b'e'
+        && bytes[1] == b'v'
+        && bytes[2] == b'e'
+        && bytes[3] == b'n'
+        && bytes[4] == b't'
+        && bytes[5] == b' '
+    {
+        Some(&bytes[5..])
+    } else {
+        None
     }
 }
 
@@ -27,10 +37,23 @@ pub(crate) fn behind_event(bytes: &[u8]) -> Option<&[u8]>
 #[inline(always)]
 pub(crate) fn behind_withdraw(bytes: &[u8]) -> Option<&[u8]>
     ensures found { IfSome result (λ text. slice_split is_space bytes.now ≡ codes "withdraw" ∷ words_behind text.now) }
+    ensures none { IfNone result ((word : List ℕ) (words : List (List ℕ)) →
+        slice_split is_space bytes.now ≡ codes "withdraw" ∷ word ∷ words → ⊥) }
 {
-    match bytes {
-        [b'w', b'i', b't', b'h', b'd', b'r', b'a', b'w', b' ', ..] => Some(&bytes[8..]),
-        _ => None,
+    if bytes.len() > 8
+        && bytes[0] == b'w'
+        && bytes[1] == b'i'
+        && bytes[2] == b't'
+        && bytes[3] == b'h'
+        && bytes[4] == b'd'
+        && bytes[5] == b'r'
+        && bytes[6] == b'a'
+        && bytes[7] == b'w'
+        && bytes[8] == b' '
+    {
+        Some(&bytes[8..])
+    } else {
+        None
     }
 }
 
@@ -38,10 +61,23 @@ pub(crate) fn behind_withdraw(bytes: &[u8]) -> Option<&[u8]>
 #[inline(always)]
 pub(crate) fn behind_announce(bytes: &[u8]) -> Option<&[u8]>
     ensures found { IfSome result (λ text. slice_split is_space bytes.now ≡ codes "announce" ∷ words_behind text.now) }
+    ensures none { IfNone result ((word : List ℕ) (words : List (List ℕ)) →
+        slice_split is_space bytes.now ≡ codes "announce" ∷ word ∷ words → ⊥) }
 {
-    match bytes {
-        [b'a', b'n', b'n', b'o', b'u', b'n', b'c', b'e', b' ', ..] => Some(&bytes[8..]),
-        _ => None,
+    if bytes.len() > 8
+        && bytes[0] == b'a'
+        && bytes[1] == b'n'
+        && bytes[2] == b'n'
+        && bytes[3] == b'o'
+        && bytes[4] == b'u'
+        && bytes[5] == b'n'
+        && bytes[6] == b'c'
+        && bytes[7] == b'e'
+        && bytes[8] == b' '
+    {
+        Some(&bytes[8..])
+    } else {
+        None
     }
 }
 
