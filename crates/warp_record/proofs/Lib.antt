@@ -2,6 +2,8 @@ pub mod LineCuts
 pub mod LineWords
 pub mod Numerals
 pub mod PlainWords
+pub mod RecordTexts
 pub mod ReplyLemmas
 pub mod WordCuts
+pub mod WordFronts
 pub mod WordReadings

@@ -49,6 +49,12 @@ no_text word n fits none is =
 pub value_of_text : (word : List ℕ) (n : ℕ) → n < 2 ^ 64 → word ≡ decimal n → digits_value 10 word ≡ n
 value_of_text word n fits is = rw is (decimal_is_IsNumeral n fits).1
 
+-- the text of a number is digits, which write it
+pub digits_of_text : (word : List ℕ) (n : ℕ) → n < 2 ^ 64 → word ≡ decimal n → AllDigits 10 word × (digits_value 10 word ≡ n)
+digits_of_text word n fits is =
+    let numeral = decimal_is_IsNumeral n fits in
+    (rw is numeral.0.1, rw is numeral.1)
+
 pub text_not_empty : (word : List ℕ) (n : ℕ) → n < 2 ^ 64 → word ≡ decimal n → 0 < length word
 text_not_empty word n fits is = rw is (decimal_is_IsNumeral n fits).0.0
 

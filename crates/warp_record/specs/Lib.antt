@@ -4,3 +4,4 @@ pub mod Line
 pub mod Lines
 pub mod Reply
 pub mod Codes
+pub mod inner

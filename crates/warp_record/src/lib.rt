@@ -4,11 +4,13 @@
 #![tactic(auto)]
 
 mod count;
+mod cut;
 mod feed;
 mod law;
 mod line;
 mod number;
 mod record;
+mod record_text;
 mod reply;
 mod room;
 mod words;

@@ -1,13 +1,20 @@
 //! The lines that come in: their type, and reading them. Each has one spelling.
 ghost use Rattle.std.specs.Prelude.{◌≡◌, ◌↔◌, ℕ, ◌≤◌, IfSome, IfNone, IsTrue, decimal, map};
+ghost use Rattle.std.specs.List.{slice_split};
 ghost use Rattle.warp_tag.specs.Limits.{last_number};
 ghost use Rattle.warp_record.specs.declared.line.Line.{Line};
 ghost use Rattle.warp_record.specs.declared.line.Look.{Look};
 ghost use Rattle.warp_record.specs.declared.line.Query.{Query};
+ghost use Rattle.warp_record.specs.declared.record.Record.{Record};
+ghost use Rattle.warp_record.specs.Number.{is_space};
+ghost use Rattle.warp_record.specs.Record.{record_words};
 ghost use Rattle.warp_record.specs.Line.{IsLine, IsLook, IsQuery, line_words, look_words, query_words, spelling};
 
 use crate::number::read_u32;
-use crate::record::{LAST_ORIGIN, Record, read_record};
+use crate::record::{LAST_ORIGIN, Record};
+use crate::record_text::{
+    behind_announce, behind_event, behind_withdraw, read_announcement, read_event, read_withdrawal,
+};
 use crate::words::{is_keyword, split_words};
 
 /// The first word of a query for a variable.
@@ -136,14 +143,13 @@ fn read_look(words: &[&[u8]]) -> Option<Look>
     }
 }
 
-/// The line in range whose words these are; `None` where there is none.
+/// The line in range that is no record whose words these are; `None` where there is none.
 fn line_of(words: &[&[u8]]) -> Option<Line>
     ensures found { IfSome result (λ line. IsLine line × (map (λ word. word.now) words.now ≡ line_words line)) }
-    ensures none { IfNone result ((line : Line) → IsLine line → map (λ word. word.now) words.now ≡ line_words line → ⊥) }
+    ensures no_query { IfNone result ((query : Query) → IsQuery query → map (λ word. word.now) words.now ≡ query_words query → ⊥) }
+    ensures no_collect { IfNone result (map (λ word. word.now) words.now ≡ line_words Line.Collect → ⊥) }
+    ensures no_look { IfNone result ((look : Look) → IsLook look → map (λ word. word.now) words.now ≡ look_words look → ⊥) }
 {
-    if let Some(record) = read_record(words) {
-        return Some(Line::Put(record));
-    }
     if let Some(query) = read_query(words) {
         return Some(Line::Ask(query));
     }
@@ -153,13 +159,31 @@ fn line_of(words: &[&[u8]]) -> Option<Line>
     Some(Line::Look(read_look(words)?))
 }
 
+/// The line in range that is no record with this spelling; `None` where there is none.
+fn read_other(bytes: &[u8]) -> Option<Line>
+    ensures found { IfSome result (λ line. IsLine line × (bytes.now ≡ spelling line)) }
+    ensures none { IfNone result ((line : Line) → IsLine line → bytes.now ≡ spelling line →
+        (said : Record) × (slice_split is_space bytes.now ≡ record_words said)) }
+{
+    let words = split_words(bytes)?;
+    line_of(&words)
+}
+
 /// The line in range with this spelling; `None` where there is none.
 pub fn read_line(bytes: &[u8]) -> Option<Line>
     ensures found { IfSome result (λ line. IsLine line × (bytes.now ≡ spelling line)) }
     ensures none { IfNone result ((line : Line) → IsLine line → bytes.now ≡ spelling line → ⊥) }
 {
-    let words = split_words(bytes)?;
-    line_of(&words)
+    if let Some(text) = behind_event(bytes) {
+        return Some(Line::Put(read_event(text)?));
+    }
+    if let Some(text) = behind_withdraw(bytes) {
+        return Some(Line::Put(read_withdrawal(text)?));
+    }
+    if let Some(text) = behind_announce(bytes) {
+        return Some(Line::Put(read_announcement(text)?));
+    }
+    read_other(bytes)
 }
 
 #[cfg(test)]

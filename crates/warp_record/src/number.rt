@@ -29,7 +29,8 @@ fn digits(word: &[u8]) -> Option<u64>
 }
 
 /// Whether the word has a zero in front of another byte.
-fn is_padded(word: &[u8]) -> bool
+#[inline(always)]
+pub(crate) fn is_padded(word: &[u8]) -> bool
     ensures { IsTrue result ↔ ((1 < length word.now) × (slice_index word.now 0 ≡ 48)) }
 {
     word.len() > 1 && word[0] == b'0'

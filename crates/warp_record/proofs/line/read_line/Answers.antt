@@ -1,23 +1,58 @@
-use Rattle.std.proofs.Common.{ℕ, Bor, List, map, ◌∙◌, ap, sym, arith}
-use Rattle.std.specs.List.{join_with_byte}
-use Rattle.std.proofs.lemmas.Option.{IfSome_then}
+use Rattle.std.proofs.Common.{◌≡◌, ◌∷◌, codes, ◌∙◌, ap, sym, refl}
+use Rattle.std.specs.List.{slice_split, join_with_byte}
+use Rattle.warp_record.specs.Number.{is_space}
+use Rattle.warp_record.specs.inner.Behind.{words_behind}
 use Rattle.warp_record.proofs.LineWords.{words_of_line, IfNone_then}
+use Rattle.warp_record.proofs.RecordTexts.{record_of_line, no_record}
 use Rattle.warp_record.proofs.WordCuts.{joined_words}
 use Rattle.warp_record.proofs.line.read_line.Goals as goal
 
-pub returns-in_err-words-clause-none : goal.returns-in_err-words-clause-none
-returns-in_err-words-clause-none c =
+pub returns-in_err-read_event-clause-none : goal.returns-in_err-read_event-clause-none
+returns-in_err-read_event-clause-none c =
+    let bytes = c.args.bytes.now in
+    let words : slice_split is_space bytes ≡ codes "event" ∷ words_behind c.in-Some.text.now = c.in-Some.ensures.found in
     rw c.from_residual.ensures
-    (λ line fits is. omega (arith, c.in_err-words.ensures.none, (words_of_line c.args.bytes.now line fits is).1))
+    (λ line fits is.
+    let told = record_of_line (codes "event" ∷ words_behind c.in-Some.text.now) line refl fits (sym words ∙ (words_of_line bytes line fits is).0) in
+    c.in_err-read_event.ensures.none told.0 told.1 told.2)
 
-pub returns-clause-found : goal.returns-clause-found
-returns-clause-found c =
-    let are = ap (map (λ (word : Bor (List ℕ)). word.now)) c.deref.ensures.0 ∙ c.in_ok-words.ensures.found in
-    IfSome_then c.line_of.result c.line_of.ensures.found
-    (λ line is. (is.0, joined_words c.args.bytes.now ∙ ap (join_with_byte 32) (sym are ∙ is.1)))
+pub returns-in-Some-clause-found : goal.returns-in-Some-clause-found
+returns-in-Some-clause-found c =
+    let read = c.in_ok-read_event.ensures.found in
+    (read.0, joined_words c.args.bytes.now ∙ ap (join_with_byte 32) (c.in-Some.ensures.found ∙ read.1))
+
+pub returns-in_err-read_withdrawal-clause-none : goal.returns-in_err-read_withdrawal-clause-none
+returns-in_err-read_withdrawal-clause-none c =
+    let bytes = c.args.bytes.now in
+    let words : slice_split is_space bytes ≡ codes "withdraw" ∷ words_behind c.in-Some-behind_withdraw.text.now = c.in-Some-behind_withdraw.ensures.found in
+    rw c.from_residual-in_err-read_withdrawal.ensures
+    (λ line fits is.
+    let told = record_of_line (codes "withdraw" ∷ words_behind c.in-Some-behind_withdraw.text.now) line refl fits (sym words ∙ (words_of_line bytes line fits is).0) in
+    c.in_err-read_withdrawal.ensures.none told.0 told.1 told.2)
+
+pub returns-in-Some-behind_withdraw-clause-found : goal.returns-in-Some-behind_withdraw-clause-found
+returns-in-Some-behind_withdraw-clause-found c =
+    let read = c.in_ok-read_withdrawal.ensures.found in
+    (read.0, joined_words c.args.bytes.now ∙ ap (join_with_byte 32) (c.in-Some-behind_withdraw.ensures.found ∙ read.1))
+
+pub returns-in_err-read_announcement-clause-none : goal.returns-in_err-read_announcement-clause-none
+returns-in_err-read_announcement-clause-none c =
+    let bytes = c.args.bytes.now in
+    let words : slice_split is_space bytes ≡ codes "announce" ∷ words_behind c.in-Some-behind_announce.text.now = c.in-Some-behind_announce.ensures.found in
+    rw c.from_residual-in_err-read_announcement.ensures
+    (λ line fits is.
+    let told = record_of_line (codes "announce" ∷ words_behind c.in-Some-behind_announce.text.now) line refl fits (sym words ∙ (words_of_line bytes line fits is).0) in
+    c.in_err-read_announcement.ensures.none told.0 told.1 told.2)
+
+pub returns-in-Some-behind_announce-clause-found : goal.returns-in-Some-behind_announce-clause-found
+returns-in-Some-behind_announce-clause-found c =
+    let read = c.in_ok-read_announcement.ensures.found in
+    (read.0, joined_words c.args.bytes.now ∙ ap (join_with_byte 32) (c.in-Some-behind_announce.ensures.found ∙ read.1))
 
 pub returns-clause-none : goal.returns-clause-none
 returns-clause-none c =
-    let are = ap (map (λ (word : Bor (List ℕ)). word.now)) c.deref.ensures.0 ∙ c.in_ok-words.ensures.found in
-    IfNone_then c.line_of.result c.line_of.ensures.none
-    (λ none line fits is. none line fits (are ∙ (words_of_line c.args.bytes.now line fits is).0))
+    IfNone_then c.read_other.result c.read_other.ensures.none
+    (λ none line fits is.
+    let told = none line fits is in
+    no_record (slice_split is_space c.args.bytes.now) told.0 told.1
+    c.in_default.ensures.none c.in_default-behind_withdraw.ensures.none c.in_default-behind_announce.ensures.none)

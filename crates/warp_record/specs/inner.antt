@@ -1,0 +1,2 @@
+-- Definitions for loops and private functions alone. No contract of a public call cites one.
+pub mod Behind

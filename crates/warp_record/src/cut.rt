@@ -1,0 +1,110 @@
+//! Cutting words off the front of a text, in one pass over its bytes.
+//!
+//! What is left of a text begins with the space behind the last word that was cut off, or is empty at the end.
+ghost use Rattle.std.specs.Prelude.{◌≡◌, ℕ, ℤ, ◌<◌, ◌≤◌, ◌^◌, [], ◌∷◌, List, IfSome, IfNone, SomeIff, IsTrue, ◌↔◌, FitsSigned, decimal};
+ghost use Rattle.std.specs.Char.{digit_value};
+ghost use Rattle.std.specs.Fmt.{signed_decimal};
+ghost use Rattle.std.specs.Int.{w64};
+ghost use Rattle.std.specs.List.{before_first, position_or_len};
+ghost use Rattle.std.specs.Str.Parse.{AllDigits, digits_value};
+ghost use Rattle.warp_record.specs.Number.{is_space};
+ghost use Rattle.warp_record.specs.inner.Behind.{words_behind};
+
+use crate::number::{is_padded, read_int};
+
+/// The digit that the byte is.
+#[inline(always)]
+fn digit(byte: u8) -> Option<u64>
+    ensures { SomeIff result (digit_value byte < 10) (digit_value byte) }
+{
+    if byte < b'0' || b'9' < byte {
+        return None;
+    }
+    Some(u64::from(byte - b'0'))
+}
+
+/// The number up to `max` that the digits up to the first space, or the end, write, and how many these are.
+#[inline(always)]
+fn front_digits(bytes: &[u8], max: u64) -> Option<(u64, usize)>
+    requires { max < 2 ^ 60 }
+    ensures found { IfSome result (λ front. (front.0 ≤ max) × (front.1 ≡ position_or_len is_space bytes.now)
+        × AllDigits 10 (before_first is_space bytes.now) × (digits_value 10 (before_first is_space bytes.now) ≡ front.0)) }
+    ensures none { IfNone result (AllDigits 10 (before_first is_space bytes.now) →
+        digits_value 10 (before_first is_space bytes.now) ≤ max → ⊥) }
+{
+    let mut number = 0;
+    let mut place = 0;
+    while place < bytes.len() && bytes[place] != b' ' {
+        number = number * 10 + digit(bytes[place])?;
+        if number > max {
+            return None;
+        }
+        place += 1;
+    }
+    Some((number, place))
+}
+
+/// The number up to `max` that the bytes up to the first space, or the end, spell, and how many these are.
+#[inline(always)]
+fn front_number(bytes: &[u8], max: u64) -> Option<(u64, usize)>
+    requires { max < 2 ^ 60 }
+    ensures found { IfSome result (λ front. (front.0 ≤ max) × (front.1 ≡ position_or_len is_space bytes.now)
+        × (before_first is_space bytes.now ≡ decimal front.0)) }
+    ensures none { IfNone result ((number : ℕ) → number ≤ max → before_first is_space bytes.now ≡ decimal number → ⊥) }
+{
+    let (number, count) = front_digits(bytes, max)?;
+    if count == 0 {
+        return None;
+    }
+    if is_padded(&bytes[..count]) {
+        return None;
+    }
+    Some((number, count))
+}
+
+/// The number up to `max` that is the next word, and what is left behind it.
+#[inline(always)]
+pub(crate) fn cut_number(text: &[u8], max: u64) -> Option<(u64, &[u8])>
+    requires { max < 2 ^ 60 }
+    ensures found { IfSome result (λ cut. (cut.0 ≤ max) × (words_behind text.now ≡ decimal cut.0 ∷ words_behind cut.1.now)) }
+    ensures none { IfNone result ((number : ℕ) (words : List (List ℕ)) → number ≤ max →
+        words_behind text.now ≡ decimal number ∷ words → ⊥) }
+{
+    let [_, bytes @ ..] = text else {
+        return None;
+    };
+    let (number, count) = front_number(bytes, max)?;
+    Some((number, &bytes[count..]))
+}
+
+/// The number up to `max` that is the next word and fits 32 bits, and what is left behind it.
+#[inline(always)]
+pub(crate) fn cut_u32(text: &[u8], max: u32) -> Option<(u32, &[u8])>
+    ensures found { IfSome result (λ cut. (cut.0 ≤ max) × (words_behind text.now ≡ decimal cut.0 ∷ words_behind cut.1.now)) }
+    ensures none { IfNone result ((number : ℕ) (words : List (List ℕ)) → number ≤ max →
+        words_behind text.now ≡ decimal number ∷ words → ⊥) }
+{
+    let (number, rest) = cut_number(text, u64::from(max))?;
+    Some((number as u32, rest))
+}
+
+/// The signed number that is the next word and the last one.
+#[inline(always)]
+pub(crate) fn cut_last_int(text: &[u8]) -> Option<i64>
+    ensures found { IfSome result (λ number. FitsSigned w64 number × (words_behind text.now ≡ signed_decimal number ∷ [])) }
+    ensures none { IfNone result ((number : ℤ) → FitsSigned w64 number → words_behind text.now ≡ signed_decimal number ∷ [] → ⊥) }
+{
+    let [_, word @ ..] = text else {
+        return None;
+    };
+    let number = read_int(word)?;
+    Some(number)
+}
+
+/// Whether no word is left.
+#[inline(always)]
+pub(crate) fn is_at_end(text: &[u8]) -> bool
+    ensures { IsTrue result ↔ (words_behind text.now ≡ []) }
+{
+    text.is_empty()
+}

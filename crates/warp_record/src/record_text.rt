@@ -1,0 +1,150 @@
+//! Records, each read off its text in one pass over the bytes.
+ghost use Rattle.std.specs.Prelude.{◌≡◌, ℕ, ◌<◌, ◌≤◌, [], ◌∷◌, List, IfSome, IfNone, codes, decimal};
+ghost use Rattle.std.specs.List.{slice_split};
+ghost use Rattle.warp_tag.specs.Limits.{most_origins, last_time, last_microstep};
+ghost use Rattle.warp_record.specs.declared.record.Record.{Record};
+ghost use Rattle.warp_record.specs.Number.{is_space};
+ghost use Rattle.warp_record.specs.Record.{IsRecord, record_words};
+ghost use Rattle.warp_record.specs.inner.Behind.{words_behind};
+
+use crate::count::{Count, MAX_COUNT};
+use crate::cut::{cut_last_int, cut_number, cut_u32, is_at_end};
+use crate::record::{LAST_INPUT, LAST_ORIGIN, Record};
+use warp_tag::{LAST_MICROSTEP, MAX_TIME, Tag};
+
+/// What is left behind the word `event` and the space that follows it.
+#[inline(always)]
+pub(crate) fn behind_event(bytes: &[u8]) -> Option<&[u8]>
+    ensures found { IfSome result (λ text. slice_split is_space bytes.now ≡ codes "event" ∷ words_behind text.now) }
+    ensures none { IfNone result ((word : List ℕ) (words : List (List ℕ)) →
+        slice_split is_space bytes.now ≡ codes "event" ∷ word ∷ words → ⊥) }
+{
+    if bytes.len() > 5
+        && bytes[0] == b'e'
+        && bytes[1] == b'v'
+        && bytes[2] == b'e'
+        && bytes[3] == b'n'
+        && bytes[4] == b't'
+        && bytes[5] == b' '
+    {
+        Some(&bytes[5..])
+    } else {
+        None
+    }
+}
+
+/// What is left behind the word `withdraw` and the space that follows it.
+#[inline(always)]
+pub(crate) fn behind_withdraw(bytes: &[u8]) -> Option<&[u8]>
+    ensures found { IfSome result (λ text. slice_split is_space bytes.now ≡ codes "withdraw" ∷ words_behind text.now) }
+    ensures none { IfNone result ((word : List ℕ) (words : List (List ℕ)) →
+        slice_split is_space bytes.now ≡ codes "withdraw" ∷ word ∷ words → ⊥) }
+{
+    if bytes.len() > 8
+        && bytes[0] == b'w'
+        && bytes[1] == b'i'
+        && bytes[2] == b't'
+        && bytes[3] == b'h'
+        && bytes[4] == b'd'
+        && bytes[5] == b'r'
+        && bytes[6] == b'a'
+        && bytes[7] == b'w'
+        && bytes[8] == b' '
+    {
+        Some(&bytes[8..])
+    } else {
+        None
+    }
+}
+
+/// What is left behind the word `announce` and the space that follows it.
+#[inline(always)]
+pub(crate) fn behind_announce(bytes: &[u8]) -> Option<&[u8]>
+    ensures found { IfSome result (λ text. slice_split is_space bytes.now ≡ codes "announce" ∷ words_behind text.now) }
+    ensures none { IfNone result ((word : List ℕ) (words : List (List ℕ)) →
+        slice_split is_space bytes.now ≡ codes "announce" ∷ word ∷ words → ⊥) }
+{
+    if bytes.len() > 8
+        && bytes[0] == b'a'
+        && bytes[1] == b'n'
+        && bytes[2] == b'n'
+        && bytes[3] == b'o'
+        && bytes[4] == b'u'
+        && bytes[5] == b'n'
+        && bytes[6] == b'c'
+        && bytes[7] == b'e'
+        && bytes[8] == b' '
+    {
+        Some(&bytes[8..])
+    } else {
+        None
+    }
+}
+
+/// The origin, the time and the microstep that are the next words, and what is left behind them.
+#[inline(always)]
+fn cut_name(text: &[u8]) -> Option<(u32, u64, u32, &[u8])>
+    ensures found { IfSome result (λ name. (name.0 < most_origins) × (name.1 ≤ last_time) × (name.2 ≤ last_microstep)
+        × (words_behind text.now ≡ decimal name.0 ∷ decimal name.1 ∷ decimal name.2 ∷ words_behind name.3.now)) }
+    ensures none { IfNone result ((origin time microstep : ℕ) (words : List (List ℕ)) → origin < most_origins → time ≤ last_time →
+        microstep ≤ last_microstep → words_behind text.now ≡ decimal origin ∷ decimal time ∷ decimal microstep ∷ words → ⊥) }
+{
+    let (origin, text) = cut_u32(text, LAST_ORIGIN)?;
+    let (time, text) = cut_number(text, MAX_TIME)?;
+    let (micro, text) = cut_u32(text, LAST_MICROSTEP)?;
+    Some((origin, time, micro, text))
+}
+
+/// The event in range whose words behind the first are these.
+pub(crate) fn read_event(text: &[u8]) -> Option<Record>
+    ensures found { IfSome result (λ said. IsRecord said × (codes "event" ∷ words_behind text.now ≡ record_words said)) }
+    ensures none { IfNone result ((said : Record) → IsRecord said → codes "event" ∷ words_behind text.now ≡ record_words said → ⊥) }
+{
+    let (origin, time, micro, text) = cut_name(text)?;
+    let tag = Tag::new(time, micro)?;
+    let (input, text) = cut_u32(text, LAST_INPUT)?;
+    let value = cut_last_int(text)?;
+    Some(Record::Event {
+        origin,
+        tag,
+        input,
+        value,
+    })
+}
+
+/// The withdrawal in range whose words behind the first are these.
+pub(crate) fn read_withdrawal(text: &[u8]) -> Option<Record>
+    ensures found { IfSome result (λ said. IsRecord said × (codes "withdraw" ∷ words_behind text.now ≡ record_words said)) }
+    ensures none { IfNone result ((said : Record) → IsRecord said → codes "withdraw" ∷ words_behind text.now ≡ record_words said → ⊥) }
+{
+    let (origin, time, micro, text) = cut_name(text)?;
+    let tag = Tag::new(time, micro)?;
+    if is_at_end(text) {
+        Some(Record::Withdraw { origin, tag })
+    } else {
+        None
+    }
+}
+
+/// The announcement in range whose words behind the first are these.
+pub(crate) fn read_announcement(text: &[u8]) -> Option<Record>
+    ensures found { IfSome result (λ said. IsRecord said × (codes "announce" ∷ words_behind text.now ≡ record_words said)) }
+    ensures none { IfNone result ((said : Record) → IsRecord said → codes "announce" ∷ words_behind text.now ≡ record_words said → ⊥) }
+{
+    let (origin, time, micro, text) = cut_name(text)?;
+    let tag = Tag::new(time, micro)?;
+    let (events, text) = cut_u32(text, MAX_COUNT)?;
+    let (withdrawn, text) = cut_u32(text, MAX_COUNT)?;
+    let events = Count::new(events)?;
+    let withdrawn = Count::new(withdrawn)?;
+    if is_at_end(text) {
+        Some(Record::Announce {
+            origin,
+            tag,
+            events,
+            withdrawn,
+        })
+    } else {
+        None
+    }
+}
