@@ -1,33 +1,41 @@
--- Places of which it is kept apart whether they are present, and with what value.
-use Rattle.std.proofs.Common.{◌≡◌, ℕ, zero, suc, ◌<◌, Bool, true, false, List, [], ◌∷◌, length, get_or, set, replicate, refl, ap, arith, None, Some}
-use Rattle.std.specs.Prelude.{ℤ, pos}
-use Rattle.warp_body.specs.inner.Slots.{slot, slots}
+-- Places, each with the moment at which its value was put there.
+use Rattle.std.proofs.Common.{◌≡◌, ℕ, ℤ, zero, suc, ◌<◌, IsTrue, List, [], ◌∷◌, length, set, replicate, refl, ap, ◌∙◌, arith, None, Some, nat_le}
+use Rattle.std.specs.Prelude.{pos}
+use Rattle.std.proofs.lemmas.Bool.Decides.{nat_tests}
+use Rattle.std.proofs.lemmas.List.{map-set}
+use Rattle.warp_body.specs.declared.slots.Slot.{Slot}
+use Rattle.warp_body.specs.inner.Slots.{slot, slots, are_past}
 
--- as many as there are flags
-pub length-slots : (ps : List Bool) (vs : List ℤ) → length (slots ps vs) ≡ length ps
-length-slots [] vs = refl
-length-slots (p ∷ ps) [] = ap suc (length-slots ps [])
-length-slots (p ∷ ps) (v ∷ vs) = ap suc (length-slots ps vs)
+slot_now : (m : ℕ) (v : ℤ) → slot m (record { stamp = m; value = v }) ≡ Some v
+slot_now m v = grind (arith, nat_tests)
 
--- each is absent or has its value
-pub slots_at : (ps : List Bool) (vs : List ℤ) (n : ℕ) (p : Bool) → n < length ps
-    → get_or (slots ps vs) n None ≡ slot (get_or ps n p) (get_or vs n (pos 0))
-slots_at [] vs n p lt = absurd (omega arith)
-slots_at (q ∷ ps) [] zero p lt = refl
-slots_at (q ∷ ps) [] (suc n) p lt = let within : n < length ps = omega arith in slots_at ps [] n p within
-slots_at (q ∷ ps) (w ∷ vs) zero p lt = refl
-slots_at (q ∷ ps) (w ∷ vs) (suc n) p lt = let within : n < length ps = omega arith in slots_at ps vs n p within
+slot_past : (m n : ℕ) (s : Slot) → IsTrue (nat_le s.stamp m) → m < n → slot n s ≡ None
+slot_past m n s h lt = grind (arith, nat_tests)
 
 -- a place that is written is present with the value
-pub slots_set : (ps : List Bool) (vs : List ℤ) (n : ℕ) (v : ℤ) → length vs ≡ length ps
-    → slots (set ps n true) (set vs n v) ≡ set (slots ps vs) n (Some v)
-slots_set [] vs n v e = refl
-slots_set (q ∷ ps) [] n v e = absurd (omega arith)
-slots_set (q ∷ ps) (w ∷ vs) zero v e = refl
-slots_set (q ∷ ps) (w ∷ vs) (suc n) v e = let same : length vs ≡ length ps = omega arith in ap (λ rest. slot q w ∷ rest) (slots_set ps vs n v same)
+pub slots_set : (m : ℕ) (ps : List Slot) (n : ℕ) (v : ℤ) → slots m (set ps n (record { stamp = m; value = v })) ≡ set (slots m ps) n (Some v)
+slots_set m ps n v = map-set (slot m) ps n (record { stamp = m; value = v }) ∙ ap (λ o. set (slots m ps) n o) (slot_now m v)
 
--- where no flag is set, all are absent
-pub slots_absent : (n : ℕ) (vs : List ℤ) → slots (replicate n false) vs ≡ replicate n None
-slots_absent zero vs = refl
-slots_absent (suc n) [] = ap (λ rest. None ∷ rest) (slots_absent n [])
-slots_absent (suc n) (v ∷ vs) = ap (λ rest. None ∷ rest) (slots_absent n vs)
+-- and it was put there at no later moment
+pub past_set : (m : ℕ) (ps : List Slot) (n : ℕ) (v : ℤ) → IsTrue (are_past m ps) → IsTrue (are_past m (set ps n (record { stamp = m; value = v })))
+past_set m [] n v h = h
+past_set m (p ∷ ps) zero v h = grind (arith, nat_tests)
+past_set m (p ∷ ps) (suc n) v h = let rest = past_set m ps n v in grind (arith, nat_tests)
+
+-- at a later moment all are absent
+pub slots_later : (m n : ℕ) (ps : List Slot) → IsTrue (are_past m ps) → m < n → slots n ps ≡ replicate (length ps) None
+slots_later m n [] h lt = refl
+slots_later m n (p ∷ ps) h lt = let here = slot_past m n p in let rest = slots_later m n ps in grind (arith, nat_tests)
+
+pub past_later : (m n : ℕ) (ps : List Slot) → IsTrue (are_past m ps) → m < n → IsTrue (are_past n ps)
+past_later m n [] h lt = refl
+past_later m n (p ∷ ps) h lt = let rest = past_later m n ps in grind (arith, nat_tests)
+
+-- places where nothing was put
+pub past_empty : (m n : ℕ) → IsTrue (are_past m (replicate n (record { stamp = 0; value = pos 0 })))
+past_empty m zero = refl
+past_empty m (suc n) = let rest = past_empty m n in grind (arith, nat_tests)
+
+pub slots_empty : (n : ℕ) → slots 1 (replicate n (record { stamp = 0; value = pos 0 })) ≡ replicate n None
+slots_empty zero = refl
+slots_empty (suc n) = ap (λ rest. None ∷ rest) (slots_empty n)

@@ -1,6 +1,6 @@
 //! Expressions: their values, copies and comparison.
 ghost use Rattle.std.specs.Prelude.{◌≡◌, ℕ, length, IsTrue, IfOk, IfSome, ◌↔◌};
-ghost use Rattle.warp_body.specs.Term.{Term, term_of, value_of, term_fits, sizes_of};
+ghost use Rattle.warp_body.specs.Term.{Term, Choice, term_of, value_of, result_of_one, result_of_two, term_fits, sizes_of};
 
 use crate::operator::{BinaryOperator, UnaryOperator, as_number, is_true};
 use crate::place::{Present, Sizes, Target, Vars};
@@ -27,6 +27,10 @@ pub enum Expr {
 }
 
 /// The value of an expression.
+///
+/// It comes at once for a leaf and for an operator over operands of at most one operator. Deeper ones are left to functions of
+/// their own, so that this one calls nothing that it comes back from.
+#[cycle(eval_expr)]
 pub fn eval(expr: &Expr, vars: &Vars, present: &Present) -> i64
     requires { IsTrue (term_fits (sizes_of vars.now present.now) (term_of expr.now)) }
     ensures { result ≡ value_of (term_of expr.now) vars.now present.now }
@@ -36,30 +40,99 @@ pub fn eval(expr: &Expr, vars: &Vars, present: &Present) -> i64
         Expr::Variable(k) => vars.get(*k),
         Expr::Value(target) => present.get(*target).unwrap_or(0),
         Expr::Present(target) => as_number(present.get(*target).is_some()),
-        Expr::Unary(operator, a) => operator.apply(eval(a, vars, present)),
+        Expr::Unary(operator, a) => unary(*operator, a, vars, present),
         Expr::Binary(operator, a, b) => {
-            let left = match leaf(a, vars, present) {
-                Some(value) => value,
-                None => eval(a, vars, present),
+            let Some(left) = shallow(a, vars, present) else {
+                return binary(*operator, a, b, vars, present);
             };
-            let right = match leaf(b, vars, present) {
-                Some(value) => value,
-                None => eval(b, vars, present),
+            let Some(right) = shallow(b, vars, present) else {
+                return binary_from(*operator, left, b, vars, present);
             };
             operator.apply(left, right)
         }
-        Expr::If(condition, a, b) => {
-            if is_true(eval(condition, vars, present)) {
-                eval(a, vars, present)
-            } else {
-                eval(b, vars, present)
-            }
-        }
+        Expr::If(condition, a, b) => choice(condition, a, b, vars, present),
     }
 }
 
-/// The value of a number, a variable or a target, which most operands are; `None` for any other expression. It spares a
-/// call of `eval` for them.
+/// The value of an expression, with no call for a leaf.
+#[inline(always)]
+pub(crate) fn value(expr: &Expr, vars: &Vars, present: &Present) -> i64
+    requires { IsTrue (term_fits (sizes_of vars.now present.now) (term_of expr.now)) }
+    ensures { result ≡ value_of (term_of expr.now) vars.now present.now }
+{
+    match leaf(expr, vars, present) {
+        Some(value) => value,
+        None => eval(expr, vars, present),
+    }
+}
+
+/// The result of an operator of one operand.
+#[cycle(eval_expr)]
+#[inline(never)]
+fn unary(operator: UnaryOperator, a: &Expr, vars: &Vars, present: &Present) -> i64
+    requires { IsTrue (term_fits (sizes_of vars.now present.now) (term_of a.now)) }
+    ensures { result ≡ result_of_one operator (value_of (term_of a.now) vars.now present.now) }
+{
+    operator.apply(eval(a, vars, present))
+}
+
+/// The result of an operator of two operands.
+#[cycle(eval_expr)]
+#[inline(never)]
+fn binary(operator: BinaryOperator, a: &Expr, b: &Expr, vars: &Vars, present: &Present) -> i64
+    requires first { IsTrue (term_fits (sizes_of vars.now present.now) (term_of a.now)) }
+    requires second { IsTrue (term_fits (sizes_of vars.now present.now) (term_of b.now)) }
+    ensures { result ≡ result_of_two operator (value_of (term_of a.now) vars.now present.now) (value_of (term_of b.now) vars.now present.now) }
+{
+    let left = eval(a, vars, present);
+    let right = eval(b, vars, present);
+    operator.apply(left, right)
+}
+
+/// The result of an operator of two operands, of which the first has this value.
+#[cycle(eval_expr)]
+#[inline(never)]
+fn binary_from(operator: BinaryOperator, left: i64, b: &Expr, vars: &Vars, present: &Present) -> i64
+    requires { IsTrue (term_fits (sizes_of vars.now present.now) (term_of b.now)) }
+    ensures { result ≡ result_of_two operator left (value_of (term_of b.now) vars.now present.now) }
+{
+    operator.apply(left, eval(b, vars, present))
+}
+
+/// The value of the second where the first isn't 0, else of the third.
+#[cycle(eval_expr)]
+#[inline(never)]
+fn choice(condition: &Expr, a: &Expr, b: &Expr, vars: &Vars, present: &Present) -> i64
+    requires condition { IsTrue (term_fits (sizes_of vars.now present.now) (term_of condition.now)) }
+    requires first { IsTrue (term_fits (sizes_of vars.now present.now) (term_of a.now)) }
+    requires second { IsTrue (term_fits (sizes_of vars.now present.now) (term_of b.now)) }
+    ensures { result ≡ value_of (Choice (term_of condition.now) (term_of a.now) (term_of b.now)) vars.now present.now }
+{
+    if is_true(eval(condition, vars, present)) {
+        eval(a, vars, present)
+    } else {
+        eval(b, vars, present)
+    }
+}
+
+/// The value of a leaf, or of an operator over two leaves; `None` for any other expression.
+#[inline(always)]
+fn shallow(expr: &Expr, vars: &Vars, present: &Present) -> Option<i64>
+    requires { IsTrue (term_fits (sizes_of vars.now present.now) (term_of expr.now)) }
+    ensures { IfSome result (λ value. value ≡ value_of (term_of expr.now) vars.now present.now) }
+{
+    match expr {
+        Expr::Binary(operator, a, b) => {
+            let left = leaf(a, vars, present)?;
+            let right = leaf(b, vars, present)?;
+            Some(operator.apply(left, right))
+        }
+        _ => leaf(expr, vars, present),
+    }
+}
+
+/// The value of a number, a variable, an action or a port, which most operands are; `None` for any other expression.
+#[inline(always)]
 fn leaf(expr: &Expr, vars: &Vars, present: &Present) -> Option<i64>
     requires { IsTrue (term_fits (sizes_of vars.now present.now) (term_of expr.now)) }
     ensures { IfSome result (λ value. value ≡ value_of (term_of expr.now) vars.now present.now) }
@@ -67,7 +140,8 @@ fn leaf(expr: &Expr, vars: &Vars, present: &Present) -> Option<i64>
     match expr {
         Expr::Number(n) => Some(*n),
         Expr::Variable(k) => Some(vars.get(*k)),
-        Expr::Value(target) => Some(present.get(*target).unwrap_or(0)),
+        Expr::Value(Target::Port(n)) => Some(present.get(Target::Port(*n)).unwrap_or(0)),
+        Expr::Value(Target::Action(n)) => Some(present.get(Target::Action(*n)).unwrap_or(0)),
         _ => None,
     }
 }

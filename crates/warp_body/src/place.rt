@@ -216,6 +216,7 @@ impl Present {
     }
 
     /// What a target is present with.
+    #[inline(always)]
     pub fn get(&self, target: Target) -> Option<i64>
         requires { IsTrue (target_fits (places_of self.now) target) }
         ensures { result ≡ present_at self.now target }

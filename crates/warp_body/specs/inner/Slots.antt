@@ -1,12 +1,16 @@
--- Places of which it is kept apart whether they are present, and with what value.
-use Rattle.std.specs.Prelude.{ℤ, pos, Bool, List, [], ◌∷◌, Option, Some, None, if◌then◌else◌}
+-- Places, each with the moment at which its value was put there.
+use Rattle.std.specs.Prelude.{ℕ, ℤ, Bool, ◌==◌, nat_le, List, map, Option, Some, None, if◌then◌else◌}
+use Rattle.std.specs.List.{list_all}
+use Rattle.warp_body.specs.declared.slots.Slot.{Slot}
 
--- the value of a place that is present
-abbrev pub slot : Bool → ℤ → Option ℤ
-slot present value = if present then Some value else None
+-- what a place is present with at a moment
+abbrev pub slot : ℕ → Slot → Option ℤ
+slot moment s = if s.stamp == moment then Some s.value else None
 
--- the places with these values, of which these are present
-abbrev pub slots : List Bool → List ℤ → List (Option ℤ)
-slots [] values = []
-slots (p ∷ ps) [] = slot p (pos 0) ∷ slots ps []
-slots (p ∷ ps) (v ∷ vs) = slot p v ∷ slots ps vs
+-- what each place is present with at a moment
+abbrev pub slots : ℕ → List Slot → List (Option ℤ)
+slots moment places = map (slot moment) places
+
+-- no value was put after this moment
+abbrev pub are_past : ℕ → List Slot → Bool
+are_past moment places = list_all (λ s. nat_le s.stamp moment) places

@@ -1,9 +1,18 @@
--- no flag is set
-use Rattle.std.proofs.Common.{Bool, List, ap, ◌∙◌, rules}
-use Rattle.warp_body.specs.inner.Slots.{slots}
-use Rattle.warp_body.proofs.SlotLemmas.{slots_absent}
+-- all places are empty
+use Rattle.std.proofs.Common.{◌≡◌, ◌<◌, List, IsTrue, replicate, ap, sym, subst, ◌∙◌, arith, rules}
+use Rattle.std.specs.Prelude.{pos}
+use Rattle.warp_body.specs.declared.slots.Slot.{Slot}
+use Rattle.warp_body.specs.inner.Slots.{slots, are_past}
+use Rattle.warp_body.proofs.SlotLemmas.{past_empty, slots_empty}
 use Rattle.warp_body.proofs.slots.Slots.new.Goals as goal
+
+pub invariant_of-result : goal.invariant_of-result
+invariant_of-result c =
+    let first : 0 < 1 = omega arith in
+    let empty : c.in_ok-places.places.items ≡ replicate c.args.count (record { stamp = 0; value = pos 0 }) = search rules in
+    (first, subst (λ (ps : List Slot). IsTrue (are_past 1 ps)) (sym empty) (past_empty 1 c.args.count))
 
 pub returns : goal.returns
 returns c =
-    ap (λ (ps : List Bool). slots ps c.in_ok-values.values.items) (search rules) ∙ slots_absent c.args.count c.in_ok-values.values.items
+    let empty : c.in_ok-places.places.items ≡ replicate c.args.count (record { stamp = 0; value = pos 0 }) = search rules in
+    ap (slots 1) empty ∙ slots_empty c.args.count
