@@ -1,12 +1,17 @@
-use Rattle.std.proofs.Common.{rules, ◌≡◌, ℕ, ◌<◌, ◌≤◌, List, [], ◌∷◌, map, length, true, false, IfOk, Contains, slice_index_or, ◌+◌, ◌-◌, ◌*◌, ◌/◌, ◌%◌, Bool, nat_eq, nat_lt, ◌++◌, slice_set, bit_and, bit_or, Fits, w8, w32, w64, Bor, MutBor}
-use Rattle.std.specs.List.{list_any}
-use Rattle.warp_tag.specs.Limits.{most_actions, most_ports, most_reactions, most_timers}
+-- one list more
+use Rattle.std.proofs.Common.{◌≡◌, ◌<◌, [], ◌∷◌, List, ℕ, length, ap, ◌∙◌, arith}
 use Rattle.warp_body.specs.declared.place.Target.TheVariants as to
-use Rattle.warp_step.specs.Program.{rule_of}
-use Rattle.warp_step.specs.Plan.{followers, heeds, place_of, triggered_by}
-use Rattle.warp_step.specs.Step.{followers_of, numbers, plan_of, sources_of}
+use Rattle.warp_step.specs.Plan.{followers}
+use Rattle.warp_step.specs.Step.{followers_of, numbers}
+use Rattle.warp_step.proofs.PlanLemmas.{table_one_more}
 use Rattle.warp_step.proofs.plan.of_timers.Goals as goal
 
--- src/plan.rt:75:5
 pub loop-number-preserved : goal.loop-number-preserved
-loop-number-preserved c = ?
+loop-number-preserved c =
+    let P = c.args.program.now in
+    let n = c.loop-number.number in
+    let same : length c.timers-count.result.now ≡ length P.timers = ap length c.timers-count.ensures in
+    let lt : n < length P.timers = omega arith in
+    let own = c.in_ok-followers.ensures ∙ ap (λ (sources : List ℕ). followers sources P.reactions (to.Timer n ∷ [])) c.requires in
+    table_one_more (λ list. list.items) c.loop-number.lists.items c.push.new.self.items c.in_ok-followers.field-0
+    (λ k. followers_of P (to.Timer k ∷ [])) n P.timers _ c.in_ok-push.ensures.items own lt c.loop-number.invariant
