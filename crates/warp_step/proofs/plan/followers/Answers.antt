@@ -1,5 +1,5 @@
 -- one reaction more, whose number is taken if it may be triggered
-use Rattle.std.proofs.Common.{◌≡◌, ◌++◌, ◌+◌, List, ℕ, Bool, drop, ap, sym, ◌∙◌}
+use Rattle.std.proofs.Common.{◌++◌, ◌+◌, List, ℕ, drop, ap, sym, ◌∙◌}
 use Rattle.std.specs.List.{list_any}
 use Rattle.warp_step.specs.Program.{Rule, rule_of}
 use Rattle.warp_step.specs.Plan.{heeds, numbers_where}

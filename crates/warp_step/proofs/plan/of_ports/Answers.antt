@@ -2,7 +2,7 @@
 use Rattle.std.proofs.Common.{◌≡◌, ◌<◌, [], ◌∷◌, List, ℕ, length, ap, ◌∙◌, arith}
 use Rattle.warp_body.specs.declared.place.Target.TheVariants as to
 use Rattle.warp_step.specs.Plan.{followers}
-use Rattle.warp_step.specs.Step.{followers_of, numbers}
+use Rattle.warp_step.specs.Step.{followers_of}
 use Rattle.warp_step.proofs.PlanLemmas.{table_one_more}
 use Rattle.warp_step.proofs.plan.of_ports.Goals as goal
 
