@@ -3,6 +3,7 @@ pub mod OutputsBefore
 pub mod OutputsOfRun
 pub mod PartedLists
 pub mod PendingLemmas
+pub mod PlanLemmas
 pub mod ReactLemmas
 pub mod RowsBefore
 pub mod Sameness

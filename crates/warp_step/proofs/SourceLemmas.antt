@@ -1,8 +1,8 @@
 -- The sources of a program's ports: one a port, and each is a port.
-use Rattle.std.proofs.Common.{◌≡◌, ℕ, ◌+◌, ◌<◌, ◌≤◌, List, [], ◌∷◌, ◌++◌, length, map, drop, nat_lt, ◌==◌, ◌&&◌, arith, IsTrue, refl, sym, ap, ◌∙◌, subst, inl, inr, is_none}
+use Rattle.std.proofs.Common.{◌≡◌, ℕ, ◌+◌, ◌<◌, ◌≤◌, List, [], ◌∷◌, length, map, nat_lt, ◌==◌, ◌&&◌, arith, IsTrue, refl, sym, ◌∙◌, subst, inl, inr, is_none}
 use Rattle.std.specs.List.{list_all}
 use Rattle.std.proofs.lemmas.Bool.{cases_Bool, and_parts, and_from, lt-ltb, cond-true, cond-false}
-use Rattle.std.proofs.lemmas.List.{append_assoc, drop_more, length-map}
+use Rattle.std.proofs.lemmas.List.{length-map}
 use Rattle.warp_step.specs.Program.{Program}
 use Rattle.warp_step.specs.Step.{numbers, source_of, sources_of}
 use Rattle.warp_step.specs.Valid.{is_valid, link_fits}
@@ -39,11 +39,3 @@ length-sources_of P = length-map (numbers 0 P.ports) (source_of P.links) ∙ len
 -- each source is a port
 pub sources_within : (P : Program) → IsTrue (is_valid P) → IsTrue (list_all (λ p. nat_lt p (length P.ports)) (sources_of P))
 sources_within P h = sources_from P 0 P.ports (validity P h).links (omega arith)
-
--- the sources of the ports from a number on are that of the port with it, and those from the next one on
-pub sources_one_more : (front : List ℕ) (P : Program) (n : ℕ) (d : Port) → n < length P.ports
-    → (front ++ source_of P.links n ∷ []) ++ map (source_of P.links) (numbers (n + 1) (drop (n + 1) P.ports))
-    ≡ front ++ map (source_of P.links) (numbers n (drop n P.ports))
-sources_one_more front P n d lt =
-    append_assoc front (source_of P.links n ∷ []) (map (source_of P.links) (numbers (n + 1) (drop (n + 1) P.ports)))
-    ∙ ap (λ (ps : List Port). front ++ map (source_of P.links) (numbers n ps)) (sym (drop_more P.ports n d lt))

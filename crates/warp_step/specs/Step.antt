@@ -7,9 +7,11 @@ use Rattle.warp_tag.specs.Moment.{Moment, is_before, is_same}
 use Rattle.warp_body.specs.Presence.{Presence, nothing_present, present_at, with_value}
 use Rattle.warp_body.specs.Effect.{Effect, effect_of}
 use Rattle.warp_body.specs.declared.place.Places.{Places}
+use Rattle.warp_body.specs.declared.place.Target.{Target}
 use Rattle.warp_body.specs.declared.place.Target.TheVariants as to
 use Rattle.warp_body.specs.declared.stmt.Wish.{Wish}
 use Rattle.warp_step.specs.Program.{Rule, Program, delay_of}
+use Rattle.warp_step.specs.Plan.{Plan, followers}
 use Rattle.warp_step.specs.Valid.{is_distinct, program_places}
 use Rattle.warp_step.specs.Snapshot.{Snapshot, IsStateOf, landed}
 use Rattle.warp_step.specs.declared.parts.Link.{Link}
@@ -179,11 +181,27 @@ pub record CanStep (P : Program) (s : Snapshot) (t : Moment) (X : List Given) : 
   pub some : IsTrue (nat_lt 0 (length X) || list_any (λ w. is_same w.tag t) s.pending)
   pub inputs : AreInputs P X
 
--- the room that steps of the program work in: its places, the sources of its ports, and how many bodies it has
+-- the reactions of the program that one of these places may trigger
+abbrev pub followers_of : Program → List Target → List ℕ
+followers_of P places = followers (sources_of P) P.reactions places
+
+-- whom each place of the program may trigger
+abbrev pub plan_of : Program → Plan
+plan_of P = record {
+  startup = followers_of P (to.Startup ∷ []);
+  timers = map (λ n. followers_of P (to.Timer n ∷ [])) (numbers 0 P.timers);
+  actions = map (λ n. followers_of P (to.Action n ∷ [])) (numbers 0 P.actions);
+  ports = map (λ n. followers_of P (to.Port n ∷ [])) (numbers 0 P.ports);
+  after = map (λ rule. followers_of P rule.writes) P.reactions;
+}
+
+-- the room that steps of the program work in: its places, the sources of its ports, how many bodies it has, and whom each
+-- place may trigger
 pub record Room : Type 0 where
   pub places : Places
   pub sources : List ℕ
   pub bodies : ℕ
+  pub plan : Plan
 
 abbrev pub room_of : Program → Room
-room_of P = record { places = program_places P; sources = sources_of P; bodies = length P.reactions }
+room_of P = record { places = program_places P; sources = sources_of P; bodies = length P.reactions; plan = plan_of P }

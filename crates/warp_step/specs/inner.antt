@@ -1,3 +1,4 @@
 -- What follows a loop of the code and no public contract cites.
 pub mod Front
 pub mod Flagged
+pub mod Due

@@ -2,14 +2,16 @@
 ghost use Rattle.std.specs.Prelude.{◌≡◌, ◌≤◌, IsTrue, not, length, take, drop, filter, List};
 ghost use Rattle.std.specs.List.{list_all};
 ghost use Rattle.warp_tag.specs.Moment.{is_before, is_same};
-ghost use Rattle.warp_body.specs.Presence.{places_of, target_fits};
+ghost use Rattle.warp_body.specs.Presence.{places_of, target_fits, with_value};
 ghost use Rattle.warp_step.specs.Valid.{program_places};
 ghost use Rattle.warp_step.specs.Snapshot.{IsStateOf};
-ghost use Rattle.warp_step.specs.Step.{AreInputs, arrived, arrived_entries, without_entries};
+ghost use Rattle.warp_step.specs.Step.{AreInputs, arrived, arrived_entries, plan_of, sources_of, without_entries};
+ghost use Rattle.warp_step.specs.inner.Due.{AreDue};
 ghost use Rattle.warp_step.specs.inner.Front.{HasOtherHead};
 
 use crate::out::Given;
 use crate::pending::{Waiting, drop_front};
+use crate::plan::{Plan, mark};
 use crate::program::Program;
 use crate::state::State;
 use warp_body::{Present, Target};
@@ -17,22 +19,45 @@ use warp_tag::Tag;
 
 impl State {
     /// Makes the targets of the entries at the tag present, and takes these entries out.
-    pub(crate) fn take_entries(&mut self, program: &Program, tag: Tag, present: &mut Present)
+    pub(crate) fn take_entries(
+        &mut self,
+        program: &Program,
+        plan: &Plan,
+        due: &mut [bool],
+        tag: Tag,
+        present: &mut Present,
+    )
         requires state { IsStateOf program.now self.old }
         requires places { places_of present.old ≡ program_places program.now }
         requires none_before { IsTrue (list_all (λ w. not (is_before w.tag tag)) self.old.pending) }
+        requires plan { plan.now ≡ plan_of program.now }
+        requires own { present.old.sources ≡ sources_of program.now }
+        requires flags { length due.old ≡ length program.now.reactions }
         ensures state { self.new ≡ without_entries tag self.old }
         ensures present { present.new ≡ arrived_entries (filter (λ w. is_same w.tag tag) self.old.pending) present.old }
         ensures places { places_of present.new ≡ places_of present.old }
         ensures sources { present.new.sources ≡ present.old.sources }
+        ensures flags { length due.new ≡ length due.old }
+        ensures due { AreDue 0 program.now.reactions present.old due.old → AreDue 0 program.now.reactions present.new due.new }
     {
-        let count = arrive_entries(self.pending.as_slice(), tag, present);
+        let count = arrive_entries(self.pending.as_slice(), program, plan, due, tag, present);
         drop_front(&mut self.pending, count);
     }
 }
 
-/// Makes the targets of the first entries with this tag present, and says how many have it.
-fn arrive_entries(entries: &[Waiting], tag: Tag, present: &mut Present) -> usize
+/// Makes the targets of the first entries with this tag present, and says how many have it. Whom they may trigger is due.
+fn arrive_entries(
+    entries: &[Waiting],
+    program: &Program,
+    plan: &Plan,
+    due: &mut [bool],
+    tag: Tag,
+    present: &mut Present,
+) -> usize
+    requires plan { plan.now ≡ plan_of program.now }
+    requires places { places_of present.old ≡ program_places program.now }
+    requires own { present.old.sources ≡ sources_of program.now }
+    requires flags { length due.old ≡ length program.now.reactions }
     requires targets { IsTrue (list_all (λ w. target_fits (places_of present.old) w.target) entries.now) }
     ensures within { result ≤ length entries.now }
     ensures here { IsTrue (list_all (λ w. is_same w.tag tag) (take result entries.now)) }
@@ -40,26 +65,63 @@ fn arrive_entries(entries: &[Waiting], tag: Tag, present: &mut Present) -> usize
     ensures present { present.new ≡ arrived_entries (take result entries.now) present.old }
     ensures places { places_of present.new ≡ places_of present.old }
     ensures sources { present.new.sources ≡ present.old.sources }
+    ensures flags { length due.new ≡ length due.old }
+    ensures due { AreDue 0 program.now.reactions present.old due.old → AreDue 0 program.now.reactions present.new due.new }
 {
     for (count, entry) in entries.iter().enumerate() {
         if !entry.tag.is_same(tag) {
             return count;
         }
-        present.put(entry.target, entry.value);
+        put(program, plan, due, present, entry.target, entry.value);
     }
     entries.len()
 }
 
-/// Makes the ports of the given inputs present.
-pub(crate) fn arrive(program: &Program, given: &[Given], present: &mut Present)
+/// Makes a target present with a value. Whom it may trigger is due.
+fn put(
+    program: &Program,
+    plan: &Plan,
+    due: &mut [bool],
+    present: &mut Present,
+    target: Target,
+    value: i64,
+)
+    requires plan { plan.now ≡ plan_of program.now }
+    requires places { places_of present.old ≡ program_places program.now }
+    requires own { present.old.sources ≡ sources_of program.now }
+    requires flags { length due.old ≡ length program.now.reactions }
+    requires target { IsTrue (target_fits (places_of present.old) target) }
+    ensures value { present.new ≡ with_value target value present.old }
+    ensures places { places_of present.new ≡ places_of present.old }
+    ensures sources { present.new.sources ≡ present.old.sources }
+    ensures flags { length due.new ≡ length due.old }
+    ensures due { AreDue 0 program.now.reactions present.old due.old → AreDue 0 program.now.reactions present.new due.new }
+{
+    present.put(target, value);
+    mark(due, plan.triggered_by(target));
+}
+
+/// Makes the ports of the given inputs present. Whom they may trigger is due.
+pub(crate) fn arrive(
+    program: &Program,
+    plan: &Plan,
+    due: &mut [bool],
+    given: &[Given],
+    present: &mut Present,
+)
+    requires plan { plan.now ≡ plan_of program.now }
+    requires own { present.old.sources ≡ sources_of program.now }
+    requires flags { length due.old ≡ length program.now.reactions }
     requires inputs { AreInputs program.now given.now }
     requires places { places_of present.old ≡ program_places program.now }
     ensures present { present.new ≡ arrived program.now given.now present.old }
     ensures places { places_of present.new ≡ places_of present.old }
     ensures sources { present.new.sources ≡ present.old.sources }
+    ensures flags { length due.new ≡ length due.old }
+    ensures due { AreDue 0 program.now.reactions present.old due.old → AreDue 0 program.now.reactions present.new due.new }
 {
     for g in given {
-        let port = program.port(g.input);
-        present.put(Target::Port(port), g.value);
+        let port = Target::Port(program.port(g.input));
+        put(program, plan, due, present, port, g.value);
     }
 }

@@ -15,6 +15,7 @@ mod one_step;
 mod out;
 mod parts;
 mod pending;
+mod plan;
 mod program;
 mod react;
 mod reaction;

@@ -6,12 +6,13 @@ ghost use Rattle.warp_body.specs.Presence.{places_of};
 ghost use Rattle.warp_step.specs.Valid.{program_places};
 ghost use Rattle.warp_step.specs.Snapshot.{Snapshot, IsStateOf};
 ghost use Rattle.warp_step.specs.inner.Flagged.{HasNone};
-ghost use Rattle.warp_step.specs.Step.{CanStep, Step, Room, lists_of, reacted, room_of, source_of, sources_of, state_after};
+ghost use Rattle.warp_step.specs.Step.{CanStep, Step, Room, lists_of, plan_of, reacted, room_of, source_of, sources_of, state_after};
 
 use crate::arrive::arrive;
 use crate::meter::Meter;
 use crate::out::{Given, Out};
 use crate::parts::Link;
+use crate::plan::Plan;
 use crate::program::Program;
 use crate::react::{clear_wishes, put_outputs, run_reactions};
 use crate::state::State;
@@ -20,11 +21,14 @@ use std::marker::Model;
 use warp_body::{Places, Present, Wishes};
 use warp_tag::{OutOfMemory, Tag};
 
-/// Room that the steps of one program share. Contracts see of which program it is: its places, the sources of its ports, and
-/// how many bodies it has.
+/// Room that the steps of one program share. Contracts see of which program it is: its places, the sources of its ports, how
+/// many bodies it has, and whom each place may trigger.
 #[derive(Drop)]
 pub struct Scratch {
     present: Present,
+    plan: Plan,
+    /// For each reaction, whether it is to be looked at in this step.
+    due: Vec<bool>,
     wishes: Vec<Wishes>,
     /// Whether a list of wishes may have some. Nearly always none has, and then nothing goes over them.
     wished: bool,
@@ -37,12 +41,13 @@ impl Model for Scratch {
 
     ghost Value = { Room };
 
-    ghost view = { λ s. record { places = places_of s.present; sources = s.present.sources; bodies = length s.wishes.items } };
+    ghost view = { λ s. record { places = places_of s.present; sources = s.present.sources; bodies = length s.wishes.items; plan = s.plan } };
 
+    ghost use Rattle.std.specs.Prelude.{◌≡◌};
     ghost use Rattle.warp_step.specs.Step.{lists_of};
     ghost use Rattle.warp_step.specs.inner.Flagged.{HasNone};
 
-    ghost invariant = { λ s. HasNone s.wished (lists_of s.wishes.items) };
+    ghost invariant = { λ s. HasNone s.wished (lists_of s.wishes.items) × (length s.due.items ≡ length s.wishes.items) };
 }
 
 impl Scratch {
@@ -57,10 +62,14 @@ impl Scratch {
             ports: program.ports().len(),
         };
         let sources = sources(alloc, program)?;
+        let plan = Plan::new(alloc, program, &sources)?;
+        let due = vec![in alloc; false; program.reactions().len()]?;
         let present = Present::new(alloc, places, sources)?;
         let wishes = empty_wishes(alloc, program.reactions().len())?;
         Ok(Scratch {
             present,
+            plan,
+            due,
             wishes,
             wished: false,
         })
@@ -132,6 +141,8 @@ pub fn step<M: Meter>(
     scratch.wished = advance(
         program,
         state,
+        &scratch.plan,
+        &mut scratch.due,
         &mut scratch.present,
         &mut scratch.wishes,
         scratch.wished,
@@ -146,12 +157,16 @@ pub fn step<M: Meter>(
 fn advance(
     program: &Program,
     state: &mut State,
+    plan: &Plan,
+    due: &mut [bool],
     present: &mut Present,
     wishes: &mut [Wishes],
     wished: bool,
     tag: Tag,
     given: &[Given],
 ) -> bool
+    requires plan { plan.now ≡ plan_of program.now }
+    requires flags { length due.old ≡ length program.now.reactions }
     requires can { CanStep program.now state.old tag given.now }
     requires places { places_of present.old ≡ program_places program.now }
     requires sources { present.old.sources ≡ sources_of program.now }
@@ -165,14 +180,16 @@ fn advance(
     ensures sources { present.new.sources ≡ present.old.sources }
     ensures bodies { length wishes.new ≡ length wishes.old }
     ensures none { HasNone result (lists_of wishes.new) }
+    ensures flags { length due.new ≡ length due.old }
 {
     program.valid();
     present.clear();
+    due.fill(false);
     clear_wishes(wishes, wished);
-    state.take_entries(program, tag, present);
-    arrive(program, given, present);
+    state.take_entries(program, plan, due, tag, present);
+    arrive(program, plan, due, given, present);
     state.repeat_timers(program, tag, present);
-    let wished = run_reactions(program, &mut state.vars, present, wishes);
+    let wished = run_reactions(program, plan, due, &mut state.vars, present, wishes);
     state.enter_later(program, tag, present, wishes, wished);
     wished
 }

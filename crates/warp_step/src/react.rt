@@ -6,12 +6,15 @@ ghost use Rattle.warp_body.specs.Presence.{Presence, places_of, present_at, targ
 ghost use Rattle.warp_body.specs.declared.place.Target.TheVariants as to;
 ghost use Rattle.warp_body.specs.Effect.{body_fits, schedules_of, wish_fits};
 ghost use Rattle.warp_body.specs.Term.{sizes_of};
-ghost use Rattle.warp_step.specs.Program.{rule_of};
-ghost use Rattle.warp_step.specs.Valid.{program_places, program_sizes};
+ghost use Rattle.warp_step.specs.Program.{Program, Rule, rule_of};
+ghost use Rattle.warp_step.specs.Valid.{program_places, program_sizes, rule_fits};
+ghost use Rattle.warp_step.specs.Plan.{followers};
+ghost use Rattle.warp_step.specs.inner.Due.{AreDue};
 ghost use Rattle.warp_step.specs.inner.Flagged.{HasNone};
-ghost use Rattle.warp_step.specs.Step.{Reacting, after_reactions, is_triggered, lists_of, no_wishes, order_of, outputs_from, react, with_output};
+ghost use Rattle.warp_step.specs.Step.{Reacting, after_reactions, is_triggered, lists_of, no_wishes, order_of, outputs_from, plan_of, react, sources_of, with_output};
 
 use crate::out::Out;
+use crate::plan::{Plan, mark};
 use crate::program::Program;
 use crate::reaction::Reaction;
 use warp_body::{Present, Target, Vars, Wishes, run_body};
@@ -42,14 +45,18 @@ fn is_one_present(targets: &[Target], present: &Present) -> bool
     false
 }
 
-/// Runs the reaction with this number if it is triggered, and says whether it has wishes then.
+/// Runs the reaction with this number if it is triggered, and says whether it has wishes then. Whom it may trigger then is
+/// due: the reactions with the numbers after it.
 fn run_reaction(
     number: usize,
     reaction: &Reaction,
+    after: &[u32],
+    due: &mut [bool],
     vars: &mut Vars,
     present: &mut Present,
     wishes: &mut [Wishes],
 ) -> bool
+    requires may { (P : Program) × IsTrue (rule_fits P (rule_of reaction.now)) }
     requires number { number < length wishes.old }
     requires triggers { IsTrue (list_all (target_fits (places_of present.old)) (rule_of reaction.now).triggers) }
     requires body { IsTrue (body_fits (sizes_of vars.old present.old) (rule_of reaction.now).body) }
@@ -63,17 +70,25 @@ fn run_reaction(
     ensures wishes { IsTrue (list_all (list_all (wish_fits (sizes_of vars.old present.old))) (lists_of wishes.old)) →
         IsTrue (list_all (list_all (wish_fits (sizes_of vars.old present.old))) (lists_of wishes.new)) }
     ensures none { result ≡ false → lists_of wishes.new ≡ lists_of wishes.old }
+    ensures flags { length due.new ≡ length due.old }
+    ensures due { (n : ℕ) (rules : List Rule) → length rules ≡ length due.old
+        → after.now ≡ followers present.old.sources rules (rule_of reaction.now).writes
+        → AreDue n rules present.old due.old → AreDue n rules present.new due.new }
 {
     if triggered(reaction, present) {
+        mark(due, after);
         run_body(&reaction.body, vars, present, &mut wishes[number]);
         return !wishes[number].is_empty();
     }
     false
 }
 
-/// Runs the reactions that are triggered, in their order, and says whether one has wishes then.
+/// Runs the reactions that are triggered, in their order, and says whether one has wishes then. It looks at those that are
+/// due, which all are that something present triggers.
 pub(crate) fn run_reactions(
     program: &Program,
+    plan: &Plan,
+    due: &mut [bool],
     vars: &mut Vars,
     present: &mut Present,
     wishes: &mut [Wishes],
@@ -81,6 +96,10 @@ pub(crate) fn run_reactions(
     requires vars { length vars.old ≡ length program.now.variables }
     requires places { places_of present.old ≡ program_places program.now }
     requires wishes { lists_of wishes.old ≡ no_wishes program.now }
+    requires plan { plan.now ≡ plan_of program.now }
+    requires own { present.old.sources ≡ sources_of program.now }
+    requires flags { length due.old ≡ length program.now.reactions }
+    requires due { AreDue 0 program.now.reactions present.old due.old }
     ensures effect { record { vars = vars.new; present = present.new; wishes = lists_of wishes.new }
         ≡ after_reactions program.now (order_of program.now) (record { vars = vars.old; present = present.old; wishes = no_wishes program.now }) }
     ensures vars { length vars.new ≡ length vars.old }
@@ -89,11 +108,15 @@ pub(crate) fn run_reactions(
     ensures wishes { IsTrue (list_all (list_all (wish_fits (program_sizes program.now))) (lists_of wishes.new)) }
     ensures bodies { length wishes.new ≡ length wishes.old }
     ensures none { HasNone result (lists_of wishes.new) }
+    ensures flags { length due.new ≡ length due.old }
 {
     program.valid();
     let mut wished = false;
     for (number, reaction) in program.reactions().iter().enumerate() {
-        wished |= run_reaction(number, reaction, vars, present, wishes);
+        if due[number] {
+            let after = plan.after(number);
+            wished |= run_reaction(number, reaction, after, due, vars, present, wishes);
+        }
     }
     wished
 }

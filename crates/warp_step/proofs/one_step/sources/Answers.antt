@@ -1,9 +1,8 @@
 -- one source more
-use Rattle.std.proofs.Common.{◌≡◌, ◌+◌, ◌<◌, ◌++◌, List, ℕ, map, drop, length, ap, ◌∙◌, [], ◌∷◌, true, arith}
+use Rattle.std.proofs.Common.{◌≡◌, ◌+◌, ◌<◌, ◌++◌, List, ℕ, map, drop, length, ap, ◌∙◌, [], ◌∷◌, arith}
 use Rattle.warp_step.specs.Step.{numbers, source_of}
 use Rattle.warp_step.specs.declared.parts.Link.{Link}
-use Rattle.warp_step.specs.declared.parts.Port.{Port}
-use Rattle.warp_step.proofs.SourceLemmas.{sources_one_more}
+use Rattle.warp_step.proofs.PlanLemmas.{numbers_one_more}
 use Rattle.warp_step.proofs.one_step.sources.Goals as goal
 
 pub loop-port-preserved : goal.loop-port-preserved
@@ -15,7 +14,6 @@ loop-port-preserved c =
     let same : length c.ports-ports.result.now ≡ length P.ports = ap length c.ports-ports.ensures in
     let lt : n < length P.ports = omega arith in
     let own = c.source.ensures ∙ ap (λ (ls : List Link). source_of ls n) c.links.ensures in
-    let d : Port = record { reactor = 0; is_input = true } in
     ap (λ (ns : List ℕ). ns ++ rest) c.in_ok-push.ensures.items
     ∙ ap (λ (m : ℕ). (so_far ++ m ∷ []) ++ rest) own
-    ∙ sources_one_more so_far P n d lt ∙ c.loop-port.invariant
+    ∙ numbers_one_more so_far (source_of P.links) n P.ports lt ∙ c.loop-port.invariant
