@@ -78,7 +78,7 @@ other_stays (to.Port n) v present (to.Port m) h =
     get_or-set_other present.ports n source (Some v) None (λ same. eqb-false n source other (sym same))
 
 -- where the one side of an `or` is false, both are
-or_false : (x y : Bool) → (x || y) ≡ false → (x ≡ false) × (y ≡ false)
+pub or_false : (x y : Bool) → (x || y) ≡ false → (x ≡ false) × (y ≡ false)
 or_false true y h = let no : true ≡ false = h in cc
 or_false false y h = (refl, h)
 
