@@ -1,6 +1,6 @@
 -- each reaction fits, since the program is valid; its own list of wishes is empty before, and those after it stay so; one that
 -- is not due is not triggered
-use Rattle.std.proofs.Common.{◌≡◌, ℕ, ℤ, replicate, ◌+◌, ◌≤◌, ◌<◌, ◌≢◌, Bool, true, false, ◌||◌, List, [], drop, IsTrue, Some, inl, inr, ap, sym, ◌∙◌, subst, get_or, length, refl, arith}
+use Rattle.std.proofs.Common.{◌≡◌, ℕ, ℤ, replicate, ◌+◌, ◌≤◌, ◌<◌, ◌≢◌, Bool, true, false, List, [], drop, IsTrue, Some, inl, inr, ap, sym, ◌∙◌, subst, get_or, length, refl, arith}
 use Rattle.std.specs.Prelude.{slice_get, slice_index_or}
 use Rattle.std.specs.List.{list_all}
 use Rattle.std.proofs.lemmas.Bool.{cases_Bool, cond-false, or_parts}
