@@ -1,3 +1,5 @@
+pub mod DueBodies
+pub mod DueLemmas
 pub mod FrontLemmas
 pub mod OutputsBefore
 pub mod OutputsOfRun

@@ -1,5 +1,5 @@
 -- what the body does is the reaction's effect, and the wishes of the others stay
-use Rattle.std.proofs.Common.{◌≡◌, List, [], IsTrue, ap, sym, ◌∙◌, subst, get_or, refl}
+use Rattle.std.proofs.Common.{◌≡◌, ℕ, Contains, arith, List, [], IsTrue, ap, sym, ◌∙◌, subst, get_or, refl}
 use Rattle.std.specs.List.{list_all}
 use Rattle.std.specs.Prelude.{slice_set}
 use Rattle.std.proofs.lemmas.Bool.{cond-true}
@@ -10,6 +10,9 @@ use Rattle.warp_body.specs.Term.{sizes_of}
 use Rattle.warp_body.specs.declared.stmt.Wish.{Wish}
 use Rattle.warp_step.specs.Program.{rule_of}
 use Rattle.warp_step.specs.Step.{Reacting, effect_in, is_triggered, lists_of}
+use Rattle.warp_body.specs.Presence.{Presence}
+use Rattle.warp_step.specs.inner.Due.{AreDue}
+use Rattle.warp_step.proofs.DueBodies.{due_after_body}
 use Rattle.warp_step.proofs.ReactLemmas.{list_all_set}
 use Rattle.warp_step.proofs.react.run_reaction.Goals as goal
 
@@ -51,3 +54,16 @@ returns-then-triggered-clause-wishes c = λ all.
     subst (λ (wss : List (List Wish)). IsTrue (list_all (list_all fits) wss))
     (sym (map-set (λ (w : ArrayVec Wish). w.items) W n c.run_body.new.wishes))
     (list_all_set (list_all fits) (lists_of W) n c.run_body.new.wishes.items all own)
+
+pub returns-then-triggered-clause-due : goal.returns-then-triggered-clause-due
+returns-then-triggered-clause-due c = λ n rules lengths followers_are were.
+    let rule = rule_of c.args.reaction.now in
+    let W = c.args.wishes.now in
+    let room = c.index-wishes-number.result in
+    let now : Effect = record { vars = c.args.vars.now; present = c.args.present.now; wishes = (get_or W c.args.number room).items } in
+    let effect =
+    c.run_body.ensures.effect ∙ ap (λ ss. effect_of (statements_of ss) now) c.deref.ensures.value in
+    subst (λ (p : Presence). AreDue n rules p c.mark.new.due) (sym (ap (λ (e : Effect). e.present) effect))
+    (due_after_body c.requires.may.0 rule c.requires.may.1 now n rules c.args.due.now c.mark.new.due were
+    (λ m follows within. c.mark.ensures.marked m (subst (λ (ns : List ℕ). Contains ns m) (sym followers_are) follows) (omega (arith, lengths, within)))
+    c.mark.ensures.kept)

@@ -1,10 +1,11 @@
--- the reactions that are left go on from here as all do from the start, and have no wishes yet
+-- the reactions that are left go on from here as all do from the start, have no wishes yet, and are due where triggered
 use Rattle.std.proofs.Common.{◌≡◌, ℕ, ◌≤◌, [], drop, get_or, length, IsTrue}
 use Rattle.std.specs.List.{list_all}
 use Rattle.warp_body.specs.Effect.{wish_fits}
 use Rattle.warp_body.specs.Presence.{places_of}
 use Rattle.warp_step.specs.Valid.{program_sizes}
 use Rattle.warp_step.specs.Step.{after_reactions, lists_of, no_wishes, numbers, order_of}
+use Rattle.warp_step.specs.inner.Due.{AreDue}
 use Rattle.warp_step.specs.inner.Flagged.{HasNone}
 use Rattle.warp_step.proofs.react.run_reactions.Given as goal
 
@@ -19,5 +20,7 @@ invariant-loop-number l = record {
   sources : l.present.sources ≡ l.fn.present.sources;
   none : (k : ℕ) → l.number ≤ k → get_or (lists_of l.wishes) k [] ≡ [];
   wishes : IsTrue (list_all (list_all (wish_fits (program_sizes l.program))) (lists_of l.wishes));
+  flags : length l.due ≡ length l.fn.due;
+  due : AreDue l.number l.program.reactions l.present l.due;
   unwished : HasNone l.wished (lists_of l.wishes);
 }
