@@ -1,3 +1,4 @@
+pub mod DueLemmas
 pub mod FrontLemmas
 pub mod OutputsBefore
 pub mod OutputsOfRun
