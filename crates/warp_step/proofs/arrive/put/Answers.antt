@@ -9,7 +9,6 @@ use Rattle.warp_step.specs.Step.{plan_of, sources_of}
 use Rattle.warp_step.specs.Valid.{program_places}
 use Rattle.warp_step.specs.inner.Due.{AreDue}
 use Rattle.warp_step.proofs.DueLemmas.{due_after_value, triggered_by_fits}
-use Rattle.warp_step.proofs.FrontLemmas.{with_value_sources}
 use Rattle.warp_step.proofs.arrive.put.Goals as goal
 
 put_due : (P : Program) (plan : Plan) (target : Target) (v : ℤ) (before after : Presence) (called : List ℕ) (due marked : List Bool) → plan ≡ plan_of P
@@ -27,5 +26,5 @@ put_due P plan target v before after called due marked plan_is own places fits c
 
 pub returns-clause-due : goal.returns-clause-due
 returns-clause-due c =
-    put_due c.args.program.now c.args.plan.now c.args.target c.args.value c.args.present.now c.put.new.self c.triggered_by.result.now c.args.due.now c.mark.new.due
+    put_due c.args.program.now c.args.plan.now c.args.target _ c.args.present.now c.put.new.self c.triggered_by.result.now c.args.due.now c.mark.new.due
     c.requires.plan c.requires.own c.requires.places c.requires.target c.triggered_by.ensures c.requires.flags c.put.ensures.value c.mark.ensures.marked c.mark.ensures.kept
