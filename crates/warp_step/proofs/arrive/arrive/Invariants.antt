@@ -1,8 +1,9 @@
--- what is left arrives on what came so far as all does on the start
+-- what is left arrives on what came so far as all does on the start, and whom it may trigger is due
 use Rattle.std.proofs.Common.{◌≡◌, drop, length, nat_lt, IsTrue}
 use Rattle.std.specs.List.{list_all}
 use Rattle.warp_body.specs.Presence.{places_of}
 use Rattle.warp_step.specs.Step.{arrived}
+use Rattle.warp_step.specs.inner.Due.{AreDue}
 use Rattle.warp_step.proofs.arrive.arrive.Given as goal
 
 abbrev pub invariant-loop-g : goal.invariant-loop-g
@@ -11,4 +12,6 @@ invariant-loop-g l = record {
   places : places_of l.present ≡ places_of l.fn.present;
   sources : l.present.sources ≡ l.fn.present.sources;
   known : IsTrue (list_all (λ g. nat_lt g.input (length l.program.inputs)) (drop l.g-index l.given));
+  flags : length l.due ≡ length l.fn.due;
+  due : AreDue 0 l.program.reactions l.fn.present l.fn.due → AreDue 0 l.program.reactions l.present l.due;
 }

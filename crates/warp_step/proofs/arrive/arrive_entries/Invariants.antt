@@ -1,9 +1,10 @@
--- the entries so far are at the tag, and have arrived
-use Rattle.std.proofs.Common.{◌≡◌, take, drop, IsTrue}
+-- the entries so far are at the tag, and have arrived, and whom they may trigger is due
+use Rattle.std.proofs.Common.{◌≡◌, length, take, drop, IsTrue}
 use Rattle.std.specs.List.{list_all}
 use Rattle.warp_tag.specs.Moment.{is_same}
 use Rattle.warp_body.specs.Presence.{places_of, target_fits}
 use Rattle.warp_step.specs.Step.{arrived_entries}
+use Rattle.warp_step.specs.inner.Due.{AreDue}
 use Rattle.warp_step.proofs.arrive.arrive_entries.Given as goal
 
 abbrev pub invariant-loop-count : goal.invariant-loop-count
@@ -13,4 +14,6 @@ invariant-loop-count l = record {
   places : places_of l.present ≡ places_of l.fn.present;
   sources : l.present.sources ≡ l.fn.present.sources;
   targets : IsTrue (list_all (λ w. target_fits (places_of l.fn.present) w.target) (drop l.count l.entries));
+  flags : length l.due ≡ length l.fn.due;
+  due : AreDue 0 l.program.reactions l.fn.present l.fn.due → AreDue 0 l.program.reactions l.present l.due;
 }

@@ -1,9 +1,11 @@
 -- the parts make the step
-use Rattle.std.proofs.Common.{◌≡◌, length, ap, ◌∙◌, filter}
+use Rattle.std.proofs.Common.{◌≡◌, length, ap, ◌∙◌, filter, subst, sym}
 use Rattle.warp_tag.specs.Moment.{is_same}
-use Rattle.warp_body.specs.Presence.{places_of}
+use Rattle.warp_body.specs.Presence.{Presence, places_of}
 use Rattle.warp_step.specs.Snapshot.{Snapshot}
 use Rattle.warp_step.specs.Step.{Reacting, absent, lists_of, with_repeats, with_all_wishes, with_links, after_reactions, order_of, no_wishes, arrived, arrived_entries}
+use Rattle.warp_step.specs.inner.Due.{AreDue}
+use Rattle.warp_step.proofs.DueLemmas.{none_due}
 use Rattle.warp_step.proofs.StepLemmas.{cleared, repeats_vars, Made, reacts_are, state_is, made_later, made_of}
 use Rattle.warp_step.proofs.one_step.advance.Goals as goal
 
@@ -15,6 +17,13 @@ run_reactions-wished-requires-clause-vars c =
     ∙ repeats_vars c.args.program.now c.args.tag c.arrive.new.present 0 c.args.program.now.timers c.take_entries.new.self in
     let taken : c.take_entries.new.self.vars ≡ c.args.state.now.vars = ap (λ (s : Snapshot). s.vars) c.take_entries.ensures.state in
     ap (λ (vs : _). length vs) (view ∙ timers ∙ taken) ∙ c.requires.can.state.vars
+
+pub run_reactions-wished-requires-clause-due : goal.run_reactions-wished-requires-clause-due
+run_reactions-wished-requires-clause-due c =
+    let rules = c.args.program.now.reactions in
+    let none : AreDue 0 rules c.clear.new.self c.fill.new.self =
+    subst (λ (p : Presence). AreDue 0 rules p c.fill.new.self) (sym c.clear.ensures) (none_due 0 rules (places_of c.args.present.now) c.args.present.now.sources c.fill.new.self) in
+    c.arrive.ensures.due (c.take_entries.ensures.due none)
 
 -- what the reactions make
 abbrev reacting : goal.After-enter_later → Reacting

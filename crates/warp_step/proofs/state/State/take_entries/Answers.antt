@@ -10,11 +10,11 @@ use Rattle.warp_step.proofs.FrontLemmas.{order_drop, Taken, taken}
 use Rattle.warp_step.proofs.TargetsOfStep.{fit_targets}
 use Rattle.warp_step.proofs.state.State.take_entries.Goals as goal
 
-pub arrive_entries-count-requires : goal.arrive_entries-count-requires
-arrive_entries-count-requires c =
+pub arrive_entries-count-requires-clause-targets : goal.arrive_entries-count-requires-clause-targets
+arrive_entries-count-requires-clause-targets c =
     let fits = fit_targets c.args.program.now c.args.self.now.pending c.requires.state.entries in
     let same : c.as_slice.result.now ≡ c.args.self.now.pending = search rules in
-    record { targets = rw (same, c.requires.places) fits }
+    rw (same, c.requires.places) fits
 
 pub invariant_of-self : goal.invariant_of-self
 invariant_of-self c =
