@@ -1,5 +1,5 @@
 -- The first word of a text, read byte by byte.
-use Rattle.std.proofs.Common.{◌≡◌, ℕ, zero, suc, ◌+◌, ◌-◌, ◌<◌, ◌≤◌, ◌⊎◌, inl, inr, true, false, not, eqb, List, [], ◌∷◌, length, get_or, take, drop, decimal, ℤ, FitsSigned, w64, sym, ap, ◌∙◌, refl, arith, true≢false}
+use Rattle.std.proofs.Common.{◌≡◌, ℕ, zero, suc, ◌+◌, ◌-◌, ◌<◌, ◌≤◌, inl, inr, true, false, not, List, [], ◌∷◌, length, get_or, take, drop, decimal, ℤ, FitsSigned, w64, sym, ap, ◌∙◌, refl, arith, true≢false}
 use Rattle.std.specs.Char.{digit_value}
 use Rattle.std.specs.Fmt.{signed_decimal}
 use Rattle.std.specs.List.{slice_split, join_with_byte, before_first, position_or_len}
@@ -10,7 +10,7 @@ use Rattle.std.proofs.lemmas.List.{length-take, get_or-take, drop_all, drop_more
 use Rattle.std.proofs.lemmas.List.Splits.{slice_split_first, slice_split_none, length-slice_split}
 use Rattle.std.proofs.lemmas.List.Sums.{prefix_len-le-length, fails_before_first, passes_at_first}
 use Rattle.std.proofs.lemmas.Str.Parse.{digits_value-take-le}
-use Rattle.warp_record.specs.Number.{is_space, IsOneWord}
+use Rattle.warp_record.specs.Number.{is_space}
 use Rattle.warp_record.specs.inner.Behind.{words_behind}
 use Rattle.warp_record.proofs.Numerals.{all_digits_at, text_of_digits}
 use Rattle.warp_record.proofs.PlainWords.{word_if_plain, plain_signed}
