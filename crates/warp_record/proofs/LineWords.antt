@@ -1,5 +1,5 @@
 -- A text that spells a line or a reply has its words, and these are few.
-use Rattle.std.proofs.Common.{◌≡◌, ℕ, ◌+◌, ◌<◌, ◌≤◌, List, [], length, Option, Some, None, IfNone, arith}
+use Rattle.std.proofs.Common.{◌≡◌, ℕ, ◌<◌, ◌≤◌, List, length, Option, Some, None, IfNone, arith}
 use Rattle.std.specs.List.{slice_split}
 use Rattle.warp_record.specs.declared.line.Line.{Line}
 use Rattle.warp_record.specs.declared.line.Line.TheVariants as line

@@ -1,17 +1,18 @@
 -- The first word of a text, read byte by byte.
-use Rattle.std.proofs.Common.{◌≡◌, ℕ, zero, suc, ◌+◌, ◌-◌, ◌<◌, ◌≤◌, ◌⊎◌, inl, inr, true, false, not, eqb, List, [], ◌∷◌, length, get_or, take, drop, decimal, ℤ, FitsSigned, w64, sym, ap, ◌∙◌, refl, arith, true≢false}
+use Rattle.std.proofs.Common.{◌≡◌, ℕ, zero, suc, ◌+◌, ◌-◌, ◌<◌, ◌≤◌, inl, inr, true, false, not, List, [], ◌∷◌, length, get_or, take, drop, decimal, ℤ, FitsSigned, w64, sym, ap, ◌∙◌, refl, arith, true≢false}
 use Rattle.std.specs.Char.{digit_value}
 use Rattle.std.specs.Fmt.{signed_decimal}
 use Rattle.std.specs.List.{slice_split, join_with_byte, before_first, position_or_len}
 use Rattle.std.specs.Str.Parse.{AllDigits, digits_value}
-use Rattle.std.proofs.lemmas.Bool.{cases_lt}
+use Rattle.std.proofs.lemmas.Bool.{cases_lt, ne_eqb}
+use Rattle.std.proofs.lemmas.Int.Digits.{digits_value_more, digits_more}
 use Rattle.std.proofs.lemmas.List.{length-take, get_or-take, drop_all, drop_more, take_all, take_rest}
 use Rattle.std.proofs.lemmas.List.Splits.{slice_split_first, slice_split_none, length-slice_split}
 use Rattle.std.proofs.lemmas.List.Sums.{prefix_len-le-length, fails_before_first, passes_at_first}
 use Rattle.std.proofs.lemmas.Str.Parse.{digits_value-take-le}
-use Rattle.warp_record.specs.Number.{is_space, IsOneWord}
+use Rattle.warp_record.specs.Number.{is_space}
 use Rattle.warp_record.specs.inner.Behind.{words_behind}
-use Rattle.warp_record.proofs.Numerals.{all_digits_at}
+use Rattle.warp_record.proofs.Numerals.{all_digits_at, text_of_digits}
 use Rattle.warp_record.proofs.PlainWords.{word_if_plain, plain_signed}
 use Rattle.warp_record.proofs.WordCuts.{joined_words}
 
@@ -118,3 +119,21 @@ at_end (byte ∷ bytes) end = absurd (omega (arith, end))
 pub none_behind : (bytes : List ℕ) → words_behind bytes ≡ [] → length bytes ≡ 0
 none_behind [] none = refl
 none_behind (byte ∷ bytes) none = absurd (omega (arith, ap length none, length-slice_split is_space bytes))
+
+-- a digit and a space behind it: the first word is the digit
+pub one_digit_ends : (bytes : List ℕ) → 1 < length bytes → get_or bytes 1 0 ≡ 32 → digit_value (get_or bytes 0 0) < 10
+    → 1 ≡ position_or_len is_space bytes
+one_digit_ends bytes long space digit =
+    let other = ne_eqb (get_or bytes 0 0) 32 (λ is. let low : digit_value 32 < 10 = rw is at digit in absurd (omega (arith, low))) in
+    let more = front_goes_on bytes 0 (omega arith) (omega (arith, long)) other in
+    front_ends bytes 1 (omega (arith, more)) (λ below. ap is_space space)
+
+-- and the digit writes its number
+pub one_digit_value : (bytes : List ℕ) → 1 < length bytes → digit_value (get_or bytes 0 0) < 10
+    → take 1 bytes ≡ decimal (digit_value (get_or bytes 0 0))
+one_digit_value bytes long digit =
+    let all = digits_more 10 bytes 0 (omega (arith, long)) tt digit in
+    let value : digits_value 10 (take 1 bytes) ≡ digit_value (get_or bytes 0 0) = omega (arith, digits_value_more 10 bytes 0 (omega (arith, long))) in
+    let one : length (take 1 bytes) ≡ 1 = omega (arith, long, length-take 1 bytes) in
+    let text = text_of_digits (take 1 bytes) all (omega (arith, one)) (λ first. one) (omega (arith, value, digit)) in
+    rw value at text

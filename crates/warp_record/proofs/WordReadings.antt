@@ -1,7 +1,6 @@
 -- What words say: functions that give back the line or the reply whose words they get, so no two have the same words.
-use Rattle.std.proofs.Common.{◌≡◌, ℕ, ◌+◌, ◌-◌, ◌<◌, ◌≤◌, ◌^◌, zero, suc, ℤ, pos, negsuc, Bool, true, false, eqb, ltb, if◌then◌else◌, List, [], ◌∷◌, length, get_or, drop, codes, decimal, FitsSigned, w64, sym, ap, ◌∙◌, refl, arith}
+use Rattle.std.proofs.Common.{◌≡◌, ℕ, ◌+◌, ◌-◌, ◌<◌, ◌^◌, suc, ℤ, pos, negsuc, Bool, true, false, eqb, if◌then◌else◌, List, [], length, get_or, drop, codes, decimal, FitsSigned, w64, sym, ap, ◌∙◌, refl, arith}
 use Rattle.std.specs.Fmt.{signed_decimal}
-use Rattle.std.specs.List.{slice_split}
 use Rattle.std.specs.Str.{bytes_eq}
 use Rattle.std.specs.Str.Parse.{digits_value}
 use Rattle.std.proofs.lemmas.Bool.{ne_eqb}
@@ -20,9 +19,8 @@ use Rattle.warp_record.specs.declared.reply.Refusal.TheVariants.{Syntax, NoOrigi
 use Rattle.warp_record.specs.declared.reply.Reply.{Reply}
 use Rattle.warp_record.specs.declared.reply.Reply.TheVariants.{Taken, Known, Refused, Var, Outputs, Output, Nothing, Horizon, Released, Lost, Breach, Log, Collected, Board, Row, NoRow}
 use Rattle.warp_record.specs.Line.{IsLine, line_words, spelling}
-use Rattle.warp_record.specs.Number.{is_space}
 use Rattle.warp_record.specs.Record.{IsRecord, record_words}
-use Rattle.warp_record.specs.Reply.{IsReply, IsOut, refusal_number, flag_word, reply_words, reply_spelling}
+use Rattle.warp_record.specs.Reply.{IsReply, refusal_number, reply_words, reply_spelling}
 use Rattle.warp_record.proofs.LineWords.{words_of_line, words_of_reply}
 use Rattle.warp_record.proofs.PlainWords.{refusal_number-le}
 

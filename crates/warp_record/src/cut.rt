@@ -1,7 +1,7 @@
 //! Cutting words off the front of a text, in one pass over its bytes.
 //!
 //! What is left of a text begins with the space behind the last word that was cut off, or is empty at the end.
-ghost use Rattle.std.specs.Prelude.{◌≡◌, ℕ, ℤ, ◌<◌, ◌≤◌, ◌^◌, [], ◌∷◌, List, IfSome, IfNone, SomeIff, IsTrue, ◌↔◌, FitsSigned, decimal};
+ghost use Rattle.std.specs.Prelude.{◌≡◌, ℕ, ℤ, ◌<◌, ◌≤◌, ◌^◌, [], ◌∷◌, List, IfSome, IfNone, SomeIff, IsTrue, ◌↔◌, FitsSigned, decimal, length, slice_index};
 ghost use Rattle.std.specs.Char.{digit_value};
 ghost use Rattle.std.specs.Fmt.{signed_decimal};
 ghost use Rattle.std.specs.Int.{w64};
@@ -44,6 +44,21 @@ fn front_digits(bytes: &[u8], max: u64) -> Option<(u64, usize)>
     Some((number, place))
 }
 
+/// The number up to `max` that the first byte spells, behind which a space stands, and that it is one byte.
+#[inline(always)]
+fn one_digit(bytes: &[u8], max: u64) -> Option<(u64, usize)>
+    requires { (1 < length bytes.now) × (slice_index bytes.now 1 ≡ 32) × (max < 2 ^ 60) }
+    ensures found { IfSome result (λ front. (front.0 ≤ max) × (front.1 ≡ position_or_len is_space bytes.now)
+        × (before_first is_space bytes.now ≡ decimal front.0)) }
+    ensures none { IfNone result ((number : ℕ) → number ≤ max → before_first is_space bytes.now ≡ decimal number → ⊥) }
+{
+    let number = digit(bytes[0])?;
+    if number > max {
+        return None;
+    }
+    Some((number, 1))
+}
+
 /// The number up to `max` that the bytes up to the first space, or the end, spell, and how many these are.
 #[inline(always)]
 fn front_number(bytes: &[u8], max: u64) -> Option<(u64, usize)>
@@ -52,6 +67,9 @@ fn front_number(bytes: &[u8], max: u64) -> Option<(u64, usize)>
         × (before_first is_space bytes.now ≡ decimal front.0)) }
     ensures none { IfNone result ((number : ℕ) → number ≤ max → before_first is_space bytes.now ≡ decimal number → ⊥) }
 {
+    if bytes.len() > 1 && bytes[1] == b' ' {
+        return one_digit(bytes, max);
+    }
     let (number, count) = front_digits(bytes, max)?;
     if count == 0 {
         return None;

@@ -1,5 +1,4 @@
-use Rattle.std.proofs.Common.{rules, arith, FitsSigned, w64, ◌-◌, length, take, drop, sym, ◌∙◌}
-use Rattle.std.proofs.lemmas.Grind.{common_steps}
+use Rattle.std.proofs.Common.{rules, FitsSigned, w64, ◌-◌, length, take, drop, sym, ◌∙◌}
 use Rattle.warp_record.proofs.WordFronts.{behind_first, one_signed, text_of_one}
 use Rattle.warp_record.proofs.cut.cut_last_int.Goals as goal
 

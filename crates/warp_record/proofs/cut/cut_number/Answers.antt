@@ -1,4 +1,4 @@
-use Rattle.std.proofs.Common.{◌≡◌, ◌-◌, length, take, drop, ap, sym, ◌∙◌, arith}
+use Rattle.std.proofs.Common.{◌-◌, length, take, drop, sym, ◌∙◌}
 use Rattle.warp_record.proofs.WordFronts.{behind_first, front_word, cut_front}
 use Rattle.warp_record.proofs.cut.cut_number.Goals as goal
 

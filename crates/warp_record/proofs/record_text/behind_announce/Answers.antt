@@ -1,4 +1,4 @@
-use Rattle.std.proofs.Common.{◌≡◌, ℕ, List, length, get_or, codes, ap, arith}
+use Rattle.std.proofs.Common.{ℕ, List, length, get_or, codes, ap, arith}
 use Rattle.warp_record.proofs.RecordTexts.{text_of_first}
 use Rattle.warp_record.proofs.record_text.behind_announce.Goals as goal
 use Rattle.warp_record.proofs.record_text.behind_announce.Goals.{else-bytes-gt8-via-then-bytes-gt8+then-bytes-eq97+then-bytes-eq110+then-bytes-eq110-2+then-bytes-eq111+then-bytes-eq117+then-bytes-eq110-3+then-bytes-eq99+then-bytes-eq101+else-bytes-eq32, else-bytes-gt8-via-then-bytes-gt8+then-bytes-eq97+then-bytes-eq110+then-bytes-eq110-2+then-bytes-eq111+then-bytes-eq117+then-bytes-eq110-3+then-bytes-eq99+else-bytes-eq101, else-bytes-gt8-via-then-bytes-gt8+then-bytes-eq97+then-bytes-eq110+then-bytes-eq110-2+then-bytes-eq111+then-bytes-eq117+then-bytes-eq110-3+else-bytes-eq99, else-bytes-gt8-via-then-bytes-gt8+then-bytes-eq97+then-bytes-eq110+then-bytes-eq110-2+then-bytes-eq111+then-bytes-eq117+else-bytes-eq110-3, else-bytes-gt8-via-then-bytes-gt8+then-bytes-eq97+then-bytes-eq110+then-bytes-eq110-2+then-bytes-eq111+else-bytes-eq117, else-bytes-gt8-via-then-bytes-gt8+then-bytes-eq97+then-bytes-eq110+then-bytes-eq110-2+else-bytes-eq111, else-bytes-gt8-via-then-bytes-gt8+then-bytes-eq97+then-bytes-eq110+else-bytes-eq110-2, else-bytes-gt8-via-then-bytes-gt8+then-bytes-eq97+else-bytes-eq110, else-bytes-gt8-via-then-bytes-gt8+else-bytes-eq97, else-bytes-gt8-via-else-bytes-gt8}

@@ -1,4 +1,4 @@
-use Rattle.std.proofs.Common.{◌≡◌, ℕ, List, length, get_or, codes, ap, arith}
+use Rattle.std.proofs.Common.{ℕ, List, length, get_or, codes, ap, arith}
 use Rattle.warp_record.proofs.RecordTexts.{text_of_first}
 use Rattle.warp_record.proofs.record_text.behind_event.Goals as goal
 use Rattle.warp_record.proofs.record_text.behind_event.Goals.{else-bytes-gt5-via-then-bytes-gt5+then-bytes-eq101+then-bytes-eq118+then-bytes-eq101-2+then-bytes-eq110+then-bytes-eq116+else-bytes-eq32, else-bytes-gt5-via-then-bytes-gt5+then-bytes-eq101+then-bytes-eq118+then-bytes-eq101-2+then-bytes-eq110+else-bytes-eq116, else-bytes-gt5-via-then-bytes-gt5+then-bytes-eq101+then-bytes-eq118+then-bytes-eq101-2+else-bytes-eq110, else-bytes-gt5-via-then-bytes-gt5+then-bytes-eq101+then-bytes-eq118+else-bytes-eq101-2, else-bytes-gt5-via-then-bytes-gt5+then-bytes-eq101+else-bytes-eq118, else-bytes-gt5-via-then-bytes-gt5+else-bytes-eq101, else-bytes-gt5-via-else-bytes-gt5}

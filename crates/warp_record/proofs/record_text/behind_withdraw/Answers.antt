@@ -1,4 +1,4 @@
-use Rattle.std.proofs.Common.{◌≡◌, ℕ, List, length, get_or, codes, ap, arith}
+use Rattle.std.proofs.Common.{ℕ, List, length, get_or, codes, ap, arith}
 use Rattle.warp_record.proofs.RecordTexts.{text_of_first}
 use Rattle.warp_record.proofs.record_text.behind_withdraw.Goals as goal
 use Rattle.warp_record.proofs.record_text.behind_withdraw.Goals.{else-bytes-gt8-via-then-bytes-gt8+then-bytes-eq119+then-bytes-eq105+then-bytes-eq116+then-bytes-eq104+then-bytes-eq100+then-bytes-eq114+then-bytes-eq97+then-bytes-eq119-2+else-bytes-eq32, else-bytes-gt8-via-then-bytes-gt8+then-bytes-eq119+then-bytes-eq105+then-bytes-eq116+then-bytes-eq104+then-bytes-eq100+then-bytes-eq114+then-bytes-eq97+else-bytes-eq119-2, else-bytes-gt8-via-then-bytes-gt8+then-bytes-eq119+then-bytes-eq105+then-bytes-eq116+then-bytes-eq104+then-bytes-eq100+then-bytes-eq114+else-bytes-eq97, else-bytes-gt8-via-then-bytes-gt8+then-bytes-eq119+then-bytes-eq105+then-bytes-eq116+then-bytes-eq104+then-bytes-eq100+else-bytes-eq114, else-bytes-gt8-via-then-bytes-gt8+then-bytes-eq119+then-bytes-eq105+then-bytes-eq116+then-bytes-eq104+else-bytes-eq100, else-bytes-gt8-via-then-bytes-gt8+then-bytes-eq119+then-bytes-eq105+then-bytes-eq116+else-bytes-eq104, else-bytes-gt8-via-then-bytes-gt8+then-bytes-eq119+then-bytes-eq105+else-bytes-eq116, else-bytes-gt8-via-then-bytes-gt8+then-bytes-eq119+else-bytes-eq105, else-bytes-gt8-via-then-bytes-gt8+else-bytes-eq119, else-bytes-gt8-via-else-bytes-gt8}

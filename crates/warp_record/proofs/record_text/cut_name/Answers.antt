@@ -1,4 +1,4 @@
-use Rattle.std.proofs.Common.{◌≡◌, ◌∷◌, decimal, sym, ◌∙◌, arith}
+use Rattle.std.proofs.Common.{◌∷◌, decimal, sym, ◌∙◌}
 use Rattle.warp_record.proofs.record_text.cut_name.Goals as goal
 
 pub returns-in_err-time-clause-none : goal.returns-in_err-time-clause-none

@@ -1,4 +1,4 @@
-use Rattle.std.proofs.Common.{◌≡◌, [], ◌∷◌, decimal, sym, ◌∙◌, arith}
+use Rattle.std.proofs.Common.{[], ◌∷◌, decimal, sym, ◌∙◌, arith}
 use Rattle.warp_record.specs.inner.Behind.{words_behind}
 use Rattle.warp_record.proofs.RecordTexts.{announcement_words}
 use Rattle.warp_record.proofs.record_text.read_announcement.Goals as goal
