@@ -13,12 +13,12 @@ ghost use Rattle.warp_table.specs.Check.{refusal_of};
 ghost use Rattle.warp_table.specs.Names.{Tells, origin_of};
 ghost use Rattle.warp_table.specs.Records.{set_of};
 ghost use Rattle.warp_table.specs.Table.{names_of};
-ghost use Rattle.warp_table.specs.inner.Heard.{AreHeard, IsHeard, heard_at, with_heard_event};
-ghost use Rattle.warp_table.specs.inner.Kept.{KeepsNames, kept_of};
+ghost use Rattle.warp_table.specs.inner.Heard.{AreHeard, IsHeard, heard_at, with_heard_event, with_tag};
+ghost use Rattle.warp_table.specs.inner.Kept.{KeepsNames, kept_of, put};
 ghost use Rattle.warp_table.specs.inner.News.{IsNews, IsNewsOf};
-ghost use Rattle.indexmap.specs.IndexMap.{spare};
 
 use crate::announcer::Announcer;
+use indexmap::map::Entry as Place;
 use indexmap::{IndexMap, IndexSet};
 use std::alloc::Global;
 use std::marker::Model;
@@ -28,6 +28,15 @@ use warp_tag::{Entry, OutOfMemory, Tag};
 
 /// The most records that a table holds.
 pub const MAX_RECORDS: u32 = 100_000;
+
+/// Where a record stands that was added: its place, 1 to `MAX_RECORDS`, and whether it came in there or was there before.
+#[derive(Clone, Copy)]
+pub struct Added {
+    /// The place.
+    pub place: u32,
+    /// Whether it is new.
+    pub is_new: bool,
+}
 
 /// A name: an origin and a tag.
 #[derive(Clone, Copy, PartialEq, Eq, Hash)]
@@ -118,23 +127,29 @@ impl Table {
         Some(index as u32 + 1)
     }
 
-    /// Adds a record that is not there yet, notes what it says of its name and to its origin, and gives its place. An `Err`
-    /// changes nothing.
-    pub fn add(&mut self, record: &Record) -> Result<u32, OutOfMemory>
-        requires new { ¬ Contains self.old «record».now }
+    /// Adds a record where it is not there yet, notes what it says of its name and to its origin, and tells its place and
+    /// whether it is new. A record that was there stays in its place. An `Err` changes nothing.
+    pub fn add(&mut self, record: &Record) -> Result<Added, OutOfMemory>
         requires room { length self.old < most_records }
         requires origin { origin_of «record».now < most_origins }
-        ensures records { OnOk result (self.new ≡ self.old ++ «record».now ∷ []) }
-        ensures place { IfOk result (λ place. place ≡ length self.old + 1) }
+        ensures new { IfOk result (λ added. IsTrue added.is_new →
+            (¬ Contains self.old «record».now) × (added.place ≡ length self.old + 1) × (self.new ≡ self.old ++ «record».now ∷ [])) }
+        ensures known { IfOk result (λ added. added.is_new ≡ false → IsAt self.old added.place «record».now × (self.new ≡ self.old)) }
         ensures err { OnErr result (self.new ≡ self.old) }
     {
-        self.records.reserve(1)?;
-        self.names.reserve(1)?;
-        hear(&mut self.announcers, &self.names, record)?;
-        // The origin has noted it, and there is room for both, so that neither fails with the rest done.
-        self.records.insert(*record)?;
-        note(&mut self.names, record)?;
-        Ok(self.records.len() as u32)
+        let (index, is_new) = self.records.insert_full(*record)?;
+        let place = index as u32 + 1;
+        if !is_new {
+            return Ok(Added { place, is_new });
+        }
+        match note(&mut self.names, &mut self.announcers, record) {
+            Ok(()) => Ok(Added { place, is_new }),
+            Err(refused) => {
+                // What its name and its origin lack room for does not come in.
+                self.records.pop();
+                Err(refused)
+            }
+        }
     }
 
     /// The record at this place, from 1; `None` where there is no such place.
@@ -213,59 +228,58 @@ fn with_withdrawal(known: Entry) -> Entry
     entry
 }
 
-/// What is known of the name.
-fn known_of(names: &IndexMap<Name, Entry>, name: &Name) -> Entry
-    ensures { result ≡ kept_of name.now names.now.entries }
-{
-    match names.get(name) {
-        Some(known) => *known,
-        None => Entry::fresh(name.origin, name.tag),
-    }
-}
-
-/// Notes an event of the name. Where there is room for a name it succeeds.
+/// Notes an event of the name, and tells it to its origin: that the name has two payloads where it has an event already,
+/// and else a new name. An `Err` changes nothing.
 fn note_event(
     names: &mut IndexMap<Name, Entry>,
+    announcer: &mut Announcer,
     name: Name,
     input: u32,
     value: i64,
 ) -> Result<(), OutOfMemory>
-    ensures ok { (records : List Record) → KeepsNames records names.old.entries
-        → OnOk result (KeepsNames (records ++ Record.Event name.origin name.tag input value ∷ []) names.new.entries) }
-    ensures succeeds { 0 < spare names.old → IsOk result }
+    requires { is_some (kept_of name names.old.entries).event ≡ false → ¬ Contains announcer.old.events name.tag }
+    ensures names { OnOk result (names.new.entries ≡ put names.old.entries name (with_event input value (kept_of name names.old.entries))) }
+    ensures heard { OnOk result (announcer.new ≡ with_heard_event (is_some (kept_of name names.old.entries).event) name.tag announcer.old) }
+    ensures err { OnErr result ((names.new.entries ≡ names.old.entries) × (announcer.new ≡ announcer.old)) }
 {
-    let known = with_event(known_of(names, &name), input, value);
-    names.insert(name, known)?;
-    Ok(())
-}
-
-/// Notes a withdrawal of the name. Where there is room for a name it succeeds.
-fn note_withdrawal(names: &mut IndexMap<Name, Entry>, name: Name) -> Result<(), OutOfMemory>
-    ensures ok { (records : List Record) → KeepsNames records names.old.entries
-        → OnOk result (KeepsNames (records ++ Record.Withdraw name.origin name.tag ∷ []) names.new.entries) }
-    ensures succeeds { 0 < spare names.old → IsOk result }
-{
-    let known = with_withdrawal(known_of(names, &name));
-    names.insert(name, known)?;
-    Ok(())
-}
-
-/// Notes what a record says of its name; an announcement speaks of none. Where there is room for a name it succeeds.
-fn note(names: &mut IndexMap<Name, Entry>, record: &Record) -> Result<(), OutOfMemory>
-    ensures ok { (records : List Record) → KeepsNames records names.old.entries
-        → OnOk result (KeepsNames (records ++ «record».now ∷ []) names.new.entries) }
-    ensures succeeds { 0 < spare names.old → IsOk result }
-{
-    match *record {
-        Record::Event {
-            origin,
-            tag,
-            input,
-            value,
-        } => note_event(names, Name { origin, tag }, input, value),
-        Record::Withdraw { origin, tag } => note_withdrawal(names, Name { origin, tag }),
-        Record::Announce { .. } => Ok(()),
+    let Name { origin, tag } = name;
+    match names.entry(name)? {
+        Place::Occupied(place) => {
+            let has_event = place.get().event.is_some();
+            hear_event(announcer, tag, has_event)?;
+            place.into_mut().note_event(input, value);
+        }
+        Place::Vacant(place) => {
+            announcer.note_event(tag)?;
+            place.insert(with_event(Entry::fresh(origin, tag), input, value));
+        }
     }
+    Ok(())
+}
+
+/// Notes a withdrawal of the name, and tells it to its origin. An `Err` changes nothing.
+fn note_withdrawal(
+    names: &mut IndexMap<Name, Entry>,
+    announcer: &mut Announcer,
+    name: Name,
+) -> Result<(), OutOfMemory>
+    requires { ¬ Contains announcer.old.withdrawn name.tag }
+    ensures names { OnOk result (names.new.entries ≡ put names.old.entries name (with_withdrawal (kept_of name names.old.entries))) }
+    ensures heard { OnOk result (announcer.new ≡ record announcer.old { withdrawn = with_tag name.tag announcer.old.withdrawn }) }
+    ensures err { OnErr result ((names.new.entries ≡ names.old.entries) × (announcer.new ≡ announcer.old)) }
+{
+    let Name { origin, tag } = name;
+    match names.entry(name)? {
+        Place::Occupied(place) => {
+            announcer.note_withdrawal(tag)?;
+            place.into_mut().withdraw();
+        }
+        Place::Vacant(place) => {
+            announcer.note_withdrawal(tag)?;
+            place.insert(with_withdrawal(Entry::fresh(origin, tag)));
+        }
+    }
+    Ok(())
 }
 
 /// Whose record it is.
@@ -294,13 +308,6 @@ fn keep_up_to(announcers: &mut Vec<Announcer>, origin: u32) -> Result<(), OutOfM
     Ok(())
 }
 
-/// Whether the name has an event.
-fn has_event(names: &IndexMap<Name, Entry>, name: &Name) -> bool
-    ensures { result ≡ is_some (kept_of name.now names.now.entries).event }
-{
-    known_of(names, name).event.is_some()
-}
-
 /// Notes a new event to its origin: that its name has two payloads where it has an event already, and else a new name. An
 /// `Err` changes nothing.
 fn hear_event(announcer: &mut Announcer, tag: Tag, has_event: bool) -> Result<(), OutOfMemory>
@@ -315,23 +322,28 @@ fn hear_event(announcer: &mut Announcer, tag: Tag, has_event: bool) -> Result<()
     announcer.note_event(tag)
 }
 
-/// Notes a new record to its origin. An `Err` changes nothing.
-fn hear_own(
+/// Notes what a new record says of its name, and tells it to its origin; an announcement speaks of no name. An `Err` changes
+/// nothing.
+fn note_own(
+    names: &mut IndexMap<Name, Entry>,
     announcer: &mut Announcer,
-    names: &IndexMap<Name, Entry>,
     record: &Record,
 ) -> Result<(), OutOfMemory>
-    requires { (records : List Record) × IsNewsOf records names.now.entries announcer.old «record».now }
-    ensures ok { (records : List Record) → IsNewsOf records names.now.entries announcer.old «record».now
+    requires { (records : List Record) × IsNewsOf records names.old.entries announcer.old «record».now }
+    ensures names { (records : List Record) → KeepsNames records names.old.entries
+        → OnOk result (KeepsNames (records ++ «record».now ∷ []) names.new.entries) }
+    ensures heard { (records : List Record) → IsNewsOf records names.old.entries announcer.old «record».now
         → OnOk result (IsHeard (set_of (records ++ «record».now ∷ [])) (origin_of «record».now) announcer.new) }
-    ensures err { OnErr result (announcer.new ≡ announcer.old) }
+    ensures err { OnErr result ((names.new.entries ≡ names.old.entries) × (announcer.new ≡ announcer.old)) }
 {
     match *record {
-        Record::Event { origin, tag, .. } => {
-            let has_event = has_event(names, &Name { origin, tag });
-            hear_event(announcer, tag, has_event)
-        }
-        Record::Withdraw { tag, .. } => announcer.note_withdrawal(tag),
+        Record::Event {
+            origin,
+            tag,
+            input,
+            value,
+        } => note_event(names, announcer, Name { origin, tag }, input, value),
+        Record::Withdraw { origin, tag } => note_withdrawal(names, announcer, Name { origin, tag }),
         Record::Announce {
             tag,
             events,
@@ -341,23 +353,26 @@ fn hear_own(
     }
 }
 
-/// Notes a new record to its origin. What is heard stays on an `Err`.
-fn hear(
+/// Notes what a new record says of its name, and tells it to its origin. What is kept and heard stays on an `Err`.
+fn note(
+    names: &mut IndexMap<Name, Entry>,
     announcers: &mut Vec<Announcer>,
-    names: &IndexMap<Name, Entry>,
     record: &Record,
 ) -> Result<(), OutOfMemory>
     requires origin { origin_of «record».now < most_origins }
-    requires news { (records : List Record) × IsNews records names.now.entries announcers.old.items «record».now }
-    ensures ok { (records : List Record) → IsNews records names.now.entries announcers.old.items «record».now
+    requires news { (records : List Record) × IsNews records names.old.entries announcers.old.items «record».now }
+    ensures names { (records : List Record) → KeepsNames records names.old.entries
+        → OnOk result (KeepsNames (records ++ «record».now ∷ []) names.new.entries) }
+    ensures heard { (records : List Record) → IsNews records names.old.entries announcers.old.items «record».now
         → OnOk result (AreHeard (records ++ «record».now ∷ []) announcers.new.items) }
-    ensures err { (records : List Record) → AreHeard records announcers.old.items
+    ensures kept { OnErr result (names.new.entries ≡ names.old.entries) }
+    ensures still_heard { (records : List Record) → AreHeard records announcers.old.items
         → OnErr result (AreHeard records announcers.new.items) }
 {
     let origin = origin_of(record);
     keep_up_to(announcers, origin)?;
     let announcer = &mut announcers[origin as usize];
-    hear_own(announcer, names, record)
+    note_own(names, announcer, record)
 }
 
 /// Why the program takes no event of this origin, at this tag, for this input.

@@ -2,6 +2,7 @@
 use Rattle.std.specs.Prelude.{◌≡◌, ℕ, Bool, ◌==◌, ◌&&◌, List, map}
 use Rattle.std.specs.Map.{lookup}
 use Rattle.std.specs.Option.{unwrap_or}
+use Rattle.indexmap.specs.IndexMap.{insert_entry}
 use Rattle.warp_tag.specs.Moment.{Moment, is_same}
 use Rattle.warp_tag.specs.Table.{fresh}
 use Rattle.warp_tag.specs.declared.entry.Entry.{Entry}
@@ -18,6 +19,10 @@ is_named origin tag name = origin == name.origin && is_same tag name.tag
 -- what is kept of the name among these
 abbrev pub kept_of : Name → List (Name × Entry) → Entry
 kept_of name names = unwrap_or (lookup (is_named name.origin name.tag) names) (fresh name.origin name.tag)
+
+-- the names with this kept of one, which comes last where it is new
+abbrev pub put : List (Name × Entry) → Name → Entry → List (Name × Entry)
+put names name known = insert_entry (λ one other. is_named one.origin one.tag other) names name known
 
 -- these are kept of the names of a list of records, in the order in which the names came first: what the list's set tells
 -- of each
