@@ -2,9 +2,8 @@
 //!
 //! Known records and names are found by hash. What an origin announced is kept by its `Announcer`, so that in order of tags no
 //! record costs a pass over all announcements or names. A horizon costs a look at each origin of the program.
-ghost use Rattle.std.specs.Prelude.{◌≡◌, ◌↔◌, ℕ, ℤ, ◌+◌, ◌<◌, ◌≤◌, List, [], ◌∷◌, ◌++◌, None, Some, true, false, is_some, length, slice_get, vec_len, Contains, IsTrue, IfSome, IfNone, IfOk, IsOk, OnOk, OnErr, MatchResult};
+ghost use Rattle.std.specs.Prelude.{◌≡◌, ◌↔◌, ℕ, ℤ, ◌+◌, ◌<◌, ◌≤◌, List, [], ◌∷◌, ◌++◌, None, Some, true, false, length, slice_get, vec_len, Contains, IsTrue, IfSome, IfNone, IfOk, IsOk, OnOk, OnErr, MatchResult};
 ghost use Rattle.warp_tag.specs.Limits.{most_origins, most_records};
-ghost use Rattle.warp_tag.specs.Table.{with_event, with_withdrawal};
 ghost use Rattle.warp_step.specs.Events.{is_declared};
 ghost use Rattle.warp_record.specs.declared.record.Record.{Record};
 ghost use Rattle.warp_record.specs.declared.reply.Refusal.{Refusal};
@@ -14,7 +13,7 @@ ghost use Rattle.warp_table.specs.Names.{Tells, origin_of};
 ghost use Rattle.warp_table.specs.Records.{set_of};
 ghost use Rattle.warp_table.specs.Table.{names_of};
 ghost use Rattle.warp_table.specs.inner.Heard.{AreHeard, IsHeard, heard_at, with_heard_event, with_tag};
-ghost use Rattle.warp_table.specs.inner.Kept.{KeepsNames, kept_of, put};
+ghost use Rattle.warp_table.specs.inner.Kept.{KeepsNames, entries_of, entry_of, known_of, put_known, with_known_event, with_known_withdrawal};
 ghost use Rattle.warp_table.specs.inner.News.{IsNews, IsNewsOf};
 
 use crate::announcer::Announcer;
@@ -45,13 +44,76 @@ struct Name {
     tag: Tag,
 }
 
+/// What is kept of a name beside the name itself: whether an event of it came, the greatest payload of these, and whether it is
+/// withdrawn. Without an event its payload means nothing.
+#[derive(Clone, Copy)]
+struct Known {
+    value: i64,
+    input: u32,
+    has_event: bool,
+    withdrawn: bool,
+}
+
+impl Known {
+    ghost use Rattle.warp_table.specs.inner.Kept.{nothing_known, with_known_event, with_known_withdrawal};
+
+    /// Of a name of which nothing came.
+    fn nothing() -> Known
+        ensures { result ≡ nothing_known }
+    {
+        Known {
+            value: 0,
+            input: 0,
+            has_event: false,
+            withdrawn: false,
+        }
+    }
+
+    /// Notes an event. Of several payloads the greatest counts, by input, then by value.
+    fn note_event(&mut self, input: u32, value: i64)
+        ensures { self.new ≡ with_known_event input value self.old }
+    {
+        let is_lesser = self.input < input || (self.input == input && self.value < value);
+        if !self.has_event || is_lesser {
+            self.value = value;
+            self.input = input;
+            self.has_event = true;
+        }
+    }
+
+    /// Notes a withdrawal, which holds for good.
+    fn withdraw(&mut self)
+        ensures { self.new ≡ with_known_withdrawal self.old }
+    {
+        self.withdrawn = true;
+    }
+
+    /// With an event, where nothing came before.
+    fn of_event(input: u32, value: i64) -> Known
+        ensures { result ≡ with_known_event input value nothing_known }
+    {
+        let mut known = Known::nothing();
+        known.note_event(input, value);
+        known
+    }
+
+    /// With a withdrawal, where nothing came before.
+    fn of_withdrawal() -> Known
+        ensures { result ≡ with_known_withdrawal nothing_known }
+    {
+        let mut known = Known::nothing();
+        known.withdraw();
+        known
+    }
+}
+
 /// Records in the order of taking, each once, at most `MAX_RECORDS`. It is seen as their list. Beside them it keeps what is
 /// known of each name, and for each origin up to the greatest of a record an `Announcer`: which of its names came, what it
 /// announced, and how far that is reached.
 #[derive(Drop)]
 pub struct Table {
     records: IndexSet<Record>,
-    names: IndexMap<Name, Entry>,
+    names: IndexMap<Name, Known>,
     announcers: Vec<Announcer>,
 }
 
@@ -60,13 +122,13 @@ impl Model for Table {
     ghost use Rattle.warp_record.specs.declared.record.Record.{Record};
     ghost use Rattle.warp_tag.specs.Limits.{most_records};
     ghost use Rattle.warp_table.specs.inner.Heard.{AreHeard};
-    ghost use Rattle.warp_table.specs.inner.Kept.{KeepsNames};
+    ghost use Rattle.warp_table.specs.inner.Kept.{KeepsNames, entries_of};
 
     ghost Value = { List Record };
 
     ghost view = { λ t. t.records.keys };
 
-    ghost invariant = { λ t. (length t.records.keys ≤ most_records) × KeepsNames t.records.keys t.names.entries
+    ghost invariant = { λ t. (length t.records.keys ≤ most_records) × KeepsNames t.records.keys (entries_of t.names.entries)
         × AreHeard t.records.keys t.announcers.items };
 }
 
@@ -167,8 +229,8 @@ impl Table {
         ensures told { IfSome result (λ e. Tells (set_of self.now) e.origin e.tag (Some e)) }
         ensures none { IfNone result (length (names_of self.now) ≤ number) }
     {
-        let (_, known) = self.names.get_index(number as usize)?;
-        Some(*known)
+        let (name, known) = self.names.get_index(number as usize)?;
+        Some(entry_of(name, known))
     }
 
     /// Up to which tag the announcements of all origins of the program are reached: the least, over its origins, of the greatest
@@ -210,48 +272,47 @@ impl Table {
     }
 }
 
-/// What is known after an event.
-fn with_event(known: Entry, input: u32, value: i64) -> Entry
-    ensures { result ≡ with_event input value known }
+/// What is known of the name.
+fn entry_of(name: &Name, known: &Known) -> Entry
+    ensures { result ≡ entry_of name.now known.now }
 {
-    let mut entry = known;
-    entry.note_event(input, value);
-    entry
-}
-
-/// What is known after a withdrawal.
-fn with_withdrawal(known: Entry) -> Entry
-    ensures { result ≡ with_withdrawal known }
-{
-    let mut entry = known;
-    entry.withdraw();
-    entry
+    let event = if known.has_event {
+        Some((known.input, known.value))
+    } else {
+        None
+    };
+    Entry {
+        origin: name.origin,
+        tag: name.tag,
+        event,
+        withdrawn: known.withdrawn,
+    }
 }
 
 /// Notes an event of the name, and tells it to its origin: that the name has two payloads where it has an event already,
 /// and else a new name. An `Err` changes nothing.
 fn note_event(
-    names: &mut IndexMap<Name, Entry>,
+    names: &mut IndexMap<Name, Known>,
     announcer: &mut Announcer,
     name: Name,
     input: u32,
     value: i64,
 ) -> Result<(), OutOfMemory>
-    requires { is_some (kept_of name names.old.entries).event ≡ false → ¬ Contains announcer.old.events name.tag }
-    ensures names { OnOk result (names.new.entries ≡ put names.old.entries name (with_event input value (kept_of name names.old.entries))) }
-    ensures heard { OnOk result (announcer.new ≡ with_heard_event (is_some (kept_of name names.old.entries).event) name.tag announcer.old) }
+    requires { (known_of name names.old.entries).has_event ≡ false → ¬ Contains announcer.old.events name.tag }
+    ensures names { OnOk result (names.new.entries ≡ put_known names.old.entries name (with_known_event input value (known_of name names.old.entries))) }
+    ensures heard { OnOk result (announcer.new ≡ with_heard_event (known_of name names.old.entries).has_event name.tag announcer.old) }
     ensures err { OnErr result ((names.new.entries ≡ names.old.entries) × (announcer.new ≡ announcer.old)) }
 {
-    let Name { origin, tag } = name;
+    let tag = name.tag;
     match names.entry(name)? {
         Place::Occupied(place) => {
-            let has_event = place.get().event.is_some();
+            let has_event = place.get().has_event;
             hear_event(announcer, tag, has_event)?;
             place.into_mut().note_event(input, value);
         }
         Place::Vacant(place) => {
             announcer.note_event(tag)?;
-            place.insert(with_event(Entry::fresh(origin, tag), input, value));
+            place.insert(Known::of_event(input, value));
         }
     }
     Ok(())
@@ -259,16 +320,16 @@ fn note_event(
 
 /// Notes a withdrawal of the name, and tells it to its origin. An `Err` changes nothing.
 fn note_withdrawal(
-    names: &mut IndexMap<Name, Entry>,
+    names: &mut IndexMap<Name, Known>,
     announcer: &mut Announcer,
     name: Name,
 ) -> Result<(), OutOfMemory>
     requires { ¬ Contains announcer.old.withdrawn name.tag }
-    ensures names { OnOk result (names.new.entries ≡ put names.old.entries name (with_withdrawal (kept_of name names.old.entries))) }
+    ensures names { OnOk result (names.new.entries ≡ put_known names.old.entries name (with_known_withdrawal (known_of name names.old.entries))) }
     ensures heard { OnOk result (announcer.new ≡ record announcer.old { withdrawn = with_tag name.tag announcer.old.withdrawn }) }
     ensures err { OnErr result ((names.new.entries ≡ names.old.entries) × (announcer.new ≡ announcer.old)) }
 {
-    let Name { origin, tag } = name;
+    let tag = name.tag;
     match names.entry(name)? {
         Place::Occupied(place) => {
             announcer.note_withdrawal(tag)?;
@@ -276,7 +337,7 @@ fn note_withdrawal(
         }
         Place::Vacant(place) => {
             announcer.note_withdrawal(tag)?;
-            place.insert(with_withdrawal(Entry::fresh(origin, tag)));
+            place.insert(Known::of_withdrawal());
         }
     }
     Ok(())
@@ -325,14 +386,14 @@ fn hear_event(announcer: &mut Announcer, tag: Tag, has_event: bool) -> Result<()
 /// Notes what a new record says of its name, and tells it to its origin; an announcement speaks of no name. An `Err` changes
 /// nothing.
 fn note_own(
-    names: &mut IndexMap<Name, Entry>,
+    names: &mut IndexMap<Name, Known>,
     announcer: &mut Announcer,
     record: &Record,
 ) -> Result<(), OutOfMemory>
-    requires { (records : List Record) × IsNewsOf records names.old.entries announcer.old «record».now }
-    ensures names { (records : List Record) → KeepsNames records names.old.entries
-        → OnOk result (KeepsNames (records ++ «record».now ∷ []) names.new.entries) }
-    ensures heard { (records : List Record) → IsNewsOf records names.old.entries announcer.old «record».now
+    requires { (records : List Record) × IsNewsOf records (entries_of names.old.entries) announcer.old «record».now }
+    ensures names { (records : List Record) → KeepsNames records (entries_of names.old.entries)
+        → OnOk result (KeepsNames (records ++ «record».now ∷ []) (entries_of names.new.entries)) }
+    ensures heard { (records : List Record) → IsNewsOf records (entries_of names.old.entries) announcer.old «record».now
         → OnOk result (IsHeard (set_of (records ++ «record».now ∷ [])) (origin_of «record».now) announcer.new) }
     ensures err { OnErr result ((names.new.entries ≡ names.old.entries) × (announcer.new ≡ announcer.old)) }
 {
@@ -355,15 +416,15 @@ fn note_own(
 
 /// Notes what a new record says of its name, and tells it to its origin. What is kept and heard stays on an `Err`.
 fn note(
-    names: &mut IndexMap<Name, Entry>,
+    names: &mut IndexMap<Name, Known>,
     announcers: &mut Vec<Announcer>,
     record: &Record,
 ) -> Result<(), OutOfMemory>
     requires origin { origin_of «record».now < most_origins }
-    requires news { (records : List Record) × IsNews records names.old.entries announcers.old.items «record».now }
-    ensures names { (records : List Record) → KeepsNames records names.old.entries
-        → OnOk result (KeepsNames (records ++ «record».now ∷ []) names.new.entries) }
-    ensures heard { (records : List Record) → IsNews records names.old.entries announcers.old.items «record».now
+    requires news { (records : List Record) × IsNews records (entries_of names.old.entries) announcers.old.items «record».now }
+    ensures names { (records : List Record) → KeepsNames records (entries_of names.old.entries)
+        → OnOk result (KeepsNames (records ++ «record».now ∷ []) (entries_of names.new.entries)) }
+    ensures heard { (records : List Record) → IsNews records (entries_of names.old.entries) announcers.old.items «record».now
         → OnOk result (AreHeard (records ++ «record».now ∷ []) announcers.new.items) }
     ensures kept { OnErr result (names.new.entries ≡ names.old.entries) }
     ensures still_heard { (records : List Record) → AreHeard records announcers.old.items

@@ -5,6 +5,7 @@ use Rattle.std.proofs.lemmas.Result.{on_ok_weaker}
 use Rattle.warp_record.specs.declared.record.Record.{Record}
 use Rattle.warp_table.specs.Names.{origin_of}
 use Rattle.warp_table.specs.inner.Heard.{AreHeard, Heard}
+use Rattle.warp_table.specs.inner.Kept.{entries_of}
 use Rattle.warp_table.specs.inner.News.{IsNewsOf}
 use Rattle.warp_table.proofs.HeardNews.{looked_up, news_heard, own_news}
 use Rattle.warp_table.proofs.table.note.Goals as goal
@@ -15,13 +16,13 @@ note_own-requires c =
     let within : c.origin_of-origin.result < length new = omega (arith, c.in_ok-keep_up_to.ensures.ok, c.keep_up_to.new.announcers.ok.0) in
     let own = looked_up new c.origin_of-origin.result (origin_of c.args.record.now) c.index_mut-announcer.result.now c.index_mut-announcer.ensures.value within c.origin_of-origin.ensures in (
       c.requires.news.0,
-      own_news c.requires.news.0 c.args.names.now.entries c.args.announcers.now.items new c.args.record.now c.index_mut-announcer.result.now
+      own_news c.requires.news.0 (entries_of c.args.names.now.entries) c.args.announcers.now.items new c.args.record.now c.index_mut-announcer.result.now
           c.in_ok-keep_up_to.ensures.same own c.requires.news.1,
     )
 
 pub returns-clause-heard : goal.returns-clause-heard
 returns-clause-heard c = λ records news.
-    let names = c.args.names.now.entries in
+    let names = entries_of c.args.names.now.entries in
     let old : List Heard = c.args.announcers.now.items in
     let new : List Heard = c.keep_up_to.new.announcers.items in
     let said : Record = c.args.record.now in

@@ -7,13 +7,13 @@ use Rattle.warp_record.specs.declared.record.Record.{Record}
 use Rattle.warp_record.specs.declared.record.Record.TheVariants.{Event, Withdraw, Announce}
 use Rattle.warp_table.specs.Names.{origin_of}
 use Rattle.warp_table.specs.Records.{set_of}
-use Rattle.warp_tag.specs.Table.{with_event}
-use Rattle.warp_tag.specs.declared.entry.Entry.{Entry}
+use Rattle.warp_table.specs.declared.table.Known.{Known}
 use Rattle.warp_table.specs.declared.table.Name.{Name}
 use Rattle.warp_table.specs.inner.Heard.{Announced, Heard, IsHeard}
-use Rattle.warp_table.specs.inner.Kept.{KeepsNames, kept_of, put}
+use Rattle.warp_table.specs.inner.Kept.{KeepsNames, entries_of, known_of, put_known, with_known_event}
 use Rattle.warp_table.specs.inner.News.{IsNewsOf}
-use Rattle.warp_table.proofs.KeptNames.{announcement_noted, event_noted, withdrawal_noted}
+use Rattle.warp_table.proofs.KeptNames.{announcement_noted}
+use Rattle.warp_table.proofs.KnownNames.{event_kept, has_event, withdrawal_kept}
 use Rattle.warp_table.proofs.HeardNews.{event_new, own_announcement, own_event, own_withdrawal, withdrawal_new}
 use Rattle.warp_table.proofs.table.note_own.Goals as goal
 
@@ -30,14 +30,14 @@ always (Err e) p = tt
 pub note_event-requires : goal.note_event-requires
 note_event-requires c = λ none.
     let said = c.in-Event in
-    let news = subst (λ (r : Record). IsNewsOf c.requires.0 c.args.names.now.entries c.args.announcer.now r) said.is c.requires.1 in
-    event_new c.requires.0 c.args.names.now.entries c.args.announcer.now said.origin said.tag said.input said.value news none
+    let news = subst (λ (r : Record). IsNewsOf c.requires.0 (entries_of c.args.names.now.entries) c.args.announcer.now r) said.is c.requires.1 in
+    event_new c.requires.0 (entries_of c.args.names.now.entries) c.args.announcer.now said.origin said.tag said.input said.value news (has_event (record { origin = said.origin; tag = said.tag }) c.args.names.now.entries ∙ none)
 
 pub note_withdrawal-requires : goal.note_withdrawal-requires
 note_withdrawal-requires c =
     let said = c.in-Withdraw in
-    withdrawal_new c.requires.0 c.args.names.now.entries c.args.announcer.now said.origin said.tag
-    (subst (λ (r : Record). IsNewsOf c.requires.0 c.args.names.now.entries c.args.announcer.now r) said.is c.requires.1)
+    withdrawal_new c.requires.0 (entries_of c.args.names.now.entries) c.args.announcer.now said.origin said.tag
+    (subst (λ (r : Record). IsNewsOf c.requires.0 (entries_of c.args.names.now.entries) c.args.announcer.now r) said.is c.requires.1)
 
 pub returns-in-Event-clause-heard : goal.returns-in-Event-clause-heard
 returns-in-Event-clause-heard c = λ records news.
@@ -47,8 +47,8 @@ returns-in-Event-clause-heard c = λ records news.
     subst (λ (x : Record). OnOk c.note_event.result (IsHeard (set_of (records ++ x ∷ [])) (origin_of x) now)) (sym said.is)
     (on_ok_weaker c.note_event.result
     (λ e. subst (λ (h : Heard). IsHeard (set_of (records ++ r ∷ [])) said.origin h) (sym e)
-    (own_event records c.args.names.now.entries c.args.announcer.now said.origin said.tag said.input said.value _
-    (subst (λ (x : Record). IsNewsOf records c.args.names.now.entries c.args.announcer.now x) said.is news) refl))
+    (own_event records (entries_of c.args.names.now.entries) c.args.announcer.now said.origin said.tag said.input said.value _
+    (subst (λ (x : Record). IsNewsOf records (entries_of c.args.names.now.entries) c.args.announcer.now x) said.is news) (has_event (record { origin = said.origin; tag = said.tag }) c.args.names.now.entries)))
     c.note_event.ensures.heard)
 
 pub returns-in-Withdraw-clause-heard : goal.returns-in-Withdraw-clause-heard
@@ -59,8 +59,8 @@ returns-in-Withdraw-clause-heard c = λ records news.
     subst (λ (x : Record). OnOk c.note_withdrawal.result (IsHeard (set_of (records ++ x ∷ [])) (origin_of x) now)) (sym said.is)
     (on_ok_weaker c.note_withdrawal.result
     (λ e. subst (λ (h : Heard). IsHeard (set_of (records ++ r ∷ [])) said.origin h) (sym e)
-    (own_withdrawal records c.args.names.now.entries c.args.announcer.now said.origin said.tag
-    (subst (λ (x : Record). IsNewsOf records c.args.names.now.entries c.args.announcer.now x) said.is news)))
+    (own_withdrawal records (entries_of c.args.names.now.entries) c.args.announcer.now said.origin said.tag
+    (subst (λ (x : Record). IsNewsOf records (entries_of c.args.names.now.entries) c.args.announcer.now x) said.is news)))
     c.note_withdrawal.ensures.heard)
 
 pub returns-in-Announce-clause-heard : goal.returns-in-Announce-clause-heard
@@ -75,8 +75,8 @@ returns-in-Announce-clause-heard c = λ records news.
     subst (λ (x : Record). OnOk c.note_announcement.result (IsHeard (set_of (records ++ x ∷ [])) (origin_of x) now)) (sym said.is)
     (on_ok_both c.note_announcement.result
     (λ adds e. subst (λ (h : Heard). IsHeard (set_of (records ++ r ∷ [])) said.origin h) (sym e)
-    (own_announcement records c.args.names.now.entries own said.origin said.tag said.events said.withdrawn now.announced
-    (subst (λ (x : Record). IsNewsOf records c.args.names.now.entries own x) said.is news)
+    (own_announcement records (entries_of c.args.names.now.entries) own said.origin said.tag said.events said.withdrawn now.announced
+    (subst (λ (x : Record). IsNewsOf records (entries_of c.args.names.now.entries) own x) said.is news)
     (subst (λ (b : Announced). (x : Announced) → Contains now.announced x ↔ Contains own.announced x ⊎ (x ≡ b)) same adds)))
     c.note_announcement.ensures.announced c.note_announcement.ensures.ok)
 
@@ -85,30 +85,30 @@ returns-in-Event-clause-names c = λ records h.
     let said = c.in-Event in
     let names = c.args.names.now.entries in
     let name : Name = record { origin = said.origin; tag = said.tag } in
-    let now : List (Name × Entry) = c.note_event.new.names.entries in
+    let now : List (Name × Known) = c.note_event.new.names.entries in
     let whole : to_z w64 (of_z w64 said.value) ≡ said.value = search rules in
-    let made : OnOk c.note_event.result (now ≡ put names name (with_event said.input said.value (kept_of name names))) =
-        subst (λ (v : ℤ). OnOk c.note_event.result (now ≡ put names name (with_event said.input v (kept_of name names)))) whole c.note_event.ensures.names in
-    subst (λ (x : Record). OnOk c.note_event.result (KeepsNames (records ++ x ∷ []) now)) (sym said.is)
+    let made : OnOk c.note_event.result (now ≡ put_known names name (with_known_event said.input said.value (known_of name names))) =
+        subst (λ (v : ℤ). OnOk c.note_event.result (now ≡ put_known names name (with_known_event said.input v (known_of name names)))) whole c.note_event.ensures.names in
+    subst (λ (x : Record). OnOk c.note_event.result (KeepsNames (records ++ x ∷ []) (entries_of now))) (sym said.is)
     (on_ok_weaker c.note_event.result
-    (λ e. subst (λ (ns : List (Name × Entry)). KeepsNames (records ++ Event said.origin said.tag said.input said.value ∷ []) ns) (sym e)
-    (event_noted records names name said.input said.value h))
+    (λ e. subst (λ (ns : List (Name × Known)). KeepsNames (records ++ Event said.origin said.tag said.input said.value ∷ []) (entries_of ns)) (sym e)
+    (event_kept records names name said.input said.value h))
     made)
 
 pub returns-in-Withdraw-clause-names : goal.returns-in-Withdraw-clause-names
 returns-in-Withdraw-clause-names c = λ records h.
     let said = c.in-Withdraw in
     let names = c.args.names.now.entries in
-    let now : List (Name × Entry) = c.note_withdrawal.new.names.entries in
-    subst (λ (x : Record). OnOk c.note_withdrawal.result (KeepsNames (records ++ x ∷ []) now)) (sym said.is)
+    let now : List (Name × Known) = c.note_withdrawal.new.names.entries in
+    subst (λ (x : Record). OnOk c.note_withdrawal.result (KeepsNames (records ++ x ∷ []) (entries_of now))) (sym said.is)
     (on_ok_weaker c.note_withdrawal.result
-    (λ e. subst (λ (ns : List (Name × Entry)). KeepsNames (records ++ Withdraw said.origin said.tag ∷ []) ns) (sym e)
-    (withdrawal_noted records names (record { origin = said.origin; tag = said.tag }) h))
+    (λ e. subst (λ (ns : List (Name × Known)). KeepsNames (records ++ Withdraw said.origin said.tag ∷ []) (entries_of ns)) (sym e)
+    (withdrawal_kept records names (record { origin = said.origin; tag = said.tag }) h))
     c.note_withdrawal.ensures.names)
 
 pub returns-in-Announce-clause-names : goal.returns-in-Announce-clause-names
 returns-in-Announce-clause-names c = λ records h.
     let said = c.in-Announce in
     let names = c.args.names.now.entries in
-    subst (λ (x : Record). OnOk c.note_announcement.result (KeepsNames (records ++ x ∷ []) names)) (sym said.is)
-    (always c.note_announcement.result (announcement_noted records names said.origin said.tag said.events said.withdrawn h))
+    subst (λ (x : Record). OnOk c.note_announcement.result (KeepsNames (records ++ x ∷ []) (entries_of names))) (sym said.is)
+    (always c.note_announcement.result (announcement_noted records (entries_of names) said.origin said.tag said.events said.withdrawn h))

@@ -2,7 +2,7 @@ use Rattle.std.proofs.Common.{◌≡◌, ◌+◌, ◌∷◌, ◌++◌, [], List,
 use Rattle.warp_record.specs.declared.record.Record.{Record}
 use Rattle.warp_table.specs.Log.{IsAt}
 use Rattle.warp_table.specs.inner.Heard.{AreHeard}
-use Rattle.warp_table.specs.inner.Kept.{KeepsNames}
+use Rattle.warp_table.specs.inner.Kept.{KeepsNames, entries_of}
 use Rattle.warp_table.proofs.Places.{comes_last, lacks, last_place, popped, stands_at, stays}
 use Rattle.warp_table.proofs.HeardNews.{news_to}
 use Rattle.warp_table.proofs.table.Table.add.Goals as goal
@@ -24,9 +24,9 @@ invariant_of-self-in-Ok c =
     let was = c.self.inside in
     let new = lacks was.records.keys c.args.record.now (sym c.in_ok-index.ensures.added ∙ c.if-not-is_new.false) in
     let keys = comes_last was.records.keys was.records.keys c.insert_full.new.self.keys c.args.record.now refl c.in_ok-index.ensures.keys new in
-    let news = news_to was.records.keys was.records.keys was.names.entries was.names.entries was.announcers.items c.args.record.now refl refl c.self.invariant.1 c.self.invariant.2 new in (
+    let news = news_to was.records.keys was.records.keys (entries_of was.names.entries) (entries_of was.names.entries) was.announcers.items c.args.record.now refl refl c.self.invariant.1 c.self.invariant.2 new in (
       omega (arith, c.requires.room, ap length c.self.view_is, ap length keys, length-append was.records.keys (c.args.record.now ∷ [])),
-      subst (λ (l : List Record). KeepsNames l c.note.new.names.entries) (sym keys) (c.in-Ok.ensures.names was.records.keys c.self.invariant.1),
+      subst (λ (l : List Record). KeepsNames l (entries_of c.note.new.names.entries)) (sym keys) (c.in-Ok.ensures.names was.records.keys c.self.invariant.1),
       subst (λ (l : List Record). AreHeard l c.note.new.announcers.items) (sym keys) (c.in-Ok.ensures.heard was.records.keys news),
     )
 
