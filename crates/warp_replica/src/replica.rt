@@ -1,5 +1,5 @@
 //! A replica: a program, the table of the records that it took, and the timeline that runs them.
-ghost use Rattle.std.specs.Prelude.{◌≡◌, ◌↔◌, ◌+◌, ◌-◌, ◌<◌, ◌≤◌, [], ◌∷◌, ◌++◌, false, None, length, List, Contains, IsTrue, IfSome, IfNone, IsOk, IfOk, OnOk, OnErr};
+ghost use Rattle.std.specs.Prelude.{◌≡◌, ◌↔◌, ℕ, ◌+◌, ◌-◌, ◌<◌, ◌≤◌, [], ◌∷◌, ◌++◌, false, None, Ok, length, List, Contains, IsTrue, IfSome, IfNone, IsOk, IfOk, IfErr, OnOk, OnErr};
 ghost use Rattle.warp_tag.specs.Limits.{most_outputs, most_records};
 ghost use Rattle.warp_record.specs.declared.line.Query.{Query};
 ghost use Rattle.warp_record.specs.declared.record.Record.{Record};
@@ -123,39 +123,52 @@ impl<T: Timeline> Replica<T> {
         ensures reply { IsReply (told result) }
     {
         Table::check(&self.program, record)?;
-        if let Some(place) = self.table.position(record) {
-            return Ok(Took::Known(place));
-        }
         if self.table.is_full() {
-            return Err(Refusal::LogFull);
+            return self.find(record, Refusal::LogFull);
         }
         match self.add(alloc, record) {
-            Ok(place) => Ok(Took::New(place)),
-            Err(_) => Err(Refusal::NoMemory),
+            Ok(took) => Ok(took),
+            Err(_) => self.find(record, Refusal::NoMemory),
         }
     }
 
-    /// Takes a new record that the program has no reason against, and gives its place.
-    fn add(&mut self, alloc: Global, record: &Record) -> Result<u32, OutOfMemory>
+    /// The place of a record that was there before, which needs neither room nor memory; of another one why it does not come in.
+    fn find(&self, record: &Record, refusal: Refusal) -> Result<Took, Refusal>
+        ensures known { IfOk result (λ took. (place : ℕ) × (took ≡ Took.Known place) × IsAt self.now.records place «record».now × (place ≤ most_records)) }
+        ensures lacking { IfErr result (λ why. (why ≡ refusal) × (¬ Contains self.now.records «record».now)) }
+    {
+        match self.table.position(record) {
+            Some(place) => Ok(Took::Known(place)),
+            None => Err(refusal),
+        }
+    }
+
+    /// Takes a record that the program has no reason against, where the log is not full. An `Err` changes neither the records nor
+    /// what is done.
+    fn add(&mut self, alloc: Global, record: &Record) -> Result<Took, OutOfMemory>
         requires allowed { refusal_of self.old.program «record».now ≡ None }
-        requires new { ¬ Contains self.old.records «record».now }
         requires room { length self.old.records < most_records }
-        ensures records { OnOk result (self.new.records ≡ self.old.records ++ «record».now ∷ []) }
-        ensures place { IfOk result (λ place. place ≡ length self.old.records + 1) }
+        ensures takes { IfOk result (λ took. Takes self.old.program self.old.records «record».now (Ok took) self.new.records) }
         ensures err { OnErr result (self.new.records ≡ self.old.records) }
         ensures program { self.new.program ≡ self.old.program }
-        ensures done { OnOk result ((done : List Row) → Stands T.stands_for self.old done →
+        ensures new { IfOk result (λ took. IsTrue (came_in (Ok took)) → (done : List Row) → Stands T.stands_for self.old done →
             (after : List Row) × Stands T.stands_for self.new after
             × KeepsDone T.SLACK (tag_of «record».now) (standing_of self.old done) (standing_of self.new after)) }
-        ensures kept { OnErr result ((done : List Row) → Stands T.stands_for self.old done → Stands T.stands_for self.new done) }
-        ensures settled { OnErr result (T.settled self.new.timeline ≡ T.settled self.old.timeline) }
+        ensures kept { IfOk result (λ took. came_in (Ok took) ≡ false → (done : List Row) → Stands T.stands_for self.old done → Stands T.stands_for self.new done) }
+        ensures settled { IfOk result (λ took. came_in (Ok took) ≡ false → T.settled self.new.timeline ≡ T.settled self.old.timeline) }
+        ensures kept_at_err { OnErr result ((done : List Row) → Stands T.stands_for self.old done → Stands T.stands_for self.new done) }
+        ensures settled_at_err { OnErr result (T.settled self.new.timeline ≡ T.settled self.old.timeline) }
+        ensures reply { IfOk result (λ took. IsReply (told (Ok took))) }
     {
         // The table keeps a place for each origin up to the record's.
         record_in_range(&self.program, record);
         self.timeline.prepare(alloc)?;
-        let place = self.table.add(record)?;
+        let added = self.table.add(record)?;
+        if !added.is_new {
+            return Ok(Took::Known(added.place));
+        }
         enter(&mut self.timeline, record);
-        Ok(place)
+        Ok(Took::New(added.place))
     }
 
     /// Executes what is not done. An `Err` leaves it done through some tag, whole, and it may be settled later; of a

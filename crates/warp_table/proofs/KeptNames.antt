@@ -5,7 +5,6 @@ use Rattle.std.specs.Map.{lookup}
 use Rattle.std.specs.Option.{option_map, unwrap_or}
 use Rattle.std.proofs.lemmas.Bool.{cases_Bool, both_ways}
 use Rattle.std.proofs.lemmas.Option.{slice_get-map}
-use Rattle.indexmap.specs.IndexMap.{insert_entry}
 use Rattle.warp_tag.specs.Moment.{Moment}
 use Rattle.warp_tag.specs.Table.{fresh, with_event, with_withdrawal}
 use Rattle.warp_tag.specs.declared.entry.Entry.{Entry}
@@ -15,8 +14,7 @@ use Rattle.warp_table.specs.Names.{IsOf, Tells, TellsEntry}
 use Rattle.warp_table.specs.Records.{set_of}
 use Rattle.warp_table.specs.Table.{is_other, names_of}
 use Rattle.warp_table.specs.declared.table.Name.{Name}
-use Rattle.warp_table.specs.contracts.table.NamePartialEq.TheImpl.{eq-value}
-use Rattle.warp_table.specs.inner.Kept.{KeepsNames, is_named, kept_of}
+use Rattle.warp_table.specs.inner.Kept.{KeepsNames, is_named, kept_of, put}
 use Rattle.warp_table.proofs.FirstNames.{is_one, is_one-Decides, names_announce, names_event, with_name}
 use Rattle.warp_table.proofs.Sets.{set_append}
 use Rattle.warp_table.proofs.Told.{event_told, other_told, withdrawal_told, with_one}
@@ -29,10 +27,6 @@ name_of kept = (kept.0.origin, kept.0.tag)
 behind_one : {X : Type 0} (x : X) (b : Bool) (xs ys : List X) → (x ∷ (if b then xs else ys)) ≡ (if b then x ∷ xs else x ∷ ys)
 behind_one x true xs ys = refl
 behind_one x false xs ys = refl
-
--- the names with this kept of one
-abbrev pub put : List (Name × Entry) → Name → Entry → List (Name × Entry)
-put names name k = insert_entry (eq-value).it names name k
 
 -- an insertion brings the name where it is new
 names_inserted : (names : List (Name × Entry)) (name : Name) (k : Entry) → map name_of (put names name k) ≡ with_name (map name_of names) (name.origin, name.tag)

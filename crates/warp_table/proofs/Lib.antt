@@ -10,6 +10,7 @@ pub mod LiveEvents
 pub mod FirstNames
 pub mod ListedNames
 pub mod KeptNames
+pub mod KnownNames
 pub mod Counts
 pub mod Announcements
 pub mod Horizons

@@ -2,9 +2,8 @@
 //!
 //! Known records and names are found by hash. What an origin announced is kept by its `Announcer`, so that in order of tags no
 //! record costs a pass over all announcements or names. A horizon costs a look at each origin of the program.
-ghost use Rattle.std.specs.Prelude.{◌≡◌, ◌↔◌, ℕ, ℤ, ◌+◌, ◌<◌, ◌≤◌, List, [], ◌∷◌, ◌++◌, None, Some, true, false, is_some, length, slice_get, vec_len, Contains, IsTrue, IfSome, IfNone, IfOk, IsOk, OnOk, OnErr, MatchResult};
+ghost use Rattle.std.specs.Prelude.{◌≡◌, ◌↔◌, ℕ, ℤ, ◌+◌, ◌<◌, ◌≤◌, List, [], ◌∷◌, ◌++◌, None, Some, true, false, length, slice_get, vec_len, Contains, IsTrue, IfSome, IfNone, IfOk, IsOk, OnOk, OnErr, MatchResult};
 ghost use Rattle.warp_tag.specs.Limits.{most_origins, most_records};
-ghost use Rattle.warp_tag.specs.Table.{with_event, with_withdrawal};
 ghost use Rattle.warp_step.specs.Events.{is_declared};
 ghost use Rattle.warp_record.specs.declared.record.Record.{Record};
 ghost use Rattle.warp_record.specs.declared.reply.Refusal.{Refusal};
@@ -13,12 +12,12 @@ ghost use Rattle.warp_table.specs.Check.{refusal_of};
 ghost use Rattle.warp_table.specs.Names.{Tells, origin_of};
 ghost use Rattle.warp_table.specs.Records.{set_of};
 ghost use Rattle.warp_table.specs.Table.{names_of};
-ghost use Rattle.warp_table.specs.inner.Heard.{AreHeard, IsHeard, heard_at, with_heard_event};
-ghost use Rattle.warp_table.specs.inner.Kept.{KeepsNames, kept_of};
+ghost use Rattle.warp_table.specs.inner.Heard.{AreHeard, IsHeard, heard_at, with_heard_event, with_tag};
+ghost use Rattle.warp_table.specs.inner.Kept.{KeepsNames, entries_of, entry_of, known_of, put_known, with_known_event, with_known_withdrawal};
 ghost use Rattle.warp_table.specs.inner.News.{IsNews, IsNewsOf};
-ghost use Rattle.indexmap.specs.IndexMap.{spare};
 
 use crate::announcer::Announcer;
+use indexmap::map::Entry as Place;
 use indexmap::{IndexMap, IndexSet};
 use std::alloc::Global;
 use std::marker::Model;
@@ -29,11 +28,83 @@ use warp_tag::{Entry, OutOfMemory, Tag};
 /// The most records that a table holds.
 pub const MAX_RECORDS: u32 = 100_000;
 
+/// Where a record stands that was added: its place, 1 to `MAX_RECORDS`, and whether it came in there or was there before.
+#[derive(Clone, Copy)]
+pub struct Added {
+    /// The place.
+    pub place: u32,
+    /// Whether it is new.
+    pub is_new: bool,
+}
+
 /// A name: an origin and a tag.
 #[derive(Clone, Copy, PartialEq, Eq, Hash)]
 struct Name {
     origin: u32,
     tag: Tag,
+}
+
+/// What is kept of a name beside the name itself: whether an event of it came, the greatest payload of these, and whether it is
+/// withdrawn. Without an event its payload means nothing.
+#[derive(Clone, Copy)]
+struct Known {
+    value: i64,
+    input: u32,
+    has_event: bool,
+    withdrawn: bool,
+}
+
+impl Known {
+    ghost use Rattle.warp_table.specs.inner.Kept.{nothing_known, with_known_event, with_known_withdrawal};
+
+    /// Of a name of which nothing came.
+    fn nothing() -> Known
+        ensures { result ≡ nothing_known }
+    {
+        Known {
+            value: 0,
+            input: 0,
+            has_event: false,
+            withdrawn: false,
+        }
+    }
+
+    /// Notes an event. Of several payloads the greatest counts, by input, then by value.
+    fn note_event(&mut self, input: u32, value: i64)
+        ensures { self.new ≡ with_known_event input value self.old }
+    {
+        let is_lesser = self.input < input || (self.input == input && self.value < value);
+        if !self.has_event || is_lesser {
+            self.value = value;
+            self.input = input;
+            self.has_event = true;
+        }
+    }
+
+    /// Notes a withdrawal, which holds for good.
+    fn withdraw(&mut self)
+        ensures { self.new ≡ with_known_withdrawal self.old }
+    {
+        self.withdrawn = true;
+    }
+
+    /// With an event, where nothing came before.
+    fn of_event(input: u32, value: i64) -> Known
+        ensures { result ≡ with_known_event input value nothing_known }
+    {
+        let mut known = Known::nothing();
+        known.note_event(input, value);
+        known
+    }
+
+    /// With a withdrawal, where nothing came before.
+    fn of_withdrawal() -> Known
+        ensures { result ≡ with_known_withdrawal nothing_known }
+    {
+        let mut known = Known::nothing();
+        known.withdraw();
+        known
+    }
 }
 
 /// Records in the order of taking, each once, at most `MAX_RECORDS`. It is seen as their list. Beside them it keeps what is
@@ -42,7 +113,7 @@ struct Name {
 #[derive(Drop)]
 pub struct Table {
     records: IndexSet<Record>,
-    names: IndexMap<Name, Entry>,
+    names: IndexMap<Name, Known>,
     announcers: Vec<Announcer>,
 }
 
@@ -51,13 +122,13 @@ impl Model for Table {
     ghost use Rattle.warp_record.specs.declared.record.Record.{Record};
     ghost use Rattle.warp_tag.specs.Limits.{most_records};
     ghost use Rattle.warp_table.specs.inner.Heard.{AreHeard};
-    ghost use Rattle.warp_table.specs.inner.Kept.{KeepsNames};
+    ghost use Rattle.warp_table.specs.inner.Kept.{KeepsNames, entries_of};
 
     ghost Value = { List Record };
 
     ghost view = { λ t. t.records.keys };
 
-    ghost invariant = { λ t. (length t.records.keys ≤ most_records) × KeepsNames t.records.keys t.names.entries
+    ghost invariant = { λ t. (length t.records.keys ≤ most_records) × KeepsNames t.records.keys (entries_of t.names.entries)
         × AreHeard t.records.keys t.announcers.items };
 }
 
@@ -118,23 +189,29 @@ impl Table {
         Some(index as u32 + 1)
     }
 
-    /// Adds a record that is not there yet, notes what it says of its name and to its origin, and gives its place. An `Err`
-    /// changes nothing.
-    pub fn add(&mut self, record: &Record) -> Result<u32, OutOfMemory>
-        requires new { ¬ Contains self.old «record».now }
+    /// Adds a record where it is not there yet, notes what it says of its name and to its origin, and tells its place and
+    /// whether it is new. A record that was there stays in its place. An `Err` changes nothing.
+    pub fn add(&mut self, record: &Record) -> Result<Added, OutOfMemory>
         requires room { length self.old < most_records }
         requires origin { origin_of «record».now < most_origins }
-        ensures records { OnOk result (self.new ≡ self.old ++ «record».now ∷ []) }
-        ensures place { IfOk result (λ place. place ≡ length self.old + 1) }
+        ensures new { IfOk result (λ added. IsTrue added.is_new →
+            (¬ Contains self.old «record».now) × (added.place ≡ length self.old + 1) × (self.new ≡ self.old ++ «record».now ∷ [])) }
+        ensures known { IfOk result (λ added. added.is_new ≡ false → IsAt self.old added.place «record».now × (self.new ≡ self.old)) }
         ensures err { OnErr result (self.new ≡ self.old) }
     {
-        self.records.reserve(1)?;
-        self.names.reserve(1)?;
-        hear(&mut self.announcers, &self.names, record)?;
-        // The origin has noted it, and there is room for both, so that neither fails with the rest done.
-        self.records.insert(*record)?;
-        note(&mut self.names, record)?;
-        Ok(self.records.len() as u32)
+        let (index, is_new) = self.records.insert_full(*record)?;
+        let place = index as u32 + 1;
+        if !is_new {
+            return Ok(Added { place, is_new });
+        }
+        match note(&mut self.names, &mut self.announcers, record) {
+            Ok(()) => Ok(Added { place, is_new }),
+            Err(refused) => {
+                // What its name and its origin lack room for does not come in.
+                self.records.pop();
+                Err(refused)
+            }
+        }
     }
 
     /// The record at this place, from 1; `None` where there is no such place.
@@ -152,8 +229,8 @@ impl Table {
         ensures told { IfSome result (λ e. Tells (set_of self.now) e.origin e.tag (Some e)) }
         ensures none { IfNone result (length (names_of self.now) ≤ number) }
     {
-        let (_, known) = self.names.get_index(number as usize)?;
-        Some(*known)
+        let (name, known) = self.names.get_index(number as usize)?;
+        Some(entry_of(name, known))
     }
 
     /// Up to which tag the announcements of all origins of the program are reached: the least, over its origins, of the greatest
@@ -195,77 +272,75 @@ impl Table {
     }
 }
 
-/// What is known after an event.
-fn with_event(known: Entry, input: u32, value: i64) -> Entry
-    ensures { result ≡ with_event input value known }
-{
-    let mut entry = known;
-    entry.note_event(input, value);
-    entry
-}
-
-/// What is known after a withdrawal.
-fn with_withdrawal(known: Entry) -> Entry
-    ensures { result ≡ with_withdrawal known }
-{
-    let mut entry = known;
-    entry.withdraw();
-    entry
-}
-
 /// What is known of the name.
-fn known_of(names: &IndexMap<Name, Entry>, name: &Name) -> Entry
-    ensures { result ≡ kept_of name.now names.now.entries }
+fn entry_of(name: &Name, known: &Known) -> Entry
+    ensures { result ≡ entry_of name.now known.now }
 {
-    match names.get(name) {
-        Some(known) => *known,
-        None => Entry::fresh(name.origin, name.tag),
+    let event = if known.has_event {
+        Some((known.input, known.value))
+    } else {
+        None
+    };
+    Entry {
+        origin: name.origin,
+        tag: name.tag,
+        event,
+        withdrawn: known.withdrawn,
     }
 }
 
-/// Notes an event of the name. Where there is room for a name it succeeds.
+/// Notes an event of the name, and tells it to its origin: that the name has two payloads where it has an event already,
+/// and else a new name. An `Err` changes nothing.
 fn note_event(
-    names: &mut IndexMap<Name, Entry>,
+    names: &mut IndexMap<Name, Known>,
+    announcer: &mut Announcer,
     name: Name,
     input: u32,
     value: i64,
 ) -> Result<(), OutOfMemory>
-    ensures ok { (records : List Record) → KeepsNames records names.old.entries
-        → OnOk result (KeepsNames (records ++ Record.Event name.origin name.tag input value ∷ []) names.new.entries) }
-    ensures succeeds { 0 < spare names.old → IsOk result }
+    requires { (known_of name names.old.entries).has_event ≡ false → ¬ Contains announcer.old.events name.tag }
+    ensures names { OnOk result (names.new.entries ≡ put_known names.old.entries name (with_known_event input value (known_of name names.old.entries))) }
+    ensures heard { OnOk result (announcer.new ≡ with_heard_event (known_of name names.old.entries).has_event name.tag announcer.old) }
+    ensures err { OnErr result ((names.new.entries ≡ names.old.entries) × (announcer.new ≡ announcer.old)) }
 {
-    let known = with_event(known_of(names, &name), input, value);
-    names.insert(name, known)?;
-    Ok(())
-}
-
-/// Notes a withdrawal of the name. Where there is room for a name it succeeds.
-fn note_withdrawal(names: &mut IndexMap<Name, Entry>, name: Name) -> Result<(), OutOfMemory>
-    ensures ok { (records : List Record) → KeepsNames records names.old.entries
-        → OnOk result (KeepsNames (records ++ Record.Withdraw name.origin name.tag ∷ []) names.new.entries) }
-    ensures succeeds { 0 < spare names.old → IsOk result }
-{
-    let known = with_withdrawal(known_of(names, &name));
-    names.insert(name, known)?;
-    Ok(())
-}
-
-/// Notes what a record says of its name; an announcement speaks of none. Where there is room for a name it succeeds.
-fn note(names: &mut IndexMap<Name, Entry>, record: &Record) -> Result<(), OutOfMemory>
-    ensures ok { (records : List Record) → KeepsNames records names.old.entries
-        → OnOk result (KeepsNames (records ++ «record».now ∷ []) names.new.entries) }
-    ensures succeeds { 0 < spare names.old → IsOk result }
-{
-    match *record {
-        Record::Event {
-            origin,
-            tag,
-            input,
-            value,
-        } => note_event(names, Name { origin, tag }, input, value),
-        Record::Withdraw { origin, tag } => note_withdrawal(names, Name { origin, tag }),
-        Record::Announce { .. } => Ok(()),
+    let tag = name.tag;
+    match names.entry(name)? {
+        Place::Occupied(place) => {
+            let has_event = place.get().has_event;
+            hear_event(announcer, tag, has_event)?;
+            place.into_mut().note_event(input, value);
+        }
+        Place::Vacant(place) => {
+            announcer.note_event(tag)?;
+            place.insert(Known::of_event(input, value));
+        }
     }
+    Ok(())
+}
+
+/// Notes a withdrawal of the name, and tells it to its origin. An `Err` changes nothing.
+fn note_withdrawal(
+    names: &mut IndexMap<Name, Known>,
+    announcer: &mut Announcer,
+    name: Name,
+) -> Result<(), OutOfMemory>
+    requires { ¬ Contains announcer.old.withdrawn name.tag }
+    ensures names { OnOk result (names.new.entries ≡ put_known names.old.entries name (with_known_withdrawal (known_of name names.old.entries))) }
+    ensures heard { OnOk result (announcer.new ≡ record announcer.old { withdrawn = with_tag name.tag announcer.old.withdrawn }) }
+    ensures err { OnErr result ((names.new.entries ≡ names.old.entries) × (announcer.new ≡ announcer.old)) }
+{
+    let tag = name.tag;
+    match names.entry(name)? {
+        Place::Occupied(place) => {
+            announcer.note_withdrawal(tag)?;
+            place.into_mut().withdraw();
+        }
+        Place::Vacant(place) => {
+            announcer.note_withdrawal(tag)?;
+            place.insert(Known::of_withdrawal());
+        }
+    }
+    Ok(())
 }
 
 /// Whose record it is.
@@ -294,13 +369,6 @@ fn keep_up_to(announcers: &mut Vec<Announcer>, origin: u32) -> Result<(), OutOfM
     Ok(())
 }
 
-/// Whether the name has an event.
-fn has_event(names: &IndexMap<Name, Entry>, name: &Name) -> bool
-    ensures { result ≡ is_some (kept_of name.now names.now.entries).event }
-{
-    known_of(names, name).event.is_some()
-}
-
 /// Notes a new event to its origin: that its name has two payloads where it has an event already, and else a new name. An
 /// `Err` changes nothing.
 fn hear_event(announcer: &mut Announcer, tag: Tag, has_event: bool) -> Result<(), OutOfMemory>
@@ -315,23 +383,28 @@ fn hear_event(announcer: &mut Announcer, tag: Tag, has_event: bool) -> Result<()
     announcer.note_event(tag)
 }
 
-/// Notes a new record to its origin. An `Err` changes nothing.
-fn hear_own(
+/// Notes what a new record says of its name, and tells it to its origin; an announcement speaks of no name. An `Err` changes
+/// nothing.
+fn note_own(
+    names: &mut IndexMap<Name, Known>,
     announcer: &mut Announcer,
-    names: &IndexMap<Name, Entry>,
     record: &Record,
 ) -> Result<(), OutOfMemory>
-    requires { (records : List Record) × IsNewsOf records names.now.entries announcer.old «record».now }
-    ensures ok { (records : List Record) → IsNewsOf records names.now.entries announcer.old «record».now
+    requires { (records : List Record) × IsNewsOf records (entries_of names.old.entries) announcer.old «record».now }
+    ensures names { (records : List Record) → KeepsNames records (entries_of names.old.entries)
+        → OnOk result (KeepsNames (records ++ «record».now ∷ []) (entries_of names.new.entries)) }
+    ensures heard { (records : List Record) → IsNewsOf records (entries_of names.old.entries) announcer.old «record».now
         → OnOk result (IsHeard (set_of (records ++ «record».now ∷ [])) (origin_of «record».now) announcer.new) }
-    ensures err { OnErr result (announcer.new ≡ announcer.old) }
+    ensures err { OnErr result ((names.new.entries ≡ names.old.entries) × (announcer.new ≡ announcer.old)) }
 {
     match *record {
-        Record::Event { origin, tag, .. } => {
-            let has_event = has_event(names, &Name { origin, tag });
-            hear_event(announcer, tag, has_event)
-        }
-        Record::Withdraw { tag, .. } => announcer.note_withdrawal(tag),
+        Record::Event {
+            origin,
+            tag,
+            input,
+            value,
+        } => note_event(names, announcer, Name { origin, tag }, input, value),
+        Record::Withdraw { origin, tag } => note_withdrawal(names, announcer, Name { origin, tag }),
         Record::Announce {
             tag,
             events,
@@ -341,23 +414,26 @@ fn hear_own(
     }
 }
 
-/// Notes a new record to its origin. What is heard stays on an `Err`.
-fn hear(
+/// Notes what a new record says of its name, and tells it to its origin. What is kept and heard stays on an `Err`.
+fn note(
+    names: &mut IndexMap<Name, Known>,
     announcers: &mut Vec<Announcer>,
-    names: &IndexMap<Name, Entry>,
     record: &Record,
 ) -> Result<(), OutOfMemory>
     requires origin { origin_of «record».now < most_origins }
-    requires news { (records : List Record) × IsNews records names.now.entries announcers.old.items «record».now }
-    ensures ok { (records : List Record) → IsNews records names.now.entries announcers.old.items «record».now
+    requires news { (records : List Record) × IsNews records (entries_of names.old.entries) announcers.old.items «record».now }
+    ensures names { (records : List Record) → KeepsNames records (entries_of names.old.entries)
+        → OnOk result (KeepsNames (records ++ «record».now ∷ []) (entries_of names.new.entries)) }
+    ensures heard { (records : List Record) → IsNews records (entries_of names.old.entries) announcers.old.items «record».now
         → OnOk result (AreHeard (records ++ «record».now ∷ []) announcers.new.items) }
-    ensures err { (records : List Record) → AreHeard records announcers.old.items
+    ensures kept { OnErr result (names.new.entries ≡ names.old.entries) }
+    ensures still_heard { (records : List Record) → AreHeard records announcers.old.items
         → OnErr result (AreHeard records announcers.new.items) }
 {
     let origin = origin_of(record);
     keep_up_to(announcers, origin)?;
     let announcer = &mut announcers[origin as usize];
-    hear_own(announcer, names, record)
+    note_own(names, announcer, record)
 }
 
 /// Why the program takes no event of this origin, at this tag, for this input.

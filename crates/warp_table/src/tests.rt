@@ -103,7 +103,11 @@ fn places_and_names(rt: HostRuntime) -> Result<(), Fail> {
         assert!(rt; origin < 32);
         assert_eq!(rt; table.position(&record), None);
         assert!(rt; !table.is_full());
-        assert_eq!(rt; table.add(&record)?, place);
+        let added = table.add(&record)?;
+        assert_eq!(rt; (added.place, added.is_new), (place, true));
+        assert!(rt; !table.is_full());
+        let again = table.add(&record)?;
+        assert_eq!(rt; (again.place, again.is_new), (place, false));
         assert_eq!(rt; table.position(&record), Some(place));
         assert_eq!(rt; table.entry(place), Some(record));
     }

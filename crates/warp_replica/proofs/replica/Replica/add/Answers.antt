@@ -1,9 +1,11 @@
-use Rattle.std.proofs.Common.{◌≡◌, List, None, refl, sym, ap, subst, length, arith}
+use Rattle.std.proofs.Common.{◌≡◌, ◌-◌, List, None, refl, sym, ap, subst, length, arith}
+use Rattle.std.proofs.lemmas.Option.{slice_get_within}
 use Rattle.std.proofs.lemmas.List.Elements.{All-push}
 use Rattle.warp_step.specs.Run.{Row}
 use Rattle.warp_record.specs.declared.record.Record.{Record}
 use Rattle.warp_line.specs.Timeline.{KeepsDone}
 use Rattle.warp_table.specs.Check.{refusal_of}
+use Rattle.warp_table.proofs.KeptTags.{not_false, not_true}
 use Rattle.warp_table.proofs.Sizes.{length-table_of}
 use Rattle.warp_replica.specs.Replica.{AreAllowed, ReplicaState, standing_of, Stands}
 use Rattle.warp_replica.specs.Gives.{tag_of}
@@ -15,8 +17,14 @@ prepare-requires g c =
     let few = length-table_of c.self.inside.table in
     (_, c.self.invariant.1.1, omega (arith, few, ap (λ r. length r.records) c.self.view_is, c.requires.room))
 
-pub returns-clause-done : goal.returns-clause-done
-returns-clause-done g c done stood =
+pub returns-then-not-added-clause-reply : goal.returns-then-not-added-clause-reply
+returns-then-not-added-clause-reply g c =
+    let at = (c.in_ok-added.ensures.known (not_true c.in_ok-added.added.is_new c.if-not-added.true)).0 in
+    let within = slice_get_within c.self.inside.table (c.in_ok-added.added.place - 1) c.args.record.now at.1 in
+    (at.0, omega (arith, within, c.requires.room, ap (λ r. length r.records) c.self.view_is))
+
+pub returns-clause-new : goal.returns-clause-new
+returns-clause-new g c came done stood =
     let stands = g.T.Timeline.stands_for in
     let slack = g.T.Timeline.SLACK in
     let said = c.args.record.now in
@@ -26,7 +34,7 @@ returns-clause-done g c done stood =
     let allowed = subst (λ r. refusal_of r.program said ≡ None) (sym is) c.requires.allowed in
     let before = subst (λ r. Stands stands r done) (sym is) stood in
     let entered = c.enter.ensures _ (c.prepare.ensures.stands _ before) allowed in
-    let more = with_more stands slack said old new done refl c.in_ok-place.ensures.records entered in
+    let more = with_more stands slack said old new done refl (c.in_ok-added.ensures.new (not_false c.in_ok-added.added.is_new c.if-not-added.false)).2 entered in
     subst (λ r. (after : List Row) × Stands stands new after × KeepsDone slack (tag_of said) (standing_of r done) (standing_of new after)) is more
 
 pub invariant_of-self-2 : goal.invariant_of-self-2
@@ -37,5 +45,5 @@ invariant_of-self-2 g c =
     let fits = subst (λ r. refusal_of r.program said ≡ None) (sym is) c.requires.allowed in
     let allowed = All-push (λ (one : Record). refusal_of P one ≡ None) c.self.inside.table said c.self.invariant.0 fits in
     let done = c.self.invariant.1.0 in
-    let more = returns-clause-done g c done (subst (λ r. Stands g.T.Timeline.stands_for r done) is c.self.invariant.1.1) in
-    (subst (AreAllowed P) (sym c.in_ok-place.ensures.records) allowed, (more.0, more.1))
+    let more = returns-clause-new g c refl done (subst (λ r. Stands g.T.Timeline.stands_for r done) is c.self.invariant.1.1) in
+    (subst (AreAllowed P) (sym (c.in_ok-added.ensures.new (not_false c.in_ok-added.added.is_new c.if-not-added.false)).2) allowed, (more.0, more.1))

@@ -1,44 +1,49 @@
-use Rattle.std.proofs.Common.{◌≡◌, ◌∷◌, ◌++◌, [], length, Contains, ap, sym, subst, ◌∙◌, length-append, arith}
+use Rattle.std.proofs.Common.{◌≡◌, ◌+◌, ◌∷◌, ◌++◌, [], List, true, false, ◌<◌, length, Contains, refl, ap, sym, subst, ◌∙◌, length-append, arith}
+use Rattle.warp_record.specs.declared.record.Record.{Record}
+use Rattle.warp_table.specs.Log.{IsAt}
 use Rattle.warp_table.specs.inner.Heard.{AreHeard}
-use Rattle.warp_table.specs.inner.Kept.{KeepsNames}
+use Rattle.warp_table.specs.inner.Kept.{KeepsNames, entries_of}
+use Rattle.warp_table.proofs.Places.{comes_last, lacks, last_place, popped, stands_at, stays}
 use Rattle.warp_table.proofs.HeardNews.{news_to}
-use Rattle.warp_table.proofs.Places.{comes_last}
 use Rattle.warp_table.proofs.table.Table.add.Goals as goal
 
-keys : (c : goal.After-len) → c.insert.new.self.keys ≡ c.self.inside.records.keys ++ c.args.record.now ∷ []
-keys c =
-    comes_last c.reserve.new.self.keys c.self.inside.records.keys c.insert.new.self.keys c.args.record.now c.in_ok-reserve.ensures.keys c.in_ok-insert.ensures.keys
-    (subst (λ l. Contains l c.args.record.now → ⊥) (sym c.self.view_is) c.requires.new)
+pub invariant_of-self-then-not-is_new : goal.invariant_of-self-then-not-is_new
+invariant_of-self-then-not-is_new c =
+    let same = stays c.self.inside.records.keys c.insert_full.new.self.keys c.args.record.now (sym c.in_ok-index.ensures.added ∙ c.if-not-is_new.true) c.in_ok-index.ensures.keys in
+    rw same c.self.invariant
 
-pub returns-clause-records : goal.returns-clause-records
-returns-clause-records c = keys c ∙ ap (λ l. l ++ c.args.record.now ∷ []) c.self.view_is
+pub returns-then-not-is_new-clause-known : goal.returns-then-not-is_new-clause-known
+returns-then-not-is_new-clause-known c known =
+    let same = stays c.self.inside.records.keys c.insert_full.new.self.keys c.args.record.now (sym c.in_ok-index.ensures.added ∙ known) c.in_ok-index.ensures.keys in
+    let is = same ∙ c.self.view_is in
+    (subst (λ (l : List Record). IsAt l (c.in_ok-index.index + 1) c.args.record.now) is
+    (stands_at c.insert_full.new.self.keys c.args.record.now c.in_ok-index.index c.in_ok-index.ensures.stored), is)
 
-pub returns-clause-place : goal.returns-clause-place
-returns-clause-place c =
-    omega (arith, c.len.ensures.len, ap length (returns-clause-records c), length-append c.args.self.now (c.args.record.now ∷ []))
-
-pub hear-requires-clause-news : goal.hear-requires-clause-news
-hear-requires-clause-news c =
-    let was = c.self.inside in (
-      was.records.keys,
-      news_to was.records.keys c.args.self.now was.names.entries c.reserve-2.new.self.entries was.announcers.items c.args.record.now c.self.view_is c.in_ok-reserve-2.ensures.entries
-          c.self.invariant.1 c.self.invariant.2 c.requires.new,
+pub invariant_of-self-in-Ok : goal.invariant_of-self-in-Ok
+invariant_of-self-in-Ok c =
+    let was = c.self.inside in
+    let new = lacks was.records.keys c.args.record.now (sym c.in_ok-index.ensures.added ∙ c.if-not-is_new.false) in
+    let keys = comes_last was.records.keys was.records.keys c.insert_full.new.self.keys c.args.record.now refl c.in_ok-index.ensures.keys new in
+    let news = news_to was.records.keys was.records.keys (entries_of was.names.entries) (entries_of was.names.entries) was.announcers.items c.args.record.now refl refl c.self.invariant.1 c.self.invariant.2 new in (
+      omega (arith, c.requires.room, ap length c.self.view_is, ap length keys, length-append was.records.keys (c.args.record.now ∷ [])),
+      subst (λ (l : List Record). KeepsNames l (entries_of c.note.new.names.entries)) (sym keys) (c.in-Ok.ensures.names was.records.keys c.self.invariant.1),
+      subst (λ (l : List Record). AreHeard l c.note.new.announcers.items) (sym keys) (c.in-Ok.ensures.heard was.records.keys news),
     )
 
-pub invariant_of-self-in_err-hear : goal.invariant_of-self-in_err-hear
-invariant_of-self-in_err-hear c =
+pub invariant_of-self-in-Err : goal.invariant_of-self-in-Err
+invariant_of-self-in-Err c =
     let was = c.self.inside in
-    let keys : c.reserve.new.self.keys ≡ was.records.keys = c.in_ok-reserve.ensures.keys in
-    let names : c.reserve-2.new.self.entries ≡ was.names.entries = c.in_ok-reserve-2.ensures.entries in
-    rw (keys, names) (c.self.invariant.0, c.self.invariant.1, c.in_err-hear.ensures.err was.records.keys c.self.invariant.2)
+    let new = lacks was.records.keys c.args.record.now (sym c.in_ok-index.ensures.added ∙ c.if-not-is_new.false) in
+    let keys = comes_last was.records.keys was.records.keys c.insert_full.new.self.keys c.args.record.now refl c.in_ok-index.ensures.keys new in
+    let left = popped was.records.keys c.pop.new.self.keys c.args.record.now c.pop.result (λ some. c.pop.ensures.found.1 (subst (λ (l : List Record). 0 < length l) (sym keys) some)) (sym keys ∙ c.pop.ensures.keys) in
+    rw (left, c.in-Err.ensures.kept) (c.self.invariant.0, c.self.invariant.1, c.in-Err.ensures.still_heard was.records.keys c.self.invariant.2)
 
-pub invariant_of-self-2 : goal.invariant_of-self-2
-invariant_of-self-2 c =
+pub returns-in-Ok-clause-new : goal.returns-in-Ok-clause-new
+returns-in-Ok-clause-new c added =
     let was = c.self.inside in
-    let names = c.in_ok-note.ensures.ok was.records.keys (subst (KeepsNames was.records.keys) (sym c.in_ok-reserve-2.ensures.entries) c.self.invariant.1) in
-    let news = news_to was.records.keys c.args.self.now was.names.entries c.reserve-2.new.self.entries was.announcers.items c.args.record.now c.self.view_is c.in_ok-reserve-2.ensures.entries
-    c.self.invariant.1 c.self.invariant.2 c.requires.new in (
-      omega (arith, c.requires.room, ap length (returns-clause-records c), length-append c.args.self.now (c.args.record.now ∷ [])),
-      subst (λ l. KeepsNames l c.note.new.names.entries) (sym (keys c)) names,
-      subst (λ l. AreHeard l c.hear.new.announcers.items) (sym (keys c)) (c.in_ok-hear.ensures.ok was.records.keys news),
+    let new = lacks was.records.keys c.args.record.now (sym c.in_ok-index.ensures.added ∙ added) in
+    let keys = comes_last was.records.keys was.records.keys c.insert_full.new.self.keys c.args.record.now refl c.in_ok-index.ensures.keys new in (
+      (λ has. new (subst (λ (l : List Record). Contains l c.args.record.now) (sym c.self.view_is) has)),
+      ap (λ n. n + 1) (c.in_ok-index.ensures.index ∙ last_place was.records.keys c.args.record.now new ∙ ap length c.self.view_is),
+      keys ∙ ap (λ (l : List Record). l ++ c.args.record.now ∷ []) c.self.view_is,
     )

@@ -1,13 +1,18 @@
-use Rattle.std.proofs.Common.{subst}
-use Rattle.warp_table.proofs.KeptNames.{IsTold, told_at}
+use Rattle.std.proofs.Common.{List, subst, sym}
+use Rattle.warp_tag.specs.declared.entry.Entry.{Entry}
+use Rattle.warp_record.specs.declared.record.Record.{Record}
+use Rattle.warp_table.specs.inner.Kept.{entry_of}
+use Rattle.warp_table.proofs.KeptNames.{IsTold}
+use Rattle.warp_table.proofs.KnownNames.{told_of}
 use Rattle.warp_table.proofs.table.Table.name_at.Goals as goal
 
-is_told : (c : goal.After-result-1) → IsTold c.args.self.now c.args.number c.in_ok-known.known.now
+is_told : (c : goal.After-entry_of) → IsTold c.args.self.now c.args.number c.entry_of.result
 is_told c =
-    let found = c.in_ok-known in
+    let found = c.in_ok-name in
     let inside = c.self.inside in
-    subst (λ records. IsTold records c.args.number found.known.now) c.self.view_is
-    (told_at inside.records.keys inside.names.entries c.args.number found.field-0-0.now found.known.now c.self.invariant.1 found.ensures.entry found.ensures.value)
+    subst (λ (e : Entry). IsTold c.args.self.now c.args.number e) (sym c.entry_of.ensures)
+    (subst (λ (records : List Record). IsTold records c.args.number (entry_of found.name.now found.known.now)) c.self.view_is
+    (told_of inside.records.keys inside.names.entries c.args.number found.name.now found.known.now c.self.invariant.1 found.ensures.entry found.ensures.value))
 
 pub returns-clause-name : goal.returns-clause-name
 returns-clause-name c = (is_told c).at
