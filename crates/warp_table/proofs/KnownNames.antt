@@ -71,8 +71,8 @@ pub event_kept : (records : List Record) (names : List (Name × Known)) (name : 
 event_kept records names name input value h =
     let known : Known = known_of name names in
     let is : entries_of (put_known names name (with_known_event input value known)) ≡ put (entries_of names) name (with_event input value (kept_of name (entries_of names))) =
-        put_is names name (with_known_event input value known)
-        ∙ ap (put (entries_of names) name) (event_known name input value known ∙ ap (with_event input value) (sym (kept_is name names))) in
+    put_is names name (with_known_event input value known)
+    ∙ ap (put (entries_of names) name) (event_known name input value known ∙ ap (with_event input value) (sym (kept_is name names))) in
     subst (KeepsNames (records ++ Event name.origin name.tag input value ∷ [])) (sym is) (event_noted records (entries_of names) name input value h)
 
 pub withdrawal_kept : (records : List Record) (names : List (Name × Known)) (name : Name) → KeepsNames records (entries_of names)
@@ -80,7 +80,7 @@ pub withdrawal_kept : (records : List Record) (names : List (Name × Known)) (na
 withdrawal_kept records names name h =
     let known : Known = known_of name names in
     let is : entries_of (put_known names name (with_known_withdrawal known)) ≡ put (entries_of names) name (with_withdrawal (kept_of name (entries_of names))) =
-        put_is names name (with_known_withdrawal known) ∙ ap (put (entries_of names) name) (ap with_withdrawal (sym (kept_is name names))) in
+    put_is names name (with_known_withdrawal known) ∙ ap (put (entries_of names) name) (ap with_withdrawal (sym (kept_is name names))) in
     subst (KeepsNames (records ++ Withdraw name.origin name.tag ∷ [])) (sym is) (withdrawal_noted records (entries_of names) name h)
 
 -- what is known of a name at a place is told there, as its entry

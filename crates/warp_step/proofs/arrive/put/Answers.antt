@@ -21,7 +21,7 @@ put_due P plan target v before after called due marked plan_is own places fits c
     called_is ∙ ap (λ (p : Plan). triggered_by p target) plan_is ∙ triggered_by_fits P target fit
     ∙ ap (λ (s : List ℕ). followers s P.reactions (target ∷ [])) (sym own) in
     let due_after = due_after_value 0 P.reactions before target v due marked were
-        (λ m has below. marks m (subst (λ (ns : List ℕ). Contains ns m) (sym all) has) (subst (λ (n : ℕ). m < n) (sym flags) below)) keeps in
+    (λ m has below. marks m (subst (λ (ns : List ℕ). Contains ns m) (sym all) has) (subst (λ (n : ℕ). m < n) (sym flags) below)) keeps in
     subst (λ (p : Presence). AreDue 0 P.reactions p marked) (sym arrives) due_after
 
 pub returns-clause-due : goal.returns-clause-due

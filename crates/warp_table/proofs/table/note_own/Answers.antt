@@ -88,7 +88,7 @@ returns-in-Event-clause-names c = λ records h.
     let now : List (Name × Known) = c.note_event.new.names.entries in
     let whole : to_z w64 (of_z w64 said.value) ≡ said.value = search rules in
     let made : OnOk c.note_event.result (now ≡ put_known names name (with_known_event said.input said.value (known_of name names))) =
-        subst (λ (v : ℤ). OnOk c.note_event.result (now ≡ put_known names name (with_known_event said.input v (known_of name names)))) whole c.note_event.ensures.names in
+    subst (λ (v : ℤ). OnOk c.note_event.result (now ≡ put_known names name (with_known_event said.input v (known_of name names)))) whole c.note_event.ensures.names in
     subst (λ (x : Record). OnOk c.note_event.result (KeepsNames (records ++ x ∷ []) (entries_of now))) (sym said.is)
     (on_ok_weaker c.note_event.result
     (λ e. subst (λ (ns : List (Name × Known)). KeepsNames (records ++ Event said.origin said.tag said.input said.value ∷ []) (entries_of ns)) (sym e)

@@ -15,9 +15,11 @@ invariant_of-self-then-not-is_new c =
 pub returns-then-not-is_new-clause-known : goal.returns-then-not-is_new-clause-known
 returns-then-not-is_new-clause-known c known =
     let same = stays c.self.inside.records.keys c.insert_full.new.self.keys c.args.record.now (sym c.in_ok-index.ensures.added ∙ known) c.in_ok-index.ensures.keys in
-    let is = same ∙ c.self.view_is in
-    (subst (λ (l : List Record). IsAt l (c.in_ok-index.index + 1) c.args.record.now) is
-    (stands_at c.insert_full.new.self.keys c.args.record.now c.in_ok-index.index c.in_ok-index.ensures.stored), is)
+    let is = same ∙ c.self.view_is in (
+      subst (λ (l : List Record). IsAt l (c.in_ok-index.index + 1) c.args.record.now) is
+          (stands_at c.insert_full.new.self.keys c.args.record.now c.in_ok-index.index c.in_ok-index.ensures.stored),
+      is,
+    )
 
 pub invariant_of-self-in-Ok : goal.invariant_of-self-in-Ok
 invariant_of-self-in-Ok c =
