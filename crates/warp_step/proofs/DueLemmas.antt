@@ -1,6 +1,6 @@
 -- Whom a place may trigger: that those that a new value triggers are among them, and so that due reactions stay due.
-use Rattle.std.proofs.Common.{◌≡◌, ◌⊎◌, inl, inr, ℕ, ℤ, zero, suc, ◌+◌, ◌<◌, Bool, true, false, ◌||◌, eqb, List, [], ◌∷◌, length, map, get_or, replicate, Option, None, Some, IsTrue, Contains, is_some, if◌then◌else◌, refl, sym, ap, ◌∙◌, subst, arith}
-use Rattle.std.specs.Prelude.{slice_get, slice_index_or}
+use Rattle.std.proofs.Common.{◌≡◌, ◌⊎◌, inl, inr, ℕ, ℤ, zero, suc, ◌+◌, ◌<◌, ◌≢◌, Bool, true, false, ◌||◌, eqb, List, [], ◌∷◌, length, map, get_or, replicate, Option, None, Some, IsTrue, Contains, is_some, if◌then◌else◌, refl, sym, ap, ◌∙◌, subst, arith}
+use Rattle.std.specs.Prelude.{slice_get, slice_index_or, slice_set}
 use Rattle.std.specs.List.{list_any}
 use Rattle.std.proofs.lemmas.Bool.{cases_Bool, or_from, ltb-true, eqb-false}
 use Rattle.std.proofs.lemmas.List.{get_or-set_other}
@@ -123,6 +123,12 @@ due_after_value n rules present target v due after were marked kept = λ m rule 
 -- the same of fewer rules
 pub due_from_next : (n : ℕ) (rules : List Rule) (present : Presence) (due : List Bool) → AreDue n rules present due → AreDue (n + 1) rules present due
 due_from_next n rules present due were = λ m rule from at triggered. were m rule (omega (arith, from)) at triggered
+
+-- nor the flag of the one that is looked at now
+pub due_without : (n : ℕ) (rules : List Rule) (present : Presence) (due : List Bool) → AreDue n rules present due → AreDue (n + 1) rules present (slice_set due n false)
+due_without n rules present due were = λ m rule from at triggered.
+    let other : m ≢ n = omega (arith, from) in
+    get_or-set_other due n m false false other ∙ were m rule (omega (arith, from)) at triggered
 
 -- a list of absent values has none
 none_at : (n k : ℕ) → get_or {A = Option ℤ} (replicate n None) k None ≡ None

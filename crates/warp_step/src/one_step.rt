@@ -27,7 +27,7 @@ use warp_tag::{OutOfMemory, Tag};
 pub struct Scratch {
     present: Present,
     plan: Plan,
-    /// For each reaction, whether it is to be looked at in this step.
+    /// For each reaction, whether it is to be looked at in this step. One may be so in vain, as where a step before left it.
     due: Vec<bool>,
     wishes: Vec<Wishes>,
     /// Whether a list of wishes may have some. Nearly always none has, and then nothing goes over them.
@@ -184,7 +184,6 @@ fn advance(
 {
     program.valid();
     present.clear();
-    due.fill(false);
     clear_wishes(wishes, wished);
     state.take_entries(program, plan, due, tag, present);
     arrive(program, plan, due, given, present);

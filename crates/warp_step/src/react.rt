@@ -114,6 +114,7 @@ pub(crate) fn run_reactions(
     let mut wished = false;
     for (number, reaction) in program.reactions().iter().enumerate() {
         if due[number] {
+            due[number] = false;
             let after = plan.after(number);
             wished |= run_reaction(number, reaction, after, due, vars, present, wishes);
         }

@@ -21,8 +21,8 @@ run_reactions-wished-requires-clause-vars c =
 pub run_reactions-wished-requires-clause-due : goal.run_reactions-wished-requires-clause-due
 run_reactions-wished-requires-clause-due c =
     let rules = c.args.program.now.reactions in
-    let none : AreDue 0 rules c.clear.new.self c.fill.new.self =
-    subst (λ (p : Presence). AreDue 0 rules p c.fill.new.self) (sym c.clear.ensures) (none_due 0 rules (places_of c.args.present.now) c.args.present.now.sources c.fill.new.self) in
+    let none : AreDue 0 rules c.clear.new.self c.args.due.now =
+    subst (λ (p : Presence). AreDue 0 rules p c.args.due.now) (sym c.clear.ensures) (none_due 0 rules (places_of c.args.present.now) c.args.present.now.sources c.args.due.now) in
     c.arrive.ensures.due (c.take_entries.ensures.due none)
 
 -- what the reactions make

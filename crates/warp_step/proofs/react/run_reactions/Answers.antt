@@ -4,7 +4,7 @@ use Rattle.std.proofs.Common.{◌≡◌, ℕ, ℤ, replicate, ◌+◌, ◌≤◌
 use Rattle.std.specs.Prelude.{slice_get, slice_index_or}
 use Rattle.std.specs.List.{list_all}
 use Rattle.std.proofs.lemmas.Bool.{cases_Bool, cond-false, or_parts}
-use Rattle.std.proofs.lemmas.List.{get_or-map, length-map, length-replicate}
+use Rattle.std.proofs.lemmas.List.{get_or-map, length-map, length-replicate, length-set}
 use Rattle.std.proofs.lemmas.Option.{slice_get-get_or}
 use Rattle.arrayvec.specs.ArrayVec.{ArrayVec}
 use Rattle.warp_body.specs.Effect.{body_fits, wish_fits}
@@ -18,7 +18,7 @@ use Rattle.warp_step.specs.Program.{Program, Rule, rule_of}
 use Rattle.warp_step.specs.Valid.{program_places, program_sizes, rule_fits}
 use Rattle.warp_step.specs.Step.{Reacting, after_reactions, followers_of, is_triggered, lists_of, numbers, order_of, plan_of, react, sources_of}
 use Rattle.warp_step.specs.inner.Due.{AreDue}
-use Rattle.warp_step.proofs.DueLemmas.{due_from_next}
+use Rattle.warp_step.proofs.DueLemmas.{due_from_next, due_without}
 use Rattle.warp_step.proofs.ReactLemmas.{after_one_more, empty_at, empty_pass, react_other, rule_at}
 use Rattle.warp_step.proofs.ValidLemmas.{RuleFits, list_all_get, rule_parts, validity}
 use Rattle.warp_step.proofs.react.run_reactions.Goals as goal
@@ -122,11 +122,10 @@ loop-number-preserved c =
             fits = subst (λ (s : Sizes). IsTrue (list_all (list_all (wish_fits s)) (lists_of ran.new.wishes))) (sym sizes)
                 (ran.ensures.wishes
                 (subst (λ (s : Sizes). IsTrue (list_all (list_all (wish_fits s)) (lists_of c.loop-number.wishes))) sizes c.loop-number.invariant.wishes));
-            flags = ran.ensures.flags;
-            due = due_from_next n P.reactions ran.new.present ran.new.due
-                (ran.ensures.due n P.reactions (sym flags)
+            flags = ran.ensures.flags ∙ length-set c.loop-number.due n false;
+            due = ran.ensures.due (n + 1) P.reactions (sym (length-set c.loop-number.due n false ∙ flags))
                 (w.after-after.ensures ∙ after_in_plan P c.args.plan.now n rule c.loop-number.present.sources c.requires.plan own at.0 at.1)
-                c.loop-number.invariant.due);
+                (due_without n P.reactions c.loop-number.present c.loop-number.due c.loop-number.invariant.due);
             unwished = λ h.
                 let both = or_parts c.loop-number.wished ran.result h in
                 (both.0, ran.ensures.none both.1);
