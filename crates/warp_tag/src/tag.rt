@@ -19,24 +19,29 @@ pub const MAX_PERIOD: u64 = 1_000_000;
 /// The longest delay that a call of `Tag::after` is given: two delays of a program, added.
 pub const MAX_DELAY: u64 = 2_000_000;
 
+/// How many microsteps a time has room for in the number of a tag.
+const MICROSTEPS: u32 = 256;
+
 /// A time, 0 to `MAX_TIME`, and a microstep, 0 to `LAST_MICROSTEP`. Tags are ordered by time, then by microstep.
+///
+/// It is kept as one number of 32 bits, 256 times the time plus the microstep, since a log keeps a tag of each record at several
+/// places, and numbers are compared at once.
 #[derive(Clone, Copy, Debug, Default, PartialEq, Eq, PartialOrd, Ord, Hash)]
 pub struct Tag {
-    time: u64,
-    micro: u32,
+    number: u32,
 }
 
 impl Model for Tag {
-    ghost use Rattle.std.specs.Prelude.{◌≤◌};
+    ghost use Rattle.std.specs.Prelude.{◌≤◌, ◌+◌, ◌*◌, ◌/◌, ◌%◌};
     ghost use Rattle.warp_tag.specs.Moment.{Moment, IsInRange};
 
     ghost Value = { Moment };
 
-    ghost view = { λ t. record { time = t.time; microstep = t.micro } };
+    ghost view = { λ t. record { time = t.number / 256; microstep = t.number % 256 } };
 
-    ghost invariant = { λ t. IsInRange (record { time = t.time; microstep = t.micro }) };
+    ghost invariant = { λ t. IsInRange (record { time = t.number / 256; microstep = t.number % 256 }) };
 
-    ghost inverse = { λ m. record { time = m.time; micro = m.microstep } };
+    ghost inverse = { λ m. record { number = m.time * 256 + m.microstep } };
 }
 
 /// Where a delay lands.
@@ -59,7 +64,7 @@ impl Tag {
         ensures { SomeIff result (IsInRange (record { time = time; microstep = micro })) (record { time = time; microstep = micro }) }
     {
         if time <= MAX_TIME && micro <= LAST_MICROSTEP {
-            Some(Tag { time, micro })
+            Some(Tag::of(time, micro))
         } else {
             None
         }
@@ -70,7 +75,17 @@ impl Tag {
         requires { time ≤ last_time }
         ensures { result ≡ record { time = time; microstep = 0 } }
     {
-        Tag { time, micro: 0 }
+        Tag::of(time, 0)
+    }
+
+    /// The tag of this time and microstep, which are in range.
+    fn of(time: u64, micro: u32) -> Tag
+        requires { IsInRange (record { time = time; microstep = micro }) }
+        ensures { result ≡ record { time = time; microstep = micro } }
+    {
+        Tag {
+            number: time as u32 * MICROSTEPS + micro,
+        }
     }
 
     /// The time, in the program's own unit.
@@ -78,7 +93,7 @@ impl Tag {
         ensures value { result ≡ self.time }
         ensures range { IsInRange self }
     {
-        self.time
+        u64::from(self.number / MICROSTEPS)
     }
 
     /// The microstep.
@@ -86,7 +101,7 @@ impl Tag {
         ensures value { result ≡ self.microstep }
         ensures range { IsInRange self }
     {
-        self.micro
+        self.number % MICROSTEPS
     }
 
     /// Whether this tag comes before the other: by time, then by microstep.
@@ -112,18 +127,15 @@ impl Tag {
         ensures { result ≡ landing stop last_microstep self delay }
     {
         if delay > 0 {
-            let time = self.time + delay;
+            let time = self.time() + delay;
             if time <= stop {
-                Landing::At(Tag { time, micro: 0 })
+                Landing::At(Tag::beginning_of(time))
             } else {
                 Landing::PastStop
             }
-        } else if self.micro < LAST_MICROSTEP {
-            let micro = self.micro + 1;
-            Landing::At(Tag {
-                time: self.time,
-                micro,
-            })
+        } else if self.micro() < LAST_MICROSTEP {
+            let micro = self.micro() + 1;
+            Landing::At(Tag::of(self.time(), micro))
         } else {
             Landing::PastMicro
         }
