@@ -1,7 +1,12 @@
 //! Tags and landings: their ranges, their order, and where a delay leads.
-ghost use Rattle.std.specs.Prelude.{◌≡◌, ℕ, ◌≤◌, SomeIff};
+ghost use Rattle.std.specs.Prelude.{◌≡◌, ℕ, ◌≤◌, SomeIff, ◌+◌, ◌*◌, nat_eq};
 ghost use Rattle.warp_tag.specs.Limits.{last_microstep, last_time, longest_delay, longest_period, longest_stop};
+ghost use Rattle.std.specs.Ordering.{eq_of_both, on};
+ghost use Rattle.std.specs.Cmp.Rules.{comparing, hashing};
+ghost use Rattle.std.specs.Hash as fed;
+ghost use Rattle.std.proofs.Common.{rules};
 
+use std::hash::{Hash, Hasher};
 use std::marker::Model;
 
 /// The last time that a program can have as its stop, in the program's own unit.
@@ -26,7 +31,7 @@ const MICROSTEPS: u32 = 256;
 ///
 /// It is kept as one number of 32 bits, 256 times the time plus the microstep, since a log keeps a tag of each record at several
 /// places, and numbers are compared at once.
-#[derive(Clone, Copy, Debug, Default, PartialEq, Eq, PartialOrd, Ord, Hash)]
+#[derive(Clone, Copy, Debug, Default)]
 pub struct Tag {
     number: u32,
 }
@@ -42,6 +47,30 @@ impl Model for Tag {
     ghost invariant = { λ t. IsInRange (record { time = t.number / 256; microstep = t.number % 256 }) };
 
     ghost inverse = { λ m. record { number = m.time * 256 + m.microstep } };
+}
+
+impl PartialEq for Tag {
+    ghost eq = { eq_of_both (on (λ t. t.time) nat_eq) (on (λ t. t.microstep) nat_eq) };
+
+    ghost laws = { Prim.search (comparing, rules) };
+
+    fn eq(&self, other: &Tag) -> bool {
+        self.number == other.number
+    }
+}
+
+impl Eq for Tag {
+    ghost laws = { Prim.search (comparing, rules) };
+}
+
+impl Hash for Tag {
+    ghost hash_input = { λ t. fed.u32 (t.time * 256 + t.microstep) };
+
+    ghost respects_eq = { Prim.search (hashing, rules) };
+
+    fn hash<H: Hasher>(&self, state: &mut H) {
+        state.write_u32(self.number);
+    }
 }
 
 /// Where a delay lands.
@@ -108,7 +137,7 @@ impl Tag {
     pub fn is_before(self, other: Tag) -> bool
         ensures { result ≡ is_before self other }
     {
-        self < other
+        self.number < other.number
     }
 
     /// Whether the two tags are one.
