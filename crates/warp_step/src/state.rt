@@ -7,8 +7,9 @@ ghost use Rattle.warp_step.specs.Valid.{names};
 ghost use Rattle.warp_body.specs.declared.place.Target.TheVariants as to;
 ghost use Rattle.warp_step.specs.Snapshot.{AreInOrder, IsStateOf, entered, landed, least_pending, start_state, with_loss, with_timers};
 
+use crate::entries::Entries;
 use crate::parts::Variable;
-use crate::pending::{Entries, Waiting, enter, replace_all};
+use crate::pending::{Waiting, enter};
 use crate::program::Program;
 use crate::reaction::Reaction;
 use std::alloc::Global;
@@ -32,9 +33,9 @@ impl Model for State {
 
     ghost Value = { Snapshot };
 
-    ghost view = { λ s. record { vars = s.vars; pending = s.pending.items; lost = s.lost } };
+    ghost view = { λ s. record { vars = s.vars; pending = s.pending; lost = s.lost } };
 
-    ghost invariant = { λ s. AreInOrder s.pending.items × (length s.vars ≤ most_variables) };
+    ghost invariant = { λ s. AreInOrder s.pending × (length s.vars ≤ most_variables) };
 }
 
 impl State {
@@ -124,7 +125,7 @@ impl State {
         let values = self.vars.as_slice().to_vec(alloc)?;
         Ok(State {
             vars: Vars::from_vec(values),
-            pending: self.pending.clone()?,
+            pending: self.pending.copy(),
             lost: self.lost,
         })
     }
@@ -152,7 +153,7 @@ impl State {
         ensures { self.new ≡ record { vars = values.now; pending = entries.now; lost = lost } }
     {
         set_all(&mut self.vars, values);
-        replace_all(&mut self.pending, entries);
+        self.pending.replace_all(entries);
         self.lost = lost;
     }
 
