@@ -75,6 +75,7 @@ impl Entries {
     }
 
     /// Puts an entry in the place of the one there.
+    #[inline(always)]
     pub(crate) fn set(&mut self, at: usize, entry: Waiting)
         requires { at < length self.old }
         ensures { self.new ≡ slice_set self.old at entry }
@@ -84,6 +85,7 @@ impl Entries {
     }
 
     /// Inserts an entry at its place. Those in front of it move where they are fewer and there is room, else those behind it.
+    #[inline(always)]
     pub(crate) fn insert(&mut self, at: usize, entry: Waiting)
         requires within { at ≤ length self.old }
         requires room { length self.old < most_pending }

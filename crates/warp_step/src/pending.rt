@@ -26,6 +26,7 @@ pub struct Waiting {
 
 impl Waiting {
     /// Whether it comes before this tag and target: by tag, then by target.
+    #[inline(always)]
     fn comes_before(&self, tag: Tag, target: Target) -> bool
         ensures { result ≡ key_before self.now.tag self.now.target (record { tag = tag; target = target; value = self.now.value }) }
     {
@@ -33,6 +34,7 @@ impl Waiting {
     }
 
     /// Whether it is at this tag, to this target.
+    #[inline(always)]
     fn is_at(&self, tag: Tag, target: Target) -> bool
         ensures { result ≡ has_key tag target self.now }
     {
@@ -83,6 +85,7 @@ fn place_by_halves(entries: &[Waiting], tag: Tag, target: Target) -> usize
 }
 
 /// How many entries come before this tag and target. A timer that is pending again lands mostly at one of the ends.
+#[inline(always)]
 fn place(entries: &[Waiting], tag: Tag, target: Target) -> usize
     requires { AreInOrder entries.now }
     ensures place { result ≡ prefix_len (λ w. key_before w.tag w.target (record { tag = tag; target = target; value = w.value })) entries.now }
@@ -98,6 +101,7 @@ fn place(entries: &[Waiting], tag: Tag, target: Target) -> usize
 }
 
 /// Whether the entry at the place of this tag and target is of them.
+#[inline(always)]
 fn is_there(entries: &[Waiting], at: usize, tag: Tag, target: Target) -> bool
     requires order { AreInOrder entries.now }
     requires place { at ≡ prefix_len (λ w. key_before w.tag w.target (record { tag = tag; target = target; value = w.value })) entries.now }
@@ -116,6 +120,7 @@ fn is_there(entries: &[Waiting], at: usize, tag: Tag, target: Target) -> bool
 
 /// Enters a value at a tag to a target: one that is there takes it, a new one comes in where there is room. Answers
 /// whether it is in.
+#[inline(never)]
 pub(crate) fn enter(entries: &mut Entries, tag: Tag, target: Target, value: i64) -> bool
     requires { AreInOrder entries.old }
     ensures answer { result ≡ (list_any (has_key tag target) entries.old || nat_lt (length entries.old) most_pending) }

@@ -74,6 +74,7 @@ impl State {
 
     /// Enters a value at a tag to a target: one that is pending takes it; a new one comes in where fewer than 256 are
     /// pending, and is lost where not.
+    #[inline(always)]
     fn enter(&mut self, tag: Tag, target: Target, value: i64)
         ensures { self.new ≡ entered tag target value self.old }
     {
@@ -83,6 +84,7 @@ impl State {
     }
 
     /// Counts one more entry that is lost. The count stays at the greatest number of 64 bits.
+    #[inline(always)]
     fn lose(&mut self)
         ensures { self.new ≡ with_loss self.old }
     {
@@ -90,6 +92,7 @@ impl State {
     }
 
     /// Enters a value for a target where a delay lands: past the stop nothing is added, past the last microstep it is lost.
+    #[inline(always)]
     pub(crate) fn land(
         &mut self,
         program: &Program,
