@@ -1,9 +1,9 @@
 -- What stands between two places of a list after an entry came in there, one was written, or some were taken out at the front.
-use Rattle.std.proofs.Common.{◌≡◌, ℕ, zero, suc, ◌+◌, ◌-◌, ◌<◌, ◌≤◌, List, [], ◌∷◌, ◌++◌, length, take, drop, set, refl, sym, ap, ◌∙◌, arith, take_all, append_assoc, append-nil, length-append, length-drop, take-append-drop}
+use Rattle.std.proofs.Common.{◌≡◌, ℕ, suc, ◌+◌, ◌-◌, ◌<◌, ◌≤◌, List, [], ◌∷◌, ◌++◌, length, take, drop, set, sym, ap, ◌∙◌, arith, append_assoc, append-nil, length-append, length-drop, take-append-drop}
 use Rattle.std.specs.Prelude.{slice_range}
 use Rattle.std.specs.List.{insert, copy_within}
 use Rattle.std.proofs.Math.Seq.{paste, take-add, take-append-add, drop-append-add, take-set-lt, set_split}
-use Rattle.std.proofs.lemmas.List.{drop-drop, drop-take, take-take, take-append-le, drop_all, length-take-le, drop-set-add}
+use Rattle.std.proofs.lemmas.List.{drop-drop, drop-take, take-take, take-append-le, length-take-le, drop-set-add}
 use Rattle.std.proofs.lemmas.List.Edits.{length-paste, take-paste, drop-paste}
 
 module _ {X : Type 0} where
@@ -98,13 +98,8 @@ module _ {X : Type 0} where
   pub written : (xs : List X) (s e at : ℕ) (x : X) → at < e - s → slice_range (set xs (s + at) x) s e ≡ set (slice_range xs s e) at x
   written xs s e at x within = ap (take (e - s)) (drop-set-add s xs at x) ∙ take-set-lt (e - s) (drop s xs) at x within
 
-  -- some are taken out, and some or none are left
+  -- some are taken out
   pub rest_is : (xs : List X) (s e n : ℕ) → s + n ≤ e → slice_range xs (s + n) e ≡ drop n (slice_range xs s e)
   rest_is xs s e n within =
       let all : e - s ≡ n + (e - (s + n)) = omega arith in
       ap (take (e - (s + n))) (sym (drop-drop n s xs)) ∙ sym (drop-take n (e - (s + n)) (drop s xs)) ∙ ap (λ k. drop n (take k (drop s xs))) (sym all)
-
-  pub none_left : (xs : List X) (s e n : ℕ) → s ≤ e → e ≤ length xs → e ≤ s + n → drop n (slice_range xs s e) ≡ []
-  none_left xs s e n start end out =
-      let long : length (take (e - s) (drop s xs)) ≡ e - s = length-take-le (e - s) (drop s xs) (omega (arith, length-drop s xs)) in
-      drop_all n (slice_range xs s e) (omega arith)

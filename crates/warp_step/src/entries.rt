@@ -1,5 +1,5 @@
-//! The list of the pending entries. The earliest are taken out at its front, and a new one comes in at either end, or between,
-//! and neither moves more than the entries on the shorter side.
+//! The list of the pending entries. The earliest are taken out at its front without moving the rest, and a new one moves those on
+//! its shorter side, where there is room.
 ghost use Rattle.std.specs.Prelude.{◌≡◌, ◌+◌, ◌-◌, ◌<◌, ◌≤◌, [], length, take, drop, slice_range, slice_set};
 ghost use Rattle.std.specs.List.{insert};
 ghost use Rattle.warp_tag.specs.Limits.{most_pending};

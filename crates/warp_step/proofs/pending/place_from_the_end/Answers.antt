@@ -1,5 +1,5 @@
 -- the entry at which the walk stops is ahead, and what was passed is not
-use Rattle.std.proofs.Common.{◌≡◌, ◌<◌, ◌-◌, ◌+◌, ◌∙◌, true, length, sym, arith, rules}
+use Rattle.std.proofs.Common.{◌≡◌, ◌<◌, ◌-◌, ◌+◌, ◌∙◌, true, length, arith, rules}
 use Rattle.warp_step.proofs.PendingLemmas.{ahead, front_ends, no_front}
 use Rattle.warp_step.proofs.pending.place_from_the_end.Goals as goal
 

@@ -1,6 +1,6 @@
 -- the rest stands where it stood
-use Rattle.std.proofs.Common.{sym, ap, ◌∙◌, drop, arith}
-use Rattle.warp_step.proofs.EntryMoves.{rest_is, none_left}
+use Rattle.std.proofs.Common.{ap, ◌∙◌, drop, arith}
+use Rattle.warp_step.proofs.EntryMoves.{rest_is}
 use Rattle.warp_step.proofs.entries.Entries.drop_front.Goals as goal
 
 pub returns-then-start-self : goal.returns-then-start-self

@@ -1,6 +1,6 @@
 -- the entry that was there is written over
-use Rattle.std.proofs.Common.{◌≡◌, ◌<◌, ◌-◌, ap, ◌∙◌, arith, length}
-use Rattle.std.specs.Prelude.{slice_range, slice_set}
+use Rattle.std.proofs.Common.{◌<◌, ◌-◌, ap, ◌∙◌, arith, length}
+use Rattle.std.specs.Prelude.{slice_set}
 use Rattle.std.proofs.lemmas.List.Edits.{length-between}
 use Rattle.warp_step.proofs.EntryMoves.{written}
 use Rattle.warp_step.proofs.entries.Entries.set.Goals as goal
