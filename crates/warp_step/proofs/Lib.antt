@@ -1,5 +1,6 @@
 pub mod DueBodies
 pub mod DueLemmas
+pub mod EntryMoves
 pub mod FrontLemmas
 pub mod OutputsBefore
 pub mod OutputsOfRun

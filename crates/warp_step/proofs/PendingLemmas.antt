@@ -1,5 +1,5 @@
 -- The order of pending entries, and what an entry that comes in leaves as it is.
-use Rattle.std.proofs.Common.{◌≡◌, ◌⊎◌, inl, inr, ℕ, zero, suc, ◌<◌, ◌≤◌, Bool, true, false, ◌&&◌, ◌||◌, List, [], ◌∷◌, get_or, length, set, ap, sym, ◌∙◌, refl, subst, arith, IsTrue}
+use Rattle.std.proofs.Common.{◌≡◌, ◌⊎◌, inl, inr, ℕ, zero, suc, ◌+◌, ◌<◌, ◌≤◌, Bool, true, false, ◌&&◌, ◌||◌, List, [], ◌∷◌, get_or, length, set, ap, sym, ◌∙◌, refl, subst, arith, IsTrue}
 use Rattle.std.specs.Prelude.{ℤ, pos, slice_get, Option, Some, None, if◌then◌else◌}
 use Rattle.std.specs.List.{list_any, prefix_len, insert, AllByRecursion}
 use Rattle.std.specs.List.Sorted.{IsPartitionedBy, IsPartitionPoint}
@@ -206,6 +206,17 @@ read_as : (ws : List Waiting) (n : ℕ) (x d : Waiting) → n < length ws → x 
 read_as [] n x d h r = absurd (omega arith)
 read_as (w ∷ ws) zero x d h r = sym r
 read_as (w ∷ ws) (suc n) x d h r = read_as ws n x d (omega arith) r
+
+-- where an entry is ahead, and none behind it, the front ends there
+pub front_ends : (t : Moment) (k : Target) (ws : List Waiting) (n : ℕ) (x : Waiting) → AreInOrder ws → n < length ws → x ≡ get_or ws n x → ahead t k x ≡ true
+    → ((j : ℕ) (d : Waiting) → n + 1 ≤ j → j < length ws → ahead t k (get_or ws j d) ≡ false) → n + 1 ≡ prefix_len (ahead t k) ws
+front_ends t k ws n x ordered within is here behind =
+    point_is_front (ahead t k) ws (n + 1) (omega arith)
+    (λ j d some below. in_front t k ws ordered j n d (omega arith) within (ap (ahead t k) (read_as ws n x d within is) ∙ here), λ j d above some. behind j d above some)
+
+-- and where none is ahead, there is no front
+pub no_front : (t : Moment) (k : Target) (ws : List Waiting) (n : ℕ) → n ≡ 0 → ((j : ℕ) (d : Waiting) → n ≤ j → j < length ws → ahead t k (get_or ws j d) ≡ false) → n ≡ prefix_len (ahead t k) ws
+no_front t k ws n none behind = point_is_front (ahead t k) ws n (omega arith) (λ j d some below. absurd (omega arith), λ j d above some. behind j d above some)
 
 -- whether the entry at the place is at the key says how the new one comes in
 pub record ComesIn (t : Moment) (k : Target) (ws : List Waiting) (n : ℕ) (there : Bool) : Type 0 where

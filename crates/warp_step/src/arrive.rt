@@ -10,7 +10,7 @@ ghost use Rattle.warp_step.specs.inner.Due.{AreDue};
 ghost use Rattle.warp_step.specs.inner.Front.{HasOtherHead};
 
 use crate::out::Given;
-use crate::pending::{Waiting, drop_front};
+use crate::pending::Waiting;
 use crate::plan::{Plan, mark};
 use crate::program::Program;
 use crate::state::State;
@@ -41,7 +41,7 @@ impl State {
         ensures due { AreDue 0 program.now.reactions present.old due.old → AreDue 0 program.now.reactions present.new due.new }
     {
         let count = arrive_entries(self.pending.as_slice(), program, plan, due, tag, present);
-        drop_front(&mut self.pending, count);
+        self.pending.drop_front(count);
     }
 }
 

@@ -9,6 +9,7 @@
 mod arrive;
 mod counter;
 mod enter;
+mod entries;
 mod law;
 mod meter;
 mod one_step;

@@ -1,18 +1,17 @@
 //! The pending entries of a state: sorted by tag, then by target, each tag and target once.
-ghost use Rattle.std.specs.Prelude.{◌≡◌, ℤ, ◌<◌, ◌≤◌, ◌||◌, IsTrue, nat_lt, length, drop, slice_set, if◌then◌else◌};
+ghost use Rattle.std.specs.Prelude.{◌≡◌, ℤ, ◌<◌, ◌≤◌, ◌||◌, IsTrue, nat_lt, length, slice_set, true, if◌then◌else◌};
 ghost use Rattle.std.specs.List.{list_any, insert, prefix_len};
-ghost use Rattle.arrayvec.specs.ArrayVec.{array_vec_len};
 ghost use Rattle.warp_tag.specs.Limits.{most_pending};
 ghost use Rattle.warp_tag.specs.Moment.{is_before, is_same};
 ghost use Rattle.warp_body.specs.Presence.{target_before};
 ghost use Rattle.warp_step.specs.Snapshot.{AreInOrder, has_key, key_before, with_entry};
 
-use arrayvec::ArrayVec;
+use crate::entries::{Entries, MOST_PENDING};
 use warp_body::Target;
 use warp_tag::Tag;
 
-/// How many entries may be pending.
-pub(crate) const MOST_PENDING: usize = 256;
+/// Up to so many of the last entries are passed for one that comes in among them.
+const FEW: usize = 8;
 
 /// A pending entry: at its tag its target is present with its value.
 #[derive(Clone, Copy, Debug, PartialEq, Eq, Default)]
@@ -25,11 +24,9 @@ pub struct Waiting {
     pub value: i64,
 }
 
-/// The pending entries, in order.
-pub(crate) type Entries = ArrayVec<Waiting, MOST_PENDING>;
-
 impl Waiting {
     /// Whether it comes before this tag and target: by tag, then by target.
+    #[inline(always)]
     fn comes_before(&self, tag: Tag, target: Target) -> bool
         ensures { result ≡ key_before self.now.tag self.now.target (record { tag = tag; target = target; value = self.now.value }) }
     {
@@ -37,6 +34,7 @@ impl Waiting {
     }
 
     /// Whether it is at this tag, to this target.
+    #[inline(always)]
     fn is_at(&self, tag: Tag, target: Target) -> bool
         ensures { result ≡ has_key tag target self.now }
     {
@@ -44,8 +42,41 @@ impl Waiting {
     }
 }
 
-/// How many entries come before this tag and target.
-fn place(entries: &[Waiting], tag: Tag, target: Target) -> usize
+/// Whether this tag and target is before all entries, or at the first.
+#[inline(always)]
+fn is_in_front(entries: &[Waiting], tag: Tag, target: Target) -> bool
+    ensures { result ≡ true → prefix_len (λ w. key_before w.tag w.target (record { tag = tag; target = target; value = w.value })) entries.now ≡ 0 }
+{
+    match entries.first() {
+        Some(first) => !first.comes_before(tag, target),
+        None => true,
+    }
+}
+
+/// Whether the place of this tag and target is among the last few. On this hangs what is looked at, and nothing else.
+#[inline(always)]
+fn is_near_the_end(entries: &[Waiting], tag: Tag, target: Target) -> bool {
+    let passed = entries.len().saturating_sub(FEW);
+    passed == 0 || entries[passed - 1].comes_before(tag, target)
+}
+
+/// How many entries come before this tag and target, sought from the last one on.
+#[inline(always)]
+fn place_from_the_end(entries: &[Waiting], tag: Tag, target: Target) -> usize
+    requires { AreInOrder entries.now }
+    ensures place { result ≡ prefix_len (λ w. key_before w.tag w.target (record { tag = tag; target = target; value = w.value })) entries.now }
+    ensures within { result ≤ length entries.now }
+{
+    let mut at = entries.len();
+    while at > 0 && !entries[at - 1].comes_before(tag, target) {
+        at -= 1;
+    }
+    at
+}
+
+/// How many entries come before this tag and target, sought by halves.
+#[inline(never)]
+fn place_by_halves(entries: &[Waiting], tag: Tag, target: Target) -> usize
     requires { AreInOrder entries.now }
     ensures place { result ≡ prefix_len (λ w. key_before w.tag w.target (record { tag = tag; target = target; value = w.value })) entries.now }
     ensures within { result ≤ length entries.now }
@@ -53,7 +84,24 @@ fn place(entries: &[Waiting], tag: Tag, target: Target) -> usize
     entries.partition_point(|entry| entry.comes_before(tag, target))
 }
 
+/// How many entries come before this tag and target. A timer that is pending again lands mostly at one of the ends.
+#[inline(always)]
+fn place(entries: &[Waiting], tag: Tag, target: Target) -> usize
+    requires { AreInOrder entries.now }
+    ensures place { result ≡ prefix_len (λ w. key_before w.tag w.target (record { tag = tag; target = target; value = w.value })) entries.now }
+    ensures within { result ≤ length entries.now }
+{
+    if is_in_front(entries, tag, target) {
+        0
+    } else if is_near_the_end(entries, tag, target) {
+        place_from_the_end(entries, tag, target)
+    } else {
+        place_by_halves(entries, tag, target)
+    }
+}
+
 /// Whether the entry at the place of this tag and target is of them.
+#[inline(always)]
 fn is_there(entries: &[Waiting], at: usize, tag: Tag, target: Target) -> bool
     requires order { AreInOrder entries.now }
     requires place { at ≡ prefix_len (λ w. key_before w.tag w.target (record { tag = tag; target = target; value = w.value })) entries.now }
@@ -72,15 +120,16 @@ fn is_there(entries: &[Waiting], at: usize, tag: Tag, target: Target) -> bool
 
 /// Enters a value at a tag to a target: one that is there takes it, a new one comes in where there is room. Answers
 /// whether it is in.
+#[inline(never)]
 pub(crate) fn enter(entries: &mut Entries, tag: Tag, target: Target, value: i64) -> bool
-    requires { AreInOrder entries.old.items }
-    ensures answer { result ≡ (list_any (has_key tag target) entries.old.items || nat_lt (length entries.old.items) most_pending) }
-    ensures entries { entries.new.items ≡ (if result then with_entry tag target value entries.old.items else entries.old.items) }
+    requires { AreInOrder entries.old }
+    ensures answer { result ≡ (list_any (has_key tag target) entries.old || nat_lt (length entries.old) most_pending) }
+    ensures entries { entries.new ≡ (if result then with_entry tag target value entries.old else entries.old) }
 {
-    let at = place(entries, tag, target);
+    let at = place(entries.as_slice(), tag, target);
     let entry = Waiting { tag, target, value };
-    if is_there(entries, at, tag, target) {
-        entries[at] = entry;
+    if is_there(entries.as_slice(), at, tag, target) {
+        entries.set(at, entry);
         return true;
     }
     let is_room = entries.len() < MOST_PENDING;
@@ -88,26 +137,4 @@ pub(crate) fn enter(entries: &mut Entries, tag: Tag, target: Target, value: i64)
         entries.insert(at, entry);
     }
     is_room
-}
-
-/// Puts these entries, for which there is room, in the place of all.
-pub(crate) fn replace_all(entries: &mut Entries, others: &[Waiting])
-    requires { length others.now ≤ most_pending }
-    ensures { entries.new.items ≡ others.now }
-{
-    entries.clear();
-    // There is room, so nothing can be refused.
-    let _ = entries.try_extend_from_slice(others);
-}
-
-/// Drops the first so many entries.
-pub(crate) fn drop_front(entries: &mut Entries, count: usize)
-    requires { count ≤ length entries.old.items }
-    ensures { entries.new.items ≡ drop count entries.old.items }
-{
-    if count > 0 {
-        let kept = entries.len() - count;
-        entries.as_mut_slice().copy_within(count.., 0);
-        entries.truncate(kept);
-    }
 }

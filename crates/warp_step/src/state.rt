@@ -7,8 +7,9 @@ ghost use Rattle.warp_step.specs.Valid.{names};
 ghost use Rattle.warp_body.specs.declared.place.Target.TheVariants as to;
 ghost use Rattle.warp_step.specs.Snapshot.{AreInOrder, IsStateOf, entered, landed, least_pending, start_state, with_loss, with_timers};
 
+use crate::entries::Entries;
 use crate::parts::Variable;
-use crate::pending::{Entries, Waiting, enter, replace_all};
+use crate::pending::{Waiting, enter};
 use crate::program::Program;
 use crate::reaction::Reaction;
 use std::alloc::Global;
@@ -32,9 +33,9 @@ impl Model for State {
 
     ghost Value = { Snapshot };
 
-    ghost view = { λ s. record { vars = s.vars; pending = s.pending.items; lost = s.lost } };
+    ghost view = { λ s. record { vars = s.vars; pending = s.pending; lost = s.lost } };
 
-    ghost invariant = { λ s. AreInOrder s.pending.items × (length s.vars ≤ most_variables) };
+    ghost invariant = { λ s. AreInOrder s.pending × (length s.vars ≤ most_variables) };
 }
 
 impl State {
@@ -73,6 +74,7 @@ impl State {
 
     /// Enters a value at a tag to a target: one that is pending takes it; a new one comes in where fewer than 256 are
     /// pending, and is lost where not.
+    #[inline(always)]
     fn enter(&mut self, tag: Tag, target: Target, value: i64)
         ensures { self.new ≡ entered tag target value self.old }
     {
@@ -82,6 +84,7 @@ impl State {
     }
 
     /// Counts one more entry that is lost. The count stays at the greatest number of 64 bits.
+    #[inline(always)]
     fn lose(&mut self)
         ensures { self.new ≡ with_loss self.old }
     {
@@ -89,6 +92,7 @@ impl State {
     }
 
     /// Enters a value for a target where a delay lands: past the stop nothing is added, past the last microstep it is lost.
+    #[inline(always)]
     pub(crate) fn land(
         &mut self,
         program: &Program,
@@ -124,7 +128,7 @@ impl State {
         let values = self.vars.as_slice().to_vec(alloc)?;
         Ok(State {
             vars: Vars::from_vec(values),
-            pending: self.pending.clone()?,
+            pending: self.pending.copy(),
             lost: self.lost,
         })
     }
@@ -152,7 +156,7 @@ impl State {
         ensures { self.new ≡ record { vars = values.now; pending = entries.now; lost = lost } }
     {
         set_all(&mut self.vars, values);
-        replace_all(&mut self.pending, entries);
+        self.pending.replace_all(entries);
         self.lost = lost;
     }
 

@@ -18,12 +18,12 @@ arrive_entries-count-requires-clause-targets c =
 
 pub invariant_of-self : goal.invariant_of-self
 invariant_of-self c =
-    let rest : AreInOrder (drop c.arrive_entries-count.result c.self.inside.pending.items) = order_drop c.arrive_entries-count.result c.self.inside.pending.items c.self.invariant.0 in
+    let rest : AreInOrder (drop c.arrive_entries-count.result c.self.inside.pending) = order_drop c.arrive_entries-count.result c.self.inside.pending c.self.invariant.0 in
     (subst AreInOrder (sym c.drop_front.ensures) rest, c.self.invariant.1)
 
-all : (c : goal.After-drop_front) → Taken c.args.tag c.args.self.now c.drop_front.new.entries.items c.args.present.now c.arrive_entries-count.new.present
+all : (c : goal.After-drop_front) → Taken c.args.tag c.args.self.now c.drop_front.new.self c.args.present.now c.arrive_entries-count.new.present
 all c =
-    let ws = c.self.inside.pending.items in
+    let ws = c.self.inside.pending in
     let n = c.arrive_entries-count.result in
     let same : ws ≡ c.args.self.now.pending = search rules in
     let slice : c.as_slice.result.now ≡ ws = c.as_slice.ensures.value in
@@ -31,7 +31,7 @@ all c =
     let other : HasOtherHead c.args.tag (drop n ws) = subst (λ (xs : List Waiting). HasOtherHead c.args.tag (drop n xs)) slice c.arrive_entries-count.ensures.other in
     let arrives : c.arrive_entries-count.new.present ≡ arrived_entries (take n ws) c.args.present.now =
     subst (λ (xs : List Waiting). c.arrive_entries-count.new.present ≡ arrived_entries (take n xs) c.args.present.now) slice c.arrive_entries-count.ensures.present in
-    taken c.args.tag c.args.self.now ws c.drop_front.new.entries.items n c.args.present.now c.arrive_entries-count.new.present same c.self.invariant.0 c.requires.none_before here other c.drop_front.ensures arrives
+    taken c.args.tag c.args.self.now ws c.drop_front.new.self n c.args.present.now c.arrive_entries-count.new.present same c.self.invariant.0 c.requires.none_before here other c.drop_front.ensures arrives
 
 pub returns-clause-state : goal.returns-clause-state
 returns-clause-state c = let rest = (all c).rest in search rules

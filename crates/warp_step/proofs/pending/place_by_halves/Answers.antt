@@ -2,7 +2,7 @@
 use Rattle.std.proofs.Common.{rules}
 use Rattle.std.proofs.lemmas.List.Sorted.{IsPartitionPoint-from_clause}
 use Rattle.warp_step.proofs.PendingLemmas.{ahead, in_front, point_is_front}
-use Rattle.warp_step.proofs.pending.place.Goals as goal
+use Rattle.warp_step.proofs.pending.place_by_halves.Goals as goal
 
 pub returns-clause-place : goal.returns-clause-place
 returns-clause-place c =
