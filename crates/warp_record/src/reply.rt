@@ -12,7 +12,7 @@ ghost use Rattle.warp_record.specs.Reply.{IsOut, IsReply, flag_word, out_words, 
 
 use crate::count::MAX_COUNT;
 use crate::line::{BOARD, BREACH, HORIZON, LOG, LOST, OUTPUT, OUTPUTS, RELEASED, ROW, VAR};
-use crate::number::{append, append_number, read_int, read_number, read_u32};
+use crate::number::{append, append_number, append_u32, read_int, read_number, read_u32};
 use crate::record::{Record, append_record, append_tag, read_record, read_tag};
 use crate::room::REPLY_ROOM;
 use crate::words::{is_keyword, split_words};
@@ -332,6 +332,7 @@ pub fn read_reply(bytes: &[u8]) -> Option<Reply>
 }
 
 /// Appends the word and a number, for which there is room.
+#[inline(always)]
 fn append_numbered(out: &mut Vec<u8>, word: &[u8], number: u32)
     requires { vec_len out.old + (length word.now + 11) ≤ vec_capacity out.old }
     ensures items { out.new.items ≡ out.old.items ++ join_with_byte 32 (word.now ∷ decimal number ∷ []) }
@@ -339,7 +340,7 @@ fn append_numbered(out: &mut Vec<u8>, word: &[u8], number: u32)
     ensures capacity { vec_capacity out.old ≤ vec_capacity out.new }
 {
     append(out, word);
-    append_number(out, number);
+    append_u32(out, number);
 }
 
 /// Appends the word, a number and a count, for which there is room.
