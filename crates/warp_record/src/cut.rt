@@ -46,19 +46,19 @@ fn ends_word(bytes: &[u8], count: usize) -> bool
     bytes[count] == b' '
 }
 
-/// The number up to `max` that the first byte spells, behind which a space stands, and that it is one byte.
+/// The number up to `max` that the first byte spells, behind which a space stands.
 #[inline(always)]
-fn one_digit(bytes: &[u8], max: u64) -> Option<(u64, usize)>
+fn one_digit(bytes: &[u8], max: u64) -> Option<u64>
     requires { (1 < length bytes.now) × (slice_index bytes.now 1 ≡ 32) × (max < 10 ^ FEW_DIGITS) }
-    ensures found { IfSome result (λ front. (front.0 ≤ max) × (front.1 ≡ position_or_len is_space bytes.now)
-        × (before_first is_space bytes.now ≡ decimal front.0)) }
+    ensures found { IfSome result (λ number. (number ≤ max) × (1 ≡ position_or_len is_space bytes.now)
+        × (before_first is_space bytes.now ≡ decimal number)) }
     ensures none { IfNone result ((number : ℕ) → number ≤ max → before_first is_space bytes.now ≡ decimal number → ⊥) }
 {
     let number = digit(bytes[0])?;
     if number > max {
         return None;
     }
-    Some((number, 1))
+    Some(number)
 }
 
 /// The number up to `max` that the bytes up to the first space, or the end, spell, and how many these are.
@@ -69,9 +69,6 @@ fn front_number(bytes: &[u8], max: u64) -> Option<(u64, usize)>
         × (before_first is_space bytes.now ≡ decimal front.0)) }
     ensures none { IfNone result ((number : ℕ) → number ≤ max → before_first is_space bytes.now ≡ decimal number → ⊥) }
 {
-    if bytes.len() > 1 && bytes[1] == b' ' {
-        return one_digit(bytes, max);
-    }
     let (number, count) = front_digits(bytes);
     if count == 0 {
         return None;
@@ -99,6 +96,10 @@ pub(crate) fn cut_number(text: &[u8], max: u64) -> Option<(u64, &[u8])>
     let [_, bytes @ ..] = text else {
         return None;
     };
+    if bytes.len() > 1 && bytes[1] == b' ' {
+        let digit = one_digit(bytes, max)?;
+        return Some((digit, &bytes[1..]));
+    }
     let (number, count) = front_number(bytes, max)?;
     Some((number, &bytes[count..]))
 }

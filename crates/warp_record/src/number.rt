@@ -18,10 +18,11 @@ pub(crate) const FEW_DIGITS: usize = 18;
 pub(crate) fn digit(byte: u8) -> Option<u64>
     ensures { SomeIff result (digit_value byte < 10) (digit_value byte) }
 {
-    if byte < b'0' || b'9' < byte {
+    let value = u64::from(byte).wrapping_sub(u64::from(b'0'));
+    if value > 9 {
         return None;
     }
-    Some(u64::from(byte - b'0'))
+    Some(value)
 }
 
 /// The number that these digits write, of which there are few; 0 where there are none.
@@ -104,6 +105,7 @@ pub fn read_u32(word: &[u8], max: u32) -> Option<u32>
 }
 
 /// The signed number that the word spells.
+#[inline(always)]
 pub fn read_int(word: &[u8]) -> Option<i64>
     ensures found { IfSome result (λ number. word.now ≡ signed_decimal number) }
     ensures none { IfNone result ((number : ℤ) → FitsSigned w64 number → word.now ≡ signed_decimal number → ⊥) }
