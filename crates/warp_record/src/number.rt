@@ -10,7 +10,7 @@ use itoa::{Buffer, Integer, write_digits};
 /// The end of the numbers that `append_u32` writes as one block.
 const BLOCK_END: u32 = 100_000_000;
 
-/// The most digits of any number that a quick way reads: no more of them can overflow.
+/// The most digits that are read without a look at overflow: no number of so many digits overflows 64 bits.
 pub(crate) const FEW_DIGITS: usize = 18;
 
 /// The digit that the byte is.

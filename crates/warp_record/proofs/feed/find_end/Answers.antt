@@ -1,5 +1,5 @@
-use Rattle.std.proofs.Common.{◌≡◌, ◌+◌, ◌≤◌, ◌<◌, ◌∙◌, length, arith}
-use Rattle.std.proofs.lemmas.Simd.{run_in_chunk_fails, run_in_chunk_stops, run_in_chunk_le}
+use Rattle.std.proofs.Common.{◌+◌, ◌≤◌, ◌<◌, length, arith}
+use Rattle.std.proofs.lemmas.Simd.{run_in_chunk_fails, run_in_chunk_stops}
 use Rattle.warp_record.specs.Lines.{is_end, first_end}
 use Rattle.warp_record.proofs.LineCuts.{end_goes_on, end_here}
 use Rattle.warp_record.proofs.feed.find_end.Goals as goal
