@@ -160,6 +160,7 @@ fn append_block(out: &mut Vec<u8>, number: u32)
 }
 
 /// Appends a space and the number, for which there is room. It is quick where the number has up to eight digits.
+#[inline(always)]
 pub(crate) fn append_u32(out: &mut Vec<u8>, number: u32)
     requires { vec_len out.old + 11 ≤ vec_capacity out.old }
     ensures items { out.new.items ≡ out.old.items ++ 32 ∷ decimal number }
