@@ -1,10 +1,10 @@
 -- The lines of bytes that were cut into pieces.
-use Rattle.std.proofs.Common.{◌≡◌, ℕ, ◌+◌, ◌<◌, Bool, true, false, cond, not, ltb, List, [], ◌∷◌, ◌++◌, length, get_or, drop, Some, None, sym, ap, ◌∙◌, refl, arith, append_assoc}
+use Rattle.std.proofs.Common.{◌≡◌, ℕ, ◌+◌, ◌<◌, ◌≤◌, Bool, true, false, cond, not, ltb, List, [], ◌∷◌, ◌++◌, length, get_or, drop, Some, None, sym, ap, ◌∙◌, refl, arith, append_assoc, inl, inr, true≢false}
 use Rattle.std.specs.List.{position, slice_split, join_with_byte, before_first}
 use Rattle.std.specs.Option.{option_to_list}
 use Rattle.std.proofs.lemmas.List.Splits.{slice_split_at, slice_split_none, length-slice_split, join_with_byte-slice_split}
 use Rattle.std.proofs.lemmas.List.Sums.{prefix_len-le-length, fails_before_first, passes_at_first, split_at_first}
-use Rattle.std.proofs.lemmas.Bool.{eqb-true}
+use Rattle.std.proofs.lemmas.Bool.{eqb-true, cases_lt, lt-ltb, le-ltb, cond-true, cond-false}
 use Rattle.std.proofs.lemmas.List.{length-take, get_or-take}
 use Rattle.std.proofs.lemmas.List.Elements.{All-append}
 use Rattle.warp_record.specs.Lines.{is_end, IsOneLine, ended, unended, pieces, lines_of, first_end}
@@ -29,6 +29,32 @@ no_end bytes is =
     let past = not_chosen (first_end bytes) (ltb (first_end bytes) (length bytes)) is in
     let within = prefix_len-le-length (λ (byte : ℕ). not (is_end byte)) bytes in
     grind (arith, past, within)
+
+-- no line feed stands in some more bytes
+pub end_goes_on : (bytes : List ℕ) (i j : ℕ) → i ≤ first_end bytes → j ≤ length bytes
+    → ((k : ℕ) → i ≤ k → k < j → is_end (get_or bytes k 0) ≡ false) → j ≤ first_end bytes
+end_goes_on bytes i j le within none =
+    elim (cases_lt (first_end bytes) j) [
+      | inl less ↦
+          let here = passes_at_first is_end bytes 0 (omega (arith, less, within)) in
+          absurd (true≢false (sym here ∙ none (first_end bytes) le less))
+      | inr over ↦ omega (arith, over)
+    ]
+
+-- the first line feed is found
+pub end_here : (bytes : List ℕ) (i : ℕ) → i ≤ first_end bytes → i < length bytes → is_end (get_or bytes i 0) ≡ true
+    → Some i ≡ position is_end bytes
+end_here bytes i le below here =
+    let is : i ≡ first_end bytes =
+    elim (cases_lt i (first_end bytes)) [
+      | inl less ↦ absurd (true≢false (sym here ∙ fails_before_first is_end bytes i 0 less))
+      | inr over ↦ omega (arith, le, over)
+    ] in
+    ap (λ (n : ℕ). Some n) is ∙ sym (cond-true _ _ _ (lt-ltb (first_end bytes) (length bytes) (omega (arith, is, below))))
+
+-- none is found
+pub end_nowhere : (bytes : List ℕ) → length bytes ≤ first_end bytes → None ≡ position is_end bytes
+end_nowhere bytes le = sym (cond-false _ _ _ (le-ltb (first_end bytes) (length bytes) le))
 
 pieces_more : (line : List ℕ) (parts : List (List ℕ)) → 0 < length parts → pieces (line ∷ parts) ≡ ended line ∷ pieces parts
 pieces_more line [] some = absurd (omega arith)

@@ -1,11 +1,12 @@
 -- Words of digits, and the decimal text of a number.
-use Rattle.std.proofs.Common.{◌≡◌, ℕ, zero, suc, ◌+◌, ◌*◌, ◌<◌, ◌≤◌, ◌^◌, true, false, eqb, List, [], ◌∷◌, length, get_or, take, decimal, drop, ◌-◌, ℤ, pos, negsuc, FitsSigned, w64, sym, ap, ◌∙◌, refl, arith}
+use Rattle.std.proofs.Common.{◌≡◌, ℕ, zero, suc, ◌+◌, ◌*◌, ◌<◌, ◌≤◌, ◌^◌, true, false, eqb, List, [], ◌∷◌, ◌++◌, length, get_or, take, decimal, drop, ◌-◌, ℤ, pos, negsuc, FitsSigned, w64, sym, ap, ◌∙◌, refl, arith}
 use Rattle.std.proofs.Math.Dec.{eqb-suc-zero}
 use Rattle.std.specs.Char.{digit_value}
 use Rattle.std.specs.Fmt.{signed_decimal}
-use Rattle.std.proofs.lemmas.List.{take_all, length-drop}
+use Rattle.std.proofs.lemmas.List.{take_all, length-drop, length-take, take-take}
+use Rattle.std.proofs.Math.Seq.{take-append_seam, take-append-add}
 use Rattle.std.specs.Str.Parse.{AllDigits, digits_value}
-use Rattle.std.proofs.lemmas.Str.Parse.{IsNumeralModel, numerals_by_value, tells_digits, digit_at}
+use Rattle.std.proofs.lemmas.Str.Parse.{IsNumeralModel, numerals_by_value, tells_digits, digit_at, digits_value_short}
 use Rattle.std.proofs.lemmas.Int.Digits.{digits_value_more}
 use Rattle.std.proofs.lemmas.Str.Parse.{digits_value-take-le}
 use Rattle.std.proofs.lemmas.Fmt.{decimal-digits_value, decimal_is_IsNumeral, first_decimal, decimal_digit, decimal_injective}
@@ -26,6 +27,10 @@ next_fits ds i n below all fits is = (
   all_digits_at ds i all below,
   omega (arith, digits_value_more 10 ds i below, digits_value-take-le 10 ds (i + 1) (omega arith), is),
 )
+
+-- what so few digits write is small
+pub few_fit : (ds : List ℕ) (i k : ℕ) → i ≤ k → AllDigits 10 (take i ds) → digits_value 10 (take i ds) < 10 ^ k
+few_fit ds i k le all = digits_value_short own (take i ds) k all (omega (arith, le, length-take i ds))
 
 -- the text of a number longer than one byte does not begin with 0
 pub no_leading_zero : (n : ℕ) → n < 2 ^ 64 → 1 < length (decimal n) → get_or (decimal n) 0 0 ≡ 48 → ⊥
@@ -88,3 +93,11 @@ minus_text word (negsuc n) fits minus is =
 pub no_minus_zero : (rest : List ℕ) (m n : ℕ) → 0 < m → m ≤ 2 ^ 63 → n ≡ 0 → rest ≡ decimal m → rest ≡ decimal n → ⊥
 no_minus_zero rest m n some fits none is_m is_n =
     omega (arith, some, none, decimal_injective m n (omega arith) (omega arith) (sym is_m ∙ is_n))
+
+-- a block at the end of a list, of which the word at its front is left
+pub block_left : (old word block more : List ℕ) (n k m : ℕ) → n ≡ length old → k ≡ length word → k ≤ m → block ≡ word ++ more
+    → take (n + k) (old ++ take m block) ≡ old ++ word
+block_left old word block more n k m is_n is_k le is =
+    ap (λ (i : ℕ). take (i + k) (old ++ take m block)) is_n
+    ∙ take-append-add old (take m block) k
+    ∙ ap (λ (l : List ℕ). old ++ l) (take-take k m block le ∙ ap (take k) is ∙ ap (λ (i : ℕ). take i (word ++ more)) is_k ∙ take-append_seam word more)

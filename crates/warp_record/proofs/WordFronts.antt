@@ -51,6 +51,10 @@ front_digit bytes i below all =
     omega (arith, below, length-take (position_or_len is_space bytes) bytes, front_within bytes) in
     rw (← get_or-take (position_or_len is_space bytes) bytes i 0 below) (all_digits_at (before_first is_space bytes) i all short)
 
+-- a digit is no space
+pub digit_no_space : (byte : ℕ) → digit_value byte < 10 → is_space byte ≡ false
+digit_no_space byte digit = ne_eqb byte 32 (λ is. let low : digit_value 32 < 10 = rw is at digit in absurd (omega (arith, low)))
+
 take_of_take : (i n : ℕ) (bytes : List ℕ) → i ≤ n → take i (take n bytes) ≡ take i bytes
 take_of_take zero n bytes le = refl
 take_of_take (suc i) zero bytes le = absurd (omega (arith, le))
@@ -124,7 +128,7 @@ none_behind (byte ∷ bytes) none = absurd (omega (arith, ap length none, length
 pub one_digit_ends : (bytes : List ℕ) → 1 < length bytes → get_or bytes 1 0 ≡ 32 → digit_value (get_or bytes 0 0) < 10
     → 1 ≡ position_or_len is_space bytes
 one_digit_ends bytes long space digit =
-    let other = ne_eqb (get_or bytes 0 0) 32 (λ is. let low : digit_value 32 < 10 = rw is at digit in absurd (omega (arith, low))) in
+    let other = digit_no_space (get_or bytes 0 0) digit in
     let more = front_goes_on bytes 0 (omega arith) (omega (arith, long)) other in
     front_ends bytes 1 (omega (arith, more)) (λ below. ap is_space space)
 

@@ -1,7 +1,7 @@
 //! Cutting words off the front of a text, in one pass over its bytes.
 //!
 //! What is left of a text begins with the space behind the last word that was cut off, or is empty at the end.
-ghost use Rattle.std.specs.Prelude.{◌≡◌, ℕ, ℤ, ◌<◌, ◌≤◌, ◌^◌, [], ◌∷◌, List, IfSome, IfNone, SomeIff, IsTrue, ◌↔◌, FitsSigned, decimal, length, slice_index};
+ghost use Rattle.std.specs.Prelude.{◌≡◌, ℕ, ℤ, ◌<◌, ◌≤◌, ◌^◌, [], ◌∷◌, List, IfSome, IfNone, SomeIff, IsTrue, ◌↔◌, FitsSigned, decimal, length, slice_index, take};
 ghost use Rattle.std.specs.Char.{digit_value};
 ghost use Rattle.std.specs.Fmt.{signed_decimal};
 ghost use Rattle.std.specs.Int.{w64};
@@ -10,71 +10,76 @@ ghost use Rattle.std.specs.Str.Parse.{AllDigits, digits_value};
 ghost use Rattle.warp_record.specs.Number.{is_space};
 ghost use Rattle.warp_record.specs.inner.Behind.{words_behind};
 
-use crate::number::{is_padded, read_int};
+use crate::number::{FEW_DIGITS, digit, is_padded, read_int};
 
-/// The digit that the byte is.
+/// The number that the digits at the front write, of which it takes up to `FEW_DIGITS`, and how many these are.
 #[inline(always)]
-fn digit(byte: u8) -> Option<u64>
-    ensures { SomeIff result (digit_value byte < 10) (digit_value byte) }
+fn front_digits(bytes: &[u8]) -> (u64, usize)
+    ensures within { result.1 ≤ position_or_len is_space bytes.now }
+    ensures short { result.1 ≤ FEW_DIGITS }
+    ensures all_digits { AllDigits 10 (take result.1 bytes.now) }
+    ensures value { digits_value 10 (take result.1 bytes.now) ≡ result.0 }
+    ensures end { result.1 < FEW_DIGITS → result.1 < length bytes.now → digit_value (slice_index bytes.now result.1) < 10 → ⊥ }
 {
-    if byte < b'0' || b'9' < byte {
-        return None;
-    }
-    Some(u64::from(byte - b'0'))
-}
-
-/// The number up to `max` that the digits up to the first space, or the end, write, and how many these are.
-#[inline(always)]
-fn front_digits(bytes: &[u8], max: u64) -> Option<(u64, usize)>
-    requires { max < 2 ^ 60 }
-    ensures found { IfSome result (λ front. (front.0 ≤ max) × (front.1 ≡ position_or_len is_space bytes.now)
-        × AllDigits 10 (before_first is_space bytes.now) × (digits_value 10 (before_first is_space bytes.now) ≡ front.0)) }
-    ensures none { IfNone result (AllDigits 10 (before_first is_space bytes.now) →
-        digits_value 10 (before_first is_space bytes.now) ≤ max → ⊥) }
-{
+    let few = bytes.len().min(FEW_DIGITS);
     let mut number = 0;
     let mut place = 0;
-    while place < bytes.len() && bytes[place] != b' ' {
-        number = number * 10 + digit(bytes[place])?;
-        if number > max {
-            return None;
-        }
+    while place < few {
+        let Some(next) = digit(bytes[place]) else {
+            return (number, place);
+        };
+        number = number * 10 + next;
         place += 1;
     }
-    Some((number, place))
+    (number, place)
 }
 
-/// The number up to `max` that the first byte spells, behind which a space stands, and that it is one byte.
+/// Whether so many bytes are all those up to the first space, or the end.
 #[inline(always)]
-fn one_digit(bytes: &[u8], max: u64) -> Option<(u64, usize)>
-    requires { (1 < length bytes.now) × (slice_index bytes.now 1 ≡ 32) × (max < 2 ^ 60) }
-    ensures found { IfSome result (λ front. (front.0 ≤ max) × (front.1 ≡ position_or_len is_space bytes.now)
-        × (before_first is_space bytes.now ≡ decimal front.0)) }
+fn ends_word(bytes: &[u8], count: usize) -> bool
+    requires { count ≤ position_or_len is_space bytes.now }
+    ensures { IsTrue result ↔ (count ≡ position_or_len is_space bytes.now) }
+{
+    if count == bytes.len() {
+        return true;
+    }
+    bytes[count] == b' '
+}
+
+/// The number up to `max` that the first byte spells, behind which a space stands.
+#[inline(always)]
+fn one_digit(bytes: &[u8], max: u64) -> Option<u64>
+    requires { (1 < length bytes.now) × (slice_index bytes.now 1 ≡ 32) × (max < 10 ^ FEW_DIGITS) }
+    ensures found { IfSome result (λ number. (number ≤ max) × (1 ≡ position_or_len is_space bytes.now)
+        × (before_first is_space bytes.now ≡ decimal number)) }
     ensures none { IfNone result ((number : ℕ) → number ≤ max → before_first is_space bytes.now ≡ decimal number → ⊥) }
 {
     let number = digit(bytes[0])?;
     if number > max {
         return None;
     }
-    Some((number, 1))
+    Some(number)
 }
 
 /// The number up to `max` that the bytes up to the first space, or the end, spell, and how many these are.
 #[inline(always)]
 fn front_number(bytes: &[u8], max: u64) -> Option<(u64, usize)>
-    requires { max < 2 ^ 60 }
+    requires { max < 10 ^ FEW_DIGITS }
     ensures found { IfSome result (λ front. (front.0 ≤ max) × (front.1 ≡ position_or_len is_space bytes.now)
         × (before_first is_space bytes.now ≡ decimal front.0)) }
     ensures none { IfNone result ((number : ℕ) → number ≤ max → before_first is_space bytes.now ≡ decimal number → ⊥) }
 {
-    if bytes.len() > 1 && bytes[1] == b' ' {
-        return one_digit(bytes, max);
-    }
-    let (number, count) = front_digits(bytes, max)?;
+    let (number, count) = front_digits(bytes);
     if count == 0 {
         return None;
     }
+    if !ends_word(bytes, count) {
+        return None;
+    }
     if is_padded(&bytes[..count]) {
+        return None;
+    }
+    if number > max {
         return None;
     }
     Some((number, count))
@@ -83,7 +88,7 @@ fn front_number(bytes: &[u8], max: u64) -> Option<(u64, usize)>
 /// The number up to `max` that is the next word, and what is left behind it.
 #[inline(always)]
 pub(crate) fn cut_number(text: &[u8], max: u64) -> Option<(u64, &[u8])>
-    requires { max < 2 ^ 60 }
+    requires { max < 10 ^ FEW_DIGITS }
     ensures found { IfSome result (λ cut. (cut.0 ≤ max) × (words_behind text.now ≡ decimal cut.0 ∷ words_behind cut.1.now)) }
     ensures none { IfNone result ((number : ℕ) (words : List (List ℕ)) → number ≤ max →
         words_behind text.now ≡ decimal number ∷ words → ⊥) }
@@ -91,6 +96,10 @@ pub(crate) fn cut_number(text: &[u8], max: u64) -> Option<(u64, &[u8])>
     let [_, bytes @ ..] = text else {
         return None;
     };
+    if bytes.len() > 1 && bytes[1] == b' ' {
+        let digit = one_digit(bytes, max)?;
+        return Some((digit, &bytes[1..]));
+    }
     let (number, count) = front_number(bytes, max)?;
     Some((number, &bytes[count..]))
 }

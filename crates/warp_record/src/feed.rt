@@ -1,7 +1,8 @@
 //! Cutting a stream of bytes into lines, however the stream is cut into pieces.
-ghost use Rattle.std.specs.Prelude.{◌≡◌, ℕ, ◌+◌, ◌<◌, ◌≤◌, ◌↔◌, [], ◌++◌, List, take, length, min, IsSome, IfSome, IfNone, OnSome, position};
+ghost use Rattle.std.specs.Prelude.{◌≡◌, ℕ, ◌+◌, ◌<◌, ◌≤◌, ◌↔◌, [], ◌++◌, List, take, length, min, not, IsSome, IfSome, IfNone, OnSome, position};
 ghost use Rattle.std.specs.Option.{option_map};
-ghost use Rattle.std.specs.List.{before_first};
+ghost use Rattle.std.specs.List.{before_first, prefix_len};
+ghost use Rattle.std.specs.Simd.Lanes.{chunk};
 ghost use Rattle.warp_tag.specs.Limits.{longest_line};
 ghost use Rattle.warp_record.specs.Lines.{ended, unended, kept_of, piece_of, first_end, is_end};
 ghost use Rattle.warp_record.specs.Lines.Piece.{Whole};
@@ -9,6 +10,7 @@ ghost use Rattle.warp_record.specs.Lines.Piece.{Whole};
 use arrayvec::ArrayVec;
 use std::marker::Model;
 use std::mem;
+use std::simd::prelude::*;
 
 /// The greatest length of a line, without its line feed.
 pub const MAX_LINE: usize = 128;
@@ -40,11 +42,53 @@ impl Model for Feed {
     ghost view = { λ f. if f.is_long then None else Some f.kept.items };
 }
 
+/// How many bytes are looked at together.
+const LANES: usize = 16;
+
+/// How many of the bytes that are looked at together, from this place on, stand before a line feed.
+#[inline(always)]
+fn count_before_end(bytes: &[u8], at: usize) -> usize
+    requires { at + LANES ≤ length bytes.now }
+    ensures { result ≡ prefix_len (λ byte. not (is_end byte)) (chunk at LANES bytes.now) }
+{
+    let lanes = u8x16::from_slice(&bytes[at..]);
+    let ends = lanes.simd_eq(u8x16::splat(b'\n')).to_bitmask();
+    if ends == 0 {
+        return LANES;
+    }
+    ends.trailing_zeros() as usize
+}
+
+/// The place of the first line feed from this place on, before which there is none.
+#[inline(always)]
+fn find_end_from(bytes: &[u8], start: usize) -> Option<usize>
+    requires { start ≤ first_end bytes.now }
+    ensures { result ≡ position is_end bytes.now }
+{
+    let mut at = start;
+    while at < bytes.len() {
+        if bytes[at] == b'\n' {
+            return Some(at);
+        }
+        at += 1;
+    }
+    None
+}
+
 /// The place of the first line feed among the bytes.
+#[inline(always)]
 fn find_end(bytes: &[u8]) -> Option<usize>
     ensures { result ≡ position is_end bytes.now }
 {
-    bytes.iter().position(|byte| *byte == b'\n')
+    let mut at = 0;
+    while bytes.len() - at >= LANES {
+        let before = count_before_end(bytes, at);
+        if before < LANES {
+            return Some(at + before);
+        }
+        at += LANES;
+    }
+    find_end_from(bytes, at)
 }
 
 impl Feed {

@@ -5,7 +5,39 @@ ghost use Rattle.std.specs.Fmt.{signed_decimal};
 ghost use Rattle.std.specs.Int.{w64};
 ghost use Rattle.std.specs.Str.Parse.{AllDigits, digits_value};
 
-use itoa::{Buffer, Integer};
+use itoa::{Buffer, Integer, write_digits};
+
+/// The end of the numbers that `append_u32` writes as one block.
+const BLOCK_END: u32 = 100_000_000;
+
+/// The most digits that are read without a look at overflow: no number of so many digits overflows 64 bits.
+pub(crate) const FEW_DIGITS: usize = 18;
+
+/// The digit that the byte is.
+#[inline(always)]
+pub(crate) fn digit(byte: u8) -> Option<u64>
+    ensures { SomeIff result (digit_value byte < 10) (digit_value byte) }
+{
+    let value = u64::from(byte).wrapping_sub(u64::from(b'0'));
+    if value > 9 {
+        return None;
+    }
+    Some(value)
+}
+
+/// The number that these digits write, of which there are few; 0 where there are none.
+#[inline(always)]
+fn few_digits(word: &[u8]) -> Option<u64>
+    requires { length word.now ≤ FEW_DIGITS }
+    ensures { SomeIff result (AllDigits 10 word.now) (digits_value 10 word.now) }
+{
+    let mut number = 0;
+    for byte in word {
+        let next = digit(*byte)?;
+        number = number * 10 + next;
+    }
+    Some(number)
+}
 
 /// The number with one more digit, where the byte is a digit and it fits.
 fn with_digit(number: u64, byte: u8) -> Option<u64>
@@ -17,8 +49,9 @@ fn with_digit(number: u64, byte: u8) -> Option<u64>
     number.checked_mul(10)?.checked_add(u64::from(byte - b'0'))
 }
 
-/// The number that these digits write, leading zeros or none; 0 where there are none.
-fn digits(word: &[u8]) -> Option<u64>
+/// The number that these digits write, however many; 0 where there are none.
+#[inline(never)]
+fn many_digits(word: &[u8]) -> Option<u64>
     ensures { SomeIff result (AllDigits 10 word.now × (digits_value 10 word.now < 2 ^ 64)) (digits_value 10 word.now) }
 {
     let mut number = 0;
@@ -26,6 +59,17 @@ fn digits(word: &[u8]) -> Option<u64>
         number = with_digit(number, *byte)?;
     }
     Some(number)
+}
+
+/// The number that these digits write, leading zeros or none; 0 where there are none.
+#[inline(always)]
+fn digits(word: &[u8]) -> Option<u64>
+    ensures { SomeIff result (AllDigits 10 word.now × (digits_value 10 word.now < 2 ^ 64)) (digits_value 10 word.now) }
+{
+    if word.len() <= FEW_DIGITS {
+        return few_digits(word);
+    }
+    many_digits(word)
 }
 
 /// Whether the word has a zero in front of another byte.
@@ -37,6 +81,7 @@ pub(crate) fn is_padded(word: &[u8]) -> bool
 }
 
 /// The number up to `max` that the word spells.
+#[inline(always)]
 pub fn read_number(word: &[u8], max: u64) -> Option<u64>
     ensures found { IfSome result (λ number. (number ≤ max) × (word.now ≡ decimal number)) }
     ensures none { IfNone result ((number : ℕ) → number ≤ max → word.now ≡ decimal number → ⊥) }
@@ -60,6 +105,7 @@ pub fn read_u32(word: &[u8], max: u32) -> Option<u32>
 }
 
 /// The signed number that the word spells.
+#[inline(always)]
 pub fn read_int(word: &[u8]) -> Option<i64>
     ensures found { IfSome result (λ number. word.now ≡ signed_decimal number) }
     ensures none { IfNone result ((number : ℤ) → FitsSigned w64 number → word.now ≡ signed_decimal number → ⊥) }
@@ -74,6 +120,7 @@ pub fn read_int(word: &[u8]) -> Option<i64>
 }
 
 /// Appends the text, for which there is room.
+#[inline(always)]
 pub fn append(out: &mut Vec<u8>, text: &[u8])
     requires { vec_len out.old + length text.now ≤ vec_capacity out.old }
     ensures items { out.new.items ≡ out.old.items ++ text.now }
@@ -94,4 +141,36 @@ pub fn append_number<I: Integer>(out: &mut Vec<u8>, number: I)
     out.push_reserved(b' ');
     let mut buffer = Buffer::new();
     append(out, buffer.format(number).as_bytes());
+}
+
+/// Appends the number, for which there is room for eight bytes: as a block of them, of which it leaves the digits.
+#[inline(always)]
+fn append_block(out: &mut Vec<u8>, number: u32)
+    requires fits { number < BLOCK_END }
+    requires room { vec_len out.old + 8 ≤ vec_capacity out.old }
+    ensures items { out.new.items ≡ out.old.items ++ decimal number }
+    ensures len { vec_len out.new ≤ vec_len out.old + 8 }
+    ensures capacity { vec_capacity out.old ≤ vec_capacity out.new }
+{
+    let mut block = [0; 16];
+    let start = write_digits(u64::from(number), &mut block, 8);
+    let end = out.len() + (8 - start);
+    append(out, &block[start..start + 8]);
+    out.truncate(end);
+}
+
+/// Appends a space and the number, for which there is room. It is quick where the number has up to eight digits.
+#[inline(always)]
+pub(crate) fn append_u32(out: &mut Vec<u8>, number: u32)
+    requires { vec_len out.old + 11 ≤ vec_capacity out.old }
+    ensures items { out.new.items ≡ out.old.items ++ 32 ∷ decimal number }
+    ensures len { vec_len out.new ≤ vec_len out.old + 11 }
+    ensures capacity { vec_capacity out.old ≤ vec_capacity out.new }
+{
+    if number >= BLOCK_END {
+        append_number(out, number);
+        return;
+    }
+    out.push_reserved(b' ');
+    append_block(out, number);
 }

@@ -96,6 +96,7 @@ fn cut_name(text: &[u8]) -> Option<(u32, u64, u32, &[u8])>
 }
 
 /// The event in range whose words behind the first are these.
+#[inline(always)]
 pub(crate) fn read_event(text: &[u8]) -> Option<Record>
     ensures found { IfSome result (λ said. IsRecord said × (codes "event" ∷ words_behind text.now ≡ record_words said)) }
     ensures none { IfNone result ((said : Record) → IsRecord said → codes "event" ∷ words_behind text.now ≡ record_words said → ⊥) }

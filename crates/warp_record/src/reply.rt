@@ -12,7 +12,7 @@ ghost use Rattle.warp_record.specs.Reply.{IsOut, IsReply, flag_word, out_words, 
 
 use crate::count::MAX_COUNT;
 use crate::line::{BOARD, BREACH, HORIZON, LOG, LOST, OUTPUT, OUTPUTS, RELEASED, ROW, VAR};
-use crate::number::{append, append_number, read_int, read_number, read_u32};
+use crate::number::{append, append_number, append_u32, read_int, read_number, read_u32};
 use crate::record::{Record, append_record, append_tag, read_record, read_tag};
 use crate::room::REPLY_ROOM;
 use crate::words::{is_keyword, split_words};
@@ -331,7 +331,31 @@ pub fn read_reply(bytes: &[u8]) -> Option<Reply>
     read_words(&words)
 }
 
+/// Appends the word and a place, for which there is room: the most frequent reply, written with no call.
+#[inline(always)]
+fn append_placed(out: &mut Vec<u8>, word: &[u8], place: u32)
+    requires { vec_len out.old + (length word.now + 11) ≤ vec_capacity out.old }
+    ensures items { out.new.items ≡ out.old.items ++ join_with_byte 32 (word.now ∷ decimal place ∷ []) }
+    ensures len { vec_len out.new ≤ vec_len out.old + (length word.now + 11) }
+    ensures capacity { vec_capacity out.old ≤ vec_capacity out.new }
+{
+    append(out, word);
+    append_u32(out, place);
+}
+
+/// Appends a space and the number, for which there is room.
+#[inline(never)]
+fn append_first(out: &mut Vec<u8>, number: u32)
+    requires { vec_len out.old + 11 ≤ vec_capacity out.old }
+    ensures items { out.new.items ≡ out.old.items ++ 32 ∷ decimal number }
+    ensures len { vec_len out.new ≤ vec_len out.old + 11 }
+    ensures capacity { vec_capacity out.old ≤ vec_capacity out.new }
+{
+    append_u32(out, number);
+}
+
 /// Appends the word and a number, for which there is room.
+#[inline(always)]
 fn append_numbered(out: &mut Vec<u8>, word: &[u8], number: u32)
     requires { vec_len out.old + (length word.now + 11) ≤ vec_capacity out.old }
     ensures items { out.new.items ≡ out.old.items ++ join_with_byte 32 (word.now ∷ decimal number ∷ []) }
@@ -339,7 +363,7 @@ fn append_numbered(out: &mut Vec<u8>, word: &[u8], number: u32)
     ensures capacity { vec_capacity out.old ≤ vec_capacity out.new }
 {
     append(out, word);
-    append_number(out, number);
+    append_first(out, number);
 }
 
 /// Appends the word, a number and a count, for which there is room.
@@ -384,8 +408,8 @@ pub fn write_reply(out: &mut Vec<u8>, reply: &Reply)
     ensures capacity { vec_capacity out.old ≤ vec_capacity out.new }
 {
     match *reply {
-        Reply::Taken(place) => append_numbered(out, TAKEN, place),
-        Reply::Known(place) => append_numbered(out, KNOWN, place),
+        Reply::Taken(place) => append_placed(out, TAKEN, place),
+        Reply::Known(place) => append_placed(out, KNOWN, place),
         Reply::Refused(refusal) => append_numbered(out, REFUSED, refusal.number()),
         Reply::Var { log, value } => {
             append_numbered(out, VAR, log);

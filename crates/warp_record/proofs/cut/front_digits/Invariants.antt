@@ -10,7 +10,7 @@ invariant-loop-place l = record {
   within : l.place ≤ position_or_len is_space l.bytes;
   all_digits : AllDigits 10 (take l.place l.bytes);
   value : l.number ≡ digits_value 10 (take l.place l.bytes);
-  fits : l.number ≤ l.max;
+  few : l.place ≤ l.few;
 }
 
 abbrev pub decreases-loop-place : goal.decreases-loop-place

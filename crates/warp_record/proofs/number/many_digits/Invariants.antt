@@ -1,7 +1,7 @@
 -- So far all bytes are digits, and the number, which fits, is what they write.
 use Rattle.std.proofs.Common.{◌≡◌, ◌<◌, ◌^◌, take}
 use Rattle.std.specs.Str.Parse.{AllDigits, digits_value}
-use Rattle.warp_record.proofs.number.digits.Given as goal
+use Rattle.warp_record.proofs.number.many_digits.Given as goal
 
 abbrev pub invariant-loop-byte : goal.invariant-loop-byte
 invariant-loop-byte l = record {

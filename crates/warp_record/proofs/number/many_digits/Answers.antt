@@ -2,7 +2,7 @@ use Rattle.std.proofs.Common.{◌<◌, ◌^◌, ℕ, arith, subst}
 use Rattle.std.proofs.lemmas.Int.Digits.{digits_value_more, digits_more}
 use Rattle.std.proofs.lemmas.List.{take_all}
 use Rattle.warp_record.proofs.Numerals.{next_fits}
-use Rattle.warp_record.proofs.number.digits.Goals as goal
+use Rattle.warp_record.proofs.number.many_digits.Goals as goal
 
 pub returns-in_err-number : goal.returns-in_err-number
 returns-in_err-number c =
