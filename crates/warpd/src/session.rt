@@ -22,10 +22,10 @@ use warp_record::{Fed, Feed, REPLY_ROOM, Refusal, Reply, read_line, write_reply}
 const MAX_READS: u32 = 1_000_000_000;
 
 /// How many bytes a read asks for.
-const PIECE: usize = 4_096;
+const PIECE: usize = 65_536;
 
 /// The room for replies that wait to be written, in bytes.
-const ROOM: usize = 16_384;
+const ROOM: usize = 65_536;
 
 /// How a session ended.
 #[derive(Clone, Copy, Debug, PartialEq, Eq)]
