@@ -353,13 +353,13 @@ mod tests {
 
     #[test]
     fn more_replies_than_there_is_room(rt: HostRuntime) -> Result<(), Fail> {
-        let lines = Vec::from_elem(rt.alloc(), b'\n', 3_000)?;
+        let lines = Vec::from_elem(rt.alloc(), b'\n', 10_000)?;
         let mut answers = Vec::new(rt.alloc());
-        for _ in 0..3_000 {
+        for _ in 0..10_000 {
             answers.extend_from_slice(b"refused 1\n")?;
         }
         let count = Cell::new(0);
-        let reader = MemoryReader::new(lines.as_slice(), 4_096, None);
+        let reader = MemoryReader::new(lines.as_slice(), 65_536, None);
         let writer = MemoryWriter::new(rt.alloc(), &count, 100_000, None);
         let (end, written) = run(rt.alloc(), reader, writer);
         assert_eq!(rt; end, SessionEnd::End);
