@@ -1,6 +1,7 @@
 pub mod DueBodies
 pub mod DueLemmas
 pub mod FrontLemmas
+pub mod MarkLemmas
 pub mod OutputsBefore
 pub mod OutputsOfRun
 pub mod PartedLists

@@ -10,6 +10,7 @@ mod arrive;
 mod counter;
 mod enter;
 mod law;
+mod marks;
 mod meter;
 mod one_step;
 mod out;
