@@ -57,17 +57,17 @@ unmarked_on words from at bit within before here m later below = elim (cases_lt 
 ]
 
 -- the lowest bit of a word from a place on
-pub lowest_from : (word from zeros k : ℕ) → ((i : ℕ) → i < zeros → bit_at (word / 2 ^ from) i ≡ 0) → from ≤ k → k < from + zeros → bit_at word k ≡ 0
-lowest_from word from zeros k below later l =
+pub lowest_from : (word from run k : ℕ) → ((i : ℕ) → i < run → bit_at (word / 2 ^ from) i ≡ 0) → from ≤ k → k < from + run → bit_at word k ≡ 0
+lowest_from word from run k below later l =
     let place = below (k - from) (omega arith) in
     let same : from + (k - from) ≡ k = omega arith in
     sym (ap (λ (x : ℕ). x % 2) (shr-shr word from (k - from)) ∙ ap (bit_at word) same) ∙ place
 
 -- a bit that is set stands below the word's end
-pub set_within : (word from zeros : ℕ) → word < 2 ^ 64 → bit_at (word / 2 ^ from) zeros ≡ 1 → from + zeros < 64
-set_within word from zeros fits set = elim (cases_lt (from + zeros) 64) [
+pub set_within : (word from run : ℕ) → word < 2 ^ 64 → bit_at (word / 2 ^ from) run ≡ 1 → from + run < 64
+set_within word from run fits set = elim (cases_lt (from + run) 64) [
   | inl l ↦ l
   | inr ge ↦
-      let there : bit_at (word / 2 ^ from) zeros ≡ bit_at word (from + zeros) = ap (λ (x : ℕ). x % 2) (shr-shr word from zeros) in
-      absurd (omega (arith, set, there, bit_at_above word 64 (from + zeros) fits ge))
+      let there : bit_at (word / 2 ^ from) run ≡ bit_at word (from + run) = ap (λ (x : ℕ). x % 2) (shr-shr word from run) in
+      absurd (omega (arith, set, there, bit_at_above word 64 (from + run) fits ge))
 ]

@@ -1,9 +1,22 @@
--- Marks: a set of numbers below 640, in ten words of 64 bits.
+-- Marks: a set of numbers below 640, in ten words of 64 bits. Reactions, links, program outputs and timers each have numbers
+-- of their own among them.
 use Rattle.std.specs.Prelude.{ℕ, ◌/◌, ◌%◌, ◌*◌, ◌^◌, List, replicate, slice_index_or, slice_set}
 use Rattle.std.specs.Int.{bit_at}
 use Rattle.std.specs.Int.RustNames.{bit_or}
 
--- how many numbers there are to mark
+-- where the marks of each kind begin, and where all end
+abbrev pub first_reaction : ℕ
+first_reaction = 0
+
+abbrev pub first_link : ℕ
+first_link = 256
+
+abbrev pub first_output : ℕ
+first_output = 512
+
+abbrev pub first_timer : ℕ
+first_timer = 576
+
 abbrev pub most_marks : ℕ
 most_marks = 640
 

@@ -3,7 +3,17 @@ ghost use Rattle.std.specs.Prelude.{◌≡◌, ℕ, ◌≤◌, ◌<◌, length};
 ghost use Rattle.std.specs.Int.{bit_at};
 ghost use Rattle.warp_step.specs.Marks.{mark_at, most_marks, no_marks, with_mark};
 
+/// The number that marks the first link; reactions have the numbers before it.
+pub(crate) const FIRST_LINK: usize = 256;
+
+/// The number that marks the first program output.
+pub(crate) const FIRST_OUTPUT: usize = 512;
+
+/// The number that marks the first timer.
+pub(crate) const FIRST_TIMER: usize = 576;
+
 /// A set of numbers below 640.
+#[derive(Drop)]
 pub(crate) struct Marks {
     words: [u64; 10],
 }
