@@ -27,7 +27,7 @@ impl Marks {
     }
 
     /// Takes all numbers out.
-    pub fn clear(&mut self)
+    pub fn reset(&mut self)
         ensures { self.new.words ≡ no_marks }
     {
         self.words = [0; 10];
