@@ -86,7 +86,13 @@ fn watch_link(marks: &mut Marks, number: usize, link: &Link, sources: &[u32], pl
 {
     match link.delay {
         None => watch(marks, FIRST_LINK + number, &[], sources, places),
-        Some(_) => watch(marks, FIRST_LINK + number, &[Target::Port(link.source)], sources, places),
+        Some(_) => watch(
+            marks,
+            FIRST_LINK + number,
+            &[Target::Port(link.source)],
+            sources,
+            places,
+        ),
     }
 }
 
@@ -96,7 +102,13 @@ fn watch_outputs(marks: &mut Marks, ports: &[u32], sources: &[u32], places: &[Ta
     ensures { marks.new.words ≡ with_watchers output_heeds first_output sources.now places.now 0 ports.now marks.old.words }
 {
     for (number, port) in ports.iter().enumerate() {
-        watch(marks, FIRST_OUTPUT + number, &[Target::Port(*port)], sources, places);
+        watch(
+            marks,
+            FIRST_OUTPUT + number,
+            &[Target::Port(*port)],
+            sources,
+            places,
+        );
     }
 }
 
@@ -106,7 +118,13 @@ fn watch_timers(marks: &mut Marks, timers: &[Timer], sources: &[u32], places: &[
     ensures { marks.new.words ≡ with_watchers timer_heeds first_timer sources.now places.now 0 timers.now marks.old.words }
 {
     for (number, _timer) in timers.iter().enumerate() {
-        watch(marks, FIRST_TIMER + number, &[Target::Timer(number as u32)], sources, places);
+        watch(
+            marks,
+            FIRST_TIMER + number,
+            &[Target::Timer(number as u32)],
+            sources,
+            places,
+        );
     }
 }
 

@@ -115,7 +115,15 @@ pub(crate) fn run_reactions(
     let mut number = due.next(0, count);
     while number < count {
         let after = plan.after(number);
-        wished |= run_reaction(number, &reactions[number], after, due, vars, present, wishes);
+        wished |= run_reaction(
+            number,
+            &reactions[number],
+            after,
+            due,
+            vars,
+            present,
+            wishes,
+        );
         number = due.next(number + 1, count);
     }
     wished
