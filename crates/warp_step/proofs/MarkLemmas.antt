@@ -45,17 +45,6 @@ length-with_mark n words = length-set words (n / 64) (bit_or (slice_index_or wor
 pub unmarked_past : (words : List ℕ) (m : ℕ) → length words ≤ m / 64 → mark_at words m ≡ 0
 unmarked_past words m past = ap (λ (w : ℕ). bit_at w (m % 64)) (get_or_past words (m / 64) 0 past) ∙ bit_at-zero (m % 64)
 
--- unmarked up to a number, and in its word from there on up to a bit
-pub unmarked_on : (words : List ℕ) (from at bit : ℕ) → bit ≤ 64 → ((m : ℕ) → from ≤ m → m < at → mark_at words m ≡ 0)
-    → ((k : ℕ) → at % 64 ≤ k → k < bit → bit_at (slice_index_or words (at / 64) 0) k ≡ 0)
-    → (m : ℕ) → from ≤ m → m < at / 64 * 64 + bit → mark_at words m ≡ 0
-unmarked_on words from at bit within before here m later below = elim (cases_lt m at) [
-  | inl l ↦ before m later l
-  | inr ge ↦
-      let same : m / 64 ≡ at / 64 = omega arith in
-      ap (λ (j : ℕ). bit_at (slice_index_or words j 0) (m % 64)) same ∙ here (m % 64) (omega arith) (omega arith)
-]
-
 -- the lowest bit of a word from a place on
 pub lowest_from : (word from run k : ℕ) → ((i : ℕ) → i < run → bit_at (word / 2 ^ from) i ≡ 0) → from ≤ k → k < from + run → bit_at word k ≡ 0
 lowest_from word from run k below later l =
