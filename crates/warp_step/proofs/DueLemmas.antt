@@ -1,54 +1,110 @@
--- Whom a place may trigger: that those that a new value triggers are among them, and so that due reactions stay due.
-use Rattle.std.proofs.Common.{◌≡◌, ◌⊎◌, inl, inr, ℕ, ℤ, zero, suc, ◌+◌, ◌<◌, ◌≢◌, Bool, true, false, ◌||◌, eqb, List, [], ◌∷◌, length, map, get_or, replicate, Option, None, Some, IsTrue, Contains, is_some, if◌then◌else◌, refl, sym, ap, ◌∙◌, subst, arith}
-use Rattle.std.specs.Prelude.{slice_get, slice_index_or, slice_set}
+-- Whom a place concerns: that those whom a new value concerns are marked, and so that those that are due stay marked.
+use Rattle.std.proofs.Common.{◌≡◌, ◌⊎◌, inl, inr, ℕ, ℤ, zero, suc, ◌+◌, ◌-◌, ◌/◌, ◌<◌, ◌≤◌, Bool, true, false, ◌||◌, eqb, List, [], ◌∷◌, length, get_or, replicate, Option, None, Some, IsTrue, is_some, if◌then◌else◌, refl, sym, ap, ◌∙◌, subst, arith}
+use Rattle.std.specs.Prelude.{slice_get, slice_index_or}
 use Rattle.std.specs.List.{list_any}
-use Rattle.std.proofs.lemmas.Bool.{cases_Bool, or_from, ltb-true, eqb-false}
+use Rattle.std.proofs.lemmas.Bool.{cases_Bool, or_from, eqb-false}
 use Rattle.std.proofs.lemmas.List.{get_or-set_other}
 use Rattle.std.proofs.lemmas.Option.{slice_get_within}
-use Rattle.warp_body.specs.Presence.{Presence, is_target, nothing_present, present_at, target_fits, with_value}
+use Rattle.warp_body.specs.Presence.{Presence, is_target, nothing_present, present_at, with_value}
 use Rattle.warp_body.specs.declared.place.Places.{Places}
 use Rattle.warp_body.specs.declared.place.Target.{Target}
 use Rattle.warp_body.specs.declared.place.Target.TheVariants as to
-use Rattle.warp_step.specs.Plan.{followers, heeds, numbers_where, place_of, triggered_by}
-use Rattle.warp_step.specs.Program.{Program, Rule}
-use Rattle.warp_step.specs.Step.{followers_of, is_triggered, numbers, plan_of}
-use Rattle.warp_step.specs.Valid.{program_places}
-use Rattle.warp_step.specs.inner.Due.{AreDue}
+use Rattle.warp_step.specs.Marks.{first_link, first_output, first_reaction, first_timer, mark_at, no_marks, with_mark}
+use Rattle.warp_step.specs.Plan.{heeds, heeds_any, link_heeds, output_heeds, place_of, reaction_heeds, timer_heeds, with_watchers}
+use Rattle.warp_step.specs.Program.{Program}
+use Rattle.warp_step.specs.Step.{marks_of, sources_of}
+use Rattle.warp_step.specs.Valid.{is_valid}
+use Rattle.warp_step.specs.inner.Due.{AreDue, AreMarked}
+use Rattle.warp_step.proofs.MarkLemmas.{length-with_mark, with_mark_adds, with_mark_keeps}
+use Rattle.warp_step.proofs.ValidLemmas.{validity}
 
--- a list with one more in front has what it had
-one_more : (n : ℕ) (ns : List ℕ) (k : ℕ) → Contains ns k → Contains (n ∷ ns) k
-one_more n ns k h = let within : h.0 < length ns = h.1 in (suc h.0, omega arith, h.2)
+-- one number more, if a test says so
+module _ (n : ℕ) (words : List ℕ) where
+  length-mark_if : (b : Bool) → length (if b then with_mark n words else words) ≡ length words
+  length-mark_if true = length-with_mark n words
+  length-mark_if false = refl
 
-kept_by_if : (b : Bool) (n : ℕ) (ns : List ℕ) (k : ℕ) → Contains ns k → Contains (if b then n ∷ ns else ns) k
-kept_by_if true n ns k h = one_more n ns k h
-kept_by_if false n ns k h = h
+  mark_if_keeps : (b : Bool) (m : ℕ) → n / 64 < length words → mark_at words m ≡ 1 → mark_at (if b then with_mark n words else words) m ≡ 1
+  mark_if_keeps true m lt h = with_mark_keeps n words m lt h
+  mark_if_keeps false m lt h = h
 
-first_by_if : (b : Bool) (n : ℕ) (ns : List ℕ) → b ≡ true → Contains (if b then n ∷ ns else ns) n
-first_by_if true n ns h = (0, omega arith, refl)
-first_by_if false n ns h = let no : false ≡ true = h in cc
+  mark_if_adds : (b : Bool) → b ≡ true → n / 64 < length words → mark_at (if b then with_mark n words else words) n ≡ 1
+  mark_if_adds true h lt = with_mark_adds n words lt
+  mark_if_adds false h lt = let no : false ≡ true = h in cc
 
--- an element that passes the test has its number in the list
-pub in_numbers_where : {X : Type 0} (test : X → Bool) (n m : ℕ) (xs : List X) (x : X) → slice_get xs m ≡ Some x → test x ≡ true → Contains (numbers_where test n xs) (n + m)
-in_numbers_where {X} test n m [] x at passes = let no : None ≡ Some x = at in cc
-in_numbers_where {X} test n zero (y ∷ ys) x at passes =
-    let some : Some y ≡ Some x = at in
-    let same : y ≡ x = cc in
-    let here : test y ≡ true = ap test same ∙ passes in
-    let same_number : n ≡ n + 0 = omega arith in
-    subst (Contains (numbers_where test n (y ∷ ys))) same_number
-    (first_by_if (test y) n (numbers_where test (n + 1) ys) here)
-in_numbers_where {X} test n (suc m) (y ∷ ys) x at passes =
-    let same_number : n + 1 + m ≡ n + suc m = omega arith in
-    kept_by_if (test y) n (numbers_where test (n + 1) ys) (n + suc m)
-    (subst (Contains (numbers_where test (n + 1) ys)) same_number (in_numbers_where test (n + 1) m ys x at passes))
+-- the marks of the elements of a list that heed one of the places
+module _ {X : Type 0} (triggers : ℕ → X → List Target) (first : ℕ) (sources : List ℕ) (places : List Target) where
+  length-with_watchers : (n : ℕ) (xs : List X) (words : List ℕ) → length (with_watchers triggers first sources places n xs words) ≡ length words
+  length-with_watchers n [] words = refl
+  length-with_watchers n (x ∷ xs) words =
+      length-with_watchers (n + 1) xs (if heeds_any sources (triggers n x) places then with_mark (first + n) words else words)
+      ∙ length-mark_if (first + n) words (heeds_any sources (triggers n x) places)
 
--- a rule that heeds one of the places is among those that they may trigger
-pub among_followers : (sources : List ℕ) (rules : List Rule) (places : List Target) (m : ℕ) (rule : Rule) → slice_get rules m ≡ Some rule
-    → list_any (heeds sources rule) places ≡ true → Contains (followers sources rules places) m
-among_followers sources rules places m rule at passes =
-    let same : 0 + m ≡ m = omega arith in
-    subst (Contains (followers sources rules places)) same
-    (in_numbers_where (λ (r : Rule). list_any (heeds sources r) places) 0 m rules rule at passes)
+  with_watchers_keep : (n : ℕ) (xs : List X) (words : List ℕ) (m : ℕ) → length words ≡ 10 → first + n + length xs ≤ 640
+      → mark_at words m ≡ 1 → mark_at (with_watchers triggers first sources places n xs words) m ≡ 1
+  with_watchers_keep n [] words m ten within h = h
+  with_watchers_keep n (x ∷ xs) words m ten within h =
+      let test = heeds_any sources (triggers n x) places in
+      with_watchers_keep (n + 1) xs (if test then with_mark (first + n) words else words) m
+      (length-mark_if (first + n) words test ∙ ten) (omega (arith, within))
+      (mark_if_keeps (first + n) words test m (omega (arith, ten, within)) h)
+
+  with_watchers_mark : (n : ℕ) (xs : List X) (words : List ℕ) (k j : ℕ) (x : X) → n + k ≡ j → length words ≡ 10 → first + n + length xs ≤ 640 → slice_get xs k ≡ Some x
+      → heeds_any sources (triggers j x) places ≡ true → mark_at (with_watchers triggers first sources places n xs words) (first + j) ≡ 1
+  with_watchers_mark n [] words k j x sum ten within at heeded = let no : None ≡ Some x = at in cc
+  with_watchers_mark n (y ∷ ys) words zero j x sum ten within at heeded =
+      let some : Some y ≡ Some x = at in
+      let same : y ≡ x = cc in
+      let here : n ≡ j = omega (arith, sum) in
+      let test = heeds_any sources (triggers n y) places in
+      let own : test ≡ true = (λ i. heeds_any sources (triggers (here i) (same i)) places) ∙ heeded in
+      let marked = mark_if_adds (first + n) words test own (omega (arith, ten, within)) in
+      let kept = with_watchers_keep (n + 1) ys (if test then with_mark (first + n) words else words) (first + n)
+      (length-mark_if (first + n) words test ∙ ten) (omega (arith, within)) marked in
+      ap (λ (m : ℕ). mark_at (with_watchers triggers first sources places n (y ∷ ys) words) (first + m)) (sym here) ∙ kept
+  with_watchers_mark n (y ∷ ys) words (suc k) j x sum ten within at heeded =
+      let test = heeds_any sources (triggers n y) places in
+      with_watchers_mark (n + 1) ys (if test then with_mark (first + n) words else words) k j x (omega (arith, sum))
+      (length-mark_if (first + n) words test ∙ ten) (omega (arith, within)) at heeded
+
+-- all elements of a list that heed one of the places are marked
+abbrev pub MarksAll : {X : Type 0} → (ℕ → X → List Target) → ℕ → List X → List ℕ → List Target → List ℕ → Type 0
+MarksAll {X} triggers first xs sources places words =
+    (n : ℕ) (x : X) → slice_get xs n ≡ Some x → heeds_any sources (triggers n x) places ≡ true → mark_at words (first + n) ≡ 1
+
+-- and so are all parts of a program that do
+pub record Marks (P : Program) (places : List Target) (words : List ℕ) : Type 0 where
+  pub reactions : MarksAll reaction_heeds first_reaction P.reactions (sources_of P) places words
+  pub links : MarksAll link_heeds first_link P.links (sources_of P) places words
+  pub outputs : MarksAll output_heeds first_output P.outputs (sources_of P) places words
+  pub timers : MarksAll timer_heeds first_timer P.timers (sources_of P) places words
+
+pub marks_all : (P : Program) (places : List Target) → IsTrue (is_valid P) → Marks P places (marks_of P places)
+marks_all P places valid =
+    let limits = (validity P valid).limits in
+    let ss = sources_of P in
+    let a = with_watchers reaction_heeds first_reaction ss places 0 P.reactions no_marks in
+    let b = with_watchers link_heeds first_link ss places 0 P.links a in
+    let d = with_watchers output_heeds first_output ss places 0 P.outputs b in
+    let a_ten : length a ≡ 10 = length-with_watchers reaction_heeds first_reaction ss places 0 P.reactions no_marks in
+    let b_ten : length b ≡ 10 = length-with_watchers link_heeds first_link ss places 0 P.links a ∙ a_ten in
+    let d_ten : length d ≡ 10 = length-with_watchers output_heeds first_output ss places 0 P.outputs b ∙ b_ten in
+    let reactions = limits.reactions in
+    let links = limits.links in
+    let outputs = limits.outputs in
+    let timers = limits.timers in
+    let keep_b = λ (m : ℕ). with_watchers_keep link_heeds first_link ss places 0 P.links a m a_ten (omega (arith, links)) in
+    let keep_d = λ (m : ℕ). with_watchers_keep output_heeds first_output ss places 0 P.outputs b m b_ten (omega (arith, outputs)) in
+    let keep = λ (m : ℕ). with_watchers_keep timer_heeds first_timer ss places 0 P.timers d m d_ten (omega (arith, timers)) in
+    record {
+      reactions = λ n x at heeded. keep (first_reaction + n) (keep_d (first_reaction + n) (keep_b (first_reaction + n)
+          (with_watchers_mark reaction_heeds first_reaction ss places 0 P.reactions no_marks n n x (omega arith) refl (omega (arith, reactions)) at heeded)));
+      links = λ n x at heeded. keep (first_link + n) (keep_d (first_link + n)
+          (with_watchers_mark link_heeds first_link ss places 0 P.links a n n x (omega arith) a_ten (omega (arith, links)) at heeded));
+      outputs = λ n x at heeded. keep (first_output + n)
+          (with_watchers_mark output_heeds first_output ss places 0 P.outputs b n n x (omega arith) b_ten (omega (arith, outputs)) at heeded);
+      timers = λ n x at heeded. with_watchers_mark timer_heeds first_timer ss places 0 P.timers d n n x (omega arith) d_ten (omega (arith, timers)) at heeded;
+    }
 
 -- a place that a trigger does not heed leaves it
 other_stays : (target : Target) (v : ℤ) (present : Presence) (trigger : Target) → is_target target (place_of present.sources trigger) ≡ false
@@ -82,7 +138,7 @@ pub or_false : (x y : Bool) → (x || y) ≡ false → (x ≡ false) × (y ≡ f
 or_false true y h = let no : true ≡ false = h in cc
 or_false false y h = (refl, h)
 
-triggers_stay : (target : Target) (v : ℤ) (present : Presence) (triggers : List Target)
+pub triggers_stay : (target : Target) (v : ℤ) (present : Presence) (triggers : List Target)
     → list_any (λ trigger. is_target target (place_of present.sources trigger)) triggers ≡ false
     → list_any (λ trigger. is_some (present_at (with_value target v present) trigger)) triggers
     ≡ list_any (λ trigger. is_some (present_at present trigger)) triggers
@@ -93,42 +149,49 @@ triggers_stay target v present (t ∷ ts) h =
     let rest = triggers_stay target v present ts both.1 in
     λ i. is_some (one i) || rest i
 
--- a place that a rule does not heed triggers nothing new of it
-pub triggered_same : (rule : Rule) (target : Target) (v : ℤ) (present : Presence) → heeds present.sources rule target ≡ false
-    → is_triggered rule (with_value target v present) ≡ is_triggered rule present
-triggered_same rule target v present h = triggers_stay target v present rule.triggers h
+-- triggers of which one is present after were so before, or heed one of the places
+abbrev pub Follows : List Target → Presence → Presence → Type 0
+Follows places before after =
+    (triggers : List Target) → list_any (λ trigger. is_some (present_at after trigger)) triggers ≡ true
+    → (list_any (λ trigger. is_some (present_at before trigger)) triggers ≡ true) ⊎ (heeds_any before.sources triggers places ≡ true)
 
--- a rule that is triggered after a value was before, or heeds its place
-pub triggered_after_value : (rule : Rule) (target : Target) (v : ℤ) (present : Presence) → is_triggered rule (with_value target v present) ≡ true
-    → (is_triggered rule present ≡ true) ⊎ (heeds present.sources rule target ≡ true)
-triggered_after_value rule target v present h = elim (cases_Bool (heeds present.sources rule target)) [
-  | inl heeded ↦ inr heeded
-  | inr other ↦ inl (sym (triggered_same rule target v present other) ∙ h)
+-- after a value they do so of its place
+pub follows_value : (target : Target) (v : ℤ) (present : Presence) → Follows (target ∷ []) present (with_value target v present)
+follows_value target v present = λ triggers h. elim (cases_Bool (heeds present.sources triggers target)) [
+  | inl heeded ↦ inr (ap (λ (b : Bool). b || false) heeded)
+  | inr other ↦ inl (sym (triggers_stay target v present triggers other) ∙ h)
 ]
 
--- Those that were due are due after a value, where the followers of its place are made due.
-pub due_after_value : (n : ℕ) (rules : List Rule) (present : Presence) (target : Target) (v : ℤ) (due after : List Bool)
-    → AreDue n rules present due
-    → ((m : ℕ) → Contains (followers present.sources rules (target ∷ [])) m → m < length rules → slice_index_or after m false ≡ true)
-    → ((m : ℕ) → slice_index_or due m false ≡ true → slice_index_or after m false ≡ true)
-    → AreDue n rules (with_value target v present) after
-due_after_value n rules present target v due after were marked kept = λ m rule from at triggered.
-    elim (triggered_after_value rule target v present triggered) [
-      | inl before ↦ kept m (were m rule from at before)
-      | inr heeded ↦
-          let passes : list_any (heeds present.sources rule) (target ∷ []) ≡ true = ap (λ (b : Bool). b || false) heeded in
-          marked m (among_followers present.sources rules (target ∷ []) m rule at passes) (slice_get_within rules m rule at)
+-- the elements of one list that are due stay marked
+marked_after : {X : Type 0} (triggers : ℕ → X → List Target) (first : ℕ) (xs : List X) (places : List Target) (before after : Presence) (old new : List ℕ)
+    → Follows places before after → ((m : ℕ) → mark_at old m ≡ 1 → mark_at new m ≡ 1) → MarksAll triggers first xs before.sources places new
+    → AreMarked triggers first xs before old → AreMarked triggers first xs after new
+marked_after {X} triggers first xs places before after old new follows keeps marks were = λ n x at present.
+    elim (follows (triggers n x) present) [
+      | inl was ↦ keeps (first + n) (were n x at was)
+      | inr heeded ↦ marks n x at heeded
     ]
 
--- the same of fewer rules
-pub due_from_next : (n : ℕ) (rules : List Rule) (present : Presence) (due : List Bool) → AreDue n rules present due → AreDue (n + 1) rules present due
-due_from_next n rules present due were = λ m rule from at triggered. were m rule (omega (arith, from)) at triggered
-
--- nor the flag of the one that is looked at now
-pub due_without : (n : ℕ) (rules : List Rule) (present : Presence) (due : List Bool) → AreDue n rules present due → AreDue (n + 1) rules present (slice_set due n false)
-due_without n rules present due were = λ m rule from at triggered.
-    let other : m ≢ n = omega (arith, from) in
-    get_or-set_other due n m false false other ∙ were m rule (omega (arith, from)) at triggered
+-- Those that are due stay marked, where all whom the places concern are marked.
+pub due_after : (P : Program) (places : List Target) (before after : Presence) (old called new : List ℕ) → IsTrue (is_valid P) → before.sources ≡ sources_of P
+    → Follows places before after → called ≡ marks_of P places → ((m : ℕ) → mark_at old m ≡ 1 → mark_at new m ≡ 1)
+    → ((m : ℕ) → mark_at called m ≡ 1 → mark_at new m ≡ 1) → AreDue P before old → AreDue P after new
+due_after P places before after old called new valid own follows is keeps adds were =
+    let all = marks_all P places valid in
+    let add : (m : ℕ) → mark_at (marks_of P places) m ≡ 1 → mark_at new m ≡ 1 =
+    λ m h. adds m (ap (λ (words : List ℕ). mark_at words m) is ∙ h) in
+    let by_own : (triggers : List Target) → heeds_any before.sources triggers places ≡ true → heeds_any (sources_of P) triggers places ≡ true =
+    λ triggers h. ap (λ (ss : List ℕ). heeds_any ss triggers places) (sym own) ∙ h in
+    record {
+      reactions = marked_after reaction_heeds first_reaction P.reactions places before after old new follows keeps
+          (λ n x at h. add (first_reaction + n) (all.reactions n x at (by_own (reaction_heeds n x) h))) were.reactions;
+      links = marked_after link_heeds first_link P.links places before after old new follows keeps
+          (λ n x at h. add (first_link + n) (all.links n x at (by_own (link_heeds n x) h))) were.links;
+      outputs = marked_after output_heeds first_output P.outputs places before after old new follows keeps
+          (λ n x at h. add (first_output + n) (all.outputs n x at (by_own (output_heeds n x) h))) were.outputs;
+      timers = marked_after timer_heeds first_timer P.timers places before after old new follows keeps
+          (λ n x at h. add (first_timer + n) (all.timers n x at (by_own (timer_heeds n x) h))) were.timers;
+    }
 
 -- a list of absent values has none
 none_at : (n k : ℕ) → get_or {A = Option ℤ} (replicate n None) k None ≡ None
@@ -148,24 +211,30 @@ none_triggers places sources [] = refl
 none_triggers places sources (t ∷ ts) =
     or_from _ _ (ap (λ (o : Option ℤ). is_some o) (absent_at places sources t)) (none_triggers places sources ts)
 
--- where nothing is present, nothing is triggered, and so all that is triggered is due
-pub none_triggered : (rule : Rule) (places : Places) (sources : List ℕ) → is_triggered rule (nothing_present places sources) ≡ false
-none_triggered rule places sources = none_triggers places sources rule.triggers
+-- where nothing is present, none is to be looked at, and so all are marked
+pub none_due : (P : Program) (places : Places) (sources : List ℕ) (words : List ℕ) → AreDue P (nothing_present places sources) words
+none_due P places sources words =
+    let idle : (triggers : List Target) (m : ℕ) → list_any (λ trigger. is_some (present_at (nothing_present places sources) trigger)) triggers ≡ true → mark_at words m ≡ 1 =
+    λ triggers m h. let no : false ≡ true = sym (none_triggers places sources triggers) ∙ h in cc in
+    record {
+      reactions = λ n x at h. idle (reaction_heeds n x) (first_reaction + n) h;
+      links = λ n x at h. idle (link_heeds n x) (first_link + n) h;
+      outputs = λ n x at h. idle (output_heeds n x) (first_output + n) h;
+      timers = λ n x at h. idle (timer_heeds n x) (first_timer + n) h;
+    }
 
-pub none_due : (n : ℕ) (rules : List Rule) (places : Places) (sources : List ℕ) (due : List Bool) → AreDue n rules (nothing_present places sources) due
-none_due n rules places sources due = λ m rule from at triggered.
-    let no : false ≡ true = sym (none_triggered rule places sources) ∙ triggered in
-    cc
+-- an element that is not marked has no trigger that is present
+pub unmarked : {X : Type 0} (triggers : ℕ → X → List Target) (first : ℕ) (xs : List X) (present : Presence) (words : List ℕ) → AreMarked triggers first xs present words
+    → (n : ℕ) (x : X) → slice_get xs n ≡ Some x → mark_at words (first + n) ≡ 0 → list_any (λ trigger. is_some (present_at present trigger)) (triggers n x) ≡ false
+unmarked {X} triggers first xs present words due n x at idle = elim (cases_Bool (list_any (λ trigger. is_some (present_at present trigger)) (triggers n x))) [
+  | inl some ↦ absurd (omega (arith, idle, due n x at some))
+  | inr none ↦ none
+]
 
--- the element of a table over all numbers from one on
-table_at : {X : Type 0} {Y : Type 0} (f : ℕ → List Y) (n k j : ℕ) (xs : List X) → k < length xs → n + k ≡ j → slice_index_or (map f (numbers n xs)) k [] ≡ f j
-table_at f n k j [] lt same = absurd (omega (arith, lt))
-table_at f n zero j (x ∷ xs) lt same = let here : n ≡ j = omega (arith, same) in ap f here
-table_at f n (suc k) j (x ∷ xs) lt same = table_at f (n + 1) k j xs (omega (arith, lt)) (omega (arith, same))
-
--- a plan tells of each target of the program whom it may trigger
-pub triggered_by_fits : (P : Program) (target : Target) → IsTrue (target_fits (program_places P) target) → triggered_by (plan_of P) target ≡ followers_of P (target ∷ [])
-triggered_by_fits P to.Startup h = refl
-triggered_by_fits P (to.Timer n) h = table_at (λ (k : ℕ). followers_of P (to.Timer k ∷ [])) 0 n n P.timers (ltb-true n (length P.timers) h) (omega arith)
-triggered_by_fits P (to.Action n) h = table_at (λ (k : ℕ). followers_of P (to.Action k ∷ [])) 0 n n P.actions (ltb-true n (length P.actions) h) (omega arith)
-triggered_by_fits P (to.Port n) h = table_at (λ (k : ℕ). followers_of P (to.Port k ∷ [])) 0 n n P.ports (ltb-true n (length P.ports) h) (omega arith)
+-- What is the same at an element that is not marked and at the next one is the same at two between which none is marked.
+pub skip : {A : Type 0} (f : ℕ → A) (words : List ℕ) (first len : ℕ) → ((n : ℕ) → n < len → mark_at words (first + n) ≡ 0 → f n ≡ f (n + 1))
+    → (count from to : ℕ) → from + count ≡ to → to ≤ len → ((m : ℕ) → first + from ≤ m → m < first + to → mark_at words m ≡ 0) → f from ≡ f to
+skip {A} f words first len same zero from to sum within none = let here : from ≡ to = omega (arith, sum) in ap f here
+skip {A} f words first len same (suc count) from to sum within none =
+    same from (omega (arith, sum, within)) (none (first + from) (omega arith) (omega (arith, sum)))
+    ∙ skip f words first len same count (from + 1) to (omega (arith, sum)) within (λ m l below. none m (omega (arith, l)) below)

@@ -2,14 +2,17 @@ pub mod DueBodies
 pub mod DueLemmas
 pub mod EntryMoves
 pub mod FrontLemmas
+pub mod MarkLemmas
 pub mod OutputsBefore
 pub mod OutputsOfRun
 pub mod PartedLists
 pub mod PendingLemmas
+pub mod PlaceLemmas
 pub mod PlanLemmas
 pub mod ReactLemmas
 pub mod RowsBefore
 pub mod Sameness
+pub mod SkipLemmas
 pub mod SourceLemmas
 pub mod StepLemmas
 pub mod TagsOfBox

@@ -3,6 +3,7 @@ pub mod Codes
 pub mod View
 pub mod Valid
 pub mod Snapshot
+pub mod Marks
 pub mod Plan
 pub mod Step
 pub mod Run

@@ -1,10 +1,14 @@
--- Which reactions the presence of a place may trigger, as a program's steps look it up.
-use Rattle.std.specs.Prelude.{◌≡◌, ℕ, ◌+◌, ◌≤◌, Bool, true, false, List, [], ◌∷◌, map, slice_index_or, slice_get, Some, if◌then◌else◌}
+-- Whom a step may have to look at where a place becomes present: the reactions that it may trigger, the links and the program
+-- outputs whose port it is, and the timer that it is. Each has its triggers.
+use Rattle.std.specs.Prelude.{ℕ, ◌+◌, ◌-◌, Bool, true, false, nat_lt, nat_eq, List, [], ◌∷◌, Option, None, Some, slice_index_or, if◌then◌else◌}
 use Rattle.std.specs.List.{list_any}
 use Rattle.warp_body.specs.Presence.{is_target}
 use Rattle.warp_body.specs.declared.place.Target.{Target}
 use Rattle.warp_body.specs.declared.place.Target.TheVariants as to
-use Rattle.warp_step.specs.Program.{Program, Rule}
+use Rattle.warp_step.specs.Marks.{with_mark}
+use Rattle.warp_step.specs.Program.{Rule}
+use Rattle.warp_step.specs.declared.parts.Link.{Link}
+use Rattle.warp_step.specs.declared.parts.Timer.{Timer}
 
 -- the place by whose presence a target is present: of a port its source, else itself
 abbrev pub place_of : List ℕ → Target → Target
@@ -13,31 +17,62 @@ place_of sources (to.Timer n) = to.Timer n
 place_of sources (to.Action n) = to.Action n
 place_of sources (to.Port n) = to.Port (slice_index_or sources n n)
 
--- the place is that of one of the rule's triggers
-abbrev pub heeds : List ℕ → Rule → Target → Bool
-heeds sources rule place = list_any (λ trigger. is_target place (place_of sources trigger)) rule.triggers
+-- the place is that of one of the triggers
+abbrev pub heeds : List ℕ → List Target → Target → Bool
+heeds sources triggers place = list_any (λ trigger. is_target place (place_of sources trigger)) triggers
 
--- the numbers of those that pass the test, counted from this one on
-abbrev pub numbers_where : {X : Type 0} → (X → Bool) → ℕ → List X → List ℕ
-numbers_where {X} test n [] = []
-numbers_where {X} test n (x ∷ xs) = if test x then n ∷ numbers_where test (n + 1) xs else numbers_where test (n + 1) xs
+-- one of the places is
+abbrev pub heeds_any : List ℕ → List Target → List Target → Bool
+heeds_any sources triggers places = list_any (heeds sources triggers) places
 
--- the numbers of the rules that one of these places may trigger
-abbrev pub followers : List ℕ → List Rule → List Target → List ℕ
-followers sources rules places = numbers_where (λ rule. list_any (heeds sources rule) places) 0 rules
+-- what a reaction, a link, the program output of a port and a timer heed, each with its number; a link without a delay nothing,
+-- since its target has the presence of its source
+abbrev pub reaction_heeds : ℕ → Rule → List Target
+reaction_heeds number rule = rule.triggers
 
--- Whom each place may trigger: startup, each timer, each action, and each port as a source; and whom what a reaction writes
--- may.
+abbrev pub source_if_delayed : Option ℕ → ℕ → List Target
+source_if_delayed None source = []
+source_if_delayed (Some delay) source = to.Port source ∷ []
+
+abbrev pub link_heeds : ℕ → Link → List Target
+link_heeds number link = source_if_delayed link.delay link.source
+
+abbrev pub output_heeds : ℕ → ℕ → List Target
+output_heeds number port = to.Port port ∷ []
+
+abbrev pub timer_heeds : ℕ → Timer → List Target
+timer_heeds number timer = to.Timer number ∷ []
+
+-- with a mark for each element of a list that heeds one of the places; the first mark is at this number, and the elements count
+-- from the next one on
+abbrev pub with_watchers : {X : Type 0} → (ℕ → X → List Target) → ℕ → List ℕ → List Target → ℕ → List X → List ℕ → List ℕ
+with_watchers {X} triggers first sources places n [] words = words
+with_watchers {X} triggers first sources places n (x ∷ xs) words =
+    with_watchers triggers first sources places (n + 1) xs (if heeds_any sources (triggers n x) places then with_mark (first + n) words else words)
+
+-- the ports among targets: what a body writes there is present at the same tag
+abbrev pub is_port : Target → Bool
+is_port to.Startup = false
+is_port (to.Timer n) = false
+is_port (to.Action n) = false
+is_port (to.Port n) = true
+
+-- All places have a number: startup, then the timers, then the actions, then the ports.
+abbrev pub place_number : Target → ℕ
+place_number to.Startup = 0
+place_number (to.Timer n) = 1 + n
+place_number (to.Action n) = 17 + n
+place_number (to.Port n) = 81 + n
+
+abbrev pub numbered_place : ℕ → Target
+numbered_place n =
+    if nat_eq n 0 then to.Startup else if nat_lt n 17 then to.Timer (n - 1) else if nat_lt n 81 then to.Action (n - 17) else to.Port (n - 81)
+
+-- the most places of a program
+abbrev pub most_places : ℕ
+most_places = 337
+
+-- Whom each place concerns, by the place's number; and whom what a reaction writes concerns, by the reaction's number: as marks.
 pub record Plan : Type 0 where
-  pub startup : List ℕ
-  pub timers : List (List ℕ)
-  pub actions : List (List ℕ)
-  pub ports : List (List ℕ)
+  pub places : List (List ℕ)
   pub after : List (List ℕ)
-
--- whom a place may trigger, looked up
-abbrev pub triggered_by : Plan → Target → List ℕ
-triggered_by plan to.Startup = plan.startup
-triggered_by plan (to.Timer n) = slice_index_or plan.timers n []
-triggered_by plan (to.Action n) = slice_index_or plan.actions n []
-triggered_by plan (to.Port n) = slice_index_or plan.ports n []

@@ -1,7 +1,7 @@
 -- One step of a program at a tag, in the order of its six parts.
 use Rattle.std.specs.Prelude.{◌≡◌, ℕ, ℤ, pos, ◌+◌, ◌≤◌, Bool, not, ◌&&◌, ◌||◌, ◌==◌, IsTrue, List, [], ◌∷◌, length, map, filter, replicate, slice_set, slice_get, slice_index, nat_lt, Option, Some, None, is_some, is_none, if◌then◌else◌}
 use Rattle.std.specs.Option.{option_map_or}
-use Rattle.std.specs.List.{list_any, list_all}
+use Rattle.std.specs.List.{list_any, list_all, range_with_len}
 use Rattle.arrayvec.specs.ArrayVec.{ArrayVec}
 use Rattle.warp_tag.specs.Moment.{Moment, is_before, is_same}
 use Rattle.warp_body.specs.Presence.{Presence, nothing_present, present_at, with_value}
@@ -11,7 +11,8 @@ use Rattle.warp_body.specs.declared.place.Target.{Target}
 use Rattle.warp_body.specs.declared.place.Target.TheVariants as to
 use Rattle.warp_body.specs.declared.stmt.Wish.{Wish}
 use Rattle.warp_step.specs.Program.{Rule, Program, delay_of}
-use Rattle.warp_step.specs.Plan.{Plan, followers}
+use Rattle.warp_step.specs.Marks.{first_link, first_output, first_reaction, first_timer, no_marks}
+use Rattle.warp_step.specs.Plan.{Plan, is_port, link_heeds, numbered_place, most_places, output_heeds, reaction_heeds, timer_heeds, with_watchers}
 use Rattle.warp_step.specs.Valid.{is_distinct, program_places}
 use Rattle.warp_step.specs.Snapshot.{Snapshot, IsStateOf, landed}
 use Rattle.warp_step.specs.declared.parts.Link.{Link}
@@ -181,22 +182,24 @@ pub record CanStep (P : Program) (s : Snapshot) (t : Moment) (X : List Given) : 
   pub some : IsTrue (nat_lt 0 (length X) || list_any (λ w. is_same w.tag t) s.pending)
   pub inputs : AreInputs P X
 
--- the reactions of the program that one of these places may trigger
-abbrev pub followers_of : Program → List Target → List ℕ
-followers_of P places = followers (sources_of P) P.reactions places
+-- the marks of those whom the presence of one of these places concerns
+abbrev pub marks_of : Program → List Target → List ℕ
+marks_of P places =
+    let sources = sources_of P in
+    with_watchers timer_heeds first_timer sources places 0 P.timers
+    (with_watchers output_heeds first_output sources places 0 P.outputs
+    (with_watchers link_heeds first_link sources places 0 P.links
+    (with_watchers reaction_heeds first_reaction sources places 0 P.reactions no_marks)))
 
--- whom each place of the program may trigger
+-- whom each place of the program concerns, and whom what each reaction writes does
 abbrev pub plan_of : Program → Plan
 plan_of P = record {
-  startup = followers_of P (to.Startup ∷ []);
-  timers = map (λ n. followers_of P (to.Timer n ∷ [])) (numbers 0 P.timers);
-  actions = map (λ n. followers_of P (to.Action n ∷ [])) (numbers 0 P.actions);
-  ports = map (λ n. followers_of P (to.Port n ∷ [])) (numbers 0 P.ports);
-  after = map (λ rule. followers_of P rule.writes) P.reactions;
+  places = map (λ n. marks_of P (numbered_place n ∷ [])) (range_with_len 0 most_places);
+  after = map (λ rule. marks_of P (filter is_port rule.writes)) P.reactions;
 }
 
 -- the room that steps of the program work in: its places, the sources of its ports, how many bodies it has, and whom each
--- place may trigger
+-- place concerns
 pub record Room : Type 0 where
   pub places : Places
   pub sources : List ℕ

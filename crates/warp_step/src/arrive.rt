@@ -9,9 +9,10 @@ ghost use Rattle.warp_step.specs.Step.{AreInputs, arrived, arrived_entries, plan
 ghost use Rattle.warp_step.specs.inner.Due.{AreDue};
 ghost use Rattle.warp_step.specs.inner.Front.{HasOtherHead};
 
+use crate::marks::Marks;
 use crate::out::Given;
 use crate::pending::Waiting;
-use crate::plan::{Plan, mark};
+use crate::plan::Plan;
 use crate::program::Program;
 use crate::state::State;
 use warp_body::{Present, Target};
@@ -23,7 +24,7 @@ impl State {
         &mut self,
         program: &Program,
         plan: &Plan,
-        due: &mut [bool],
+        due: &mut Marks,
         tag: Tag,
         present: &mut Present,
     )
@@ -32,32 +33,29 @@ impl State {
         requires none_before { IsTrue (list_all (λ w. not (is_before w.tag tag)) self.old.pending) }
         requires plan { plan.now ≡ plan_of program.now }
         requires own { present.old.sources ≡ sources_of program.now }
-        requires flags { length due.old ≡ length program.now.reactions }
         ensures state { self.new ≡ without_entries tag self.old }
         ensures present { present.new ≡ arrived_entries (filter (λ w. is_same w.tag tag) self.old.pending) present.old }
         ensures places { places_of present.new ≡ places_of present.old }
         ensures sources { present.new.sources ≡ present.old.sources }
-        ensures flags { length due.new ≡ length due.old }
-        ensures due { AreDue 0 program.now.reactions present.old due.old → AreDue 0 program.now.reactions present.new due.new }
+        ensures due { AreDue program.now present.old due.old.words → AreDue program.now present.new due.new.words }
     {
         let count = arrive_entries(self.pending.as_slice(), program, plan, due, tag, present);
         self.pending.drop_front(count);
     }
 }
 
-/// Makes the targets of the first entries with this tag present, and says how many have it. Whom they may trigger is due.
+/// Makes the targets of the first entries with this tag present, and says how many have it. Whom they concern is due.
 fn arrive_entries(
     entries: &[Waiting],
     program: &Program,
     plan: &Plan,
-    due: &mut [bool],
+    due: &mut Marks,
     tag: Tag,
     present: &mut Present,
 ) -> usize
     requires plan { plan.now ≡ plan_of program.now }
     requires places { places_of present.old ≡ program_places program.now }
     requires own { present.old.sources ≡ sources_of program.now }
-    requires flags { length due.old ≡ length program.now.reactions }
     requires targets { IsTrue (list_all (λ w. target_fits (places_of present.old) w.target) entries.now) }
     ensures within { result ≤ length entries.now }
     ensures here { IsTrue (list_all (λ w. is_same w.tag tag) (take result entries.now)) }
@@ -65,8 +63,7 @@ fn arrive_entries(
     ensures present { present.new ≡ arrived_entries (take result entries.now) present.old }
     ensures places { places_of present.new ≡ places_of present.old }
     ensures sources { present.new.sources ≡ present.old.sources }
-    ensures flags { length due.new ≡ length due.old }
-    ensures due { AreDue 0 program.now.reactions present.old due.old → AreDue 0 program.now.reactions present.new due.new }
+    ensures due { AreDue program.now present.old due.old.words → AreDue program.now present.new due.new.words }
 {
     for (count, entry) in entries.iter().enumerate() {
         if !entry.tag.is_same(tag) {
@@ -77,11 +74,11 @@ fn arrive_entries(
     entries.len()
 }
 
-/// Makes a target present with a value. Whom it may trigger is due.
+/// Makes a target present with a value. Whom it concerns is due.
 fn put(
     program: &Program,
     plan: &Plan,
-    due: &mut [bool],
+    due: &mut Marks,
     present: &mut Present,
     target: Target,
     value: i64,
@@ -89,36 +86,33 @@ fn put(
     requires plan { plan.now ≡ plan_of program.now }
     requires places { places_of present.old ≡ program_places program.now }
     requires own { present.old.sources ≡ sources_of program.now }
-    requires flags { length due.old ≡ length program.now.reactions }
     requires target { IsTrue (target_fits (places_of present.old) target) }
     ensures value { present.new ≡ with_value target value present.old }
     ensures places { places_of present.new ≡ places_of present.old }
     ensures sources { present.new.sources ≡ present.old.sources }
-    ensures flags { length due.new ≡ length due.old }
-    ensures due { AreDue 0 program.now.reactions present.old due.old → AreDue 0 program.now.reactions present.new due.new }
+    ensures due { AreDue program.now present.old due.old.words → AreDue program.now present.new due.new.words }
 {
+    program.valid();
     present.put(target, value);
-    mark(due, plan.triggered_by(target));
+    due.add_all(plan.concerned(target));
 }
 
-/// Makes the ports of the given inputs present. Whom they may trigger is due.
+/// Makes the ports of the given inputs present. Whom they concern is due.
 pub(crate) fn arrive(
     program: &Program,
     plan: &Plan,
-    due: &mut [bool],
+    due: &mut Marks,
     given: &[Given],
     present: &mut Present,
 )
     requires plan { plan.now ≡ plan_of program.now }
     requires own { present.old.sources ≡ sources_of program.now }
-    requires flags { length due.old ≡ length program.now.reactions }
     requires inputs { AreInputs program.now given.now }
     requires places { places_of present.old ≡ program_places program.now }
     ensures present { present.new ≡ arrived program.now given.now present.old }
     ensures places { places_of present.new ≡ places_of present.old }
     ensures sources { present.new.sources ≡ present.old.sources }
-    ensures flags { length due.new ≡ length due.old }
-    ensures due { AreDue 0 program.now.reactions present.old due.old → AreDue 0 program.now.reactions present.new due.new }
+    ensures due { AreDue program.now present.old due.old.words → AreDue program.now present.new due.new.words }
 {
     for g in given {
         let port = Target::Port(program.port(g.input));

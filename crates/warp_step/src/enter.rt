@@ -7,9 +7,11 @@ ghost use Rattle.warp_body.specs.declared.place.Target.TheVariants as to;
 ghost use Rattle.warp_body.specs.Effect.{wish_fits};
 ghost use Rattle.warp_step.specs.Valid.{link_fits, program_places, program_sizes};
 ghost use Rattle.warp_step.specs.Snapshot.{landed};
+ghost use Rattle.warp_step.specs.inner.Due.{AreDue};
 ghost use Rattle.warp_step.specs.inner.Flagged.{HasNone};
 ghost use Rattle.warp_step.specs.Step.{repeats, with_repeats, with_wishes, with_all_wishes, with_links, delivered, lists_of};
 
+use crate::marks::{FIRST_LINK, FIRST_TIMER, Marks};
 use crate::parts::{Link, Timer};
 use crate::program::Program;
 use crate::state::State;
@@ -17,15 +19,27 @@ use warp_body::{Present, Target, Wish, Wishes};
 use warp_tag::Tag;
 
 impl State {
-    /// Makes each timer that is present and has a period pending again.
-    pub(crate) fn repeat_timers(&mut self, program: &Program, tag: Tag, present: &Present)
+    /// Makes each timer that is present and has a period pending again. It looks at those that are due.
+    pub(crate) fn repeat_timers(
+        &mut self,
+        program: &Program,
+        tag: Tag,
+        due: &Marks,
+        present: &Present,
+    )
         requires time { tag.time ≤ program.now.stop }
         requires places { places_of present.now ≡ program_places program.now }
+        requires due { AreDue program.now present.now due.now.words }
         ensures { self.new ≡ with_repeats program.now tag present.now 0 program.now.timers self.old }
     {
         program.valid();
-        for (number, timer) in program.timers().iter().enumerate() {
-            self.repeat_timer(program, tag, present, number as u32, timer);
+        let timers = program.timers();
+        let end = FIRST_TIMER + timers.len();
+        let mut mark = due.next(FIRST_TIMER, end);
+        while mark < end {
+            let number = mark - FIRST_TIMER;
+            self.repeat_timer(program, tag, present, number as u32, &timers[number]);
+            mark = due.next(mark + 1, end);
         }
     }
 
@@ -56,19 +70,21 @@ impl State {
         &mut self,
         program: &Program,
         tag: Tag,
+        due: &Marks,
         present: &Present,
         wishes: &[Wishes],
         wished: bool,
     )
         requires time { tag.time ≤ program.now.stop }
         requires places { places_of present.now ≡ program_places program.now }
+        requires due { AreDue program.now present.now due.now.words }
         requires wishes { IsTrue (list_all (list_all (wish_fits (program_sizes program.now))) (lists_of wishes.now)) }
         requires none { HasNone wished (lists_of wishes.now) }
         ensures { self.new ≡ with_links program.now tag present.now program.now.links
             (with_all_wishes program.now tag (lists_of wishes.now) self.old) }
     {
         self.enter_wishes(program, tag, wishes, wished);
-        self.deliver(program, tag, present);
+        self.deliver(program, tag, due, present);
     }
 
     /// Enters the wishes of the reactions, of which there may be some where the flag says so.
@@ -106,15 +122,20 @@ impl State {
         }
     }
 
-    /// Enters what each link with a delay delivers whose source is present.
-    pub(crate) fn deliver(&mut self, program: &Program, tag: Tag, present: &Present)
+    /// Enters what each link with a delay delivers whose source is present. It looks at those that are due.
+    pub(crate) fn deliver(&mut self, program: &Program, tag: Tag, due: &Marks, present: &Present)
         requires time { tag.time ≤ program.now.stop }
         requires places { places_of present.now ≡ program_places program.now }
+        requires due { AreDue program.now present.now due.now.words }
         ensures { self.new ≡ with_links program.now tag present.now program.now.links self.old }
     {
         program.valid();
-        for link in program.links() {
-            self.deliver_link(program, tag, present, link);
+        let links = program.links();
+        let end = FIRST_LINK + links.len();
+        let mut mark = due.next(FIRST_LINK, end);
+        while mark < end {
+            self.deliver_link(program, tag, present, &links[mark - FIRST_LINK]);
+            mark = due.next(mark + 1, end);
         }
     }
 

@@ -11,6 +11,7 @@ mod counter;
 mod enter;
 mod entries;
 mod law;
+mod marks;
 mod meter;
 mod one_step;
 mod out;

@@ -5,10 +5,12 @@ ghost use Rattle.warp_tag.specs.Moment.{is_before};
 ghost use Rattle.warp_body.specs.Presence.{places_of};
 ghost use Rattle.warp_step.specs.Valid.{program_places};
 ghost use Rattle.warp_step.specs.Snapshot.{Snapshot, IsStateOf};
+ghost use Rattle.warp_step.specs.inner.Due.{AreDue};
 ghost use Rattle.warp_step.specs.inner.Flagged.{HasNone};
 ghost use Rattle.warp_step.specs.Step.{CanStep, Step, Room, lists_of, plan_of, reacted, room_of, source_of, sources_of, state_after};
 
 use crate::arrive::arrive;
+use crate::marks::Marks;
 use crate::meter::Meter;
 use crate::out::{Given, Out};
 use crate::parts::Link;
@@ -22,13 +24,13 @@ use warp_body::{Places, Present, Wishes};
 use warp_tag::{OutOfMemory, Tag};
 
 /// Room that the steps of one program share. Contracts see of which program it is: its places, the sources of its ports, how
-/// many bodies it has, and whom each place may trigger.
+/// many bodies it has, and whom each place concerns.
 #[derive(Drop)]
 pub struct Scratch {
     present: Present,
     plan: Plan,
-    /// For each reaction, whether it is to be looked at in this step. One may be so in vain, as where a step before left it.
-    due: Vec<bool>,
+    /// Whom this step has to look at; it may be some in vain.
+    due: Marks,
     wishes: Vec<Wishes>,
     /// Whether a list of wishes may have some. Nearly always none has, and then nothing goes over them.
     wished: bool,
@@ -47,7 +49,7 @@ impl Model for Scratch {
     ghost use Rattle.warp_step.specs.Step.{lists_of};
     ghost use Rattle.warp_step.specs.inner.Flagged.{HasNone};
 
-    ghost invariant = { λ s. HasNone s.wished (lists_of s.wishes.items) × (length s.due.items ≡ length s.wishes.items) };
+    ghost invariant = { λ s. HasNone s.wished (lists_of s.wishes.items) };
 }
 
 impl Scratch {
@@ -63,13 +65,12 @@ impl Scratch {
         };
         let sources = sources(alloc, program)?;
         let plan = Plan::new(alloc, program, &sources)?;
-        let due = vec![in alloc; false; program.reactions().len()]?;
         let present = Present::new(alloc, places, sources)?;
         let wishes = empty_wishes(alloc, program.reactions().len())?;
         Ok(Scratch {
             present,
             plan,
-            due,
+            due: Marks::new(),
             wishes,
             wished: false,
         })
@@ -149,7 +150,7 @@ pub fn step<M: Meter>(
         tag,
         given,
     );
-    put_outputs(program, tag, &scratch.present, out);
+    put_outputs(program, tag, &scratch.due, &scratch.present, out);
 }
 
 /// Takes the state through the step, and leaves what is present after the reactions. The flag says whether there may be
@@ -158,7 +159,7 @@ fn advance(
     program: &Program,
     state: &mut State,
     plan: &Plan,
-    due: &mut [bool],
+    due: &mut Marks,
     present: &mut Present,
     wishes: &mut [Wishes],
     wished: bool,
@@ -166,7 +167,6 @@ fn advance(
     given: &[Given],
 ) -> bool
     requires plan { plan.now ≡ plan_of program.now }
-    requires flags { length due.old ≡ length program.now.reactions }
     requires can { CanStep program.now state.old tag given.now }
     requires places { places_of present.old ≡ program_places program.now }
     requires sources { present.old.sources ≡ sources_of program.now }
@@ -180,15 +180,16 @@ fn advance(
     ensures sources { present.new.sources ≡ present.old.sources }
     ensures bodies { length wishes.new ≡ length wishes.old }
     ensures none { HasNone result (lists_of wishes.new) }
-    ensures flags { length due.new ≡ length due.old }
+    ensures due { AreDue program.now present.new due.new.words }
 {
     program.valid();
     present.clear();
+    due.reset();
     clear_wishes(wishes, wished);
     state.take_entries(program, plan, due, tag, present);
     arrive(program, plan, due, given, present);
-    state.repeat_timers(program, tag, present);
+    state.repeat_timers(program, tag, due, present);
     let wished = run_reactions(program, plan, due, &mut state.vars, present, wishes);
-    state.enter_later(program, tag, present, wishes, wished);
+    state.enter_later(program, tag, due, present, wishes, wished);
     wished
 }

@@ -1,18 +1,25 @@
-//! Whom the presence of a place may trigger: a step looks only at reactions of which it may.
-ghost use Rattle.std.specs.Prelude.{◌≡◌, ℕ, ◌<◌, ◌≤◌, List, [], ◌∷◌, map, length, true, false, IfOk, Contains, slice_index_or};
-ghost use Rattle.std.specs.List.{list_any};
-ghost use Rattle.warp_tag.specs.Limits.{most_actions, most_ports, most_reactions, most_timers};
+//! Whom the presence of a place concerns: a step looks only at those.
+ghost use Rattle.std.specs.Prelude.{◌≡◌, ℕ, ◌+◌, ◌<◌, ◌≤◌, List, [], ◌∷◌, map, filter, length, IfOk, slice_index_or, if◌then◌else◌};
+ghost use Rattle.std.specs.List.{list_any, range_with_len};
+ghost use Rattle.warp_tag.specs.Limits.{most_links, most_outputs, most_reactions, most_timers};
+ghost use Rattle.warp_body.specs.declared.place.Target.{Target};
 ghost use Rattle.warp_body.specs.declared.place.Target.TheVariants as to;
+ghost use Rattle.warp_step.specs.Marks.{first_link, first_output, first_reaction, first_timer, most_marks, with_mark};
+ghost use Rattle.warp_step.specs.Plan.{heeds, heeds_any, is_port, link_heeds, most_places, numbered_place, output_heeds, place_number, place_of, reaction_heeds, timer_heeds, with_watchers};
 ghost use Rattle.warp_step.specs.Program.{rule_of};
-ghost use Rattle.warp_step.specs.Plan.{followers, heeds, place_of, triggered_by};
-ghost use Rattle.warp_step.specs.Step.{followers_of, numbers, plan_of, sources_of};
+ghost use Rattle.warp_step.specs.Step.{marks_of, plan_of, sources_of};
 
+use crate::marks::{FIRST_LINK, FIRST_OUTPUT, FIRST_TIMER, Marks};
+use crate::parts::{Link, Timer};
 use crate::program::Program;
 use crate::reaction::Reaction;
 use std::alloc::Global;
 use std::marker::Model;
 use warp_body::Target;
 use warp_tag::OutOfMemory;
+
+/// How many numbers places have.
+const PLACES: usize = 337;
 
 /// The place by whose presence a target is present: of a port its source, else itself.
 fn place_of(sources: &[u32], target: Target) -> Target
@@ -24,116 +31,193 @@ fn place_of(sources: &[u32], target: Target) -> Target
     }
 }
 
-/// Whether the place is that of one of the reaction's triggers.
-fn heeds(reaction: &Reaction, sources: &[u32], place: Target) -> bool
-    ensures { result ≡ heeds sources.now (rule_of reaction.now) place }
+/// Whether the place is that of one of the triggers.
+fn heeds(triggers: &[Target], sources: &[u32], place: Target) -> bool
+    ensures { result ≡ heeds sources.now triggers.now place }
 {
-    reaction
-        .triggers
+    triggers
         .iter()
         .any(|trigger| place.is_same(place_of(sources, *trigger)))
 }
 
-/// Whether one of the places is that of one of the reaction's triggers.
-fn heeds_any(reaction: &Reaction, sources: &[u32], places: &[Target]) -> bool
-    ensures { result ≡ list_any (heeds sources.now (rule_of reaction.now)) places.now }
+/// Whether one of the places is that of one of the triggers.
+fn heeds_any(triggers: &[Target], sources: &[u32], places: &[Target]) -> bool
+    ensures { result ≡ heeds_any sources.now triggers.now places.now }
 {
-    places.iter().any(|place| heeds(reaction, sources, *place))
+    places.iter().any(|place| heeds(triggers, sources, *place))
 }
 
-/// The numbers of the reactions that one of the places may trigger, in order.
-fn followers(
-    alloc: Global,
-    program: &Program,
-    sources: &[u32],
-    places: &[Target],
-) -> Result<Vec<u32>, OutOfMemory>
-    ensures { IfOk result (λ numbers. numbers.items ≡ followers sources.now program.now.reactions places.now) }
+/// Marks a number if one of the places is that of one of the triggers.
+fn watch(marks: &mut Marks, number: usize, triggers: &[Target], sources: &[u32], places: &[Target])
+    requires { number < most_marks }
+    ensures { marks.new.words ≡ (if heeds_any sources.now triggers.now places.now then with_mark number marks.old.words else marks.old.words) }
+{
+    if heeds_any(triggers, sources, places) {
+        marks.add(number);
+    }
+}
+
+/// Marks the reactions that one of the places may trigger.
+fn watch_reactions(marks: &mut Marks, reactions: &[Reaction], sources: &[u32], places: &[Target])
+    requires { length reactions.now ≤ most_reactions }
+    ensures { marks.new.words ≡ with_watchers reaction_heeds first_reaction sources.now places.now 0 (map rule_of reactions.now) marks.old.words }
+{
+    for (number, reaction) in reactions.iter().enumerate() {
+        watch(marks, number, &reaction.triggers, sources, places);
+    }
+}
+
+/// Marks the links with a delay whose source's place is one of the places.
+fn watch_links(marks: &mut Marks, links: &[Link], sources: &[u32], places: &[Target])
+    requires { length links.now ≤ most_links }
+    ensures { marks.new.words ≡ with_watchers link_heeds first_link sources.now places.now 0 links.now marks.old.words }
+{
+    for (number, link) in links.iter().enumerate() {
+        watch_link(marks, number, link, sources, places);
+    }
+}
+
+/// Marks the link with this number if it has a delay, and one of the places is that of its source.
+fn watch_link(marks: &mut Marks, number: usize, link: &Link, sources: &[u32], places: &[Target])
+    requires { number < most_links }
+    ensures { marks.new.words ≡ (if heeds_any sources.now (link_heeds number link.now) places.now
+        then with_mark (first_link + number) marks.old.words
+        else marks.old.words) }
+{
+    match link.delay {
+        None => watch(marks, FIRST_LINK + number, &[], sources, places),
+        Some(_) => watch(
+            marks,
+            FIRST_LINK + number,
+            &[Target::Port(link.source)],
+            sources,
+            places,
+        ),
+    }
+}
+
+/// Marks the program outputs whose port's place is one of the places.
+fn watch_outputs(marks: &mut Marks, ports: &[u32], sources: &[u32], places: &[Target])
+    requires { length ports.now ≤ most_outputs }
+    ensures { marks.new.words ≡ with_watchers output_heeds first_output sources.now places.now 0 ports.now marks.old.words }
+{
+    for (number, port) in ports.iter().enumerate() {
+        watch(
+            marks,
+            FIRST_OUTPUT + number,
+            &[Target::Port(*port)],
+            sources,
+            places,
+        );
+    }
+}
+
+/// Marks the timers that are one of the places.
+fn watch_timers(marks: &mut Marks, timers: &[Timer], sources: &[u32], places: &[Target])
+    requires { length timers.now ≤ most_timers }
+    ensures { marks.new.words ≡ with_watchers timer_heeds first_timer sources.now places.now 0 timers.now marks.old.words }
+{
+    for (number, _timer) in timers.iter().enumerate() {
+        watch(
+            marks,
+            FIRST_TIMER + number,
+            &[Target::Timer(number as u32)],
+            sources,
+            places,
+        );
+    }
+}
+
+/// The marks of those whom the presence of one of the places concerns.
+fn marks_of(program: &Program, sources: &[u32], places: &[Target]) -> Marks
+    requires { sources.now ≡ sources_of program.now }
+    ensures { result.words ≡ marks_of program.now places.now }
 {
     program.valid();
-    let mut numbers = Vec::new(alloc);
-    for (number, reaction) in program.reactions().iter().enumerate() {
-        if heeds_any(reaction, sources, places) {
-            numbers.push(number as u32)?;
+    let mut marks = Marks::new();
+    watch_reactions(&mut marks, program.reactions(), sources, places);
+    watch_links(&mut marks, program.links(), sources, places);
+    watch_outputs(&mut marks, program.outputs(), sources, places);
+    watch_timers(&mut marks, program.timers(), sources, places);
+    marks
+}
+
+/// The place with this number.
+fn numbered_place(number: usize) -> Target
+    requires { number < most_places }
+    ensures { result ≡ numbered_place number }
+{
+    if number == 0 {
+        Target::Startup
+    } else if number < 17 {
+        Target::Timer((number - 1) as u32)
+    } else if number < 81 {
+        Target::Action((number - 17) as u32)
+    } else {
+        Target::Port((number - 81) as u32)
+    }
+}
+
+/// The number of a place: startup, then the timers, then the actions, then the ports.
+#[inline(always)]
+fn place_number(place: Target) -> usize
+    ensures { result ≡ place_number place }
+{
+    match place {
+        Target::Startup => 0,
+        Target::Timer(n) => 1 + n as usize,
+        Target::Action(n) => 17 + n as usize,
+        Target::Port(n) => 81 + n as usize,
+    }
+}
+
+/// Whom each place concerns, by its number.
+fn of_places(alloc: Global, program: &Program, sources: &[u32]) -> Result<Vec<Marks>, OutOfMemory>
+    requires { sources.now ≡ sources_of program.now }
+    ensures { IfOk result (λ all. map (λ marks. marks.words) all.items ≡ map (λ n. marks_of program.now (numbered_place n ∷ [])) (range_with_len 0 most_places)) }
+{
+    let mut all = Vec::with_capacity(alloc, PLACES)?;
+    for number in 0..PLACES {
+        all.push(marks_of(program, sources, &[numbered_place(number)]))?;
+    }
+    Ok(all)
+}
+
+/// The ports among targets.
+fn ports_among(alloc: Global, targets: &[Target]) -> Result<Vec<Target>, OutOfMemory>
+    ensures { IfOk result (λ ports. ports.items ≡ filter is_port targets.now) }
+{
+    let mut ports = Vec::new(alloc);
+    for target in targets {
+        if let Target::Port(_) = *target {
+            ports.push(*target)?;
         }
     }
-    Ok(numbers)
+    Ok(ports)
 }
 
-/// Whom each timer may trigger.
-fn of_timers(
-    alloc: Global,
-    program: &Program,
-    sources: &[u32],
-) -> Result<Vec<Vec<u32>>, OutOfMemory>
-    requires { sources.now ≡ sources_of program.now }
-    ensures { IfOk result (λ lists. map (λ list. list.items) lists.items ≡ map (λ n. followers_of program.now (to.Timer n ∷ [])) (numbers 0 program.now.timers)) }
-{
-    program.valid();
-    let count = program.timers().len();
-    let mut lists = Vec::with_capacity(alloc, count)?;
-    for number in 0..count {
-        lists.push(followers(alloc, program, sources, &[Target::Timer(number as u32)])?)?;
-    }
-    Ok(lists)
-}
-
-/// Whom each action may trigger.
-fn of_actions(
-    alloc: Global,
-    program: &Program,
-    sources: &[u32],
-) -> Result<Vec<Vec<u32>>, OutOfMemory>
-    requires { sources.now ≡ sources_of program.now }
-    ensures { IfOk result (λ lists. map (λ list. list.items) lists.items ≡ map (λ n. followers_of program.now (to.Action n ∷ [])) (numbers 0 program.now.actions)) }
-{
-    program.valid();
-    let count = program.actions().len();
-    let mut lists = Vec::with_capacity(alloc, count)?;
-    for number in 0..count {
-        lists.push(followers(alloc, program, sources, &[Target::Action(number as u32)])?)?;
-    }
-    Ok(lists)
-}
-
-/// Whom each port may trigger, as a source.
-fn of_ports(alloc: Global, program: &Program, sources: &[u32]) -> Result<Vec<Vec<u32>>, OutOfMemory>
-    requires { sources.now ≡ sources_of program.now }
-    ensures { IfOk result (λ lists. map (λ list. list.items) lists.items ≡ map (λ n. followers_of program.now (to.Port n ∷ [])) (numbers 0 program.now.ports)) }
-{
-    program.valid();
-    let count = program.ports().len();
-    let mut lists = Vec::with_capacity(alloc, count)?;
-    for number in 0..count {
-        lists.push(followers(alloc, program, sources, &[Target::Port(number as u32)])?)?;
-    }
-    Ok(lists)
-}
-
-/// Whom what each reaction writes may trigger.
+/// Whom the ports that each reaction writes concern, by the number of the reaction.
 fn after_reactions(
     alloc: Global,
     program: &Program,
     sources: &[u32],
-) -> Result<Vec<Vec<u32>>, OutOfMemory>
+) -> Result<Vec<Marks>, OutOfMemory>
     requires { sources.now ≡ sources_of program.now }
-    ensures { IfOk result (λ lists. map (λ list. list.items) lists.items ≡ map (λ rule. followers_of program.now rule.writes) program.now.reactions) }
+    ensures { IfOk result (λ all. map (λ marks. marks.words) all.items ≡ map (λ rule. marks_of program.now (filter is_port rule.writes)) program.now.reactions) }
 {
-    let mut lists = Vec::with_capacity(alloc, program.reactions().len())?;
+    let mut all = Vec::with_capacity(alloc, program.reactions().len())?;
     for reaction in program.reactions() {
-        lists.push(followers(alloc, program, sources, &reaction.writes)?)?;
+        let ports = ports_among(alloc, &reaction.writes)?;
+        all.push(marks_of(program, sources, &ports))?;
     }
-    Ok(lists)
+    Ok(all)
 }
 
-/// Whom each place of a program may trigger, by the number of the reaction, and whom what each reaction writes may.
+/// Whom each place of a program concerns, by the place's number, and whom what each reaction writes does.
 #[derive(Drop)]
 pub(crate) struct Plan {
-    startup: Vec<u32>,
-    timers: Vec<Vec<u32>>,
-    actions: Vec<Vec<u32>>,
-    ports: Vec<Vec<u32>>,
-    after: Vec<Vec<u32>>,
+    places: Vec<Marks>,
+    after: Vec<Marks>,
 }
 
 impl Model for Plan {
@@ -143,11 +227,8 @@ impl Model for Plan {
     ghost Value = { specs.Plan };
 
     ghost view = { λ p. record {
-      startup = p.startup.items;
-      timers = map (λ list. list.items) p.timers.items;
-      actions = map (λ list. list.items) p.actions.items;
-      ports = map (λ list. list.items) p.ports.items;
-      after = map (λ list. list.items) p.after.items;
+      places = map (λ marks. marks.words) p.places.items;
+      after = map (λ marks. marks.words) p.after.items;
     } };
 }
 
@@ -157,54 +238,26 @@ impl Plan {
         requires { sources.now ≡ sources_of program.now }
         ensures { IfOk result (λ plan. plan ≡ plan_of program.now) }
     {
-        Ok(Plan {
-            startup: followers(alloc, program, sources, &[Target::Startup])?,
-            timers: of_timers(alloc, program, sources)?,
-            actions: of_actions(alloc, program, sources)?,
-            ports: of_ports(alloc, program, sources)?,
-            after: after_reactions(alloc, program, sources)?,
-        })
+        let places = of_places(alloc, program, sources)?;
+        let after = after_reactions(alloc, program, sources)?;
+        Ok(Plan { places, after })
     }
 
-    /// The numbers of the reactions that a place may trigger.
-    pub fn triggered_by(&self, place: Target) -> &[u32]
-        ensures { result.now ≡ triggered_by self.now place }
+    /// The marks of those whom a place concerns.
+    #[inline(always)]
+    pub fn concerned(&self, place: Target) -> &Marks
+        requires { place_number place < length self.now.places }
+        ensures { result.now.words ≡ slice_index_or self.now.places (place_number place) [] }
     {
-        match place {
-            Target::Startup => &self.startup,
-            Target::Timer(n) => list_at(&self.timers, n as usize),
-            Target::Action(n) => list_at(&self.actions, n as usize),
-            Target::Port(n) => list_at(&self.ports, n as usize),
-        }
+        &self.places[place_number(place)]
     }
 
-    /// The numbers of the reactions that may be triggered by what the reaction with this number writes.
-    pub fn after(&self, number: usize) -> &[u32]
-        ensures { result.now ≡ slice_index_or self.now.after number [] }
+    /// The marks of those whom what the reaction with this number writes concerns.
+    #[inline(always)]
+    pub fn after(&self, number: usize) -> &Marks
+        requires { number < length self.now.after }
+        ensures { result.now.words ≡ slice_index_or self.now.after number [] }
     {
-        list_at(&self.after, number)
-    }
-}
-
-/// The list at an index, or the empty one.
-fn list_at(lists: &[Vec<u32>], index: usize) -> &[u32]
-    ensures { result.now ≡ slice_index_or (map (λ list. list.items) lists.now) index [] }
-{
-    match lists.get(index) {
-        Some(list) => list.as_slice(),
-        None => &[],
-    }
-}
-
-/// Makes the reactions with these numbers due.
-pub(crate) fn mark(due: &mut [bool], numbers: &[u32])
-    ensures len { length due.new ≡ length due.old }
-    ensures marked { (m : ℕ) → Contains numbers.now m → m < length due.old → slice_index_or due.new m false ≡ true }
-    ensures kept { (m : ℕ) → slice_index_or due.old m false ≡ true → slice_index_or due.new m false ≡ true }
-{
-    for number in numbers {
-        if (*number as usize) < due.len() {
-            due[*number as usize] = true;
-        }
+        &self.after[number]
     }
 }

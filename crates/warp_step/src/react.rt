@@ -1,20 +1,21 @@
 //! The reactions of a step, and the outputs that it puts.
-ghost use Rattle.std.specs.Prelude.{◌≡◌, ℕ, ◌+◌, ◌≤◌, ◌<◌, ◌++◌, IsTrue, is_some, false, List, [], map, replicate, length, slice_index_or, vec_len, vec_capacity};
+ghost use Rattle.std.specs.Prelude.{◌≡◌, ℕ, ◌+◌, ◌≤◌, ◌<◌, ◌++◌, IsTrue, is_some, false, List, [], map, filter, replicate, length, slice_index_or, vec_len, vec_capacity};
 ghost use Rattle.std.specs.List.{list_all, list_any};
 ghost use Rattle.warp_tag.specs.Limits.{most_wishes};
 ghost use Rattle.warp_body.specs.Presence.{Presence, places_of, present_at, target_fits};
 ghost use Rattle.warp_body.specs.declared.place.Target.TheVariants as to;
 ghost use Rattle.warp_body.specs.Effect.{body_fits, schedules_of, wish_fits};
 ghost use Rattle.warp_body.specs.Term.{sizes_of};
-ghost use Rattle.warp_step.specs.Program.{Program, Rule, rule_of};
-ghost use Rattle.warp_step.specs.Valid.{program_places, program_sizes, rule_fits};
-ghost use Rattle.warp_step.specs.Plan.{followers};
+ghost use Rattle.warp_step.specs.Program.{Program, rule_of};
+ghost use Rattle.warp_step.specs.Valid.{is_valid, program_places, program_sizes, rule_fits};
+ghost use Rattle.warp_step.specs.Plan.{is_port};
 ghost use Rattle.warp_step.specs.inner.Due.{AreDue};
 ghost use Rattle.warp_step.specs.inner.Flagged.{HasNone};
-ghost use Rattle.warp_step.specs.Step.{Reacting, after_reactions, is_triggered, lists_of, no_wishes, order_of, outputs_from, plan_of, react, sources_of, with_output};
+ghost use Rattle.warp_step.specs.Step.{Reacting, after_reactions, is_triggered, lists_of, marks_of, no_wishes, order_of, outputs_from, plan_of, react, sources_of, with_output};
 
+use crate::marks::{FIRST_OUTPUT, Marks};
 use crate::out::Out;
-use crate::plan::{Plan, mark};
+use crate::plan::Plan;
 use crate::program::Program;
 use crate::reaction::Reaction;
 use warp_body::{Present, Target, Vars, Wishes, run_body};
@@ -45,18 +46,17 @@ fn is_one_present(targets: &[Target], present: &Present) -> bool
     false
 }
 
-/// Runs the reaction with this number if it is triggered, and says whether it has wishes then. Whom it may trigger then is
-/// due: the reactions with the numbers after it.
+/// Runs the reaction with this number if it is triggered, and says whether it has wishes then. Whom what it writes concerns is
+/// due then: those are the marks after it.
 fn run_reaction(
     number: usize,
     reaction: &Reaction,
-    after: &[u32],
-    due: &mut [bool],
+    after: &Marks,
+    due: &mut Marks,
     vars: &mut Vars,
     present: &mut Present,
     wishes: &mut [Wishes],
 ) -> bool
-    requires may { (P : Program) × IsTrue (rule_fits P (rule_of reaction.now)) }
     requires number { number < length wishes.old }
     requires triggers { IsTrue (list_all (target_fits (places_of present.old)) (rule_of reaction.now).triggers) }
     requires body { IsTrue (body_fits (sizes_of vars.old present.old) (rule_of reaction.now).body) }
@@ -70,13 +70,12 @@ fn run_reaction(
     ensures wishes { IsTrue (list_all (list_all (wish_fits (sizes_of vars.old present.old))) (lists_of wishes.old)) →
         IsTrue (list_all (list_all (wish_fits (sizes_of vars.old present.old))) (lists_of wishes.new)) }
     ensures none { result ≡ false → lists_of wishes.new ≡ lists_of wishes.old }
-    ensures flags { length due.new ≡ length due.old }
-    ensures due { (n : ℕ) (rules : List Rule) → length rules ≡ length due.old
-        → after.now ≡ followers present.old.sources rules (rule_of reaction.now).writes
-        → AreDue n rules present.old due.old → AreDue n rules present.new due.new }
+    ensures due { (P : Program) → IsTrue (is_valid P) → IsTrue (rule_fits P (rule_of reaction.now)) → present.old.sources ≡ sources_of P
+        → after.now.words ≡ marks_of P (filter is_port (rule_of reaction.now).writes)
+        → AreDue P present.old due.old.words → AreDue P present.new due.new.words }
 {
     if triggered(reaction, present) {
-        mark(due, after);
+        due.add_all(after);
         run_body(&reaction.body, vars, present, &mut wishes[number]);
         return !wishes[number].is_empty();
     }
@@ -88,7 +87,7 @@ fn run_reaction(
 pub(crate) fn run_reactions(
     program: &Program,
     plan: &Plan,
-    due: &mut [bool],
+    due: &mut Marks,
     vars: &mut Vars,
     present: &mut Present,
     wishes: &mut [Wishes],
@@ -98,8 +97,7 @@ pub(crate) fn run_reactions(
     requires wishes { lists_of wishes.old ≡ no_wishes program.now }
     requires plan { plan.now ≡ plan_of program.now }
     requires own { present.old.sources ≡ sources_of program.now }
-    requires flags { length due.old ≡ length program.now.reactions }
-    requires due { AreDue 0 program.now.reactions present.old due.old }
+    requires due { AreDue program.now present.old due.old.words }
     ensures effect { record { vars = vars.new; present = present.new; wishes = lists_of wishes.new }
         ≡ after_reactions program.now (order_of program.now) (record { vars = vars.old; present = present.old; wishes = no_wishes program.now }) }
     ensures vars { length vars.new ≡ length vars.old }
@@ -108,16 +106,25 @@ pub(crate) fn run_reactions(
     ensures wishes { IsTrue (list_all (list_all (wish_fits (program_sizes program.now))) (lists_of wishes.new)) }
     ensures bodies { length wishes.new ≡ length wishes.old }
     ensures none { HasNone result (lists_of wishes.new) }
-    ensures flags { length due.new ≡ length due.old }
+    ensures due { AreDue program.now present.new due.new.words }
 {
     program.valid();
+    let reactions = program.reactions();
+    let count = reactions.len();
     let mut wished = false;
-    for (number, reaction) in program.reactions().iter().enumerate() {
-        if due[number] {
-            due[number] = false;
-            let after = plan.after(number);
-            wished |= run_reaction(number, reaction, after, due, vars, present, wishes);
-        }
+    let mut number = due.next(0, count);
+    while number < count {
+        let after = plan.after(number);
+        wished |= run_reaction(
+            number,
+            &reactions[number],
+            after,
+            due,
+            vars,
+            present,
+            wishes,
+        );
+        number = due.next(number + 1, count);
     }
     wished
 }
@@ -141,16 +148,28 @@ fn clear_lists(wishes: &mut [Wishes])
     }
 }
 
-/// Appends an output for each program output that is present.
-pub(crate) fn put_outputs(program: &Program, tag: Tag, present: &Present, out: &mut Vec<Out>)
+/// Appends an output for each program output that is present. It looks at those that are due.
+pub(crate) fn put_outputs(
+    program: &Program,
+    tag: Tag,
+    due: &Marks,
+    present: &Present,
+    out: &mut Vec<Out>,
+)
     requires places { places_of present.now ≡ program_places program.now }
+    requires due { AreDue program.now present.now due.now.words }
     requires room { vec_len out.old + length program.now.outputs ≤ vec_capacity out.old }
     ensures outputs { out.new.items ≡ out.old.items ++ outputs_from 0 tag present.now program.now.outputs }
     ensures capacity { vec_capacity out.old ≤ vec_capacity out.new }
 {
     program.valid();
-    for (number, port) in program.outputs().iter().enumerate() {
-        put_output(number as u32, *port, tag, present, out);
+    let ports = program.outputs();
+    let end = FIRST_OUTPUT + ports.len();
+    let mut mark = due.next(FIRST_OUTPUT, end);
+    while mark < end {
+        let number = mark - FIRST_OUTPUT;
+        put_output(number as u32, ports[number], tag, present, out);
+        mark = due.next(mark + 1, end);
     }
 }
 

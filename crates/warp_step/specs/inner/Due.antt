@@ -1,10 +1,20 @@
--- Flags that tell which reactions are still to be looked at.
-use Rattle.std.specs.Prelude.{◌≡◌, ℕ, ◌≤◌, Bool, true, false, List, Some, slice_get, slice_index_or}
-use Rattle.warp_body.specs.Presence.{Presence}
-use Rattle.warp_step.specs.Program.{Rule}
-use Rattle.warp_step.specs.Step.{is_triggered}
+-- Marks that tell who is to be looked at.
+use Rattle.std.specs.Prelude.{◌≡◌, ℕ, ◌+◌, true, List, Some, is_some, slice_get}
+use Rattle.std.specs.List.{list_any}
+use Rattle.warp_body.specs.Presence.{Presence, present_at}
+use Rattle.warp_body.specs.declared.place.Target.{Target}
+use Rattle.warp_step.specs.Marks.{first_link, first_output, first_reaction, first_timer, mark_at}
+use Rattle.warp_step.specs.Plan.{link_heeds, output_heeds, reaction_heeds, timer_heeds}
+use Rattle.warp_step.specs.Program.{Program}
 
--- from this number on each rule that is triggered is due
-abbrev pub AreDue : ℕ → List Rule → Presence → List Bool → Type 0
-AreDue n rules present due =
-    (m : ℕ) (rule : Rule) → n ≤ m → slice_get rules m ≡ Some rule → is_triggered rule present ≡ true → slice_index_or due m false ≡ true
+-- each element of a list that something present triggers is marked; the first mark is at this number
+abbrev pub AreMarked : {X : Type 0} → (ℕ → X → List Target) → ℕ → List X → Presence → List ℕ → Type 0
+AreMarked {X} triggers first xs present words =
+    (n : ℕ) (x : X) → slice_get xs n ≡ Some x → list_any (λ target. is_some (present_at present target)) (triggers n x) ≡ true → mark_at words (first + n) ≡ 1
+
+-- all that are to be looked at are marked
+pub record AreDue (P : Program) (present : Presence) (words : List ℕ) : Type 0 where
+  pub reactions : AreMarked reaction_heeds first_reaction P.reactions present words
+  pub links : AreMarked link_heeds first_link P.links present words
+  pub outputs : AreMarked output_heeds first_output P.outputs present words
+  pub timers : AreMarked timer_heeds first_timer P.timers present words

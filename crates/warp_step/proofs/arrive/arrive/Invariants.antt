@@ -1,4 +1,4 @@
--- what is left arrives on what came so far as all does on the start, and whom it may trigger is due
+-- what is left arrives on what came so far as all does on the start, and whom it concerns is due
 use Rattle.std.proofs.Common.{◌≡◌, drop, length, nat_lt, IsTrue}
 use Rattle.std.specs.List.{list_all}
 use Rattle.warp_body.specs.Presence.{places_of}
@@ -12,6 +12,5 @@ invariant-loop-g l = record {
   places : places_of l.present ≡ places_of l.fn.present;
   sources : l.present.sources ≡ l.fn.present.sources;
   known : IsTrue (list_all (λ g. nat_lt g.input (length l.program.inputs)) (drop l.g-index l.given));
-  flags : length l.due ≡ length l.fn.due;
-  due : AreDue 0 l.program.reactions l.fn.present l.fn.due → AreDue 0 l.program.reactions l.present l.due;
+  due : AreDue l.program l.fn.present l.fn.due.words → AreDue l.program l.present l.due.words;
 }

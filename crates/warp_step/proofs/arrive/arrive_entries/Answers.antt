@@ -24,6 +24,5 @@ loop-count-preserved c =
       places = c.put.ensures.places ∙ c.loop-count.invariant.places;
       sources = c.put.ensures.sources ∙ c.loop-count.invariant.sources;
       targets = grind (arith, common_steps);
-      flags = c.put.ensures.flags ∙ c.loop-count.invariant.flags;
       due = λ were. c.put.ensures.due (c.loop-count.invariant.due were);
     }

@@ -1,4 +1,4 @@
--- the entries so far are at the tag, and have arrived, and whom they may trigger is due
+-- the entries so far are at the tag, and have arrived, and whom they concern is due
 use Rattle.std.proofs.Common.{◌≡◌, length, take, drop, IsTrue}
 use Rattle.std.specs.List.{list_all}
 use Rattle.warp_tag.specs.Moment.{is_same}
@@ -14,6 +14,5 @@ invariant-loop-count l = record {
   places : places_of l.present ≡ places_of l.fn.present;
   sources : l.present.sources ≡ l.fn.present.sources;
   targets : IsTrue (list_all (λ w. target_fits (places_of l.fn.present) w.target) (drop l.count l.entries));
-  flags : length l.due ≡ length l.fn.due;
-  due : AreDue 0 l.program.reactions l.fn.present l.fn.due → AreDue 0 l.program.reactions l.present l.due;
+  due : AreDue l.program l.fn.present l.fn.due.words → AreDue l.program l.present l.due.words;
 }

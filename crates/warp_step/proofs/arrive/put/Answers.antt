@@ -1,30 +1,43 @@
--- whom the target may trigger is made due
-use Rattle.std.proofs.Common.{◌≡◌, ℕ, ℤ, ◌<◌, Bool, true, false, List, [], ◌∷◌, length, Contains, IsTrue, slice_index_or, sym, ap, ◌∙◌, subst}
-use Rattle.warp_body.specs.Presence.{Presence, places_of, target_fits, with_value}
+-- whom the target concerns is marked
+use Rattle.std.proofs.Common.{◌≡◌, ◌<◌, [], ◌∷◌, List, ℕ, ℤ, length, IsTrue, sym, ap, ◌∙◌, subst, arith}
+use Rattle.std.specs.Prelude.{slice_index_or}
+use Rattle.std.proofs.lemmas.List.FromFn.{length-map-range_with_len}
+use Rattle.warp_body.specs.Presence.{Presence, target_fits, with_value}
 use Rattle.warp_body.specs.declared.place.Places.{Places}
 use Rattle.warp_body.specs.declared.place.Target.{Target}
-use Rattle.warp_step.specs.Plan.{Plan, followers, triggered_by}
+use Rattle.warp_step.specs.Marks.{mark_at}
 use Rattle.warp_step.specs.Program.{Program}
-use Rattle.warp_step.specs.Step.{plan_of, sources_of}
-use Rattle.warp_step.specs.Valid.{program_places}
+use Rattle.warp_step.specs.Plan.{Plan, numbered_place, place_number, most_places}
+use Rattle.warp_step.specs.Step.{marks_of, sources_of}
+use Rattle.warp_step.specs.Valid.{is_valid, program_places}
 use Rattle.warp_step.specs.inner.Due.{AreDue}
-use Rattle.warp_step.proofs.DueLemmas.{due_after_value, triggered_by_fits}
+use Rattle.warp_step.proofs.DueLemmas.{due_after, follows_value}
+use Rattle.warp_step.proofs.PlaceLemmas.{concerned_fits, place_within}
 use Rattle.warp_step.proofs.arrive.put.Goals as goal
 
-put_due : (P : Program) (plan : Plan) (target : Target) (v : ℤ) (before after : Presence) (called : List ℕ) (due marked : List Bool) → plan ≡ plan_of P
-    → before.sources ≡ sources_of P → places_of before ≡ program_places P → IsTrue (target_fits (places_of before) target) → called ≡ triggered_by plan target
-    → length due ≡ length P.reactions → after ≡ with_value target v before → ((m : ℕ) → Contains called m → m < length due → slice_index_or marked m false ≡ true)
-    → ((m : ℕ) → slice_index_or due m false ≡ true → slice_index_or marked m false ≡ true) → AreDue 0 P.reactions before due → AreDue 0 P.reactions after marked
-put_due P plan target v before after called due marked plan_is own places fits called_is flags arrives marks keeps were =
-    let fit : IsTrue (target_fits (program_places P) target) = subst (λ (p : Places). IsTrue (target_fits p target)) places fits in
-    let all : called ≡ followers before.sources P.reactions (target ∷ []) =
-    called_is ∙ ap (λ (p : Plan). triggered_by p target) plan_is ∙ triggered_by_fits P target fit
-    ∙ ap (λ (s : List ℕ). followers s P.reactions (target ∷ [])) (sym own) in
-    let due_after = due_after_value 0 P.reactions before target v due marked were
-    (λ m has below. marks m (subst (λ (ns : List ℕ). Contains ns m) (sym all) has) (subst (λ (n : ℕ). m < n) (sym flags) below)) keeps in
-    subst (λ (p : Presence). AreDue 0 P.reactions p marked) (sym arrives) due_after
+pub concerned-requires : goal.concerned-requires
+concerned-requires c =
+    let P = c.args.program.now in
+    let target = c.args.target in
+    let fits : IsTrue (target_fits (program_places P) target) =
+    subst (λ (places : Places). IsTrue (target_fits places target)) c.requires.places c.requires.target in
+    let len : length c.args.plan.now.places ≡ 337 =
+    ap (λ (plan : Plan). length plan.places) c.requires.plan ∙ length-map-range_with_len (λ n. marks_of P (numbered_place n ∷ [])) 0 most_places in
+    omega (arith, len, place_within P target c.valid.ensures fits)
+
+put_due : (P : Program) (target : Target) (v : ℤ) (before after : Presence) (old called new : List ℕ) → IsTrue (is_valid P) → before.sources ≡ sources_of P
+    → after ≡ with_value target v before → called ≡ marks_of P (target ∷ []) → ((m : ℕ) → mark_at old m ≡ 1 → mark_at new m ≡ 1)
+    → ((m : ℕ) → mark_at called m ≡ 1 → mark_at new m ≡ 1) → AreDue P before old → AreDue P after new
+put_due P target v before after old called new valid own arrives called_is kept added were =
+    subst (λ (p : Presence). AreDue P p new) (sym arrives)
+    (due_after P (target ∷ []) before (with_value target v before) old called new valid own (follows_value target v before) called_is kept added were)
 
 pub returns-clause-due : goal.returns-clause-due
-returns-clause-due c =
-    put_due c.args.program.now c.args.plan.now c.args.target _ c.args.present.now c.put.new.self c.triggered_by.result.now c.args.due.now c.mark.new.due
-    c.requires.plan c.requires.own c.requires.places c.requires.target c.triggered_by.ensures c.requires.flags c.put.ensures.value c.mark.ensures.marked c.mark.ensures.kept
+returns-clause-due c = λ were.
+    let P = c.args.program.now in
+    let target = c.args.target in
+    let fits : IsTrue (target_fits (program_places P) target) =
+    subst (λ (places : Places). IsTrue (target_fits places target)) c.requires.places c.requires.target in
+    let called = c.concerned.ensures ∙ ap (λ (plan : Plan). slice_index_or plan.places (place_number target) []) c.requires.plan ∙ concerned_fits P target c.valid.ensures fits in
+    put_due P target _ c.args.present.now c.put.new.self c.args.due.now.words c.concerned.result.now.words c.add_all.new.self.words
+    c.valid.ensures c.requires.own c.put.ensures.value called c.add_all.ensures.kept c.add_all.ensures.added were

@@ -1,7 +1,9 @@
 -- the parts make the step
-use Rattle.std.proofs.Common.{◌≡◌, length, ap, ◌∙◌, filter, subst, sym}
+use Rattle.std.proofs.Common.{◌≡◌, List, ℕ, length, ap, ◌∙◌, filter, subst, sym}
 use Rattle.warp_tag.specs.Moment.{is_same}
-use Rattle.warp_body.specs.Presence.{Presence, places_of}
+use Rattle.warp_body.specs.Presence.{Presence, nothing_present, places_of}
+use Rattle.warp_body.specs.declared.place.Places.{Places}
+use Rattle.warp_step.specs.Program.{Program}
 use Rattle.warp_step.specs.Snapshot.{Snapshot}
 use Rattle.warp_step.specs.Step.{Reacting, absent, lists_of, with_repeats, with_all_wishes, with_links, after_reactions, order_of, no_wishes, arrived, arrived_entries}
 use Rattle.warp_step.specs.inner.Due.{AreDue}
@@ -18,12 +20,19 @@ run_reactions-wished-requires-clause-vars c =
     let taken : c.take_entries.new.self.vars ≡ c.args.state.now.vars = ap (λ (s : Snapshot). s.vars) c.take_entries.ensures.state in
     ap (λ (vs : _). length vs) (view ∙ timers ∙ taken) ∙ c.requires.can.state.vars
 
+-- where nothing is present, any marks do
+none_is_due : (P : Program) (places : Places) (sources : List ℕ) (cleared : Presence) (words : List ℕ) → cleared ≡ nothing_present places sources → AreDue P cleared words
+none_is_due P places sources cleared words is = subst (λ (p : Presence). AreDue P p words) (sym is) (none_due P places sources words)
+
+pub repeat_timers-requires-clause-due : goal.repeat_timers-requires-clause-due
+repeat_timers-requires-clause-due c =
+    c.arrive.ensures.due (c.take_entries.ensures.due
+    (none_is_due c.args.program.now (places_of c.args.present.now) c.args.present.now.sources c.clear.new.self c.reset.new.self.words c.clear.ensures))
+
 pub run_reactions-wished-requires-clause-due : goal.run_reactions-wished-requires-clause-due
 run_reactions-wished-requires-clause-due c =
-    let rules = c.args.program.now.reactions in
-    let none : AreDue 0 rules c.clear.new.self c.args.due.now =
-    subst (λ (p : Presence). AreDue 0 rules p c.args.due.now) (sym c.clear.ensures) (none_due 0 rules (places_of c.args.present.now) c.args.present.now.sources c.args.due.now) in
-    c.arrive.ensures.due (c.take_entries.ensures.due none)
+    c.arrive.ensures.due (c.take_entries.ensures.due
+    (none_is_due c.args.program.now (places_of c.args.present.now) c.args.present.now.sources c.clear.new.self c.reset.new.self.words c.clear.ensures))
 
 -- what the reactions make
 abbrev reacting : goal.After-enter_later → Reacting

@@ -1,56 +1,88 @@
--- outputs are ports of a valid program, and few enough
-use Rattle.std.proofs.Common.{◌≡◌, ℕ, ◌+◌, ◌<◌, ◌≤◌, ◌++◌, List, [], drop, get_or, nat_lt, length, ap, ◌∙◌, arith}
+-- outputs are ports of a valid program, and few enough; those that are not marked are not present
+use Rattle.std.proofs.Common.{◌≡◌, ℕ, ◌+◌, ◌-◌, ◌<◌, ◌≤◌, ◌++◌, List, [], drop, get_or, nat_lt, length, ap, sym, ◌∙◌, arith}
 use Rattle.std.proofs.lemmas.Bool.{ltb-true}
 use Rattle.warp_tag.specs.Limits.{most_outputs}
 use Rattle.warp_body.specs.Presence.{present_at}
 use Rattle.warp_body.specs.declared.place.Places.{Places}
 use Rattle.warp_body.specs.declared.place.Target.TheVariants as to
+use Rattle.warp_step.specs.Program.{Program}
 use Rattle.warp_step.specs.Step.{outputs_from, with_output}
+use Rattle.warp_step.specs.Valid.{is_valid}
 use Rattle.warp_step.specs.declared.out.Out.{Out}
 use Rattle.warp_step.proofs.ReactLemmas.{outputs_one_more}
+use Rattle.warp_step.proofs.SkipLemmas.{skip_outputs}
 use Rattle.warp_step.proofs.ValidLemmas.{list_all_get, outputs_within, validity}
 use Rattle.warp_step.proofs.react.put_outputs.Goals as goal
 
 pub overflow_cast-number : goal.overflow_cast-number
 overflow_cast-number c =
-    let P = c.args.program.now in
-    let same : length c.outputs-port-items.result.now ≡ length P.outputs = ap length c.outputs-port-items.ensures in
-    let few : length P.outputs ≤ most_outputs = (validity P c.valid.ensures).limits.outputs in
-    let below : c.loop-number.number < length c.outputs-port-items.result.now = c.loop-number-test.true in
-    omega arith
+    let few : length c.args.program.now.outputs ≤ most_outputs = (validity c.args.program.now c.valid.ensures).limits.outputs in
+    let same = ap length c.outputs-ports.ensures in
+    omega (arith, few, same, c.loop-mark-test.true)
+
+pub next-mark-requires-in-loop-mark-clause-limit : goal.next-mark-requires-in-loop-mark-clause-limit
+next-mark-requires-in-loop-mark-clause-limit c =
+    let few : length c.args.program.now.outputs ≤ most_outputs = (validity c.args.program.now c.valid.ensures).limits.outputs in
+    let same = ap length c.outputs-ports.ensures in
+    omega (arith, few, same)
 
 pub put_output-requires : goal.put_output-requires
 put_output-requires c =
     let P = c.args.program.now in
-    let n = c.loop-number.number in
-    let same : length c.outputs-port-items.result.now ≡ length P.outputs = ap length c.outputs-port-items.ensures in
-    let lt : n < length P.outputs = omega arith in
+    let n = c.loop-mark.mark - 512 in
+    let len : length c.outputs-ports.result.now ≡ length P.outputs = ap length c.outputs-ports.ensures in
+    let starts = c.loop-mark.invariant.first in
+    let lt : n < length P.outputs = omega (arith, len, starts, c.loop-mark-test.true) in
     let within : get_or P.outputs n 0 < length P.ports =
     ltb-true _ _ (list_all_get (λ k. nat_lt k (length P.ports)) P.outputs n 0 (outputs_within P c.valid.ensures) lt) in
-    let here : get_or c.outputs-port-items.result.now n 0 ≡ get_or P.outputs n 0 =
-    ap (λ (ports : List ℕ). get_or ports n 0) c.outputs-port-items.ensures in
+    let here : get_or c.outputs-ports.result.now n 0 ≡ get_or P.outputs n 0 =
+    ap (λ (ports : List ℕ). get_or ports n 0) c.outputs-ports.ensures in
     let ports : length c.args.present.now.ports ≡ length P.ports = ap (λ (p : Places). p.ports) c.requires.places in
-    let room = c.loop-number.invariant.room in
-    record { port = omega arith; room = omega arith }
+    let room = c.loop-mark.invariant.room in
+    record { port = omega (arith, within, here, ports); room = omega (arith, lt, room) }
 
-pub loop-number-preserved : goal.loop-number-preserved
-loop-number-preserved c =
+pub loop-mark-init : goal.loop-mark-init
+loop-mark-init c =
     let P = c.args.program.now in
-    let n = c.loop-number.number in
-    let front = c.loop-number.out.items in
+    let len : length c.outputs-ports.result.now ≡ length P.outputs = ap length c.outputs-ports.ensures in
+    let skipped = skip_outputs P c.args.tag c.args.present.now c.args.due.now.words c.requires.due.outputs 512 c.next-mark.result (omega arith)
+    c.next-mark.ensures.from (omega (arith, len, c.next-mark.ensures.limit)) c.next-mark.ensures.between in
+    record {
+      first = c.next-mark.ensures.from;
+      within = c.next-mark.ensures.limit;
+      rest = ap (λ (outs : List Out). c.args.out.now.items ++ outs) (sym skipped);
+      room = omega (arith, c.requires.room);
+      capacity = omega arith;
+    }
+
+pub loop-mark-preserved : goal.loop-mark-preserved
+loop-mark-preserved c =
+    let P = c.args.program.now in
+    let n = c.loop-mark.mark - 512 in
+    let front = c.loop-mark.out.items in
     let t = c.args.tag in
     let present = c.args.present.now in
-    let same : length c.outputs-port-items.result.now ≡ length P.outputs = ap length c.outputs-port-items.ensures in
-    let lt : n < length P.outputs = omega arith in
+    let len : length c.outputs-ports.result.now ≡ length P.outputs = ap length c.outputs-ports.ensures in
+    let starts = c.loop-mark.invariant.first in
+    let lt : n < length P.outputs = omega (arith, len, starts, c.loop-mark-test.true) in
+    let next = c.next-mark-in-loop-mark in
+    let skipped = skip_outputs P t present c.args.due.now.words c.requires.due.outputs (c.loop-mark.mark + 1) next.result (omega (arith, starts))
+    next.ensures.from (omega (arith, len, next.ensures.limit)) next.ensures.between in
+    let after : c.loop-mark.mark + 1 - 512 ≡ n + 1 = omega (arith, starts) in
     let put = c.put_output.ensures.outputs in
-    let room = c.loop-number.invariant.room in
-    let len = c.put_output.ensures.len in
+    let room = c.loop-mark.invariant.room in
+    let more = c.put_output.ensures.len in
     let kept = c.put_output.ensures.capacity in
-    let so_far = c.loop-number.invariant.capacity in
+    let so_far = c.loop-mark.invariant.capacity in
+    let further = next.ensures.from in
     record {
-      rest = ap (λ (outs : List Out). outs ++ outputs_from (n + 1) t present (drop (n + 1) P.outputs)) put
-          ∙ ap (λ (ports : List ℕ). (front ++ with_output n t (present_at present (to.Port (get_or ports n 0))) []) ++ outputs_from (n + 1) t present (drop (n + 1) P.outputs)) c.outputs-port-items.ensures
-          ∙ outputs_one_more front n t present P.outputs lt ∙ c.loop-number.invariant.rest;
-      room = omega arith;
-      capacity = omega arith;
+      first = omega (arith, starts, further);
+      within = next.ensures.limit;
+      rest = ap (λ (outs : List Out). c.put_output.new.out.items ++ outs) (sym skipped)
+          ∙ ap (λ (k : ℕ). c.put_output.new.out.items ++ outputs_from k t present (drop k P.outputs)) after
+          ∙ ap (λ (outs : List Out). outs ++ outputs_from (n + 1) t present (drop (n + 1) P.outputs)) put
+          ∙ ap (λ (ports : List ℕ). (front ++ with_output n t (present_at present (to.Port (get_or ports n 0))) []) ++ outputs_from (n + 1) t present (drop (n + 1) P.outputs)) c.outputs-ports.ensures
+          ∙ outputs_one_more front n t present P.outputs lt ∙ c.loop-mark.invariant.rest;
+      room = omega (arith, starts, room, more, kept, further);
+      capacity = omega (arith, kept, so_far);
     }

@@ -1,12 +1,17 @@
 -- the outputs so far and those of the ports that are left are those of all
-use Rattle.std.proofs.Common.{◌≡◌, ◌+◌, ◌≤◌, ◌++◌, drop, length, vec_len, vec_capacity}
+use Rattle.std.proofs.Common.{◌≡◌, ℕ, ◌+◌, ◌-◌, ◌≤◌, ◌++◌, drop, length, vec_len, vec_capacity}
 use Rattle.warp_step.specs.Step.{outputs_from}
 use Rattle.warp_step.proofs.react.put_outputs.Given as goal
 
-abbrev pub invariant-loop-number : goal.invariant-loop-number
-invariant-loop-number l = record {
-  rest : l.out.items ++ outputs_from l.number l.tag l.present (drop l.number l.program.outputs)
+abbrev pub invariant-loop-mark : goal.invariant-loop-mark
+invariant-loop-mark l = record {
+  first : 512 ≤ l.mark;
+  within : l.mark ≤ l.end;
+  rest : l.out.items ++ outputs_from (l.mark - 512) l.tag l.present (drop (l.mark - 512) l.program.outputs)
       ≡ l.fn.out.items ++ outputs_from 0 l.tag l.present l.program.outputs;
-  room : vec_len l.out + length l.program.outputs ≤ vec_capacity l.out + l.number;
+  room : vec_len l.out + length l.program.outputs ≤ vec_capacity l.out + (l.mark - 512);
   capacity : vec_capacity l.fn.out ≤ vec_capacity l.out;
 }
+
+abbrev pub decreases-loop-mark : goal.decreases-loop-mark
+decreases-loop-mark l = l.end - l.mark

@@ -1,5 +1,5 @@
 -- what the body does is the reaction's effect, and the wishes of the others stay
-use Rattle.std.proofs.Common.{◌≡◌, ℕ, Contains, arith, List, [], IsTrue, ap, sym, ◌∙◌, subst, get_or, refl}
+use Rattle.std.proofs.Common.{◌≡◌, List, [], IsTrue, filter, ap, sym, ◌∙◌, subst, get_or, refl}
 use Rattle.std.specs.List.{list_all}
 use Rattle.std.specs.Prelude.{slice_set}
 use Rattle.std.proofs.lemmas.Bool.{cond-true}
@@ -12,7 +12,9 @@ use Rattle.warp_step.specs.Program.{rule_of}
 use Rattle.warp_step.specs.Step.{Reacting, effect_in, is_triggered, lists_of}
 use Rattle.warp_body.specs.Presence.{Presence}
 use Rattle.warp_step.specs.inner.Due.{AreDue}
-use Rattle.warp_step.proofs.DueBodies.{due_after_body}
+use Rattle.warp_step.specs.Plan.{is_port}
+use Rattle.warp_step.proofs.DueBodies.{follows_body}
+use Rattle.warp_step.proofs.DueLemmas.{due_after}
 use Rattle.warp_step.proofs.ReactLemmas.{list_all_set}
 use Rattle.warp_step.proofs.react.run_reaction.Goals as goal
 
@@ -56,14 +58,13 @@ returns-then-triggered-clause-wishes c = λ all.
     (list_all_set (list_all fits) (lists_of W) n c.run_body.new.wishes.items all own)
 
 pub returns-then-triggered-clause-due : goal.returns-then-triggered-clause-due
-returns-then-triggered-clause-due c = λ n rules lengths followers_are were.
+returns-then-triggered-clause-due c = λ P valid fits own after_is were.
     let rule = rule_of c.args.reaction.now in
     let W = c.args.wishes.now in
     let room = c.index-wishes-number.result in
     let now : Effect = record { vars = c.args.vars.now; present = c.args.present.now; wishes = (get_or W c.args.number room).items } in
     let effect =
     c.run_body.ensures.effect ∙ ap (λ ss. effect_of (statements_of ss) now) c.deref.ensures.value in
-    subst (λ (p : Presence). AreDue n rules p c.mark.new.due) (sym (ap (λ (e : Effect). e.present) effect))
-    (due_after_body c.requires.may.0 rule c.requires.may.1 now n rules c.args.due.now c.mark.new.due were
-    (λ m follows within. c.mark.ensures.marked m (subst (λ (ns : List ℕ). Contains ns m) (sym followers_are) follows) (omega (arith, lengths, within)))
-    c.mark.ensures.kept)
+    subst (λ (p : Presence). AreDue P p c.add_all.new.self.words) (sym (ap (λ (e : Effect). e.present) effect))
+    (due_after P (filter is_port rule.writes) c.args.present.now (effect_of rule.body now).present c.args.due.now.words c.args.after.now.words c.add_all.new.self.words
+    valid own (follows_body P rule fits now) after_is c.add_all.ensures.kept c.add_all.ensures.added were)

@@ -1,5 +1,5 @@
 -- the reactions that are left go on from here as all do from the start, have no wishes yet, and are due where triggered
-use Rattle.std.proofs.Common.{◌≡◌, ℕ, ◌≤◌, [], drop, get_or, length, IsTrue}
+use Rattle.std.proofs.Common.{◌≡◌, ℕ, ◌-◌, ◌≤◌, [], drop, get_or, length, IsTrue}
 use Rattle.std.specs.List.{list_all}
 use Rattle.warp_body.specs.Effect.{wish_fits}
 use Rattle.warp_body.specs.Presence.{places_of}
@@ -11,6 +11,7 @@ use Rattle.warp_step.proofs.react.run_reactions.Given as goal
 
 abbrev pub invariant-loop-number : goal.invariant-loop-number
 invariant-loop-number l = record {
+  within : l.number ≤ l.count;
   rest : after_reactions l.program (numbers l.number (drop l.number l.program.reactions))
       (record { vars = l.vars; present = l.present; wishes = lists_of l.wishes })
       ≡ after_reactions l.program (order_of l.program)
@@ -20,7 +21,9 @@ invariant-loop-number l = record {
   sources : l.present.sources ≡ l.fn.present.sources;
   none : (k : ℕ) → l.number ≤ k → get_or (lists_of l.wishes) k [] ≡ [];
   wishes : IsTrue (list_all (list_all (wish_fits (program_sizes l.program))) (lists_of l.wishes));
-  flags : length l.due ≡ length l.fn.due;
-  due : AreDue l.number l.program.reactions l.present l.due;
   unwished : HasNone l.wished (lists_of l.wishes);
+  due : AreDue l.program l.present l.due.words;
 }
+
+abbrev pub decreases-loop-number : goal.decreases-loop-number
+decreases-loop-number l = l.count - l.number

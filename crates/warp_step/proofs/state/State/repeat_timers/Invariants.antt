@@ -1,9 +1,15 @@
 -- the timers that are left repeat as all do at the start
-use Rattle.std.proofs.Common.{◌≡◌, drop}
+use Rattle.std.proofs.Common.{◌≡◌, ℕ, ◌-◌, ◌≤◌, drop}
 use Rattle.warp_step.specs.Step.{with_repeats}
 use Rattle.warp_step.proofs.state.State.repeat_timers.Given as goal
 
-abbrev pub invariant-loop-number : goal.invariant-loop-number
-invariant-loop-number l =
-    with_repeats l.program l.tag l.present l.number (drop l.number l.timer-items) l.self
-    ≡ with_repeats l.program l.tag l.present 0 l.program.timers l.fn.self
+abbrev pub invariant-loop-mark : goal.invariant-loop-mark
+invariant-loop-mark l = record {
+  first : 576 ≤ l.mark;
+  within : l.mark ≤ l.end;
+  rest : with_repeats l.program l.tag l.present (l.mark - 576) (drop (l.mark - 576) l.program.timers) l.self
+      ≡ with_repeats l.program l.tag l.present 0 l.program.timers l.fn.self;
+}
+
+abbrev pub decreases-loop-mark : goal.decreases-loop-mark
+decreases-loop-mark l = l.end - l.mark

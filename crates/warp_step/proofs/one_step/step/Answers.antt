@@ -1,0 +1,7 @@
+-- the scratch is the room of the program, and so has its plan
+use Rattle.std.proofs.Common.{ap, ◌∙◌}
+use Rattle.warp_step.specs.Step.{Room}
+use Rattle.warp_step.proofs.one_step.step.Goals as goal
+
+pub advance-scratch-inside-requires-clause-plan : goal.advance-scratch-inside-requires-clause-plan
+advance-scratch-inside-requires-clause-plan g c = ap (λ (r : Room). r.plan) (c.scratch.view_is ∙ c.requires.scratch)

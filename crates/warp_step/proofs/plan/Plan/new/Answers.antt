@@ -1,0 +1,5 @@
+-- both parts are the plan's
+use Rattle.warp_step.proofs.plan.Plan.new.Goals as goal
+
+pub returns : goal.returns
+returns c = λ i. record { places = c.in_ok-places.ensures i; after = c.in_ok-after.ensures i }

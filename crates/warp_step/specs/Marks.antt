@@ -1,0 +1,32 @@
+-- Marks: a set of numbers below 640, in ten words of 64 bits. Reactions, links, program outputs and timers each have numbers
+-- of their own among them.
+use Rattle.std.specs.Prelude.{ℕ, ◌/◌, ◌%◌, ◌*◌, ◌^◌, List, replicate, slice_index_or, slice_set}
+use Rattle.std.specs.Int.{bit_at}
+use Rattle.std.specs.Int.RustNames.{bit_or}
+
+-- where the marks of each kind begin, and where all end
+abbrev pub first_reaction : ℕ
+first_reaction = 0
+
+abbrev pub first_link : ℕ
+first_link = 256
+
+abbrev pub first_output : ℕ
+first_output = 512
+
+abbrev pub first_timer : ℕ
+first_timer = 576
+
+abbrev pub most_marks : ℕ
+most_marks = 640
+
+-- 1 where the number is marked, else 0
+abbrev pub mark_at : List ℕ → ℕ → ℕ
+mark_at words m = bit_at (slice_index_or words (m / 64) 0) (m % 64)
+
+-- with one number more marked
+abbrev pub with_mark : ℕ → List ℕ → List ℕ
+with_mark m words = slice_set words (m / 64) (bit_or (slice_index_or words (m / 64) 0) (1 * 2 ^ (m % 64) % 2 ^ 64))
+
+abbrev pub no_marks : List ℕ
+no_marks = replicate 10 0
