@@ -3,7 +3,7 @@ ghost use Rattle.std.specs.Prelude.{◌≡◌, ℕ, ℤ, ◌<◌, List, length, 
 ghost use Rattle.std.specs.List.{list_all};
 ghost use Rattle.warp_body.specs.Presence.{Presence, places_of, target_fits, nothing_present, present_at, with_value, kind_of, number_of, target_before, is_target};
 
-use crate::slots::Slots;
+use crate::slots::{Slot, Slots};
 use std::alloc::Global;
 use std::marker::Model;
 use warp_tag::OutOfMemory;
@@ -165,9 +165,12 @@ impl Vars {
 
 /// What is present at a tag, and with what value: startup, and each timer, action and port, is absent, or present with one
 /// value. A port to which a link without delay leads has the presence of the port from which it leads.
+///
+/// All places share one count of moments.
 #[derive(Debug, Drop)]
 pub struct Present {
-    startup: Option<i64>,
+    moment: u64,
+    startup: Slot,
     timers: Slots,
     actions: Slots,
     ports: Slots,
@@ -175,14 +178,21 @@ pub struct Present {
 }
 
 impl Model for Present {
-    ghost use Rattle.std.specs.Prelude.{IsTrue};
+    ghost use Rattle.std.specs.Prelude.{◌<◌, IsTrue, nat_le};
     ghost use Rattle.warp_body.specs.Presence.{Presence, are_sources};
+    ghost use Rattle.warp_body.specs.inner.Slots.{slots, are_past, presence_at};
 
     ghost Value = { Presence };
 
-    ghost view = { λ p. record { startup = p.startup; timers = p.timers; actions = p.actions; ports = p.ports; sources = p.sources.items } };
+    ghost view = { λ p. presence_at p.moment p.startup
+        p.timers.places.items p.actions.places.items p.ports.places.items p.sources.items };
 
-    ghost invariant = { λ p. IsTrue (are_sources p.ports p.sources.items) };
+    ghost invariant = { λ p. 0 < p.moment
+        × IsTrue (nat_le p.startup.stamp p.moment)
+        × IsTrue (are_past p.moment p.timers.places.items)
+        × IsTrue (are_past p.moment p.actions.places.items)
+        × IsTrue (are_past p.moment p.ports.places.items)
+        × IsTrue (are_sources (slots p.moment p.ports.places.items) p.sources.items) };
 }
 
 impl Present {
@@ -196,7 +206,8 @@ impl Present {
         let actions = Slots::new(alloc, places.actions)?;
         let ports = Slots::new(alloc, places.ports)?;
         Ok(Present {
-            startup: None,
+            moment: 1,
+            startup: Slot::empty(),
             timers,
             actions,
             ports,
@@ -222,34 +233,48 @@ impl Present {
         ensures { result ≡ present_at self.now target }
     {
         match target {
-            Target::Startup => self.startup,
-            Target::Timer(n) => self.timers.get(n),
-            Target::Action(n) => self.actions.get(n),
-            Target::Port(n) => self.ports.get(self.sources[n as usize]),
+            Target::Startup => self.startup.get(self.moment),
+            Target::Timer(n) => self.timers.get(n, self.moment),
+            Target::Action(n) => self.actions.get(n, self.moment),
+            Target::Port(n) => self.ports.get(self.sources[n as usize], self.moment),
         }
     }
 
     /// Makes a target present with a value: a port by a value of its own. Of several values at one tag the last counts.
+    #[inline(always)]
     pub fn put(&mut self, target: Target, value: i64)
         requires { IsTrue (target_fits (places_of self.old) target) }
         ensures value { self.new ≡ with_value target value self.old }
         ensures places { places_of self.new ≡ places_of self.old }
     {
         match target {
-            Target::Startup => self.startup = Some(value),
-            Target::Timer(n) => self.timers.put(n, value),
-            Target::Action(n) => self.actions.put(n, value),
-            Target::Port(n) => self.ports.put(n, value),
+            Target::Startup => self.startup = Slot::at(self.moment, value),
+            Target::Timer(n) => self.timers.put(n, value, self.moment),
+            Target::Action(n) => self.actions.put(n, value, self.moment),
+            Target::Port(n) => self.ports.put(n, value, self.moment),
         }
     }
 
     /// Makes everything absent.
+    #[inline(always)]
     pub fn clear(&mut self)
         ensures { self.new ≡ nothing_present (places_of self.old) self.old.sources }
     {
-        self.startup = None;
-        self.timers.clear();
-        self.actions.clear();
-        self.ports.clear();
+        match self.moment.checked_add(1) {
+            Some(next) => self.moment = next,
+            None => self.restart(),
+        }
+    }
+
+    /// Makes everything absent by emptying all places, so that moments can be counted from 1 again.
+    #[inline(never)]
+    fn restart(&mut self)
+        ensures { self.new ≡ nothing_present (places_of self.old) self.old.sources }
+    {
+        self.startup = Slot::empty();
+        self.timers.restart();
+        self.actions.restart();
+        self.ports.restart();
+        self.moment = 1;
     }
 }

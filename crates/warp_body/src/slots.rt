@@ -1,13 +1,16 @@
 //! The places of one kind of target.
-ghost use Rattle.std.specs.Prelude.{◌≡◌, ◌<◌, length, replicate, slice_index_or, slice_set, None, Some, IfOk};
+ghost use Rattle.std.specs.Prelude.{◌≡◌, ◌<◌, length, replicate, slice_index_or, slice_set, IsTrue, None, Some, IfOk};
+ghost use Rattle.warp_body.specs.inner.Slots.{empty, slot, slots, are_past};
 
 use std::alloc::Global;
-use std::marker::Model;
 use warp_tag::OutOfMemory;
 
 /// A place: the value that was last put there, and the moment at which.
+///
+/// Moments are counted from 1, and a place is present exactly if its value was put there at the present moment: so to
+/// clear all places is to go on to the next moment.
 #[derive(Clone, Copy, Debug)]
-struct Slot {
+pub(crate) struct Slot {
     stamp: u64,
     value: i64,
 }
@@ -15,80 +18,85 @@ struct Slot {
 /// A place where nothing was put: no moment has the number 0.
 const EMPTY: Slot = Slot { stamp: 0, value: 0 };
 
-/// Places by number, each absent or present with a value. Moments are counted, and a place is present exactly if its value
-/// was put there at the present moment: so to clear them all is to go on to the next moment.
-#[derive(Debug, Drop)]
-pub(crate) struct Slots {
-    moment: u64,
-    places: Vec<Slot>,
-}
-
-impl Model for Slots {
-    ghost use Rattle.std.specs.Prelude.{◌<◌, ℤ, List, Option, IsTrue};
-    ghost use Rattle.warp_body.specs.inner.Slots.{slots, are_past};
-
-    ghost Value = { List (Option ℤ) };
-
-    ghost view = { λ s. slots s.moment s.places.items };
-
-    ghost invariant = { λ s. 0 < s.moment × IsTrue (are_past s.moment s.places.items) };
-}
-
-impl Slots {
-    /// So many places, all absent.
-    pub(crate) fn new(alloc: Global, count: usize) -> Result<Slots, OutOfMemory>
-        ensures { IfOk result (λ s. s ≡ replicate count None) }
+impl Slot {
+    /// A place where nothing was put.
+    pub(crate) fn empty() -> Slot
+        ensures { result ≡ empty }
     {
-        let places = vec![in alloc; EMPTY; count]?;
-        Ok(Slots { moment: 1, places })
+        EMPTY
     }
 
-    /// How many there are.
-    pub(crate) fn len(&self) -> usize
-        ensures { result ≡ length self.now }
+    /// A place with a value that was put there at a moment.
+    #[inline(always)]
+    pub(crate) fn at(moment: u64, value: i64) -> Slot
+        ensures { result ≡ record { stamp = moment; value = value } }
     {
-        self.places.len()
+        Slot {
+            stamp: moment,
+            value,
+        }
     }
 
-    /// What the place with this number is present with.
-    pub(crate) fn get(&self, number: u32) -> Option<i64>
-        requires { number < length self.now }
-        ensures { result ≡ slice_index_or self.now number None }
+    /// What it is present with at a moment.
+    #[inline(always)]
+    pub(crate) fn get(self, moment: u64) -> Option<i64>
+        ensures { result ≡ slot moment self }
     {
-        let slot = self.places[number as usize];
-        if slot.stamp == self.moment {
-            Some(slot.value)
+        if self.stamp == moment {
+            Some(self.value)
         } else {
             None
         }
     }
+}
 
-    /// Makes the place with this number present with a value.
-    pub(crate) fn put(&mut self, number: u32, value: i64)
-        requires { number < length self.old }
-        ensures { self.new ≡ slice_set self.old number (Some value) }
+/// Places by number, each absent or present with a value at the moment that each call is told.
+#[derive(Debug, Drop)]
+pub(crate) struct Slots {
+    places: Vec<Slot>,
+}
+
+impl Slots {
+    /// So many places, in which nothing was put.
+    pub(crate) fn new(alloc: Global, count: usize) -> Result<Slots, OutOfMemory>
+        ensures { IfOk result (λ s. s.places.items ≡ replicate count empty) }
     {
-        self.places[number as usize] = Slot {
-            stamp: self.moment,
-            value,
-        };
+        let places = vec![in alloc; EMPTY; count]?;
+        Ok(Slots { places })
     }
 
-    /// Makes all absent.
-    pub(crate) fn clear(&mut self)
-        ensures { self.new ≡ replicate (length self.old) None }
+    /// How many there are.
+    pub(crate) fn len(&self) -> usize
+        ensures { result ≡ length self.now.places.items }
     {
-        match self.moment.checked_add(1) {
-            Some(next) => self.moment = next,
-            None => self.restart(),
-        }
+        self.places.len()
     }
 
-    /// Makes all absent by emptying them, so that moments can be counted from 1 again.
-    fn restart(&mut self)
-        ensures { self.new ≡ replicate (length self.old) None }
+    /// What the place with this number is present with at a moment.
+    #[inline(always)]
+    pub(crate) fn get(&self, number: u32, moment: u64) -> Option<i64>
+        requires { number < length self.now.places.items }
+        ensures { result ≡ slice_index_or (slots moment self.now.places.items) number None }
+    {
+        self.places[number as usize].get(moment)
+    }
+
+    /// Makes the place with this number present with a value at a moment; no place has a value of a later one.
+    #[inline(always)]
+    pub(crate) fn put(&mut self, number: u32, value: i64, moment: u64)
+        requires number { number < length self.old.places.items }
+        requires past { IsTrue (are_past moment self.old.places.items) }
+        ensures value { slots moment self.new.places.items
+            ≡ slice_set (slots moment self.old.places.items) number (Some value) }
+        ensures past { IsTrue (are_past moment self.new.places.items) }
+    {
+        self.places[number as usize] = Slot::at(moment, value);
+    }
+
+    /// Empties all.
+    pub(crate) fn restart(&mut self)
+        ensures { self.new.places.items ≡ replicate (length self.old.places.items) empty }
     {
         self.places.fill(EMPTY);
-        self.moment = 1;
     }
 }

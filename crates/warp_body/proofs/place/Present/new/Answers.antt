@@ -1,0 +1,27 @@
+-- all places are empty
+use Rattle.std.proofs.Common.{◌≡◌, ◌<◌, IsTrue, length, nat_le, ap, ◌∙◌, sym, subst, refl, arith}
+use Rattle.std.proofs.lemmas.List.{length-map, length-replicate}
+use Rattle.warp_body.specs.declared.slots.Slot.{Slot}
+use Rattle.warp_body.specs.inner.Slots.{empty, slot, slots}
+use Rattle.warp_body.proofs.SlotLemmas.{past_emptied, sources_fit, none_empty}
+use Rattle.warp_body.proofs.place.Present.new.Goals as goal
+
+pub invariant_of-result : goal.invariant_of-result
+invariant_of-result c =
+    let ports = c.in_ok-ports.ports.places.items in
+    let first : 0 < 1 = omega arith in
+    let startup = subst (λ (s : Slot). IsTrue (nat_le s.stamp 1)) (sym c.empty.ensures) refl in
+    let count : length (slots 1 ports) ≡ c.args.places.ports
+    = length-map ports (slot 1) ∙ ap length c.in_ok-ports.ensures ∙ length-replicate c.args.places.ports empty in (
+      first,
+      startup,
+      past_emptied 1 _ _ c.in_ok-timers.ensures,
+      past_emptied 1 _ _ c.in_ok-actions.ensures,
+      past_emptied 1 _ _ c.in_ok-ports.ensures,
+      sources_fit c.args.places.ports (slots 1 ports) c.args.sources.items count c.requires.len c.requires.ports,
+    )
+
+pub returns : goal.returns
+returns c =
+    none_empty _ _ _ _ _ _ _ c.args.sources.items c.empty.ensures
+    c.in_ok-timers.ensures c.in_ok-actions.ensures c.in_ok-ports.ensures
