@@ -2,6 +2,7 @@ pub mod LineCuts
 pub mod LineWords
 pub mod Numerals
 pub mod PlainWords
+pub mod QueryTexts
 pub mod RecordTexts
 pub mod ReplyLemmas
 pub mod WordCuts

@@ -9,6 +9,7 @@ mod feed;
 mod law;
 mod line;
 mod number;
+mod query_text;
 mod record;
 mod record_text;
 mod reply;

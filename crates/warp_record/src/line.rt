@@ -11,6 +11,7 @@ ghost use Rattle.warp_record.specs.Record.{record_words};
 ghost use Rattle.warp_record.specs.Line.{IsLine, IsLook, IsQuery, line_words, look_words, query_words, spelling};
 
 use crate::number::read_u32;
+use crate::query_text::{behind_output, behind_var, cut_last_index, read_word};
 use crate::record::{LAST_ORIGIN, Record};
 use crate::record_text::{
     behind_announce, behind_event, behind_withdraw, read_announcement, read_event, read_withdrawal,
@@ -182,6 +183,15 @@ pub fn read_line(bytes: &[u8]) -> Option<Line>
     }
     if let Some(text) = behind_announce(bytes) {
         return Some(Line::Put(read_announcement(text)?));
+    }
+    if let Some(text) = behind_var(bytes) {
+        return Some(Line::Ask(Query::Var(cut_last_index(text)?)));
+    }
+    if let Some(text) = behind_output(bytes) {
+        return Some(Line::Ask(Query::Output(cut_last_index(text)?)));
+    }
+    if let Some(line) = read_word(bytes) {
+        return Some(line);
     }
     read_other(bytes)
 }
