@@ -1,4 +1,6 @@
 pub mod Places
+pub mod EventPlaces
+pub mod SameRecords
 pub mod Sizes
 pub mod Allowed
 pub mod Members

@@ -24,7 +24,7 @@ use indexmap::IndexMap;
 use indexmap::map::Entry as Place;
 use std::alloc::Global;
 use std::marker::Model;
-use warp_record::{Count, Record, Refusal};
+use warp_record::{Record, Refusal};
 use warp_step::Program;
 use warp_tag::{Entry, OutOfMemory, Tag};
 
@@ -389,15 +389,15 @@ fn note_further_event(
     others: &mut IndexMap<Record, u32>,
     announcer: &mut Announcer,
     kept: u32,
-    name: Name,
+    name: &Name,
     payload: (u32, i64),
 ) -> Result<Noted, OutOfMemory>
     requires room { length records.now < most_records }
-    requires kept { (before : ℕ × ℤ) × IsAt records.now kept (Record.Event name.origin name.tag before.0 before.1) }
+    requires kept { (before : ℕ × ℤ) × IsAt records.now kept (Record.Event name.now.origin name.now.tag before.0 before.1) }
     ensures new { IfOk result (λ noted. IsTrue noted.added.is_new → (noted.added.place ≡ length records.now + 1) ×
-        NotesEvent records.now name payload kept noted.event others.old.entries others.new.entries announcer.old announcer.new) }
+        NotesEvent records.now name.now payload kept noted.event others.old.entries others.new.entries announcer.old announcer.new) }
     ensures known { IfOk result (λ noted. noted.added.is_new ≡ false → (others.new.entries ≡ others.old.entries) × (announcer.new ≡ announcer.old) ×
-        (event_place records.now kept others.old.entries (Record.Event name.origin name.tag payload.0 payload.1) ≡ Some noted.added.place)) }
+        (event_place records.now kept others.old.entries (Record.Event name.now.origin name.now.tag payload.0 payload.1) ≡ Some noted.added.place)) }
     ensures err { OnErr result ((others.new.entries ≡ others.old.entries) × (announcer.new ≡ announcer.old)) }
 {
     let record = Record::Event {
@@ -457,21 +457,21 @@ fn add_event(
     names: &mut IndexMap<Name, Known>,
     others: &mut IndexMap<Record, u32>,
     announcer: &mut Announcer,
-    name: Name,
+    name: &Name,
     payload: (u32, i64),
 ) -> Result<Noted, OutOfMemory>
     requires room { length records.now < most_records }
-    requires kept { HoldsEvent records.now name (known_of name names.old.entries).event }
-    requires fresh { (known_of name names.old.entries).event ≡ 0 → ¬ Contains announcer.old.events name.tag }
+    requires kept { HoldsEvent records.now name.now (known_of name.now names.old.entries).event }
+    requires fresh { (known_of name.now names.old.entries).event ≡ 0 → ¬ Contains announcer.old.events name.now.tag }
     ensures new { IfOk result (λ noted. IsTrue noted.added.is_new → (noted.added.place ≡ length records.now + 1) ×
-        (names.new.entries ≡ put_known names.old.entries name (with_event_at noted.event (known_of name names.old.entries))) ×
-        NotesEvent records.now name payload (known_of name names.old.entries).event noted.event others.old.entries others.new.entries announcer.old announcer.new) }
+        (names.new.entries ≡ put_known names.old.entries name.now (with_event_at noted.event (known_of name.now names.old.entries))) ×
+        NotesEvent records.now name.now payload (known_of name.now names.old.entries).event noted.event others.old.entries others.new.entries announcer.old announcer.new) }
     ensures known { IfOk result (λ noted. noted.added.is_new ≡ false → (names.new.entries ≡ names.old.entries) ×
         (others.new.entries ≡ others.old.entries) × (announcer.new ≡ announcer.old) ×
-        (event_place records.now (known_of name names.old.entries).event others.old.entries (Record.Event name.origin name.tag payload.0 payload.1) ≡ Some noted.added.place)) }
+        (event_place records.now (known_of name.now names.old.entries).event others.old.entries (Record.Event name.now.origin name.now.tag payload.0 payload.1) ≡ Some noted.added.place)) }
     ensures err { OnErr result ((names.new.entries ≡ names.old.entries) × (others.new.entries ≡ others.old.entries) × (announcer.new ≡ announcer.old)) }
 {
-    match names.entry(name)? {
+    match names.entry(*name)? {
         Place::Vacant(place) => {
             let noted = note_first_event(records, announcer, name.tag)?;
             place.insert(Known {
@@ -497,16 +497,16 @@ fn note_event(
     others: &mut IndexMap<Record, u32>,
     announcer: &mut Announcer,
     kept: u32,
-    name: Name,
+    name: &Name,
     payload: (u32, i64),
 ) -> Result<Noted, OutOfMemory>
     requires room { length records.now < most_records }
-    requires kept { HoldsEvent records.now name kept }
-    requires fresh { kept ≡ 0 → ¬ Contains announcer.old.events name.tag }
+    requires kept { HoldsEvent records.now name.now kept }
+    requires fresh { kept ≡ 0 → ¬ Contains announcer.old.events name.now.tag }
     ensures new { IfOk result (λ noted. IsTrue noted.added.is_new → (noted.added.place ≡ length records.now + 1) ×
-        NotesEvent records.now name payload kept noted.event others.old.entries others.new.entries announcer.old announcer.new) }
+        NotesEvent records.now name.now payload kept noted.event others.old.entries others.new.entries announcer.old announcer.new) }
     ensures known { IfOk result (λ noted. noted.added.is_new ≡ false → (others.new.entries ≡ others.old.entries) × (announcer.new ≡ announcer.old) ×
-        (event_place records.now kept others.old.entries (Record.Event name.origin name.tag payload.0 payload.1) ≡ Some noted.added.place)) }
+        (event_place records.now kept others.old.entries (Record.Event name.now.origin name.now.tag payload.0 payload.1) ≡ Some noted.added.place)) }
     ensures err { OnErr result ((others.new.entries ≡ others.old.entries) × (announcer.new ≡ announcer.old)) }
 {
     if kept == 0 {
@@ -531,6 +531,7 @@ fn add_withdrawal(
         (withdrawal_place (known_of name names.old.entries).withdrawal ≡ Some added.place)) }
     ensures err { OnErr result ((names.new.entries ≡ names.old.entries) × (announcer.new ≡ announcer.old)) }
 {
+    let tag = name.tag;
     match names.entry(name)? {
         Place::Occupied(place) => {
             let kept = place.get().withdrawal;
@@ -540,11 +541,11 @@ fn add_withdrawal(
                     is_new: false,
                 });
             }
-            announcer.note_withdrawal(name.tag)?;
+            announcer.note_withdrawal(tag)?;
             place.into_mut().withdrawal = next;
         }
         Place::Vacant(place) => {
-            announcer.note_withdrawal(name.tag)?;
+            announcer.note_withdrawal(tag)?;
             place.insert(Known {
                 event: 0,
                 withdrawal: next,
@@ -562,34 +563,29 @@ fn add_withdrawal(
 fn add_announcement(
     others: &mut IndexMap<Record, u32>,
     announcer: &mut Announcer,
-    name: Name,
-    events: Count,
-    withdrawn: Count,
+    record: &Record,
+    tag: Tag,
+    events: u32,
+    withdrawn: u32,
     next: u32,
 ) -> Result<Added, OutOfMemory>
     ensures new { IfOk result (λ added. IsTrue added.is_new → (added.place ≡ next) ×
-        (other_place others.old.entries (Record.Announce name.origin name.tag events withdrawn) ≡ None) ×
-        (others.new.entries ≡ put_other others.old.entries (Record.Announce name.origin name.tag events withdrawn) next) ×
+        (other_place others.old.entries «record».now ≡ None) ×
+        (others.new.entries ≡ put_other others.old.entries «record».now next) ×
         (announcer.new ≡ record announcer.old { announced = announcer.new.announced }) ×
         ((a : Announced) → Contains announcer.new.announced a ↔
-        Contains announcer.old.announced a ⊎ (a ≡ record { tag = name.tag; events = events; withdrawn = withdrawn }))) }
+        Contains announcer.old.announced a ⊎ (a ≡ record { tag = tag; events = events; withdrawn = withdrawn }))) }
     ensures known { IfOk result (λ added. added.is_new ≡ false → (others.new.entries ≡ others.old.entries) × (announcer.new ≡ announcer.old) ×
-        (other_place others.old.entries (Record.Announce name.origin name.tag events withdrawn) ≡ Some added.place)) }
+        (other_place others.old.entries «record».now ≡ Some added.place)) }
     ensures err { OnErr result ((others.new.entries ≡ others.old.entries) × (announcer.new ≡ announcer.old)) }
 {
-    let record = Record::Announce {
-        origin: name.origin,
-        tag: name.tag,
-        events,
-        withdrawn,
-    };
-    match others.entry(record)? {
+    match others.entry(*record)? {
         Place::Occupied(place) => Ok(Added {
             place: *place.get(),
             is_new: false,
         }),
         Place::Vacant(place) => {
-            announcer.note_announcement(name.tag, events.get(), withdrawn.get())?;
+            announcer.note_announcement(tag, events, withdrawn)?;
             place.insert(next);
             Ok(Added {
                 place: next,
@@ -652,20 +648,20 @@ fn note_own(
             value,
         } => {
             let name = Name { origin, tag };
-            let noted = add_event(records, names, others, announcer, name, (input, value))?;
+            let noted = add_event(records, names, others, announcer, &name, (input, value))?;
             Ok(noted.added)
         }
         Record::Withdraw { origin, tag } => {
             add_withdrawal(names, announcer, Name { origin, tag }, next)
         }
         Record::Announce {
-            origin,
             tag,
             events,
             withdrawn,
+            ..
         } => {
-            let name = Name { origin, tag };
-            add_announcement(others, announcer, name, events, withdrawn, next)
+            let (events, withdrawn) = (events.get(), withdrawn.get());
+            add_announcement(others, announcer, record, tag, events, withdrawn, next)
         }
     }
 }

@@ -129,7 +129,7 @@ pub record KeepsPlaces (records : List Record) (names : List (Name × Known)) (o
 
 -- what is kept of a list of records: of its names, and of the places
 pub record Keeps (records : List Record) (names : List (Name × Known)) (others : List (Record × ℕ)) : Type 0 where
-  pub names : KeepsNames records (entries_of records names)
+  pub tells : KeepsNames records (entries_of records names)
   pub places : KeepsPlaces records names others
 
 -- a payload counts less than another
@@ -146,13 +146,13 @@ parted_of records kept said payload =
 
 -- one more event of a name: its name keeps the event at `event` in the place of that at `kept`, and these are the other
 -- records' places and what is heard of its origin, before and after
-pub record NotesEvent (records : List Record) (name : Name) (payload : ℕ × ℤ) (kept event : ℕ) (others now : List (Record × ℕ)) (own heard : Heard) : Type 0 where
+pub record NotesEvent (records : List Record) (name : Name) (payload : ℕ × ℤ) (kept event : ℕ) (others now : List (Record × ℕ)) (own own_now : Heard) : Type 0 where
   pub lacks : (kept ≡ 0) ⊎ (event_place records kept others (Event name.origin name.tag payload.0 payload.1) ≡ None)
   pub holds : HoldsEvent (records ++ Event name.origin name.tag payload.0 payload.1 ∷ []) name event
   pub counts : payload_at (records ++ Event name.origin name.tag payload.0 payload.1 ∷ []) event ≡ Some (greater (payload_at records kept) payload)
   pub places : (other : Record) → event_place (records ++ Event name.origin name.tag payload.0 payload.1 ∷ []) event now other
       ≡ (if same_record (Event name.origin name.tag payload.0 payload.1) other then Some (length records + 1) else event_place records kept others other)
-  pub heard : heard ≡ with_heard_event (is_some (payload_at records kept)) name.tag own
+  pub heard : own_now ≡ with_heard_event (is_some (payload_at records kept)) name.tag own
 
 -- a record that the list lacks came in behind it, and this is kept then
 pub record IsAdded (records : List Record) (said : Record) (place : ℕ) (names : List (Name × Known)) (others : List (Record × ℕ)) : Type 0 where
