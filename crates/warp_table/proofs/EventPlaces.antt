@@ -1,6 +1,5 @@
 -- What one more record changes of what is kept of the places of records.
 use Rattle.std.proofs.Common.{◌≡◌, ◌≢◌, ◌⊎◌, inl, inr, ℕ, ℤ, ◌+◌, ◌==◌, Bool, true, false, cond, is_some, List, [], ◌∷◌, ◌++◌, if◌then◌else◌, Contains, Option, None, Some, length, refl, sym, ap, subst, ◌∙◌, arith}
-use Rattle.std.specs.Bool.{Decides}
 use Rattle.std.specs.List.{All}
 use Rattle.std.specs.Map.{lookup}
 use Rattle.std.specs.Option.{unwrap_or}
@@ -18,7 +17,7 @@ use Rattle.warp_table.specs.declared.table.Name.{Name}
 use Rattle.warp_table.specs.declared.table.Parted.{Parted}
 use Rattle.warp_table.specs.inner.Heard.{Heard, earlier_of, with_heard_event, with_tag}
 use Rattle.warp_table.specs.inner.Kept.{HoldsEvent, KeepsPlaces, NotesEvent, counts_less, event_place, is_named, is_this, known_of, nothing_known, other_place, parted_of, payload_at, payload_of, place_in, put_known, put_other, record_at, stands, with_event_at, with_withdrawal_at, withdrawal_place}
-use Rattle.warp_table.proofs.FirstNames.{is_one-Decides}
+use Rattle.warp_table.proofs.FirstNames.{named-Decides}
 use Rattle.warp_table.proofs.Places.{All-found, All-inserted, IsPlaced, cond_apart, holds_more, kept_places, last_at, lookup_inserted, more_at, record_at-is, record_same, stands-is, stands_apart}
 use Rattle.warp_table.proofs.Sets.{same_record-Decides}
 
@@ -125,12 +124,6 @@ first_event records name payload kept event others own own_now none last heard =
     (subst (λ (e : ℕ). NotesEvent records name payload 0 e others others own own_now) (sym last) (first_noted records name payload others own own_now heard))
 
 -- What is known of names
-
--- the names are one
-pub named-Decides : (one other : Name) → Decides (is_named one.origin one.tag other) (one ≡ other)
-named-Decides one other =
-    Decides-like (is_named one.origin one.tag other) (λ e i. record { origin = (e i).0; tag = (e i).1 }) (λ e i. ((e i).origin, (e i).tag))
-    (is_one-Decides (one.origin, one.tag) (other.origin, other.tag))
 
 -- what is known of one name changes that of no other
 pub known_put : (name other : Name) (names : List (Name × Known)) (known : Known) → known_of other (put_known names name known) ≡ cond (is_named other.origin other.tag name) known (known_of other names)

@@ -29,7 +29,7 @@ payload_told S origin tag None told = (λ h. absurd (false≢true h), λ h. absu
 payload_told S origin tag (Some p) told = (λ h. (p, told.0), λ h. refl)
 
 -- what is kept of a name has an event exactly if the set has one
-event_kept : (S : Records) (name : Name) (known : Option Entry) → Tells S name.origin name.tag known →
+pub event_kept : (S : Records) (name : Name) (known : Option Entry) → Tells S name.origin name.tag known →
     IsTrue (is_some (unwrap_or known (fresh name.origin name.tag)).event) ↔ ((p : ℕ × ℤ) × HasEvent S name.origin name.tag p)
 event_kept S name None keeps = (λ h. absurd (false≢true h), λ h. absurd (keeps (Event name.origin name.tag h.0.0 h.0.1) h.1 (refl, refl)))
 event_kept S name (Some known) keeps = payload_told S name.origin name.tag known.event keeps.payload
@@ -41,11 +41,11 @@ not_in_set records said new is = new ((in_set records said).1 is)
 -- The record's own origin
 
 -- an event of a name that has none, by what is kept of the name, is new to its origin
-pub event_new : (records : List Record) (names : List (Name × Entry)) (own : Heard) (origin : ℕ) (tag : Moment) (input : ℕ) (value : ℤ) → IsNewsOf records names own (Event origin tag input value) →
+pub event_new : (records : List Record) (names : List (Name × Entry)) (own : Heard) (origin : ℕ) (tag : Moment) → KeepsNames records names → IsHeard (set_of records) origin own →
     is_some (kept_of (record { origin = origin; tag = tag }) names).event ≡ false → Contains own.events tag → ⊥
-event_new records names own origin tag input value news none has =
+event_new records names own origin tag kept heard none has =
     let name : Name = record { origin = origin; tag = tag } in
-    let there = (event_kept (set_of records) name (lookup (is_named origin tag) names) (news.kept.each origin tag)).1 ((news.heard.events tag).0 has) in
+    let there = (event_kept (set_of records) name (lookup (is_named origin tag) names) (kept.each origin tag)).1 ((heard.events tag).0 has) in
     false≢true (sym none ∙ there)
 
 -- what is heard of an event's origin with it
@@ -60,7 +60,7 @@ own_event records names own origin tag input value true news is =
     ((news.heard.events tag).1 event) news.heard
 own_event records names own origin tag input value false news is =
     let said : Record = Event origin tag input value in
-    heard_event (set_of records) origin tag input value (set_of (records ++ said ∷ [])) own (with_one records said) (event_new records names own origin tag input value news is) news.heard
+    heard_event (set_of records) origin tag input value (set_of (records ++ said ∷ [])) own (with_one records said) (event_new records names own origin tag news.kept news.heard is) news.heard
 
 -- a withdrawal that a list lacks is new to its origin
 pub withdrawal_new : (records : List Record) (names : List (Name × Entry)) (own : Heard) (origin : ℕ) (tag : Moment) → IsNewsOf records names own (Withdraw origin tag) → Contains own.withdrawn tag → ⊥

@@ -13,6 +13,7 @@ pub mod FirstNames
 pub mod ListedNames
 pub mod KeptNames
 pub mod KnownNames
+pub mod AddedRecords
 pub mod Counts
 pub mod Announcements
 pub mod Horizons

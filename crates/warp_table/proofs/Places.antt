@@ -1,5 +1,6 @@
 -- Lemmas on the places of records.
 use Rattle.std.proofs.Common.{◌≡◌, ◌≢◌, ◌⊎◌, inl, inr, ℕ, ℤ, zero, suc, ◌+◌, ◌-◌, ◌<◌, ◌≤◌, ◌==◌, Bool, true, false, cond, List, [], ◌∷◌, ◌++◌, if◌then◌else◌, get_or, slice_get, Contains, Option, None, Some, length, length-append, refl, sym, ap, subst, ◌∙◌, arith}
+use Rattle.std.specs.Prelude.{IfNone, IfSome}
 use Rattle.std.specs.Bool.{Decides}
 use Rattle.std.specs.List.{All}
 use Rattle.std.specs.Map.{lookup}
@@ -10,6 +11,7 @@ use Rattle.std.proofs.lemmas.List.Elements.{All-cons, All-head, All-tail}
 use Rattle.std.proofs.Math.Seq.{get_or-append_seam}
 use Rattle.std.proofs.lemmas.Option.{get_or_from_slice_get, slice_get-get_or, slice_get_within}
 use Rattle.indexmap.specs.IndexMap.{insert_entry}
+use Rattle.warp_tag.specs.Limits.{most_records}
 use Rattle.warp_record.specs.declared.record.Record.{Record}
 use Rattle.warp_record.specs.declared.record.Record.TheVariants.{Event, Withdraw, Announce}
 use Rattle.warp_table.specs.Log.{EachOnce, IsAt}
@@ -200,3 +202,17 @@ not_there records names others said h none has =
     let at = some_place records said has in
     let both : None ≡ Some at.0 = sym none ∙ h.found said at.0 at.1 in
     cc
+
+-- what is found is the record's place
+pub place_told : (records : List Record) (names : List (Name × Known)) (others : List (Record × ℕ)) (said : Record) (found : Option ℕ) → KeepsPlaces records names others → length records ≤ most_records →
+    found ≡ place_in records names others said → IfSome found (λ place. IsAt records place said × (place ≤ most_records))
+place_told records names others said None h few is = tt
+place_told records names others said (Some place) h few is =
+    let at = h.so said place (sym is) in
+    (at, omega (arith, few, slice_get_within records (place - 1) said at.1))
+
+-- and where none is found it is not there
+pub place_lacks : (records : List Record) (names : List (Name × Known)) (others : List (Record × ℕ)) (said : Record) (found : Option ℕ) → KeepsPlaces records names others →
+    found ≡ place_in records names others said → IfNone found (Contains records said → ⊥)
+place_lacks records names others said None h is = not_there records names others said h (sym is)
+place_lacks records names others said (Some place) h is = tt
