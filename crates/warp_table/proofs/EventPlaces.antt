@@ -73,7 +73,7 @@ module _ (records : List Record) (name : Name) (payload before : ℕ × ℤ) (ke
         places = λ other.
             ap (λ b. if b then Some (length records + 1) else other_place (put_other others one kept) other) (stands-is (records ++ said ∷ []) (length records + 1) said other last)
             ∙ ap (λ (o : Option ℕ). if same_record said other then Some (length records + 1) else o)
-                (other_put others one other kept ∙ ap (λ b. if b then Some kept else other_place others other) (same_either other one ∙ sym (stands-is records kept one other at)));
+            (other_put others one other kept ∙ ap (λ b. if b then Some kept else other_place others other) (same_either other one ∙ sym (stands-is records kept one other at)));
         heard = heard_further at heard;
       }
 
@@ -90,10 +90,10 @@ module _ (records : List Record) (name : Name) (payload before : ℕ × ℤ) (ke
         places = λ other.
             ap (λ b. if b then Some kept else other_place (put_other others said (length records + 1)) other) (stands-is (records ++ said ∷ []) kept one other still)
             ∙ ap (λ (o : Option ℕ). if same_record one other then Some kept else o)
-                (other_put others said other (length records + 1) ∙ ap (λ b. if b then Some (length records + 1) else other_place others other) (same_either other said))
+            (other_put others said other (length records + 1) ∙ ap (λ b. if b then Some (length records + 1) else other_place others other) (same_either other said))
             ∙ cond_apart (same_record one other) (same_record said other)
-                (λ a b. both_ways (stands records kept said) unlike (stands-is records kept one said at ∙ (same_record-Decides one said).1 ((same_record-Decides one other).0 a ∙ sym ((same_record-Decides said other).0 b))))
-                (Some (length records + 1)) (Some kept) (other_place others other)
+            (λ a b. both_ways (stands records kept said) unlike (stands-is records kept one said at ∙ (same_record-Decides one said).1 ((same_record-Decides one other).0 a ∙ sym ((same_record-Decides said other).0 b))))
+            (Some (length records + 1)) (Some kept) (other_place others other)
             ∙ ap (λ b. if same_record said other then Some (length records + 1) else (if b then Some kept else other_place others other)) (sym (stands-is records kept one other at));
         heard = heard_further at heard;
       }
@@ -104,14 +104,14 @@ module _ (records : List Record) (name : Name) (payload before : ℕ × ℤ) (ke
   further_noted parted now at none is put heard = elim (cases_Bool (is_lesser before payload)) [
     | inl lesser ↦
         (let p : parted ≡ record { other = one; at = kept; event = length records + 1 } =
-            is ∙ ap (λ (o : Option Record). if counts_less (payload_of o) payload then record { other = unwrap_or o said; at = kept; event = length records + 1 } else record { other = said; at = length records + 1; event = kept }) (record_at-is records kept one at)
-            ∙ ap (λ b. if b then record { other = one; at = kept; event = length records + 1 } else record { other = said; at = length records + 1; event = kept }) lesser in
+        is ∙ ap (λ (o : Option Record). if counts_less (payload_of o) payload then record { other = unwrap_or o said; at = kept; event = length records + 1 } else record { other = said; at = length records + 1; event = kept }) (record_at-is records kept one at)
+        ∙ ap (λ b. if b then record { other = one; at = kept; event = length records + 1 } else record { other = said; at = length records + 1; event = kept }) lesser in
         subst (λ (o : List (Record × ℕ)). NotesEvent records name payload kept parted.event others o own own_now) (sym (put ∙ ap (λ (q : Parted). put_other others q.other q.at) p))
         (subst (λ (q : Parted). NotesEvent records name payload kept q.event others (put_other others one kept) own own_now) (sym p) (greater_noted at none lesser heard)))
     | inr least ↦
         (let p : parted ≡ record { other = said; at = length records + 1; event = kept } =
-            is ∙ ap (λ (o : Option Record). if counts_less (payload_of o) payload then record { other = unwrap_or o said; at = kept; event = length records + 1 } else record { other = said; at = length records + 1; event = kept }) (record_at-is records kept one at)
-            ∙ ap (λ b. if b then record { other = one; at = kept; event = length records + 1 } else record { other = said; at = length records + 1; event = kept }) least in
+        is ∙ ap (λ (o : Option Record). if counts_less (payload_of o) payload then record { other = unwrap_or o said; at = kept; event = length records + 1 } else record { other = said; at = length records + 1; event = kept }) (record_at-is records kept one at)
+        ∙ ap (λ b. if b then record { other = one; at = kept; event = length records + 1 } else record { other = said; at = length records + 1; event = kept }) least in
         subst (λ (o : List (Record × ℕ)). NotesEvent records name payload kept parted.event others o own own_now) (sym (put ∙ ap (λ (q : Parted). put_other others q.other q.at) p))
         (subst (λ (q : Parted). NotesEvent records name payload kept q.event others (put_other others said (length records + 1)) own own_now) (sym p) (lesser_noted at none least heard)))
   ]

@@ -56,7 +56,7 @@ pub entries_same : (records : List Record) (new : Record) (names : List (Name ×
 entries_same records new [] all = refl
 entries_same records new (e ∷ names) all =
     let here : payload_at (records ++ new ∷ []) e.1.event ≡ payload_at records e.1.event =
-        ap payload_of (record_same records new e.0 e.1.event (All-head (λ (kept : Name × Known). HoldsEvent records kept.0 kept.1.event) e names all)) in
+    ap payload_of (record_same records new e.0 e.1.event (All-head (λ (kept : Name × Known). HoldsEvent records kept.0 kept.1.event) e names all)) in
     let rest = entries_same records new names (All-tail (λ (kept : Name × Known). HoldsEvent records kept.0 kept.1.event) e names all) in
     λ i. (e.0, record { origin = e.0.origin; tag = e.0.tag; event = here i; withdrawn = not (e.1.withdrawal == 0) }) ∷ rest i
 
@@ -75,10 +75,10 @@ event_kept records names name payload event all counts h =
     let said : Record = Event name.origin name.tag payload.0 payload.1 in
     let known : Known = known_of name names in
     let entry : entry_of (records ++ said ∷ []) name (with_event_at event known) ≡ with_event payload.0 payload.1 (entry_of records name known) =
-        (λ i. record { origin = name.origin; tag = name.tag; event = counts i; withdrawn = not (known.withdrawal == 0) }) in
+    (λ i. record { origin = name.origin; tag = name.tag; event = counts i; withdrawn = not (known.withdrawal == 0) }) in
     let is : entries_of (records ++ said ∷ []) (put_known names name (with_event_at event known)) ≡ put (entries_of records names) name (with_event payload.0 payload.1 (kept_of name (entries_of records names))) =
-        put_more records said names name (with_event_at event known) all
-        ∙ ap (put (entries_of records names) name) (entry ∙ ap (with_event payload.0 payload.1) (sym (kept_is records name names))) in
+    put_more records said names name (with_event_at event known) all
+    ∙ ap (put (entries_of records names) name) (entry ∙ ap (with_event payload.0 payload.1) (sym (kept_is records name names))) in
     subst (KeepsNames (records ++ said ∷ [])) (sym is) (event_noted records (entries_of records names) name payload.0 payload.1 h)
 
 pub withdrawal_kept : (records : List Record) (names : List (Name × Known)) (name : Name) → All (λ kept. HoldsEvent records kept.0 kept.1.event) names → KeepsNames records (entries_of records names) →
@@ -90,9 +90,9 @@ withdrawal_kept records names name all h =
     let same : payload_at (records ++ said ∷ []) known.event ≡ payload_at records known.event = ap payload_of (record_same records said name known.event (holds_own records names name all)) in
     let some : (length records + 1 == 0) ≡ false = false_from_ne_true (length records + 1 == 0) (λ e. omega (arith, (Decides-eqb (length records + 1) 0).0 e)) in
     let entry : entry_of (records ++ said ∷ []) name now ≡ with_withdrawal (entry_of records name known) =
-        (λ i. record { origin = name.origin; tag = name.tag; event = same i; withdrawn = not (some i) }) in
+    (λ i. record { origin = name.origin; tag = name.tag; event = same i; withdrawn = not (some i) }) in
     let is : entries_of (records ++ said ∷ []) (put_known names name now) ≡ put (entries_of records names) name (with_withdrawal (kept_of name (entries_of records names))) =
-        put_more records said names name now all ∙ ap (put (entries_of records names) name) (entry ∙ ap with_withdrawal (sym (kept_is records name names))) in
+    put_more records said names name now all ∙ ap (put (entries_of records names) name) (entry ∙ ap with_withdrawal (sym (kept_is records name names))) in
     subst (KeepsNames (records ++ said ∷ [])) (sym is) (withdrawal_noted records (entries_of records names) name h)
 
 pub announcement_kept : (records : List Record) (names : List (Name × Known)) (o : ℕ) (t : Moment) (events withdrawn : ℕ) → All (λ kept. HoldsEvent records kept.0 kept.1.event) names → KeepsNames records (entries_of records names) →

@@ -38,17 +38,21 @@ is_at records (suc i) said is = (omega arith, sym (here records i) ∙ is)
 pub more_at : (records : List Record) (new : Record) (place : ℕ) (said : Record) → IsAt records place said → IsAt (records ++ new ∷ []) place said
 more_at records new place said at =
     let within : place - 1 < length records = slice_get_within records (place - 1) said at.1 in
-    let many = length-append records (new ∷ []) in
-    (at.0, slice_get-get_or (records ++ new ∷ []) (place - 1) said (omega (arith, within, many))
-    ∙ ap Some (get_or_append_left records (new ∷ []) said (place - 1) within ∙ get_or_from_slice_get records (place - 1) said said at.1))
+    let many = length-append records (new ∷ []) in (
+      at.0,
+      slice_get-get_or (records ++ new ∷ []) (place - 1) said (omega (arith, within, many))
+          ∙ ap Some (get_or_append_left records (new ∷ []) said (place - 1) within ∙ get_or_from_slice_get records (place - 1) said said at.1),
+    )
 
 -- which stands at the last place
 pub last_at : (records : List Record) (new : Record) → IsAt (records ++ new ∷ []) (length records + 1) new
 last_at records new =
     let many = length-append records (new ∷ []) in
-    let same : length records + 1 - 1 ≡ length records = omega arith in
-    (omega arith, ap (slice_get (records ++ new ∷ [])) same
-    ∙ slice_get-get_or (records ++ new ∷ []) (length records) new (omega (arith, many)) ∙ ap Some (get_or-append_seam records new [] new))
+    let same : length records + 1 - 1 ≡ length records = omega arith in (
+      omega arith,
+      ap (slice_get (records ++ new ∷ [])) same
+          ∙ slice_get-get_or (records ++ new ∷ []) (length records) new (omega (arith, many)) ∙ ap Some (get_or-append_seam records new [] new),
+    )
 
 -- and at no other
 pub at_cases : (records : List Record) (new : Record) (place : ℕ) (said : Record) → IsAt (records ++ new ∷ []) place said → IsAt records place said ⊎ ((place ≡ length records + 1) × (new ≡ said))

@@ -55,6 +55,30 @@ struct Known {
     withdrawal: u32,
 }
 
+impl Known {
+    ghost use Rattle.warp_table.specs.inner.Kept.{nothing_known, with_event_at, with_withdrawal_at};
+
+    /// With the event at this place, where nothing came before.
+    fn of_event(place: u32) -> Known
+        ensures { result ≡ with_event_at place nothing_known }
+    {
+        Known {
+            event: place,
+            withdrawal: 0,
+        }
+    }
+
+    /// With the withdrawal at this place, where nothing came before.
+    fn of_withdrawal(place: u32) -> Known
+        ensures { result ≡ with_withdrawal_at place nothing_known }
+    {
+        Known {
+            event: 0,
+            withdrawal: place,
+        }
+    }
+}
+
 /// What came of an event: where it stands and whether it is new, and the place of the event that its name keeps.
 #[derive(Clone, Copy)]
 struct Noted {
@@ -474,10 +498,7 @@ fn add_event(
     match names.entry(*name)? {
         Place::Vacant(place) => {
             let noted = note_first_event(records, announcer, name.tag)?;
-            place.insert(Known {
-                event: noted.event,
-                withdrawal: 0,
-            });
+            place.insert(Known::of_event(noted.event));
             Ok(noted)
         }
         Place::Occupied(place) => {
@@ -515,7 +536,7 @@ fn note_event(
     note_further_event(records, others, announcer, kept, name, payload)
 }
 
-/// Adds a withdrawal, which goes to `place`: known where its name keeps one, and else noted and told to its origin. An `Err`
+/// Adds a withdrawal, which goes to `next`: known where its name keeps one, and else noted and told to its origin. An `Err`
 /// changes nothing.
 fn add_withdrawal(
     names: &mut IndexMap<Name, Known>,
@@ -546,10 +567,7 @@ fn add_withdrawal(
         }
         Place::Vacant(place) => {
             announcer.note_withdrawal(tag)?;
-            place.insert(Known {
-                event: 0,
-                withdrawal: next,
-            });
+            place.insert(Known::of_withdrawal(next));
         }
     }
     Ok(Added {
@@ -726,7 +744,7 @@ fn check_name(program: &Program, origin: u32, tag: Tag) -> Result<(), Refusal>
 
 /// Why the program takes no announcement of this origin, up to this tag.
 fn check_end(program: &Program, origin: u32, tag: Tag) -> Result<(), Refusal>
-    ensures { (events withdrawn : ℕ) → MatchResult result (λ _. refusal_of program.now (Record.Announce name.origin name.tag events withdrawn) ≡ None)
+    ensures { (events withdrawn : ℕ) → MatchResult result (λ _. refusal_of program.now (Record.Announce origin tag events withdrawn) ≡ None)
         (λ k. refusal_of program.now (Record.Announce origin tag events withdrawn) ≡ Some k) }
 {
     // Each program is valid, and so its stop is in range.

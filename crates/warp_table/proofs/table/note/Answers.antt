@@ -24,8 +24,8 @@ returns-clause-new c =
     let is : origin ≡ origin_of said = c.origin_of-origin.ensures in
     let within : origin < length new = omega (arith, c.in_ok-keep_up_to.ensures.ok, c.keep_up_to.new.announcers.ok.0) in
     IfOk-weaker c.note_own.result _ _ (λ added adds new_one.
-      let says = adds new_one in (
-        says.0,
-        subst (λ (o : ℕ). AreHeard (c.args.records.now ++ said ∷ []) (set new o after)) (sym is)
-            (all_heard c.args.records.now old new said after c.in_ok-keep_up_to.ensures.same c.in_ok-keep_up_to.ensures.few (subst (λ (o : ℕ). o < length new) is within) c.requires.heard says.1),
-      )) c.note_own.ensures.new
+    let says = adds new_one in (
+      says.0,
+      subst (λ (o : ℕ). AreHeard (c.args.records.now ++ said ∷ []) (set new o after)) (sym is)
+          (all_heard c.args.records.now old new said after c.in_ok-keep_up_to.ensures.same c.in_ok-keep_up_to.ensures.few (subst (λ (o : ℕ). o < length new) is within) c.requires.heard says.1),
+    )) c.note_own.ensures.new

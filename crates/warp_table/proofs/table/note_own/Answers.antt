@@ -40,9 +40,9 @@ returns-in_ok-noted-in-Event-clause-new c = λ new.
     let heard = subst (λ (x : Record). IsHeard (set_of c.args.records.now) (origin_of x) c.args.announcer.now) said.is c.requires.heard in
     let says = c.in_ok-noted-in-Event.ensures.new new in
     let told = event_added c.args.records.now c.args.names.now.entries c.args.others.now.entries c.requires.keeps c.args.announcer.now name heard (said.input, to_z w64 (of_z w64 said.value))
-        c.in_ok-noted-in-Event.noted.added.place c.in_ok-noted-in-Event.noted.event c.add_event.new.names.entries c.add_event.new.others.entries c.add_event.new.announcer says.0 says.1 says.2 in
+    c.in_ok-noted-in-Event.noted.added.place c.in_ok-noted-in-Event.noted.event c.add_event.new.names.entries c.add_event.new.others.entries c.add_event.new.announcer says.0 says.1 says.2 in
     subst (λ (x : Record). IsAdded c.args.records.now x c.in_ok-noted-in-Event.noted.added.place c.add_event.new.names.entries c.add_event.new.others.entries
-        × IsHeard (set_of (c.args.records.now ++ x ∷ [])) (origin_of x) c.add_event.new.announcer) is (told.added, told.heard)
+    × IsHeard (set_of (c.args.records.now ++ x ∷ [])) (origin_of x) c.add_event.new.announcer) is (told.added, told.heard)
 
 pub returns-in_ok-noted-in-Event-clause-known : goal.returns-in_ok-noted-in-Event-clause-known
 returns-in_ok-noted-in-Event-clause-known c = λ known.
@@ -58,18 +58,18 @@ returns-in-Withdraw-clause-new c =
     let said = c.in-Withdraw in
     let heard = subst (λ (x : Record). IsHeard (set_of c.args.records.now) (origin_of x) c.args.announcer.now) said.is c.requires.heard in
     IfOk-weaker c.add_withdrawal.result _ _ (λ added adds new.
-      let says = adds new in
-      let told = withdrawal_added c.args.records.now c.args.names.now.entries c.args.others.now.entries c.requires.keeps c.args.announcer.now (record { origin = said.origin; tag = said.tag }) heard
-          added.place _ c.add_withdrawal.new.names.entries c.args.others.now.entries c.add_withdrawal.new.announcer refl says.0 says.1 says.2 refl says.3 in
-      subst (λ (x : Record). IsAdded c.args.records.now x added.place c.add_withdrawal.new.names.entries c.args.others.now.entries
-          × IsHeard (set_of (c.args.records.now ++ x ∷ [])) (origin_of x) c.add_withdrawal.new.announcer) (sym said.is) (told.added, told.heard)) c.add_withdrawal.ensures.new
+    let says = adds new in
+    let told = withdrawal_added c.args.records.now c.args.names.now.entries c.args.others.now.entries c.requires.keeps c.args.announcer.now (record { origin = said.origin; tag = said.tag }) heard
+    added.place _ c.add_withdrawal.new.names.entries c.args.others.now.entries c.add_withdrawal.new.announcer refl says.0 says.1 says.2 refl says.3 in
+    subst (λ (x : Record). IsAdded c.args.records.now x added.place c.add_withdrawal.new.names.entries c.args.others.now.entries
+    × IsHeard (set_of (c.args.records.now ++ x ∷ [])) (origin_of x) c.add_withdrawal.new.announcer) (sym said.is) (told.added, told.heard)) c.add_withdrawal.ensures.new
 
 pub returns-in-Withdraw-clause-known : goal.returns-in-Withdraw-clause-known
 returns-in-Withdraw-clause-known c =
     let said = c.in-Withdraw in
     IfOk-weaker c.add_withdrawal.result _ _ (λ added says known.
-      let is = says known in
-      (subst (IsAt c.args.records.now added.place) (sym said.is) (c.requires.keeps.places.so (Withdraw said.origin said.tag) added.place is.2), is.0, refl, is.1)) c.add_withdrawal.ensures.known
+    let is = says known in
+    (subst (IsAt c.args.records.now added.place) (sym said.is) (c.requires.keeps.places.so (Withdraw said.origin said.tag) added.place is.2), is.0, refl, is.1)) c.add_withdrawal.ensures.known
 
 pub returns-in-Announce-clause-new : goal.returns-in-Announce-clause-new
 returns-in-Announce-clause-new c =
@@ -78,19 +78,23 @@ returns-in-Announce-clause-new c =
     let a : Announced = record { tag = said.tag; events = said.events; withdrawn = said.withdrawn } in
     let same : record { tag = said.tag; events = c.get-events.result; withdrawn = c.get-withdrawn.result } ≡ a = (λ i. record { tag = said.tag; events = c.get-events.ensures.value i; withdrawn = c.get-withdrawn.ensures.value i }) in
     IfOk-weaker c.add_announcement.result _ _ (λ added adds new.
-      let says = adds new in
-      let told = announcement_added c.args.records.now c.args.names.now.entries c.args.others.now.entries c.requires.keeps c.args.announcer.now said.origin said.tag said.events said.withdrawn
-          added.place _ c.args.names.now.entries c.add_announcement.new.others.entries c.add_announcement.new.announcer heard refl says.0
-          (subst (λ (x : Record). other_place c.args.others.now.entries x ≡ None) said.is says.1) refl
-          (says.2 ∙ ap (λ (x : Record). put_other c.args.others.now.entries x (length c.args.records.now + 1)) said.is) says.3
-          (subst (λ (b : Announced). (x : Announced) → Contains c.add_announcement.new.announcer.announced x ↔ Contains c.args.announcer.now.announced x ⊎ (x ≡ b)) same says.4) in
-      subst (λ (x : Record). IsAdded c.args.records.now x added.place c.args.names.now.entries c.add_announcement.new.others.entries
-          × IsHeard (set_of (c.args.records.now ++ x ∷ [])) (origin_of x) c.add_announcement.new.announcer) (sym said.is) (told.added, told.heard)) c.add_announcement.ensures.new
+    let says = adds new in
+    let told = announcement_added c.args.records.now c.args.names.now.entries c.args.others.now.entries c.requires.keeps c.args.announcer.now said.origin said.tag said.events said.withdrawn
+    added.place _ c.args.names.now.entries c.add_announcement.new.others.entries c.add_announcement.new.announcer heard refl says.0
+    (subst (λ (x : Record). other_place c.args.others.now.entries x ≡ None) said.is says.1) refl
+    (says.2 ∙ ap (λ (x : Record). put_other c.args.others.now.entries x (length c.args.records.now + 1)) said.is) says.3
+    (subst (λ (b : Announced). (x : Announced) → Contains c.add_announcement.new.announcer.announced x ↔ Contains c.args.announcer.now.announced x ⊎ (x ≡ b)) same says.4) in
+    subst (λ (x : Record). IsAdded c.args.records.now x added.place c.args.names.now.entries c.add_announcement.new.others.entries
+    × IsHeard (set_of (c.args.records.now ++ x ∷ [])) (origin_of x) c.add_announcement.new.announcer) (sym said.is) (told.added, told.heard)) c.add_announcement.ensures.new
 
 pub returns-in-Announce-clause-known : goal.returns-in-Announce-clause-known
 returns-in-Announce-clause-known c =
     let said = c.in-Announce in
     IfOk-weaker c.add_announcement.result _ _ (λ added says known.
-      let is = says known in
-      (subst (IsAt c.args.records.now added.place) (sym said.is)
-          (c.requires.keeps.places.so (Announce said.origin said.tag said.events said.withdrawn) added.place (subst (λ (x : Record). other_place c.args.others.now.entries x ≡ Some added.place) said.is is.2)), refl, is.0, is.1)) c.add_announcement.ensures.known
+    let is = says known in (
+      subst (IsAt c.args.records.now added.place) (sym said.is)
+          (c.requires.keeps.places.so (Announce said.origin said.tag said.events said.withdrawn) added.place (subst (λ (x : Record). other_place c.args.others.now.entries x ≡ Some added.place) said.is is.2)),
+      refl,
+      is.0,
+      is.1,
+    )) c.add_announcement.ensures.known
