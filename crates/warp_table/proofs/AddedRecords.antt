@@ -1,18 +1,17 @@
 -- What is kept and heard of a list of records, with one more.
-use Rattle.std.proofs.Common.{◌≡◌, ◌⊎◌, inl, inr, ℕ, ℤ, ◌+◌, ◌==◌, Bool, true, false, is_some, List, [], ◌∷◌, ◌++◌, if◌then◌else◌, Option, None, Some, Contains, length, refl, sym, ap, subst, ◌∙◌}
+use Rattle.std.proofs.Common.{◌≡◌, ◌⊎◌, inl, inr, ℕ, ℤ, ◌+◌, false, is_some, List, [], ◌∷◌, ◌++◌, None, Contains, length, sym, ap, subst, ◌∙◌}
 use Rattle.std.specs.Prelude.{◌↔◌}
 use Rattle.std.specs.Map.{lookup}
 use Rattle.std.proofs.lemmas.Bool.{false≢true}
 use Rattle.warp_tag.specs.Moment.{Moment}
-use Rattle.warp_tag.specs.declared.entry.Entry.{Entry}
 use Rattle.warp_record.specs.declared.record.Record.{Record}
 use Rattle.warp_record.specs.declared.record.Record.TheVariants.{Event, Withdraw, Announce}
 use Rattle.warp_table.specs.Names.{origin_of}
 use Rattle.warp_table.specs.Records.{set_of}
 use Rattle.warp_table.specs.declared.table.Known.{Known}
 use Rattle.warp_table.specs.declared.table.Name.{Name}
-use Rattle.warp_table.specs.inner.Heard.{Announced, Heard, IsHeard, with_heard_event, with_tag}
-use Rattle.warp_table.specs.inner.Kept.{HoldsEvent, IsAdded, Keeps, NotesEvent, entries_of, event_place, is_named, kept_of, known_of, other_place, payload_at, place_in, put_known, put_other, with_event_at, with_withdrawal_at, withdrawal_place}
+use Rattle.warp_table.specs.inner.Heard.{Announced, Heard, IsHeard, with_tag}
+use Rattle.warp_table.specs.inner.Kept.{HoldsEvent, IsAdded, Keeps, NotesEvent, entries_of, event_place, is_named, kept_of, known_of, other_place, payload_at, put_known, put_other, with_event_at, with_withdrawal_at, withdrawal_place}
 use Rattle.warp_table.specs.inner.News.{IsNewsOf}
 use Rattle.warp_table.proofs.EventPlaces.{announcement_places, event_places, holds_own, withdrawal_places}
 use Rattle.warp_table.proofs.HeardNews.{event_kept as event_told, event_new, own_announcement, own_event, own_withdrawal, withdrawal_new}

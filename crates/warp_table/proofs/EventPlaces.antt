@@ -1,5 +1,5 @@
 -- What one more record changes of what is kept of the places of records.
-use Rattle.std.proofs.Common.{◌≡◌, ◌≢◌, ◌⊎◌, inl, inr, ℕ, ℤ, ◌+◌, ◌==◌, Bool, true, false, cond, is_some, List, [], ◌∷◌, ◌++◌, if◌then◌else◌, Contains, Option, None, Some, length, refl, sym, ap, subst, ◌∙◌, arith}
+use Rattle.std.proofs.Common.{◌≡◌, ◌≢◌, inl, inr, ℕ, ℤ, ◌+◌, ◌==◌, Bool, true, false, cond, is_some, List, [], ◌∷◌, ◌++◌, if◌then◌else◌, Contains, Option, None, Some, length, refl, sym, ap, subst, ◌∙◌, arith}
 use Rattle.std.specs.List.{All}
 use Rattle.std.specs.Map.{lookup}
 use Rattle.std.specs.Option.{unwrap_or}
@@ -16,9 +16,9 @@ use Rattle.warp_table.specs.declared.table.Known.{Known}
 use Rattle.warp_table.specs.declared.table.Name.{Name}
 use Rattle.warp_table.specs.declared.table.Parted.{Parted}
 use Rattle.warp_table.specs.inner.Heard.{Heard, earlier_of, with_heard_event, with_tag}
-use Rattle.warp_table.specs.inner.Kept.{HoldsEvent, KeepsPlaces, NotesEvent, counts_less, event_place, is_named, is_this, known_of, nothing_known, other_place, parted_of, payload_at, payload_of, place_in, put_known, put_other, record_at, stands, with_event_at, with_withdrawal_at, withdrawal_place}
+use Rattle.warp_table.specs.inner.Kept.{HoldsEvent, KeepsPlaces, NotesEvent, counts_less, event_place, is_named, is_this, known_of, nothing_known, other_place, parted_of, payload_at, payload_of, place_in, put_known, put_other, stands, with_event_at, with_withdrawal_at, withdrawal_place}
 use Rattle.warp_table.proofs.FirstNames.{named-Decides}
-use Rattle.warp_table.proofs.Places.{All-found, All-inserted, IsPlaced, cond_apart, holds_more, kept_places, last_at, lookup_inserted, more_at, record_at-is, record_same, stands-is, stands_apart}
+use Rattle.warp_table.proofs.Places.{All-found, All-inserted, cond_apart, holds_more, kept_places, last_at, lookup_inserted, more_at, record_at-is, record_same, stands-is, stands_apart}
 use Rattle.warp_table.proofs.Sets.{same_record-Decides}
 
 -- One more event, beside the one that its name keeps

@@ -1,5 +1,5 @@
 -- Lemmas on the places of records.
-use Rattle.std.proofs.Common.{◌≡◌, ◌≢◌, ◌⊎◌, inl, inr, ℕ, ℤ, zero, suc, ◌+◌, ◌-◌, ◌<◌, ◌≤◌, ◌==◌, Bool, true, false, cond, List, [], ◌∷◌, ◌++◌, if◌then◌else◌, get_or, slice_get, Contains, Option, None, Some, length, length-append, refl, sym, ap, subst, ◌∙◌, arith}
+use Rattle.std.proofs.Common.{◌≡◌, ◌≢◌, ◌⊎◌, inl, inr, ℕ, ℤ, zero, suc, ◌+◌, ◌-◌, ◌<◌, ◌≤◌, Bool, true, false, cond, List, [], ◌∷◌, ◌++◌, if◌then◌else◌, get_or, slice_get, Contains, Option, None, Some, length, length-append, refl, sym, ap, subst, ◌∙◌, arith}
 use Rattle.std.specs.Prelude.{IfNone, IfSome}
 use Rattle.std.specs.Bool.{Decides}
 use Rattle.std.specs.List.{All}
@@ -13,12 +13,12 @@ use Rattle.std.proofs.lemmas.Option.{get_or_from_slice_get, slice_get-get_or, sl
 use Rattle.indexmap.specs.IndexMap.{insert_entry}
 use Rattle.warp_tag.specs.Limits.{most_records}
 use Rattle.warp_record.specs.declared.record.Record.{Record}
-use Rattle.warp_record.specs.declared.record.Record.TheVariants.{Event, Withdraw, Announce}
+use Rattle.warp_record.specs.declared.record.Record.TheVariants.{Event}
 use Rattle.warp_table.specs.Log.{EachOnce, IsAt}
 use Rattle.warp_table.specs.Records.{same_record}
 use Rattle.warp_table.specs.declared.table.Known.{Known}
 use Rattle.warp_table.specs.declared.table.Name.{Name}
-use Rattle.warp_table.specs.inner.Kept.{HoldsEvent, KeepsPlaces, event_place, is_this, place_in, record_at, stands}
+use Rattle.warp_table.specs.inner.Kept.{HoldsEvent, KeepsPlaces, is_this, place_in, record_at, stands}
 use Rattle.warp_table.proofs.Sets.{same_record-Decides}
 
 -- The record at a place

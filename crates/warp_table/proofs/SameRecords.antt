@@ -1,5 +1,5 @@
 -- `==` of records finds what the definition of sameness finds.
-use Rattle.std.proofs.Common.{◌≡◌, Bool, true, refl, subst, rules}
+use Rattle.std.proofs.Common.{◌≡◌, true, subst, rules}
 use Rattle.std.specs.Cmp.Rules.{comparing}
 use Rattle.std.proofs.lemmas.Bool.Decides.{same_from_decides}
 use Rattle.warp_record.specs.declared.record.Record.{Record}

@@ -1,5 +1,5 @@
 -- an announcement that the others lack comes in among them
-use Rattle.std.proofs.Common.{◌≡◌, ℕ, Bool, List, None, Some, refl, sym, ap, subst, ◌∙◌, rules}
+use Rattle.std.proofs.Common.{◌≡◌, ℕ, Bool, List, refl, sym, ap, ◌∙◌, rules}
 use Rattle.std.specs.Map.{lookup}
 use Rattle.indexmap.specs.Entry.{entry_value}
 use Rattle.indexmap.specs.IndexMap.{insert_entry}

@@ -2,7 +2,6 @@
 use Rattle.std.proofs.Common.{◌≡◌, ℤ, None, to_z, of_z, w64, refl, rules, sym, subst, ◌∙◌}
 use Rattle.warp_record.specs.declared.record.Record.{Record}
 use Rattle.warp_record.specs.declared.record.Record.TheVariants.{Event}
-use Rattle.warp_table.specs.declared.table.Parted.{Parted}
 use Rattle.warp_table.specs.inner.Kept.{event_place, parted_of}
 use Rattle.warp_table.proofs.EventPlaces.{further_noted}
 use Rattle.warp_table.proofs.table.note_further_event.Goals as goal

@@ -1,5 +1,5 @@
 -- each kind of record is added to what is kept and heard, or known
-use Rattle.std.proofs.Common.{◌≡◌, ◌⊎◌, ℤ, to_z, of_z, w64, rules, ◌+◌, ◌++◌, ◌∷◌, [], List, None, Some, Contains, length, refl, ap, sym, subst, ◌∙◌}
+use Rattle.std.proofs.Common.{◌≡◌, ◌⊎◌, to_z, of_z, w64, rules, ◌+◌, ◌++◌, ◌∷◌, [], None, Some, Contains, length, refl, ap, sym, subst, ◌∙◌}
 use Rattle.std.specs.Prelude.{◌↔◌}
 use Rattle.std.proofs.lemmas.Result.{IfOk-weaker}
 use Rattle.warp_record.specs.declared.record.Record.{Record}

@@ -1,5 +1,5 @@
 -- what is not before the last is before none
-use Rattle.std.proofs.Common.{false, sym, ◌∙◌}
+use Rattle.std.proofs.Common.{sym, ◌∙◌}
 use Rattle.warp_table.proofs.KeptTags.{comes_last, not_true}
 use Rattle.warp_table.proofs.tags.is_behind_all.Goals as goal
 
