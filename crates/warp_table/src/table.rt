@@ -581,23 +581,23 @@ fn add_withdrawal(
 fn add_announcement(
     others: &mut IndexMap<Record, u32>,
     announcer: &mut Announcer,
-    record: &Record,
+    said: &Record,
     tag: Tag,
     events: u32,
     withdrawn: u32,
     next: u32,
 ) -> Result<Added, OutOfMemory>
     ensures new { IfOk result (λ added. IsTrue added.is_new → (added.place ≡ next) ×
-        (other_place others.old.entries «record».now ≡ None) ×
-        (others.new.entries ≡ put_other others.old.entries «record».now next) ×
+        (other_place others.old.entries said.now ≡ None) ×
+        (others.new.entries ≡ put_other others.old.entries said.now next) ×
         (announcer.new ≡ record announcer.old { announced = announcer.new.announced }) ×
         ((a : Announced) → Contains announcer.new.announced a ↔
         Contains announcer.old.announced a ⊎ (a ≡ record { tag = tag; events = events; withdrawn = withdrawn }))) }
     ensures known { IfOk result (λ added. added.is_new ≡ false → (others.new.entries ≡ others.old.entries) × (announcer.new ≡ announcer.old) ×
-        (other_place others.old.entries «record».now ≡ Some added.place)) }
+        (other_place others.old.entries said.now ≡ Some added.place)) }
     ensures err { OnErr result ((others.new.entries ≡ others.old.entries) × (announcer.new ≡ announcer.old)) }
 {
-    match others.entry(*record)? {
+    match others.entry(*said)? {
         Place::Occupied(place) => Ok(Added {
             place: *place.get(),
             is_new: false,

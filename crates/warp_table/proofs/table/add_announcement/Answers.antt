@@ -22,15 +22,15 @@ pub returns-in-Occupied-clause-known : goal.returns-in-Occupied-clause-known
 returns-in-Occupied-clause-known c = λ known. (
   search rules,
   refl,
-  found_same c.args.others.now.entries c.args.record.now ∙ sym c.in_ok-place.ensures.value ∙ ap entry_value c.in-Occupied.is ∙ c.get.ensures,
+  found_same c.args.others.now.entries c.args.said.now ∙ sym c.in_ok-place.ensures.value ∙ ap entry_value c.in-Occupied.is ∙ c.get.ensures,
 )
 
 pub returns-in_ok-note_announcement-in-Vacant-clause-new : goal.returns-in_ok-note_announcement-in-Vacant-clause-new
 unfolding entry_value
 returns-in_ok-note_announcement-in-Vacant-clause-new c = λ new. (
   refl,
-  found_same c.args.others.now.entries c.args.record.now ∙ sym c.in_ok-place.ensures.value ∙ ap entry_value c.in-Vacant.is,
-  search rules ∙ put_same c.args.others.now.entries c.args.record.now c.args.next,
+  found_same c.args.others.now.entries c.args.said.now ∙ sym c.in_ok-place.ensures.value ∙ ap entry_value c.in-Vacant.is,
+  search rules ∙ put_same c.args.others.now.entries c.args.said.now c.args.next,
   c.in_ok-note_announcement-in-Vacant.ensures.ok,
   c.in_ok-note_announcement-in-Vacant.ensures.announced,
 )
