@@ -11,6 +11,8 @@ use Rattle.warp_tag.proofs.Lists.{filter-here, filter-past}
 use Rattle.warp_record.specs.declared.record.Record.{Record}
 use Rattle.warp_record.specs.declared.record.Record.TheVariants.{Event, Withdraw, Announce}
 use Rattle.warp_table.specs.Table.{is_other, names_of}
+use Rattle.warp_table.specs.declared.table.Name.{Name}
+use Rattle.warp_table.specs.inner.Kept.{is_named}
 use Rattle.warp_table.proofs.Sets.{same_name}
 
 -- the names are one
@@ -20,6 +22,12 @@ is_one name other = name.0 == other.0 && is_same name.1 other.1
 pub is_one-Decides : (name other : ℕ × Moment) → Decides (is_one name other) (name ≡ other)
 is_one-Decides name other =
     Decides-like (is_one name other) (λ e i. (e.0 i, e.1 i)) (λ e. (ap (λ n. n.0) e, ap (λ n. n.1) e)) (same_name name.0 other.0 name.1 other.1)
+
+-- the same of names as they are kept
+pub named-Decides : (one other : Name) → Decides (is_named one.origin one.tag other) (one ≡ other)
+named-Decides one other =
+    Decides-like (is_named one.origin one.tag other) (λ e i. record { origin = (e i).0; tag = (e i).1 }) (λ e i. ((e i).origin, (e i).tag))
+    (is_one-Decides (one.origin, one.tag) (other.origin, other.tag))
 
 -- the names with this one, which comes last where it is new
 abbrev pub with_name : List (ℕ × Moment) → ℕ × Moment → List (ℕ × Moment)

@@ -17,7 +17,7 @@ use Rattle.warp_table.specs.Names.{HasEvent, Tells, TellsPayload, origin_of}
 use Rattle.warp_table.specs.declared.table.Name.{Name}
 use Rattle.warp_table.specs.inner.Heard.{Announced, AreHeard, Heard, IsHeard, heard_at, nothing_heard, with_heard_event, with_tag}
 use Rattle.warp_table.specs.inner.Kept.{KeepsNames, is_named, kept_of}
-use Rattle.warp_table.specs.inner.News.{IsNews, IsNewsOf}
+use Rattle.warp_table.specs.inner.News.{IsNewsOf}
 use Rattle.warp_table.proofs.Heard.{heard_announcement, heard_elsewhere, heard_event, heard_new_payload, heard_withdrawal, with_one}
 use Rattle.warp_table.proofs.Sets.{in_set}
 
@@ -29,7 +29,7 @@ payload_told S origin tag None told = (λ h. absurd (false≢true h), λ h. absu
 payload_told S origin tag (Some p) told = (λ h. (p, told.0), λ h. refl)
 
 -- what is kept of a name has an event exactly if the set has one
-event_kept : (S : Records) (name : Name) (known : Option Entry) → Tells S name.origin name.tag known →
+pub event_kept : (S : Records) (name : Name) (known : Option Entry) → Tells S name.origin name.tag known →
     IsTrue (is_some (unwrap_or known (fresh name.origin name.tag)).event) ↔ ((p : ℕ × ℤ) × HasEvent S name.origin name.tag p)
 event_kept S name None keeps = (λ h. absurd (false≢true h), λ h. absurd (keeps (Event name.origin name.tag h.0.0 h.0.1) h.1 (refl, refl)))
 event_kept S name (Some known) keeps = payload_told S name.origin name.tag known.event keeps.payload
@@ -41,11 +41,11 @@ not_in_set records said new is = new ((in_set records said).1 is)
 -- The record's own origin
 
 -- an event of a name that has none, by what is kept of the name, is new to its origin
-pub event_new : (records : List Record) (names : List (Name × Entry)) (own : Heard) (origin : ℕ) (tag : Moment) (input : ℕ) (value : ℤ) → IsNewsOf records names own (Event origin tag input value) →
+pub event_new : (records : List Record) (names : List (Name × Entry)) (own : Heard) (origin : ℕ) (tag : Moment) → KeepsNames records names → IsHeard (set_of records) origin own →
     is_some (kept_of (record { origin = origin; tag = tag }) names).event ≡ false → Contains own.events tag → ⊥
-event_new records names own origin tag input value news none has =
+event_new records names own origin tag kept heard none has =
     let name : Name = record { origin = origin; tag = tag } in
-    let there = (event_kept (set_of records) name (lookup (is_named origin tag) names) (news.kept.each origin tag)).1 ((news.heard.events tag).0 has) in
+    let there = (event_kept (set_of records) name (lookup (is_named origin tag) names) (kept.each origin tag)).1 ((heard.events tag).0 has) in
     false≢true (sym none ∙ there)
 
 -- what is heard of an event's origin with it
@@ -60,7 +60,7 @@ own_event records names own origin tag input value true news is =
     ((news.heard.events tag).1 event) news.heard
 own_event records names own origin tag input value false news is =
     let said : Record = Event origin tag input value in
-    heard_event (set_of records) origin tag input value (set_of (records ++ said ∷ [])) own (with_one records said) (event_new records names own origin tag input value news is) news.heard
+    heard_event (set_of records) origin tag input value (set_of (records ++ said ∷ [])) own (with_one records said) (event_new records names own origin tag news.kept news.heard is) news.heard
 
 -- a withdrawal that a list lacks is new to its origin
 pub withdrawal_new : (records : List Record) (names : List (Name × Entry)) (own : Heard) (origin : ℕ) (tag : Moment) → IsNewsOf records names own (Withdraw origin tag) → Contains own.withdrawn tag → ⊥
@@ -82,36 +82,24 @@ own_announcement records names own origin tag events withdrawn announced news ad
 
 -- All origins
 
--- a record that a table lacks is news to what it keeps
-pub news_to : (keys records : List Record) (kept names : List (Name × Entry)) (heards : List Heard) (said : Record) → keys ≡ records → names ≡ kept → KeepsNames keys kept → AreHeard keys heards → (Contains records said → ⊥) → IsNews keys names heards said
-news_to keys records kept names heards said same alike keeps heard new = record {
-  kept = subst (λ (ns : List (Name × Entry)). KeepsNames keys ns) (sym alike) keeps;
-  heard = heard;
-  new = λ has. new (subst (λ (rs : List Record). Contains rs said) same has);
-}
-
 -- what is looked up is what is heard of the origin
 pub looked_up : (heards : List Heard) (index origin : ℕ) (own : Heard) → own ≡ get_or heards index own → index < length heards → index ≡ origin → own ≡ heard_at heards origin
 looked_up heards index origin own here within same = here ∙ get_or_default heards index own nothing_heard within ∙ ap (heard_at heards) same
 
--- a new record is news to its own origin
-pub own_news : (records : List Record) (names : List (Name × Entry)) (old new : List Heard) (said : Record) (own : Heard) → ((origin : ℕ) → heard_at new origin ≡ heard_at old origin) → own ≡ heard_at new (origin_of said) →
-    IsNews records names old said → IsNewsOf records names own said
-own_news records names old new said own same at news = record {
-  kept = news.kept;
-  heard = subst (λ (heard : Heard). IsHeard (set_of records) (origin_of said) heard) (sym (at ∙ same (origin_of said))) (news.heard.each (origin_of said));
-  new = news.new;
-}
+-- what is heard of a record's own origin
+pub own_heard : (records : List Record) (old new : List Heard) (said : Record) (own : Heard) → ((origin : ℕ) → heard_at new origin ≡ heard_at old origin) → own ≡ heard_at new (origin_of said) →
+    AreHeard records old → IsHeard (set_of records) (origin_of said) own
+own_heard records old new said own same at heard = subst (λ (h : Heard). IsHeard (set_of records) (origin_of said) h) (sym (at ∙ same (origin_of said))) (heard.each (origin_of said))
 
 -- with what is heard of its own origin, a record is heard
-pub news_heard : (records : List Record) (names : List (Name × Entry)) (old new : List Heard) (said : Record) (own : Heard) → ((origin : ℕ) → heard_at new origin ≡ heard_at old origin) → length new ≤ most_origins → origin_of said < length new →
-    IsNews records names old said → IsHeard (set_of (records ++ said ∷ [])) (origin_of said) own → AreHeard (records ++ said ∷ []) (set new (origin_of said) own)
-news_heard records names old new said own same few within news heard = record {
+pub all_heard : (records : List Record) (old new : List Heard) (said : Record) (own : Heard) → ((origin : ℕ) → heard_at new origin ≡ heard_at old origin) → length new ≤ most_origins → origin_of said < length new →
+    AreHeard records old → IsHeard (set_of (records ++ said ∷ [])) (origin_of said) own → AreHeard (records ++ said ∷ []) (set new (origin_of said) own)
+all_heard records old new said own same few within all heard = record {
   few = omega (arith, length-set new (origin_of said) own);
   each = λ origin. elim (cases_eq (origin_of said) origin) [
     | inl here ↦ subst (λ (o : ℕ). IsHeard (set_of (records ++ said ∷ [])) o (heard_at (set new (origin_of said) own) o)) here
         (subst (λ (h : Heard). IsHeard (set_of (records ++ said ∷ [])) (origin_of said) h) (sym (get_or-set_same new (origin_of said) own nothing_heard within)) heard)
     | inr other ↦ subst (λ (h : Heard). IsHeard (set_of (records ++ said ∷ [])) origin h) (sym (get_or-set_other new (origin_of said) origin own nothing_heard (λ e. other (sym e)) ∙ same origin))
-        (heard_elsewhere (set_of records) said (set_of (records ++ said ∷ [])) origin (heard_at old origin) (with_one records said) other (news.heard.each origin))
+        (heard_elsewhere (set_of records) said (set_of (records ++ said ∷ [])) origin (heard_at old origin) (with_one records said) other (all.each origin))
   ];
 }

@@ -15,7 +15,8 @@ use Rattle.warp_table.specs.Records.{set_of}
 use Rattle.warp_table.specs.Table.{is_other, names_of}
 use Rattle.warp_table.specs.declared.table.Name.{Name}
 use Rattle.warp_table.specs.inner.Kept.{KeepsNames, is_named, kept_of, put}
-use Rattle.warp_table.proofs.FirstNames.{is_one, is_one-Decides, names_announce, names_event, with_name}
+use Rattle.warp_table.proofs.FirstNames.{is_one, is_one-Decides, named-Decides, names_announce, names_event, with_name}
+use Rattle.warp_table.proofs.Places.{lookup_inserted}
 use Rattle.warp_table.proofs.Sets.{set_append}
 use Rattle.warp_table.proofs.Told.{event_told, other_told, withdrawal_told, with_one}
 
@@ -37,29 +38,9 @@ names_inserted (e ∷ names) name k = elim (cases_Bool (is_named name.origin nam
       ∙ behind_one (name_of e) (list_any (is_one (name.origin, name.tag)) (map name_of names)) (map name_of names) (map name_of names ++ (name.origin, name.tag) ∷ []))
 ]
 
--- two tests in turn, which are one or never both hold
-cond_twice : {X : Type 0} (a b : Bool) → b ≡ a → (x y z : X) → cond a x z ≡ cond b x (cond a y z)
-cond_twice true b h x y z = rw h refl
-cond_twice false b h x y z = rw h refl
-
-cond_apart : {X : Type 0} (a b : Bool) → (a ≡ true → b ≡ true → ⊥) → (x y z : X) → cond a y (cond b x z) ≡ cond b x (cond a y z)
-cond_apart true true h x y z = absurd (h refl refl)
-cond_apart true false h x y z = refl
-cond_apart false b h x y z = refl
-
 -- and changes what is kept of that name alone
 kept_inserted : (o : ℕ) (t : Moment) (names : List (Name × Entry)) (name : Name) (k : Entry) → lookup (is_named o t) (put names name k) ≡ cond (is_named o t name) (Some k) (lookup (is_named o t) names)
-kept_inserted o t [] name k = refl
-kept_inserted o t (e ∷ names) name k = elim (cases_Bool (is_named name.origin name.tag e.0)) [
-  | inl same ↦
-      let is : (name.origin, name.tag) ≡ name_of e = (is_one-Decides (name.origin, name.tag) (name_of e)).0 same in
-      rw same (cond_twice (is_named o t e.0) (is_named o t name) (ap (is_one (o, t)) is) (Some k) (Some e.1) (lookup (is_named o t) names))
-  | inr other ↦
-      rw other (ap (λ r. cond (is_named o t e.0) (Some e.1) r) (kept_inserted o t names name k)
-      ∙ cond_apart (is_named o t e.0) (is_named o t name)
-      (λ a c. both_ways (is_named name.origin name.tag e.0) other ((is_one-Decides (name.origin, name.tag) (name_of e)).1 (sym ((is_one-Decides (o, t) (name.origin, name.tag)).0 c) ∙ (is_one-Decides (o, t) (name_of e)).0 a)))
-      (Some k) (Some e.1) (lookup (is_named o t) names))
-]
+kept_inserted o t names name k = lookup_inserted (λ one other. is_named one.origin one.tag other) named-Decides (record { origin = o; tag = t }) names name k
 
 -- one more record of a name
 kept_record : (records : List Record) (names : List (Name × Entry)) (said : Record) (name : Name) (f : Entry → Entry)

@@ -11,7 +11,7 @@ use Rattle.warp_tag.specs.Moment.{Moment, is_before}
 use Rattle.warp_tag.proofs.Tags.{before_trans, not_before_trans, same_moment}
 use Rattle.warp_table.specs.inner.Heard.{count_before, with_tag}
 use Rattle.warp_table.specs.inner.Tags.{AreFalling, AreRising, with_tags}
-use Rattle.warp_table.proofs.InOrder.{All-with_tag, before_not_behind, count-with_tag_before, count-with_tag_behind}
+use Rattle.warp_table.proofs.InOrder.{All-with_tag, before_not_behind, count-with_tag_before, count-with_tag_behind, front_passes}
 use Rattle.warp_table.proofs.Members.{AllPairs-first, AllPairs-one, AllPairs-tail}
 
 -- One more tag
@@ -155,3 +155,13 @@ before_falling tag last tags falling h is = λ k d within.
       | inl same ↦ subst (λ (i : ℕ). is_before tag (get_or tags i d) ≡ true) (sym same) at
       | inr other ↦ before_trans tag (get_or tags (length tags - 1) d) (get_or tags k d) at (falling k (length tags - 1) d (omega arith) there)
     ]
+
+-- a tag that is before none of the tags comes last
+last_with_tag : (tag : Moment) (tags : List Moment) → ((k : ℕ) (d : Moment) → k < length tags → is_before tag (get_or tags k d) ≡ false) → with_tag tag tags ≡ tags ++ tag ∷ []
+last_with_tag tag [] none = refl
+last_with_tag tag (t ∷ tags) none = rw (none 0 t (omega arith)) (ap (λ (ts : List Moment). t ∷ ts) (last_with_tag tag tags (λ k d l. none (suc k) d (omega arith))))
+
+-- and so does one that is not before the last one
+pub comes_last : (tag last : Moment) (tags : List Moment) → AreRising tags → is_before tag last ≡ false → 0 < length tags → last ≡ get_or tags (length tags - 1) last → with_tag tag tags ≡ tags ++ tag ∷ []
+comes_last tag last tags rising behind some is =
+    last_with_tag tag tags (λ k d l. front_passes (λ t. t) tag tags (length tags - 1) last rising (omega (arith, some)) is behind k d (omega (arith, l, some)))

@@ -1,4 +1,6 @@
 pub mod Places
+pub mod EventPlaces
+pub mod SameRecords
 pub mod Sizes
 pub mod Allowed
 pub mod Members
@@ -11,6 +13,7 @@ pub mod FirstNames
 pub mod ListedNames
 pub mod KeptNames
 pub mod KnownNames
+pub mod AddedRecords
 pub mod Counts
 pub mod Announcements
 pub mod Horizons

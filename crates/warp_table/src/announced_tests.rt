@@ -189,7 +189,10 @@ fn judged_all(rt: &impl Abort, table: &Table, origin: u32) -> (Tag, bool) {
     for place in 1..table.len() + 1 {
         if let Some(record) = table.entry(place) {
             let (end, is_exceeded) = judged(&names, origin, &record);
-            reached = end.unwrap_or(reached).max(reached);
+            let end = end.unwrap_or(reached);
+            if reached.is_before(end) {
+                reached = end;
+            }
             broken = broken || is_exceeded;
         }
     }

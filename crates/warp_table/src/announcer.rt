@@ -127,6 +127,9 @@ fn count_name(announced: &mut [Tally], tag: Tag, kind: Kind, verdict: Verdict) -
     ensures judged { result ≡ fold with_tally verdict (map (with_name kind) (beyond tag announced.old)) }
 {
     let first = place(announced, tag);
+    if first == announced.len() {
+        return verdict;
+    }
     count_in(&mut announced[first..], kind, verdict)
 }
 

@@ -1,24 +1,27 @@
 //! The records that were taken, in order, what is known of the names that they speak of, and what is heard of each origin.
 //!
-//! Known records and names are found by hash. What an origin announced is kept by its `Announcer`, so that in order of tags no
-//! record costs a pass over all announcements or names. A horizon costs a look at each origin of the program.
-ghost use Rattle.std.specs.Prelude.{◌≡◌, ◌↔◌, ℕ, ℤ, ◌+◌, ◌<◌, ◌≤◌, List, [], ◌∷◌, ◌++◌, None, Some, true, false, length, slice_get, vec_len, Contains, IsTrue, IfSome, IfNone, IfOk, IsOk, OnOk, OnErr, MatchResult};
+//! Names are found by hash, and a name keeps the places of its event that counts and of its withdrawal. So a new record costs one
+//! hash; only announcements, and events of a name with a lesser payload, are found by a hash of their own. What an origin announced
+//! is kept by its `Announcer`, so that in order of tags no record costs a pass over all announcements or names. A horizon costs
+//! a look at each origin of the program.
+ghost use Rattle.std.specs.Prelude.{◌≡◌, ◌↔◌, ◌⊎◌, ℕ, ℤ, ◌+◌, ◌<◌, ◌≤◌, List, [], ◌∷◌, ◌++◌, None, Some, true, false, length, slice_get, vec_len, Contains, IsTrue, IfSome, IfNone, IfOk, IsOk, OnOk, OnErr, MatchResult};
+ghost use Rattle.std.specs.Option.{option_copied};
 ghost use Rattle.warp_tag.specs.Limits.{most_origins, most_records};
 ghost use Rattle.warp_step.specs.Events.{is_declared};
 ghost use Rattle.warp_record.specs.declared.record.Record.{Record};
 ghost use Rattle.warp_record.specs.declared.reply.Refusal.{Refusal};
 ghost use Rattle.warp_table.specs.Announced.{IsBroken, IsHorizon, ReachesTo};
 ghost use Rattle.warp_table.specs.Check.{refusal_of};
+ghost use Rattle.warp_table.specs.Log.{IsAt};
 ghost use Rattle.warp_table.specs.Names.{Tells, origin_of};
 ghost use Rattle.warp_table.specs.Records.{set_of};
 ghost use Rattle.warp_table.specs.Table.{names_of};
-ghost use Rattle.warp_table.specs.inner.Heard.{AreHeard, IsHeard, heard_at, with_heard_event, with_tag};
-ghost use Rattle.warp_table.specs.inner.Kept.{KeepsNames, entries_of, entry_of, known_of, put_known, with_known_event, with_known_withdrawal};
-ghost use Rattle.warp_table.specs.inner.News.{IsNews, IsNewsOf};
+ghost use Rattle.warp_table.specs.inner.Heard.{Announced, AreHeard, IsHeard, heard_at, with_tag};
+ghost use Rattle.warp_table.specs.inner.Kept.{HoldsEvent, IsAdded, Keeps, NotesEvent, counts_less, entry_of, event_place, known_of, other_place, parted_of, payload_at, place_in, put_known, put_other, record_at, stands, with_event_at, with_withdrawal_at, withdrawal_place};
 
 use crate::announcer::Announcer;
+use indexmap::IndexMap;
 use indexmap::map::Entry as Place;
-use indexmap::{IndexMap, IndexSet};
 use std::alloc::Global;
 use std::marker::Model;
 use warp_record::{Record, Refusal};
@@ -44,76 +47,62 @@ struct Name {
     tag: Tag,
 }
 
-/// What is kept of a name beside the name itself: whether an event of it came, the greatest payload of these, and whether it is
-/// withdrawn. Without an event its payload means nothing.
+/// What is kept of a name beside the name itself: the places, from 1, of the event with the greatest payload and of the
+/// withdrawal; 0 where none came.
 #[derive(Clone, Copy)]
 struct Known {
-    value: i64,
-    input: u32,
-    has_event: bool,
-    withdrawn: bool,
+    event: u32,
+    withdrawal: u32,
 }
 
 impl Known {
-    ghost use Rattle.warp_table.specs.inner.Kept.{nothing_known, with_known_event, with_known_withdrawal};
+    ghost use Rattle.warp_table.specs.inner.Kept.{nothing_known, with_event_at, with_withdrawal_at};
 
-    /// Of a name of which nothing came.
-    fn nothing() -> Known
-        ensures { result ≡ nothing_known }
+    /// With the event at this place, where nothing came before.
+    fn of_event(place: u32) -> Known
+        ensures { result ≡ with_event_at place nothing_known }
     {
         Known {
-            value: 0,
-            input: 0,
-            has_event: false,
-            withdrawn: false,
+            event: place,
+            withdrawal: 0,
         }
     }
 
-    /// Notes an event. Of several payloads the greatest counts, by input, then by value.
-    fn note_event(&mut self, input: u32, value: i64)
-        ensures { self.new ≡ with_known_event input value self.old }
+    /// With the withdrawal at this place, where nothing came before.
+    fn of_withdrawal(place: u32) -> Known
+        ensures { result ≡ with_withdrawal_at place nothing_known }
     {
-        let is_lesser = self.input < input || (self.input == input && self.value < value);
-        if !self.has_event || is_lesser {
-            self.value = value;
-            self.input = input;
-            self.has_event = true;
+        Known {
+            event: 0,
+            withdrawal: place,
         }
-    }
-
-    /// Notes a withdrawal, which holds for good.
-    fn withdraw(&mut self)
-        ensures { self.new ≡ with_known_withdrawal self.old }
-    {
-        self.withdrawn = true;
-    }
-
-    /// With an event, where nothing came before.
-    fn of_event(input: u32, value: i64) -> Known
-        ensures { result ≡ with_known_event input value nothing_known }
-    {
-        let mut known = Known::nothing();
-        known.note_event(input, value);
-        known
-    }
-
-    /// With a withdrawal, where nothing came before.
-    fn of_withdrawal() -> Known
-        ensures { result ≡ with_known_withdrawal nothing_known }
-    {
-        let mut known = Known::nothing();
-        known.withdraw();
-        known
     }
 }
 
+/// What came of an event: where it stands and whether it is new, and the place of the event that its name keeps.
+#[derive(Clone, Copy)]
+struct Noted {
+    added: Added,
+    event: u32,
+}
+
+/// Of two events of a name the one that the name does not keep, with its place, and the place of the one that it keeps.
+#[derive(Clone, Copy)]
+struct Parted {
+    other: Record,
+    at: u32,
+    event: u32,
+}
+
 /// Records in the order of taking, each once, at most `MAX_RECORDS`. It is seen as their list. Beside them it keeps what is
-/// known of each name, and for each origin up to the greatest of a record an `Announcer`: which of its names came, what it
-/// announced, and how far that is reached.
+/// known of each name, the places of the records that no name keeps, and for each origin up to the greatest of a record an
+/// `Announcer`: which of its names came, what it announced, and how far that is reached.
 #[derive(Drop)]
 pub struct Table {
-    records: IndexSet<Record>,
+    records: Vec<Record>,
     names: IndexMap<Name, Known>,
+    /// Of announcements, and of the events of a name that has one with a greater payload.
+    others: IndexMap<Record, u32>,
     announcers: Vec<Announcer>,
 }
 
@@ -122,14 +111,14 @@ impl Model for Table {
     ghost use Rattle.warp_record.specs.declared.record.Record.{Record};
     ghost use Rattle.warp_tag.specs.Limits.{most_records};
     ghost use Rattle.warp_table.specs.inner.Heard.{AreHeard};
-    ghost use Rattle.warp_table.specs.inner.Kept.{KeepsNames, entries_of};
+    ghost use Rattle.warp_table.specs.inner.Kept.{Keeps};
 
     ghost Value = { List Record };
 
-    ghost view = { λ t. t.records.keys };
+    ghost view = { λ t. t.records.items };
 
-    ghost invariant = { λ t. (length t.records.keys ≤ most_records) × KeepsNames t.records.keys (entries_of t.names.entries)
-        × AreHeard t.records.keys t.announcers.items };
+    ghost invariant = { λ t. (length t.records.items ≤ most_records) × Keeps t.records.items t.names.entries t.others.entries
+        × AreHeard t.records.items t.announcers.items };
 }
 
 impl Table {
@@ -157,8 +146,9 @@ impl Table {
         ensures { result ≡ [] }
     {
         Table {
-            records: IndexSet::new(alloc),
+            records: Vec::new(alloc),
             names: IndexMap::new(alloc),
+            others: IndexMap::new(alloc),
             announcers: Vec::new(alloc),
         }
     }
@@ -185,8 +175,7 @@ impl Table {
         ensures found { IfSome result (λ place. IsAt self.now place «record».now × (place ≤ most_records)) }
         ensures none { IfNone result (¬ Contains self.now «record».now) }
     {
-        let index = self.records.get_index_of(record)?;
-        Some(index as u32 + 1)
+        place_of(&self.records, &self.names, &self.others, record)
     }
 
     /// Adds a record where it is not there yet, notes what it says of its name and to its origin, and tells its place and
@@ -199,19 +188,18 @@ impl Table {
         ensures known { IfOk result (λ added. added.is_new ≡ false → IsAt self.old added.place «record».now × (self.new ≡ self.old)) }
         ensures err { OnErr result (self.new ≡ self.old) }
     {
-        let (index, is_new) = self.records.insert_full(*record)?;
-        let place = index as u32 + 1;
-        if !is_new {
-            return Ok(Added { place, is_new });
+        self.records.reserve(1)?;
+        let added = note(
+            &self.records,
+            &mut self.names,
+            &mut self.others,
+            &mut self.announcers,
+            record,
+        )?;
+        if added.is_new {
+            self.records.push_reserved(*record);
         }
-        match note(&mut self.names, &mut self.announcers, record) {
-            Ok(()) => Ok(Added { place, is_new }),
-            Err(refused) => {
-                // What its name and its origin lack room for does not come in.
-                self.records.pop();
-                Err(refused)
-            }
-        }
+        Ok(added)
     }
 
     /// The record at this place, from 1; `None` where there is no such place.
@@ -219,8 +207,7 @@ impl Table {
         ensures found { IfSome result (λ said. IsAt self.now place said) }
         ensures none { IfNone result ((said : Record) → ¬ IsAt self.now place said) }
     {
-        let index = (place as usize).checked_sub(1)?;
-        self.records.get_index(index).copied()
+        record_at(&self.records, place).copied()
     }
 
     /// What is known of a name, by the number of its first coming, from 0; `None` where there are not so many names.
@@ -230,7 +217,7 @@ impl Table {
         ensures none { IfNone result (length (names_of self.now) ≤ number) }
     {
         let (name, known) = self.names.get_index(number as usize)?;
-        Some(entry_of(name, known))
+        Some(entry_of(&self.records, name, known))
     }
 
     /// Up to which tag the announcements of all origins of the program are reached: the least, over its origins, of the greatest
@@ -272,75 +259,358 @@ impl Table {
     }
 }
 
-/// What is known of the name.
-fn entry_of(name: &Name, known: &Known) -> Entry
-    ensures { result ≡ entry_of name.now known.now }
+/// The record at a place, from 1; `None` where there is no such place.
+fn record_at(records: &[Record], place: u32) -> Option<&Record>
+    ensures { option_copied result ≡ record_at records.now place }
 {
-    let event = if known.has_event {
-        Some((known.input, known.value))
-    } else {
-        None
-    };
+    if place == 0 {
+        return None;
+    }
+    records.get(place as usize - 1)
+}
+
+/// The payload of the event at a place, from 1; `None` where no event stands there.
+fn payload_at(records: &[Record], place: u32) -> Option<(u32, i64)>
+    ensures { result ≡ payload_at records.now place }
+{
+    match *record_at(records, place)? {
+        Record::Event { input, value, .. } => Some((input, value)),
+        Record::Withdraw { .. } => None,
+        Record::Announce { .. } => None,
+    }
+}
+
+/// Whether the record stands at this place.
+fn stands(records: &[Record], place: u32, record: &Record) -> bool
+    ensures { result ≡ stands records.now place «record».now }
+{
+    match record_at(records, place) {
+        Some(other) => *other == *record,
+        None => false,
+    }
+}
+
+/// What is known of the name.
+fn entry_of(records: &[Record], name: &Name, known: &Known) -> Entry
+    ensures { result ≡ entry_of records.now name.now known.now }
+{
     Entry {
         origin: name.origin,
         tag: name.tag,
-        event,
-        withdrawn: known.withdrawn,
+        event: payload_at(records, known.event),
+        withdrawn: known.withdrawal != 0,
     }
 }
 
-/// Notes an event of the name, and tells it to its origin: that the name has two payloads where it has an event already,
-/// and else a new name. An `Err` changes nothing.
+/// What is known of a name among these; of one that is not there, nothing.
+fn known_of(names: &IndexMap<Name, Known>, name: Name) -> Known
+    ensures { result ≡ known_of name names.now.entries }
+{
+    match names.get(&name) {
+        Some(known) => *known,
+        None => Known {
+            event: 0,
+            withdrawal: 0,
+        },
+    }
+}
+
+/// The place of a record among those that no name keeps.
+fn other_place(others: &IndexMap<Record, u32>, record: &Record) -> Option<u32>
+    ensures { result ≡ other_place others.now.entries «record».now }
+{
+    others.get(record).copied()
+}
+
+/// The place of an event whose name keeps the event at the place `kept`.
+fn event_place(
+    records: &[Record],
+    kept: u32,
+    others: &IndexMap<Record, u32>,
+    record: &Record,
+) -> Option<u32>
+    ensures { result ≡ event_place records.now kept others.now.entries «record».now }
+{
+    if stands(records, kept, record) {
+        Some(kept)
+    } else {
+        other_place(others, record)
+    }
+}
+
+/// The place of a record; `None` where it is not there.
+fn place_of(
+    records: &[Record],
+    names: &IndexMap<Name, Known>,
+    others: &IndexMap<Record, u32>,
+    record: &Record,
+) -> Option<u32>
+    ensures { result ≡ place_in records.now names.now.entries others.now.entries «record».now }
+{
+    match *record {
+        Record::Event { origin, tag, .. } => {
+            let kept = known_of(names, Name { origin, tag }).event;
+            event_place(records, kept, others, record)
+        }
+        Record::Withdraw { origin, tag } => {
+            let kept = known_of(names, Name { origin, tag }).withdrawal;
+            if kept == 0 { None } else { Some(kept) }
+        }
+        Record::Announce { .. } => other_place(others, record),
+    }
+}
+
+/// Whether a payload, if there is one, counts less than another: by input, then by value.
+fn counts_less(one: Option<(u32, i64)>, other: (u32, i64)) -> bool
+    ensures { result ≡ counts_less one other }
+{
+    let (input, value) = other;
+    match one {
+        Some((own, its_value)) => own < input || (own == input && its_value < value),
+        None => false,
+    }
+}
+
+/// Of the event at the place `kept` and a new one of the same name with this payload the one that counts less, which goes to the
+/// others.
+fn part(records: &[Record], kept: u32, record: &Record, payload: (u32, i64)) -> Parted
+    requires { length records.now < most_records }
+    ensures { result ≡ parted_of records.now kept «record».now payload }
+{
+    let place = records.len() as u32 + 1;
+    if counts_less(payload_at(records, kept), payload) {
+        Parted {
+            other: *record_at(records, kept).unwrap_or(record),
+            at: kept,
+            event: place,
+        }
+    } else {
+        Parted {
+            other: *record,
+            at: place,
+            event: kept,
+        }
+    }
+}
+
+/// Notes the place of a record that no name keeps. An `Err` changes nothing.
+fn note_other(
+    others: &mut IndexMap<Record, u32>,
+    record: Record,
+    place: u32,
+) -> Result<(), OutOfMemory>
+    ensures ok { OnOk result (others.new.entries ≡ put_other others.old.entries «record» place) }
+    ensures err { OnErr result (others.new.entries ≡ others.old.entries) }
+{
+    others.insert(record, place)?;
+    Ok(())
+}
+
+/// Notes an event of a name that has one, at the place `kept`: known where it stands there or among the others, and else a
+/// second payload, which is told to its origin. An `Err` changes nothing.
+fn note_further_event(
+    records: &[Record],
+    others: &mut IndexMap<Record, u32>,
+    announcer: &mut Announcer,
+    kept: u32,
+    name: &Name,
+    payload: (u32, i64),
+) -> Result<Noted, OutOfMemory>
+    requires room { length records.now < most_records }
+    requires kept { (before : ℕ × ℤ) × IsAt records.now kept (Record.Event name.now.origin name.now.tag before.0 before.1) }
+    ensures new { IfOk result (λ noted. IsTrue noted.added.is_new → (noted.added.place ≡ length records.now + 1) ×
+        NotesEvent records.now name.now payload kept noted.event others.old.entries others.new.entries announcer.old announcer.new) }
+    ensures known { IfOk result (λ noted. noted.added.is_new ≡ false → (others.new.entries ≡ others.old.entries) × (announcer.new ≡ announcer.old) ×
+        (event_place records.now kept others.old.entries (Record.Event name.now.origin name.now.tag payload.0 payload.1) ≡ Some noted.added.place)) }
+    ensures err { OnErr result ((others.new.entries ≡ others.old.entries) × (announcer.new ≡ announcer.old)) }
+{
+    let record = Record::Event {
+        origin: name.origin,
+        tag: name.tag,
+        input: payload.0,
+        value: payload.1,
+    };
+    if let Some(place) = event_place(records, kept, others, &record) {
+        let added = Added {
+            place,
+            is_new: false,
+        };
+        return Ok(Noted { added, event: kept });
+    }
+    let parted = part(records, kept, &record, payload);
+    note_other(others, parted.other, parted.at)?;
+    announcer.note_two_payloads(name.tag);
+    let added = Added {
+        place: records.len() as u32 + 1,
+        is_new: true,
+    };
+    Ok(Noted {
+        added,
+        event: parted.event,
+    })
+}
+
+/// Notes the first event of a name, and tells it to its origin. An `Err` changes nothing.
+fn note_first_event(
+    records: &[Record],
+    announcer: &mut Announcer,
+    tag: Tag,
+) -> Result<Noted, OutOfMemory>
+    requires room { length records.now < most_records }
+    requires fresh { ¬ Contains announcer.old.events tag }
+    ensures ok { IfOk result (λ noted. (noted.added.place ≡ length records.now + 1) × (noted.event ≡ length records.now + 1) × IsTrue noted.added.is_new) }
+    ensures heard { OnOk result (announcer.new ≡ record announcer.old { events = with_tag tag announcer.old.events }) }
+    ensures err { OnErr result (announcer.new ≡ announcer.old) }
+{
+    announcer.note_event(tag)?;
+    let place = records.len() as u32 + 1;
+    let added = Added {
+        place,
+        is_new: true,
+    };
+    Ok(Noted {
+        added,
+        event: place,
+    })
+}
+
+/// Adds an event: known where its name keeps it or the others have it, and else noted and told to its origin. An `Err` changes
+/// nothing.
+fn add_event(
+    records: &[Record],
+    names: &mut IndexMap<Name, Known>,
+    others: &mut IndexMap<Record, u32>,
+    announcer: &mut Announcer,
+    name: &Name,
+    payload: (u32, i64),
+) -> Result<Noted, OutOfMemory>
+    requires room { length records.now < most_records }
+    requires kept { HoldsEvent records.now name.now (known_of name.now names.old.entries).event }
+    requires fresh { (known_of name.now names.old.entries).event ≡ 0 → ¬ Contains announcer.old.events name.now.tag }
+    ensures new { IfOk result (λ noted. IsTrue noted.added.is_new → (noted.added.place ≡ length records.now + 1) ×
+        (names.new.entries ≡ put_known names.old.entries name.now (with_event_at noted.event (known_of name.now names.old.entries))) ×
+        NotesEvent records.now name.now payload (known_of name.now names.old.entries).event noted.event others.old.entries others.new.entries announcer.old announcer.new) }
+    ensures known { IfOk result (λ noted. noted.added.is_new ≡ false → (names.new.entries ≡ names.old.entries) ×
+        (others.new.entries ≡ others.old.entries) × (announcer.new ≡ announcer.old) ×
+        (event_place records.now (known_of name.now names.old.entries).event others.old.entries (Record.Event name.now.origin name.now.tag payload.0 payload.1) ≡ Some noted.added.place)) }
+    ensures err { OnErr result ((names.new.entries ≡ names.old.entries) × (others.new.entries ≡ others.old.entries) × (announcer.new ≡ announcer.old)) }
+{
+    match names.entry(*name)? {
+        Place::Vacant(place) => {
+            let noted = note_first_event(records, announcer, name.tag)?;
+            place.insert(Known::of_event(noted.event));
+            Ok(noted)
+        }
+        Place::Occupied(place) => {
+            let kept = place.get().event;
+            let noted = note_event(records, others, announcer, kept, name, payload)?;
+            if noted.added.is_new {
+                place.into_mut().event = noted.event;
+            }
+            Ok(noted)
+        }
+    }
+}
+
+/// Notes an event of a name that keeps the event at the place `kept`, 0 where it has none. An `Err` changes nothing.
 fn note_event(
-    names: &mut IndexMap<Name, Known>,
+    records: &[Record],
+    others: &mut IndexMap<Record, u32>,
     announcer: &mut Announcer,
-    name: Name,
-    input: u32,
-    value: i64,
-) -> Result<(), OutOfMemory>
-    requires { (known_of name names.old.entries).has_event ≡ false → ¬ Contains announcer.old.events name.tag }
-    ensures names { OnOk result (names.new.entries ≡ put_known names.old.entries name (with_known_event input value (known_of name names.old.entries))) }
-    ensures heard { OnOk result (announcer.new ≡ with_heard_event (known_of name names.old.entries).has_event name.tag announcer.old) }
-    ensures err { OnErr result ((names.new.entries ≡ names.old.entries) × (announcer.new ≡ announcer.old)) }
+    kept: u32,
+    name: &Name,
+    payload: (u32, i64),
+) -> Result<Noted, OutOfMemory>
+    requires room { length records.now < most_records }
+    requires kept { HoldsEvent records.now name.now kept }
+    requires fresh { kept ≡ 0 → ¬ Contains announcer.old.events name.now.tag }
+    ensures new { IfOk result (λ noted. IsTrue noted.added.is_new → (noted.added.place ≡ length records.now + 1) ×
+        NotesEvent records.now name.now payload kept noted.event others.old.entries others.new.entries announcer.old announcer.new) }
+    ensures known { IfOk result (λ noted. noted.added.is_new ≡ false → (others.new.entries ≡ others.old.entries) × (announcer.new ≡ announcer.old) ×
+        (event_place records.now kept others.old.entries (Record.Event name.now.origin name.now.tag payload.0 payload.1) ≡ Some noted.added.place)) }
+    ensures err { OnErr result ((others.new.entries ≡ others.old.entries) × (announcer.new ≡ announcer.old)) }
 {
-    let tag = name.tag;
-    match names.entry(name)? {
-        Place::Occupied(place) => {
-            let has_event = place.get().has_event;
-            hear_event(announcer, tag, has_event)?;
-            place.into_mut().note_event(input, value);
-        }
-        Place::Vacant(place) => {
-            announcer.note_event(tag)?;
-            place.insert(Known::of_event(input, value));
-        }
+    if kept == 0 {
+        return note_first_event(records, announcer, name.tag);
     }
-    Ok(())
+    note_further_event(records, others, announcer, kept, name, payload)
 }
 
-/// Notes a withdrawal of the name, and tells it to its origin. An `Err` changes nothing.
-fn note_withdrawal(
+/// Adds a withdrawal, which goes to `next`: known where its name keeps one, and else noted and told to its origin. An `Err`
+/// changes nothing.
+fn add_withdrawal(
     names: &mut IndexMap<Name, Known>,
     announcer: &mut Announcer,
     name: Name,
-) -> Result<(), OutOfMemory>
-    requires { ¬ Contains announcer.old.withdrawn name.tag }
-    ensures names { OnOk result (names.new.entries ≡ put_known names.old.entries name (with_known_withdrawal (known_of name names.old.entries))) }
-    ensures heard { OnOk result (announcer.new ≡ record announcer.old { withdrawn = with_tag name.tag announcer.old.withdrawn }) }
+    next: u32,
+) -> Result<Added, OutOfMemory>
+    requires { (known_of name names.old.entries).withdrawal ≡ 0 → ¬ Contains announcer.old.withdrawn name.tag }
+    ensures new { IfOk result (λ added. IsTrue added.is_new → (added.place ≡ next) × ((known_of name names.old.entries).withdrawal ≡ 0) ×
+        (names.new.entries ≡ put_known names.old.entries name (with_withdrawal_at next (known_of name names.old.entries))) ×
+        (announcer.new ≡ record announcer.old { withdrawn = with_tag name.tag announcer.old.withdrawn })) }
+    ensures known { IfOk result (λ added. added.is_new ≡ false → (names.new.entries ≡ names.old.entries) × (announcer.new ≡ announcer.old) ×
+        (withdrawal_place (known_of name names.old.entries).withdrawal ≡ Some added.place)) }
     ensures err { OnErr result ((names.new.entries ≡ names.old.entries) × (announcer.new ≡ announcer.old)) }
 {
     let tag = name.tag;
     match names.entry(name)? {
         Place::Occupied(place) => {
+            let kept = place.get().withdrawal;
+            if kept != 0 {
+                return Ok(Added {
+                    place: kept,
+                    is_new: false,
+                });
+            }
             announcer.note_withdrawal(tag)?;
-            place.into_mut().withdraw();
+            place.into_mut().withdrawal = next;
         }
         Place::Vacant(place) => {
             announcer.note_withdrawal(tag)?;
-            place.insert(Known::of_withdrawal());
+            place.insert(Known::of_withdrawal(next));
         }
     }
-    Ok(())
+    Ok(Added {
+        place: next,
+        is_new: true,
+    })
+}
+
+/// Adds an announcement, which goes to `next`: known where the others have it, and else noted and told to its origin. An `Err`
+/// changes nothing.
+fn add_announcement(
+    others: &mut IndexMap<Record, u32>,
+    announcer: &mut Announcer,
+    said: &Record,
+    tag: Tag,
+    events: u32,
+    withdrawn: u32,
+    next: u32,
+) -> Result<Added, OutOfMemory>
+    ensures new { IfOk result (λ added. IsTrue added.is_new → (added.place ≡ next) ×
+        (other_place others.old.entries said.now ≡ None) ×
+        (others.new.entries ≡ put_other others.old.entries said.now next) ×
+        (announcer.new ≡ record announcer.old { announced = announcer.new.announced }) ×
+        ((a : Announced) → Contains announcer.new.announced a ↔
+        Contains announcer.old.announced a ⊎ (a ≡ record { tag = tag; events = events; withdrawn = withdrawn }))) }
+    ensures known { IfOk result (λ added. added.is_new ≡ false → (others.new.entries ≡ others.old.entries) × (announcer.new ≡ announcer.old) ×
+        (other_place others.old.entries said.now ≡ Some added.place)) }
+    ensures err { OnErr result ((others.new.entries ≡ others.old.entries) × (announcer.new ≡ announcer.old)) }
+{
+    match others.entry(*said)? {
+        Place::Occupied(place) => Ok(Added {
+            place: *place.get(),
+            is_new: false,
+        }),
+        Place::Vacant(place) => {
+            announcer.note_announcement(tag, events, withdrawn)?;
+            place.insert(next);
+            Ok(Added {
+                place: next,
+                is_new: true,
+            })
+        }
+    }
 }
 
 /// Whose record it is.
@@ -369,71 +639,75 @@ fn keep_up_to(announcers: &mut Vec<Announcer>, origin: u32) -> Result<(), OutOfM
     Ok(())
 }
 
-/// Notes a new event to its origin: that its name has two payloads where it has an event already, and else a new name. An
+/// Adds a record, behind those that there are where it is new, to what is kept of names and places, and tells it to its origin. An
 /// `Err` changes nothing.
-fn hear_event(announcer: &mut Announcer, tag: Tag, has_event: bool) -> Result<(), OutOfMemory>
-    requires { has_event ≡ false → ¬ Contains announcer.old.events tag }
-    ensures ok { OnOk result (announcer.new ≡ with_heard_event has_event tag announcer.old) }
-    ensures err { OnErr result (announcer.new ≡ announcer.old) }
-{
-    if has_event {
-        announcer.note_two_payloads(tag);
-        return Ok(());
-    }
-    announcer.note_event(tag)
-}
-
-/// Notes what a new record says of its name, and tells it to its origin; an announcement speaks of no name. An `Err` changes
-/// nothing.
 fn note_own(
+    records: &[Record],
     names: &mut IndexMap<Name, Known>,
+    others: &mut IndexMap<Record, u32>,
     announcer: &mut Announcer,
     record: &Record,
-) -> Result<(), OutOfMemory>
-    requires { (records : List Record) × IsNewsOf records (entries_of names.old.entries) announcer.old «record».now }
-    ensures names { (records : List Record) → KeepsNames records (entries_of names.old.entries)
-        → OnOk result (KeepsNames (records ++ «record».now ∷ []) (entries_of names.new.entries)) }
-    ensures heard { (records : List Record) → IsNewsOf records (entries_of names.old.entries) announcer.old «record».now
-        → OnOk result (IsHeard (set_of (records ++ «record».now ∷ [])) (origin_of «record».now) announcer.new) }
-    ensures err { OnErr result ((names.new.entries ≡ names.old.entries) × (announcer.new ≡ announcer.old)) }
+) -> Result<Added, OutOfMemory>
+    requires room { length records.now < most_records }
+    requires keeps { Keeps records.now names.old.entries others.old.entries }
+    requires heard { IsHeard (set_of records.now) (origin_of «record».now) announcer.old }
+    ensures new { IfOk result (λ added. IsTrue added.is_new → IsAdded records.now «record».now added.place names.new.entries others.new.entries ×
+        IsHeard (set_of (records.now ++ «record».now ∷ [])) (origin_of «record».now) announcer.new) }
+    ensures known { IfOk result (λ added. added.is_new ≡ false → IsAt records.now added.place «record».now ×
+        (names.new.entries ≡ names.old.entries) × (others.new.entries ≡ others.old.entries) × (announcer.new ≡ announcer.old)) }
+    ensures err { OnErr result ((names.new.entries ≡ names.old.entries) × (others.new.entries ≡ others.old.entries) × (announcer.new ≡ announcer.old)) }
 {
+    let next = records.len() as u32 + 1;
     match *record {
         Record::Event {
             origin,
             tag,
             input,
             value,
-        } => note_event(names, announcer, Name { origin, tag }, input, value),
-        Record::Withdraw { origin, tag } => note_withdrawal(names, announcer, Name { origin, tag }),
+        } => {
+            let name = Name { origin, tag };
+            let noted = add_event(records, names, others, announcer, &name, (input, value))?;
+            Ok(noted.added)
+        }
+        Record::Withdraw { origin, tag } => {
+            add_withdrawal(names, announcer, Name { origin, tag }, next)
+        }
         Record::Announce {
             tag,
             events,
             withdrawn,
             ..
-        } => announcer.note_announcement(tag, events.get(), withdrawn.get()),
+        } => {
+            let (events, withdrawn) = (events.get(), withdrawn.get());
+            add_announcement(others, announcer, record, tag, events, withdrawn, next)
+        }
     }
 }
 
-/// Notes what a new record says of its name, and tells it to its origin. What is kept and heard stays on an `Err`.
+/// Adds a record, behind those that there are where it is new, to what is kept and heard. What is kept stays on an `Err`, and what
+/// is heard.
 fn note(
+    records: &[Record],
     names: &mut IndexMap<Name, Known>,
+    others: &mut IndexMap<Record, u32>,
     announcers: &mut Vec<Announcer>,
     record: &Record,
-) -> Result<(), OutOfMemory>
+) -> Result<Added, OutOfMemory>
     requires origin { origin_of «record».now < most_origins }
-    requires news { (records : List Record) × IsNews records (entries_of names.old.entries) announcers.old.items «record».now }
-    ensures names { (records : List Record) → KeepsNames records (entries_of names.old.entries)
-        → OnOk result (KeepsNames (records ++ «record».now ∷ []) (entries_of names.new.entries)) }
-    ensures heard { (records : List Record) → IsNews records (entries_of names.old.entries) announcers.old.items «record».now
-        → OnOk result (AreHeard (records ++ «record».now ∷ []) announcers.new.items) }
-    ensures kept { OnErr result (names.new.entries ≡ names.old.entries) }
-    ensures still_heard { (records : List Record) → AreHeard records announcers.old.items
-        → OnErr result (AreHeard records announcers.new.items) }
+    requires room { length records.now < most_records }
+    requires keeps { Keeps records.now names.old.entries others.old.entries }
+    requires heard { AreHeard records.now announcers.old.items }
+    ensures new { IfOk result (λ added. IsTrue added.is_new → IsAdded records.now «record».now added.place names.new.entries others.new.entries ×
+        AreHeard (records.now ++ «record».now ∷ []) announcers.new.items) }
+    ensures known { IfOk result (λ added. added.is_new ≡ false → IsAt records.now added.place «record».now ×
+        (names.new.entries ≡ names.old.entries) × (others.new.entries ≡ others.old.entries) × AreHeard records.now announcers.new.items) }
+    ensures err { OnErr result ((names.new.entries ≡ names.old.entries) × (others.new.entries ≡ others.old.entries) ×
+        AreHeard records.now announcers.new.items) }
 {
     let origin = origin_of(record);
     keep_up_to(announcers, origin)?;
     let announcer = &mut announcers[origin as usize];
-    note_own(names, announcer, record)
+    note_own(records, names, others, announcer, record)
 }
 
 /// Why the program takes no event of this origin, at this tag, for this input.

@@ -1,6 +1,6 @@
 //! The tags of an origin's names. Those that come in order of tag, or nearly so, stand in that order; those that come newest
 //! first stand in the order in which they came. So neither costs a walk, nor moves what came before.
-ghost use Rattle.std.specs.Prelude.{◌≡◌, ◌+◌, ◌<◌, ◌≤◌, ◌^◌, [], All, AllPairs, IsTrue, OnOk, OnErr, false, length, true};
+ghost use Rattle.std.specs.Prelude.{◌≡◌, ◌+◌, ◌<◌, ◌≤◌, ◌^◌, [], ◌∷◌, ◌++◌, All, AllPairs, IsTrue, OnOk, OnErr, false, length, true};
 ghost use Rattle.std.specs.List.{position_or_len};
 ghost use Rattle.warp_tag.specs.Moment.{Moment, is_before};
 ghost use Rattle.warp_table.specs.inner.Heard.{count_before as tags_before, with_tag};
@@ -89,6 +89,17 @@ fn put_in(tags: &mut Vec<Tag>, tag: Tag) -> Result<(), AllocError>
     Ok(())
 }
 
+/// Whether its place is behind all of these, which stand in order.
+fn is_behind_all(tags: &[Tag], tag: Tag) -> bool
+    requires { AreRising tags.now }
+    ensures { result ≡ true → with_tag tag tags.now ≡ tags.now ++ tag ∷ [] }
+{
+    match tags.last() {
+        Some(last) => !tag.is_before(*last),
+        None => true,
+    }
+}
+
 /// Whether it is before all of these, which come newest first.
 fn is_before_all(falling: &[Tag], tag: Tag) -> bool
     requires { AreFalling falling.now }
@@ -150,6 +161,19 @@ impl Tags {
 
     /// Puts a tag in its place. An `Err` changes nothing.
     pub(crate) fn insert(&mut self, tag: Tag) -> Result<(), AllocError>
+        ensures ok { OnOk result (self.new ≡ with_tag tag self.old) }
+        ensures err { OnErr result (self.new ≡ self.old) }
+        ensures room { OnOk result (length self.old + 1 < 2 ^ 64) }
+    {
+        if is_behind_all(&self.ascending, tag) {
+            self.ascending.push(tag)?;
+            return Ok(());
+        }
+        self.insert_among(tag)
+    }
+
+    /// Puts a tag that may be before others in its place. An `Err` changes nothing.
+    fn insert_among(&mut self, tag: Tag) -> Result<(), AllocError>
         ensures ok { OnOk result (self.new ≡ with_tag tag self.old) }
         ensures err { OnErr result (self.new ≡ self.old) }
         ensures room { OnOk result (length self.old + 1 < 2 ^ 64) }

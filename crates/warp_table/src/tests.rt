@@ -132,3 +132,72 @@ fn places_and_names(rt: HostRuntime) -> Result<(), Fail> {
     assert_eq!(rt; table.name_at(4), None);
     Ok(())
 }
+
+/// One of three events of a name, its withdrawal and an announcement of its origin.
+fn one_of(rt: &impl Abort, number: u32) -> Record
+    ensures { origin_of result ≡ 0 }
+{
+    let says = match number {
+        0 => Says::Event(0, 5),
+        1 => Says::Event(0, 1),
+        2 => Says::Event(1, -2),
+        3 => Says::Withdrawal,
+        _ => Says::Announcement(1, 1),
+    };
+    record(rt, 0, (5, 0), says)
+}
+
+/// Adds a record that is not there yet, which comes to this place.
+fn add_new(rt: &impl Abort, table: &mut Table, number: u32, place: u32) {
+    let record = one_of(rt, number);
+    assert!(rt; !table.is_full());
+    assert_eq!(rt; table.position(&record), None);
+    let added = table.add(&record).expect(rt, "memory");
+    assert_eq!(rt; (added.place, added.is_new), (place, true));
+}
+
+/// Adds a record that is there, at this place.
+fn add_again(rt: &impl Abort, table: &mut Table, number: u32, place: u32) {
+    let record = one_of(rt, number);
+    assert!(rt; !table.is_full());
+    assert_eq!(rt; table.position(&record), Some(place));
+    let added = table.add(&record).expect(rt, "memory");
+    assert_eq!(rt; (added.place, added.is_new), (place, false));
+    assert_eq!(rt; table.entry(place), Some(record));
+}
+
+/// In each order of three payloads each record is known at its place afterwards, and the greatest payload counts.
+#[test]
+fn payloads_in_each_order(rt: HostRuntime) -> Result<(), Fail> {
+    let orders = [
+        [0, 1, 2, 3, 4],
+        [0, 2, 1, 4, 3],
+        [1, 3, 0, 2, 4],
+        [1, 2, 4, 0, 3],
+        [4, 2, 0, 3, 1],
+        [3, 2, 1, 0, 4],
+    ];
+    let tag = at(&rt, (5, 0));
+    for order in orders {
+        let mut table = Table::new(rt.alloc());
+        let mut place = 0_u32;
+        for number in order {
+            place = place.saturating_add(1);
+            add_new(&rt, &mut table, number, place);
+        }
+        place = 0;
+        for number in order {
+            place = place.saturating_add(1);
+            add_again(&rt, &mut table, number, place);
+        }
+        let name = Entry {
+            origin: 0,
+            tag,
+            event: Some((1, -2)),
+            withdrawn: true,
+        };
+        assert_eq!(rt; table.name_at(0), Some(name));
+        assert_eq!(rt; (table.name_at(1), table.len()), (None, 5));
+    }
+    Ok(())
+}

@@ -5,16 +5,10 @@ use Rattle.warp_record.specs.declared.record.Record.{Record}
 use Rattle.warp_table.specs.Names.{origin_of}
 use Rattle.warp_table.specs.Records.{set_of}
 use Rattle.warp_table.specs.declared.table.Name.{Name}
-use Rattle.warp_table.specs.inner.Heard.{AreHeard, Heard, IsHeard}
+use Rattle.warp_table.specs.inner.Heard.{Heard, IsHeard}
 use Rattle.warp_table.specs.inner.Kept.{KeepsNames}
 
--- these are kept of the names of the list and heard of its origins, and the record is not in the list
-pub record IsNews (records : List Record) (names : List (Name × Entry)) (heards : List Heard) (said : Record) : Type 0 where
-  pub kept : KeepsNames records names
-  pub heard : AreHeard records heards
-  pub new : ¬ Contains records said
-
--- the same, of what is heard of the record's own origin
+-- these are kept of the names of the list and heard of the record's own origin, and the record is not in the list
 pub record IsNewsOf (records : List Record) (names : List (Name × Entry)) (own : Heard) (said : Record) : Type 0 where
   pub kept : KeepsNames records names
   pub heard : IsHeard (set_of records) (origin_of said) own

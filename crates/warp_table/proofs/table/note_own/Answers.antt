@@ -1,114 +1,100 @@
--- each kind of record is noted of its name, and is news to its origin
-use Rattle.std.proofs.Common.{◌≡◌, ◌⊎◌, ℤ, to_z, of_z, w64, rules, ◌++◌, ◌∷◌, [], List, Contains, Result, Ok, Err, refl, sym, subst, ◌∙◌}
+-- each kind of record is added to what is kept and heard, or known
+use Rattle.std.proofs.Common.{◌≡◌, ◌⊎◌, to_z, of_z, w64, rules, ◌+◌, ◌++◌, ◌∷◌, [], None, Some, Contains, length, refl, ap, sym, subst, ◌∙◌}
 use Rattle.std.specs.Prelude.{◌↔◌}
-use Rattle.std.specs.Result.{OnOk}
-use Rattle.std.proofs.lemmas.Result.{on_ok_weaker}
+use Rattle.std.proofs.lemmas.Result.{IfOk-weaker}
 use Rattle.warp_record.specs.declared.record.Record.{Record}
 use Rattle.warp_record.specs.declared.record.Record.TheVariants.{Event, Withdraw, Announce}
+use Rattle.warp_table.specs.Log.{IsAt}
 use Rattle.warp_table.specs.Names.{origin_of}
 use Rattle.warp_table.specs.Records.{set_of}
-use Rattle.warp_table.specs.declared.table.Known.{Known}
 use Rattle.warp_table.specs.declared.table.Name.{Name}
-use Rattle.warp_table.specs.inner.Heard.{Announced, Heard, IsHeard}
-use Rattle.warp_table.specs.inner.Kept.{KeepsNames, entries_of, known_of, put_known, with_known_event}
-use Rattle.warp_table.specs.inner.News.{IsNewsOf}
-use Rattle.warp_table.proofs.KeptNames.{announcement_noted}
-use Rattle.warp_table.proofs.KnownNames.{event_kept, has_event, withdrawal_kept}
-use Rattle.warp_table.proofs.HeardNews.{event_new, own_announcement, own_event, own_withdrawal, withdrawal_new}
+use Rattle.warp_table.specs.inner.Heard.{Announced, IsHeard}
+use Rattle.warp_table.specs.inner.Kept.{IsAdded, other_place, put_other}
+use Rattle.warp_table.proofs.AddedRecords.{announcement_added, event_added, event_fresh, holds, withdrawal_added, withdrawal_fresh}
 use Rattle.warp_table.proofs.table.note_own.Goals as goal
 
--- two facts of an answer give a third
-on_ok_both : {T E P Q R : Type 0} (r : Result T E) → (P → Q → R) → OnOk r P → OnOk r Q → OnOk r R
-on_ok_both (Ok x) f p q = f p q
-on_ok_both (Err e) f p q = tt
-
--- what holds holds of any answer
-always : {T E P : Type 0} (r : Result T E) → P → OnOk r P
-always (Ok x) p = p
-always (Err e) p = tt
-
-pub note_event-requires : goal.note_event-requires
-note_event-requires c = λ none.
+pub add_event-requires-clause-kept : goal.add_event-requires-clause-kept
+add_event-requires-clause-kept c =
     let said = c.in-Event in
-    let news = subst (λ (r : Record). IsNewsOf c.requires.0 (entries_of c.args.names.now.entries) c.args.announcer.now r) said.is c.requires.1 in
-    event_new c.requires.0 (entries_of c.args.names.now.entries) c.args.announcer.now said.origin said.tag said.input said.value news (has_event (record { origin = said.origin; tag = said.tag }) c.args.names.now.entries ∙ none)
+    let heard = subst (λ (x : Record). IsHeard (set_of c.args.records.now) (origin_of x) c.args.announcer.now) said.is c.requires.heard in
+    holds c.args.records.now c.args.names.now.entries c.args.others.now.entries c.requires.keeps c.args.announcer.now (record { origin = said.origin; tag = said.tag }) heard
 
-pub note_withdrawal-requires : goal.note_withdrawal-requires
-note_withdrawal-requires c =
+pub add_event-requires-clause-fresh : goal.add_event-requires-clause-fresh
+add_event-requires-clause-fresh c =
+    let said = c.in-Event in
+    let heard = subst (λ (x : Record). IsHeard (set_of c.args.records.now) (origin_of x) c.args.announcer.now) said.is c.requires.heard in
+    event_fresh c.args.records.now c.args.names.now.entries c.args.others.now.entries c.requires.keeps c.args.announcer.now (record { origin = said.origin; tag = said.tag }) heard
+
+pub add_withdrawal-requires : goal.add_withdrawal-requires
+add_withdrawal-requires c =
     let said = c.in-Withdraw in
-    withdrawal_new c.requires.0 (entries_of c.args.names.now.entries) c.args.announcer.now said.origin said.tag
-    (subst (λ (r : Record). IsNewsOf c.requires.0 (entries_of c.args.names.now.entries) c.args.announcer.now r) said.is c.requires.1)
+    let heard = subst (λ (x : Record). IsHeard (set_of c.args.records.now) (origin_of x) c.args.announcer.now) said.is c.requires.heard in
+    withdrawal_fresh c.args.records.now c.args.names.now.entries c.args.others.now.entries c.requires.keeps c.args.announcer.now (record { origin = said.origin; tag = said.tag }) heard
 
-pub returns-in-Event-clause-heard : goal.returns-in-Event-clause-heard
-returns-in-Event-clause-heard c = λ records news.
+pub returns-in_ok-noted-in-Event-clause-new : goal.returns-in_ok-noted-in-Event-clause-new
+returns-in_ok-noted-in-Event-clause-new c = λ new.
     let said = c.in-Event in
-    let r : Record = Event said.origin said.tag said.input said.value in
-    let now : Heard = c.note_event.new.announcer in
-    subst (λ (x : Record). OnOk c.note_event.result (IsHeard (set_of (records ++ x ∷ [])) (origin_of x) now)) (sym said.is)
-    (on_ok_weaker c.note_event.result
-    (λ e. subst (λ (h : Heard). IsHeard (set_of (records ++ r ∷ [])) said.origin h) (sym e)
-    (own_event records (entries_of c.args.names.now.entries) c.args.announcer.now said.origin said.tag said.input said.value _
-    (subst (λ (x : Record). IsNewsOf records (entries_of c.args.names.now.entries) c.args.announcer.now x) said.is news) (has_event (record { origin = said.origin; tag = said.tag }) c.args.names.now.entries)))
-    c.note_event.ensures.heard)
-
-pub returns-in-Withdraw-clause-heard : goal.returns-in-Withdraw-clause-heard
-returns-in-Withdraw-clause-heard c = λ records news.
-    let said = c.in-Withdraw in
-    let r : Record = Withdraw said.origin said.tag in
-    let now : Heard = c.note_withdrawal.new.announcer in
-    subst (λ (x : Record). OnOk c.note_withdrawal.result (IsHeard (set_of (records ++ x ∷ [])) (origin_of x) now)) (sym said.is)
-    (on_ok_weaker c.note_withdrawal.result
-    (λ e. subst (λ (h : Heard). IsHeard (set_of (records ++ r ∷ [])) said.origin h) (sym e)
-    (own_withdrawal records (entries_of c.args.names.now.entries) c.args.announcer.now said.origin said.tag
-    (subst (λ (x : Record). IsNewsOf records (entries_of c.args.names.now.entries) c.args.announcer.now x) said.is news)))
-    c.note_withdrawal.ensures.heard)
-
-pub returns-in-Announce-clause-heard : goal.returns-in-Announce-clause-heard
-returns-in-Announce-clause-heard c = λ records news.
-    let said = c.in-Announce in
-    let own : Heard = c.args.announcer.now in
-    let now : Heard = c.note_announcement.new.self in
-    let r : Record = Announce said.origin said.tag said.events said.withdrawn in
-    let a : Announced = record { tag = said.tag; events = said.events; withdrawn = said.withdrawn } in
-    let same : record { tag = said.tag; events = c.get.result; withdrawn = c.get-in-Announce.result } ≡ a =
-    (λ i. record { tag = said.tag; events = c.get.ensures.value i; withdrawn = c.get-in-Announce.ensures.value i }) in
-    subst (λ (x : Record). OnOk c.note_announcement.result (IsHeard (set_of (records ++ x ∷ [])) (origin_of x) now)) (sym said.is)
-    (on_ok_both c.note_announcement.result
-    (λ adds e. subst (λ (h : Heard). IsHeard (set_of (records ++ r ∷ [])) said.origin h) (sym e)
-    (own_announcement records (entries_of c.args.names.now.entries) own said.origin said.tag said.events said.withdrawn now.announced
-    (subst (λ (x : Record). IsNewsOf records (entries_of c.args.names.now.entries) own x) said.is news)
-    (subst (λ (b : Announced). (x : Announced) → Contains now.announced x ↔ Contains own.announced x ⊎ (x ≡ b)) same adds)))
-    c.note_announcement.ensures.announced c.note_announcement.ensures.ok)
-
-pub returns-in-Event-clause-names : goal.returns-in-Event-clause-names
-returns-in-Event-clause-names c = λ records h.
-    let said = c.in-Event in
-    let names = c.args.names.now.entries in
-    let name : Name = record { origin = said.origin; tag = said.tag } in
-    let now : List (Name × Known) = c.note_event.new.names.entries in
     let whole : to_z w64 (of_z w64 said.value) ≡ said.value = search rules in
-    let made : OnOk c.note_event.result (now ≡ put_known names name (with_known_event said.input said.value (known_of name names))) =
-    subst (λ (v : ℤ). OnOk c.note_event.result (now ≡ put_known names name (with_known_event said.input v (known_of name names)))) whole c.note_event.ensures.names in
-    subst (λ (x : Record). OnOk c.note_event.result (KeepsNames (records ++ x ∷ []) (entries_of now))) (sym said.is)
-    (on_ok_weaker c.note_event.result
-    (λ e. subst (λ (ns : List (Name × Known)). KeepsNames (records ++ Event said.origin said.tag said.input said.value ∷ []) (entries_of ns)) (sym e)
-    (event_kept records names name said.input said.value h))
-    made)
+    let is : Event said.origin said.tag said.input (to_z w64 (of_z w64 said.value)) ≡ c.args.record.now = ap (Event said.origin said.tag said.input) whole ∙ sym said.is in
+    let name : Name = record { origin = said.origin; tag = said.tag } in
+    let heard = subst (λ (x : Record). IsHeard (set_of c.args.records.now) (origin_of x) c.args.announcer.now) said.is c.requires.heard in
+    let says = c.in_ok-noted-in-Event.ensures.new new in
+    let told = event_added c.args.records.now c.args.names.now.entries c.args.others.now.entries c.requires.keeps c.args.announcer.now name heard (said.input, to_z w64 (of_z w64 said.value))
+    c.in_ok-noted-in-Event.noted.added.place c.in_ok-noted-in-Event.noted.event c.add_event.new.names.entries c.add_event.new.others.entries c.add_event.new.announcer says.0 says.1 says.2 in
+    subst (λ (x : Record). IsAdded c.args.records.now x c.in_ok-noted-in-Event.noted.added.place c.add_event.new.names.entries c.add_event.new.others.entries
+    × IsHeard (set_of (c.args.records.now ++ x ∷ [])) (origin_of x) c.add_event.new.announcer) is (told.added, told.heard)
 
-pub returns-in-Withdraw-clause-names : goal.returns-in-Withdraw-clause-names
-returns-in-Withdraw-clause-names c = λ records h.
+pub returns-in_ok-noted-in-Event-clause-known : goal.returns-in_ok-noted-in-Event-clause-known
+returns-in_ok-noted-in-Event-clause-known c = λ known.
+    let said = c.in-Event in
+    let whole : to_z w64 (of_z w64 said.value) ≡ said.value = search rules in
+    let is : Event said.origin said.tag said.input (to_z w64 (of_z w64 said.value)) ≡ c.args.record.now = ap (Event said.origin said.tag said.input) whole ∙ sym said.is in
+    let says = c.in_ok-noted-in-Event.ensures.known known in
+    let at = c.requires.keeps.places.so (Event said.origin said.tag said.input (to_z w64 (of_z w64 said.value))) c.in_ok-noted-in-Event.noted.added.place says.3 in
+    (subst (IsAt c.args.records.now c.in_ok-noted-in-Event.noted.added.place) is at, says.0, says.1, says.2)
+
+pub returns-in-Withdraw-clause-new : goal.returns-in-Withdraw-clause-new
+returns-in-Withdraw-clause-new c =
     let said = c.in-Withdraw in
-    let names = c.args.names.now.entries in
-    let now : List (Name × Known) = c.note_withdrawal.new.names.entries in
-    subst (λ (x : Record). OnOk c.note_withdrawal.result (KeepsNames (records ++ x ∷ []) (entries_of now))) (sym said.is)
-    (on_ok_weaker c.note_withdrawal.result
-    (λ e. subst (λ (ns : List (Name × Known)). KeepsNames (records ++ Withdraw said.origin said.tag ∷ []) (entries_of ns)) (sym e)
-    (withdrawal_kept records names (record { origin = said.origin; tag = said.tag }) h))
-    c.note_withdrawal.ensures.names)
+    let heard = subst (λ (x : Record). IsHeard (set_of c.args.records.now) (origin_of x) c.args.announcer.now) said.is c.requires.heard in
+    IfOk-weaker c.add_withdrawal.result _ _ (λ added adds new.
+    let says = adds new in
+    let told = withdrawal_added c.args.records.now c.args.names.now.entries c.args.others.now.entries c.requires.keeps c.args.announcer.now (record { origin = said.origin; tag = said.tag }) heard
+    added.place _ c.add_withdrawal.new.names.entries c.args.others.now.entries c.add_withdrawal.new.announcer refl says.0 says.1 says.2 refl says.3 in
+    subst (λ (x : Record). IsAdded c.args.records.now x added.place c.add_withdrawal.new.names.entries c.args.others.now.entries
+    × IsHeard (set_of (c.args.records.now ++ x ∷ [])) (origin_of x) c.add_withdrawal.new.announcer) (sym said.is) (told.added, told.heard)) c.add_withdrawal.ensures.new
 
-pub returns-in-Announce-clause-names : goal.returns-in-Announce-clause-names
-returns-in-Announce-clause-names c = λ records h.
+pub returns-in-Withdraw-clause-known : goal.returns-in-Withdraw-clause-known
+returns-in-Withdraw-clause-known c =
+    let said = c.in-Withdraw in
+    IfOk-weaker c.add_withdrawal.result _ _ (λ added says known.
+    let is = says known in
+    (subst (IsAt c.args.records.now added.place) (sym said.is) (c.requires.keeps.places.so (Withdraw said.origin said.tag) added.place is.2), is.0, refl, is.1)) c.add_withdrawal.ensures.known
+
+pub returns-in-Announce-clause-new : goal.returns-in-Announce-clause-new
+returns-in-Announce-clause-new c =
     let said = c.in-Announce in
-    let names = c.args.names.now.entries in
-    subst (λ (x : Record). OnOk c.note_announcement.result (KeepsNames (records ++ x ∷ []) (entries_of names))) (sym said.is)
-    (always c.note_announcement.result (announcement_noted records (entries_of names) said.origin said.tag said.events said.withdrawn h))
+    let heard = subst (λ (x : Record). IsHeard (set_of c.args.records.now) (origin_of x) c.args.announcer.now) said.is c.requires.heard in
+    let a : Announced = record { tag = said.tag; events = said.events; withdrawn = said.withdrawn } in
+    let same : record { tag = said.tag; events = c.get-events.result; withdrawn = c.get-withdrawn.result } ≡ a = (λ i. record { tag = said.tag; events = c.get-events.ensures.value i; withdrawn = c.get-withdrawn.ensures.value i }) in
+    IfOk-weaker c.add_announcement.result _ _ (λ added adds new.
+    let says = adds new in
+    let told = announcement_added c.args.records.now c.args.names.now.entries c.args.others.now.entries c.requires.keeps c.args.announcer.now said.origin said.tag said.events said.withdrawn
+    added.place _ c.args.names.now.entries c.add_announcement.new.others.entries c.add_announcement.new.announcer heard refl says.0
+    (subst (λ (x : Record). other_place c.args.others.now.entries x ≡ None) said.is says.1) refl
+    (says.2 ∙ ap (λ (x : Record). put_other c.args.others.now.entries x (length c.args.records.now + 1)) said.is) says.3
+    (subst (λ (b : Announced). (x : Announced) → Contains c.add_announcement.new.announcer.announced x ↔ Contains c.args.announcer.now.announced x ⊎ (x ≡ b)) same says.4) in
+    subst (λ (x : Record). IsAdded c.args.records.now x added.place c.args.names.now.entries c.add_announcement.new.others.entries
+    × IsHeard (set_of (c.args.records.now ++ x ∷ [])) (origin_of x) c.add_announcement.new.announcer) (sym said.is) (told.added, told.heard)) c.add_announcement.ensures.new
+
+pub returns-in-Announce-clause-known : goal.returns-in-Announce-clause-known
+returns-in-Announce-clause-known c =
+    let said = c.in-Announce in
+    IfOk-weaker c.add_announcement.result _ _ (λ added says known.
+    let is = says known in (
+      subst (IsAt c.args.records.now added.place) (sym said.is)
+          (c.requires.keeps.places.so (Announce said.origin said.tag said.events said.withdrawn) added.place (subst (λ (x : Record). other_place c.args.others.now.entries x ≡ Some added.place) said.is is.2)),
+      refl,
+      is.0,
+      is.1,
+    )) c.add_announcement.ensures.known

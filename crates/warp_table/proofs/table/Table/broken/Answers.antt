@@ -12,7 +12,7 @@ pub returns : goal.returns
 returns c =
     let origin = c.args.origin in
     let is = c.self.inside in
-    let S : Records = set_of is.records.keys in
+    let S : Records = set_of is.records.items in
     let here : c.in-Some.announcer.now ≡ heard_at is.announcers.items origin =
     c.in-Some.ensures.lookup.3.1 nothing_heard ∙ ap (λ (heards : List Heard). heard_at heards origin) c.deref.ensures.value in
     let breaks = breaks S origin c.in-Some.announcer.now (subst (λ (h : Heard). IsHeard S origin h) (sym here) (c.self.invariant.2.each origin)) in

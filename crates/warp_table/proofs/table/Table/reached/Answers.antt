@@ -11,7 +11,7 @@ pub returns-in-Some : goal.returns-in-Some
 returns-in-Some c =
     let origin = c.args.origin in
     let is = c.self.inside in
-    let S : Records = set_of is.records.keys in
+    let S : Records = set_of is.records.items in
     let here : c.in-Some.announcer.now ≡ heard_at is.announcers.items origin =
     c.in-Some.ensures.lookup.3.1 nothing_heard ∙ ap (λ (heards : List Heard). heard_at heards origin) c.deref.ensures.value in
     subst (λ (records : List Record). ReachesTo (set_of records) origin c.reached.result) c.self.view_is
