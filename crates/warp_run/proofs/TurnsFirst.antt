@@ -10,7 +10,7 @@ use Rattle.warp_tag.specs.declared.entry.Entry.{Entry}
 use Rattle.warp_tag.proofs.Lists.{All-append, filter-here}
 use Rattle.warp_step.specs.Run.{is_after, given_of}
 use Rattle.warp_step.proofs.PartedLists.{filter_none}
-use Rattle.warp_arena.specs.Places.{Place, IsOrdered, entries_of, places_after, places_before, places_from}
+use Rattle.warp_arena.specs.Places.{Place, IsOrdered, entries_of, places_after, places_before}
 use Rattle.warp_line.specs.Timeline.{Standing}
 use Rattle.warp_line.proofs.ReplayLemmas.{live_name}
 use Rattle.warp_line.proofs.RunLemmas.{past}

@@ -1,5 +1,5 @@
 use Rattle.std.proofs.Common.{sym, ◌∙◌, subst, None}
-use Rattle.warp_run.proofs.PlacesWalks.{HasFound, found_here, found_none, found_past}
+use Rattle.warp_run.proofs.PlacesWalks.{HasFound, found_none, found_past}
 use Rattle.warp_run.proofs.walk.next_event.Goals as goal
 
 pub returns-then-is_before : goal.returns-then-is_before
