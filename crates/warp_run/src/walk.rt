@@ -67,6 +67,7 @@ fn add_given(entry: &Entry, given: &mut Vec<Given>) -> Result<(), OutOfMemory>
 }
 
 /// The first live event from the cursor on. No live event is after the latest tag, so the walk ends there.
+#[inline(always)]
 pub(crate) fn next_event(arena: &Arena, cursor: Option<NodeId>, latest: Option<Tag>) -> Option<Live>
     requires { (rest : List Place) × Reaches arena.now.places rest cursor × AreThrough latest (live_of rest) }
     ensures { (rest : List Place) → Reaches arena.now.places rest cursor → AreThrough latest (live_of rest) → FindsFirst arena.now.places rest result }
@@ -90,6 +91,7 @@ pub(crate) fn next_event(arena: &Arena, cursor: Option<NodeId>, latest: Option<T
 
 /// Gathers what the live events from the cursor on give, up to the tag of the next row and with it, and answers the first
 /// place after it. Where the first of them is known, the walk begins behind it.
+#[inline(always)]
 pub(crate) fn gather(
     arena: &Arena,
     cursor: Option<NodeId>,

@@ -136,6 +136,7 @@ impl Warp {
     }
 
     /// The next row: at the next tag that waits, of a live event or a pending entry.
+    #[inline(always)]
     fn next_row(&self) -> Option<Next>
         requires { (m : Standing) × StandsFor self.now m }
         ensures none { result ≡ None → (m : Standing) → StandsFor self.now m → IsDone m }
@@ -164,6 +165,7 @@ impl Warp {
     }
 
     /// Executes the next row. An `Err` leaves what is executed as it was.
+    #[inline(always)]
     fn turn<M: Meter>(
         &mut self,
         program: &Program,
