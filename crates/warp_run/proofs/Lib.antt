@@ -15,4 +15,5 @@ pub mod TurnsNext
 pub mod TurnsRuns
 pub mod TurnsWarp
 pub mod TurnsStep
+pub mod TurnsFirst
 pub mod TurnsGoing

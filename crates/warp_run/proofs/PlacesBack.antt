@@ -64,8 +64,17 @@ reaches_at last ps at e h is =
       left = sym is;
     }
 
+-- what stands before a place comes before its name
+pub first_there : (ps : List Place) (node : ℕ) (e : Entry) (back : List Place) → IsTable (entries_of ps)
+    → ps ≡ places_before node ps ++ place node e ∷ back → AllByRecursion (λ p. Precedes p.entry e) (places_before node ps)
+first_there ps node e back t parts =
+    let front : List Place = places_before node ps in
+    All-unmap (λ x. Precedes x e) (λ (p : Place). p.entry) front
+    (IsTable-before (entries_of front) (entries_of back) e
+    (subst IsTable (ap entries_of parts ∙ map-append (λ (p : Place). p.entry) front (place node e ∷ back)) t))
+
 -- what stands before a place that is not after a tag is not after it
-not_later : (tag : Moment) (d : Entry) (front : List Place) → AllByRecursion (λ p. Precedes p.entry d) front → is_before tag d.tag ≡ false
+pub not_later : (tag : Moment) (d : Entry) (front : List Place) → AllByRecursion (λ p. Precedes p.entry d) front → is_before tag d.tag ≡ false
     → AllByRecursion (λ p. is_before tag p.entry.tag ≡ false) front
 not_later tag d front first h =
     All-weaker (λ p. Precedes p.entry d) (λ p. is_before tag p.entry.tag ≡ false)
@@ -97,10 +106,7 @@ back_behind tag ps at before d t h head next not_so =
     let back : List Place = places_from at ps in
     let parts : ps ≡ front ++ place before d ∷ back =
     split_at before ps ∙ ap (λ qs. front ++ qs) (head ∙ ap (λ qs. place before d ∷ qs) next) in
-    let first : AllByRecursion (λ p. Precedes p.entry d) front =
-    All-unmap (λ x. Precedes x d) (λ (p : Place). p.entry) front
-    (IsTable-before (entries_of front) (entries_of back) d
-    (subst IsTable (ap entries_of parts ∙ map-append (λ (p : Place). p.entry) front (place before d ∷ back)) t)) in
+    let first : AllByRecursion (λ p. Precedes p.entry d) front = first_there ps before d back t parts in
     let through : AllByRecursion (λ p. q p ≡ false) (front ++ place before d ∷ []) =
     All-append (λ p. q p ≡ false) front (place before d ∷ []) (not_later tag d front first not_so) (not_so, tt) in
     reaches_at (Some tag) ps at e.0 e.1

@@ -1,6 +1,7 @@
 -- Walks on along an arena's places.
-use Rattle.std.proofs.Common.{◌≡◌, ℕ, Bool, true, List, [], ◌∷◌, ◌++◌, refl, sym, ap, ◌∙◌, subst, inl, inr, Option, Some, None}
+use Rattle.std.proofs.Common.{◌≡◌, ℕ, Bool, true, false, List, [], ◌∷◌, ◌++◌, refl, sym, ap, ◌∙◌, subst, inl, inr, Option, Some, None}
 use Rattle.std.specs.List.{AllByRecursion, cons_option}
+use Rattle.std.specs.Option.{is_some, option_map}
 use Rattle.std.proofs.lemmas.Bool.{cases_eq, eq-eqb, ne_eqb, false≢true}
 use Rattle.std.proofs.lemmas.List.{append-nil}
 use Rattle.warp_tag.specs.Moment.{Moment, is_before}
@@ -10,10 +11,11 @@ use Rattle.warp_tag.proofs.Lists.{All-weaker}
 use Rattle.warp_tag.proofs.Names.{before_tag}
 use Rattle.warp_step.specs.Run.{is_after}
 use Rattle.warp_step.specs.declared.out.Given.{Given}
-use Rattle.warp_arena.specs.Places.{Place, Reaches, entries_of, left_at, places_from, places_after}
+use Rattle.warp_arena.specs.Places.{Place, Reaches, entries_of, entry_of, left_at, places_from, places_after}
 use Rattle.warp_arena.proofs.Tables.{Precedes, All-unmap, filter_front, filter_back}
 use Rattle.warp_line.proofs.ReplayLemmas.{live_name}
-use Rattle.warp_run.specs.Walk.{AreThrough, ahead, first_tag, given_by, live_of, through}
+use Rattle.warp_run.specs.Walk.{AreThrough, FindsFirst, ahead, event_at, given_by, live_of, through}
+use Rattle.warp_run.specs.declared.walk.Live.{Live}
 
 -- the place of an entry at a handle
 abbrev pub place : ℕ → Entry → Place
@@ -61,29 +63,30 @@ later_from last ps node e t head h =
 
 -- ---- gathering what is given
 
--- What was gathered so far and what is left to gather is all there was at the start, and what is after the tag is left.
-pub record Gathers (tag : Moment) (ps start : List Place) (at : Option ℕ) (items : List Given) : Type 0 where
+-- What was gathered so far and what is left to gather is what there was before and all at the start, and what is after the tag
+-- is left.
+pub record Gathers (tag : Moment) (ps start : List Place) (before : List Given) (at : Option ℕ) (items : List Given) : Type 0 where
   pub reaches : Reaches ps (left_at at ps) at
-  pub given : items ++ given_by (through tag (left_at at ps)) ≡ given_by (through tag start)
+  pub given : items ++ given_by (through tag (left_at at ps)) ≡ before ++ given_by (through tag start)
   pub past : ahead (Some tag) (left_at at ps) ≡ ahead (Some tag) start
 
 -- what a walk that gathers ends with
-abbrev pub HasGathered : Moment → List Place → Option ℕ → Option ℕ → List Given → Type 0
-HasGathered tag ps cursor at items =
-    (rest : List Place) → Reaches ps rest cursor → Reaches ps (ahead (Some tag) rest) at × (items ≡ given_by (through tag rest))
+abbrev pub HasGathered : Moment → List Place → Option ℕ → List Given → Option ℕ → List Given → Type 0
+HasGathered tag ps cursor before at items =
+    (rest : List Place) → Reaches ps rest cursor → Reaches ps (ahead (Some tag) rest) at × (items ≡ before ++ given_by (through tag rest))
 
 -- it ends where all that is left is after the tag
-pub gathers_all : (tag : Moment) (ps : List Place) (cursor at : Option ℕ) (items : List Given)
-    → Gathers tag ps (left_at cursor ps) at items → (end to : Option ℕ) → at ≡ end → to ≡ end → AreLater (Some tag) (left_at end ps)
-    → HasGathered tag ps cursor to items
-gathers_all tag ps cursor at items g end to is_end to_end later =
-    subst (λ o. HasGathered tag ps cursor o items) (is_end ∙ sym to_end) (λ rest r.
+pub gathers_all : (tag : Moment) (ps : List Place) (cursor at : Option ℕ) (before items : List Given)
+    → Gathers tag ps (left_at cursor ps) before at items → (end to : Option ℕ) → at ≡ end → to ≡ end → AreLater (Some tag) (left_at end ps)
+    → HasGathered tag ps cursor before to items
+gathers_all tag ps cursor at before items g end to is_end to_end later =
+    subst (λ o. HasGathered tag ps cursor before o items) (is_end ∙ sym to_end) (λ rest r.
     let q : Place → Bool = λ p. is_before tag p.entry.tag in
     let now : List Place = left_at at ps in
     let all : AreLater (Some tag) now = subst (λ o. AreLater (Some tag) (left_at o ps)) (sym is_end) later in (
       subst (λ qs. Reaches ps qs at) (sym (filter_back q [] now tt all) ∙ g.past ∙ ap (ahead (Some tag)) r.left) g.reaches,
       sym (append-nil items) ∙ ap (λ qs. items ++ given_by qs) (sym (filter_front q [] now tt all)) ∙ g.given
-          ∙ ap (λ qs. given_by (through tag qs)) r.left,
+          ∙ ap (λ qs. before ++ given_by (through tag qs)) r.left,
     ))
 
 -- ---- the first live event
@@ -94,9 +97,47 @@ pub record Seeks (ps start : List Place) (at : Option ℕ) : Type 0 where
   pub events : live_of (left_at at ps) ≡ live_of start
 
 -- what a walk that seeks answers
-abbrev pub HasFound : List Place → Option ℕ → Option Moment → Option Moment → Type 0
+abbrev pub HasFound : List Place → Option ℕ → Option Moment → Option Live → Type 0
 HasFound ps cursor latest result =
-    (rest : List Place) → Reaches ps rest cursor → AreThrough latest (live_of rest) → result ≡ first_tag (live_of rest)
+    (rest : List Place) → Reaches ps rest cursor → AreThrough latest (live_of rest) → FindsFirst ps rest result
+
+-- where there is no latest tag nothing is found
+pub found_none : (ps : List Place) (cursor : Option ℕ) (latest : Option Moment) → latest ≡ None → HasFound ps cursor latest None
+found_none ps cursor latest is =
+    subst (λ l. HasFound ps cursor l None) (sym is) (λ rest r past. by (live_of rest) past)
+  where
+    by : (E : List Event) → AreThrough None E → E ≡ []
+    by [] h = refl
+    by (e ∷ E) h = absurd (false≢true h)
+
+-- where nothing is found the entry's event does not count
+pub none_found : (node : ℕ) (o : Option Event) (found : Option Live) → found ≡ option_map (event_at node) o → is_some found ≡ false → o ≡ None
+none_found node None found is none = refl
+none_found node (Some v) found is none = let never : true ≡ false = ap is_some (sym is) ∙ none in cc
+
+-- a place whose event does not count adds none
+pub none_here : (ps : List Place) (at : Option ℕ) (node : ℕ) (e : Entry) → at ≡ Some node → Heads ps node e → live_event e ≡ None
+    → live_of (left_at at ps) ≡ live_of (places_after node ps)
+none_here ps at node e is head none =
+    ap (λ o. live_of (left_at o ps)) is ∙ ap live_of head ∙ ap (λ o. cons_option o (live_of (places_after node ps))) none
+
+-- where one is found, it is the first
+pub found_here : (ps : List Place) (cursor at : Option ℕ) (latest : Option Moment) (node : ℕ) (e : Entry) (found : Option Live)
+    → Seeks ps (left_at cursor ps) at → at ≡ Some node → entry_of node ps ≡ Some e → found ≡ option_map (event_at node) (live_event e)
+    → is_some found ≡ true → HasFound ps cursor latest found
+found_here ps cursor at latest node e found s is named found_is some rest r past =
+    by (live_event e) found refl found_is some
+  where
+    by : (o : Option Event) (f : Option Live) → live_event e ≡ o → f ≡ option_map (event_at node) o → is_some f ≡ true → FindsFirst ps rest f
+    by None f counts f_is some = let never : false ≡ true = ap is_some (sym f_is) ∙ some in cc
+    by (Some v) f counts f_is some = subst (FindsFirst ps rest) (sym f_is) (record {
+      entry = e;
+      event = v;
+      there = named;
+      counts = counts;
+      is = refl;
+      events = ap (λ o. live_of (left_at o ps)) (sym is) ∙ s.events ∙ ap live_of r.left;
+    })
 
 -- of places after the latest tag none has an event that counts
 none_later : (latest : Moment) (ps : List Place) → AreLater (Some latest) ps → AreThrough (Some latest) (live_of ps) → live_of ps ≡ []
@@ -117,4 +158,4 @@ found_past ps cursor at latest node e t s is head h rest r past =
     let same : live_of (left_at at ps) ≡ live_of rest = s.events ∙ ap live_of r.left in
     let later : AreLater (Some latest) (left_at at ps) =
     subst (λ o. AreLater (Some latest) (left_at o ps)) (sym is) (later_from (Some latest) ps node e t head h) in
-    sym (ap first_tag (sym same ∙ none_later latest (left_at at ps) later (subst (AreThrough (Some latest)) (sym same) past)))
+    sym same ∙ none_later latest (left_at at ps) later (subst (AreThrough (Some latest)) (sym same) past)

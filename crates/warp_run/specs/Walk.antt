@@ -1,11 +1,13 @@
 -- Walks along an arena's places: what is after a tag, and what is not.
-use Rattle.std.specs.Prelude.{not, Option, Some, None, List, [], ◌∷◌, filter, map, IsTrue}
+use Rattle.std.specs.Prelude.{◌≡◌, ℕ, not, Option, Some, None, MatchOption, List, [], ◌∷◌, filter, map, IsTrue, IsSome}
 use Rattle.std.specs.List.{list_all}
 use Rattle.warp_tag.specs.Moment.{Moment, is_before}
-use Rattle.warp_tag.specs.Table.{Event, live}
+use Rattle.warp_tag.specs.Table.{Event, live, live_event}
+use Rattle.warp_tag.specs.declared.entry.Entry.{Entry}
 use Rattle.warp_step.specs.Run.{is_after, given_of}
 use Rattle.warp_step.specs.declared.out.Given.{Given}
-use Rattle.warp_arena.specs.Places.{Place, entries_of}
+use Rattle.warp_arena.specs.Places.{Place, entries_of, entry_of, places_from, places_after}
+use Rattle.warp_run.specs.declared.walk.Live.{Live}
 
 -- the places after the last row
 abbrev pub ahead : Option Moment → List Place → List Place
@@ -31,3 +33,26 @@ first_tag (e ∷ E) = Some e.tag
 -- no event is after this tag; where there is no tag, there is no event
 abbrev pub AreThrough : Option Moment → List Event → Type 0
 AreThrough latest E = IsTrue (list_all (λ e. not (is_after latest e.tag)) E)
+
+-- a live event at a place
+abbrev pub event_at : ℕ → Event → Live
+event_at node e = record { node = node; tag = e.tag; given = given_of e }
+
+-- the event is live at its place, and the live events from there on are all of these places
+pub record IsFound (places rest : List Place) (l : Live) : Type 0 where
+  pub entry : Entry
+  pub event : Event
+  pub there : entry_of l.node places ≡ Some entry
+  pub counts : live_event entry ≡ Some event
+  pub is : l ≡ event_at l.node event
+  pub events : live_of (places_from l.node places) ≡ live_of rest
+
+-- it is the first live event of these places; where there is none, they have none
+abbrev pub FindsFirst : List Place → List Place → Option Live → Type 0
+FindsFirst places rest found = MatchOption found (live_of rest ≡ []) (IsFound places rest)
+
+-- what these places give at a tag is what the event gives, and then what the places after its own give
+pub record IsAhead (places rest : List Place) (tag : Moment) (l : Live) : Type 0 where
+  pub used : IsSome (entry_of l.node places)
+  pub given : given_by (through tag rest) ≡ l.given ∷ given_by (through tag (places_after l.node places))
+  pub past : ahead (Some tag) rest ≡ ahead (Some tag) (places_after l.node places)

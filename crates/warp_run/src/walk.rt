@@ -1,10 +1,10 @@
 //! Walks along the places of an arena.
-ghost use Rattle.std.specs.Prelude.{◌≡◌, ◌++◌, ◌∷◌, [], true, List, Some, map, IfOk, OnOk, IsSomeAnd};
-ghost use Rattle.std.specs.Option.{is_some};
+ghost use Rattle.std.specs.Prelude.{◌≡◌, ◌++◌, ◌∷◌, [], true, List, Some, map, IfOk, IfSome, OnOk, IsSomeAnd};
+ghost use Rattle.std.specs.Option.{option_map};
 ghost use Rattle.warp_tag.specs.Table.{live, live_event};
 ghost use Rattle.warp_step.specs.Run.{given_of, is_after};
 ghost use Rattle.warp_arena.specs.Places.{Place, Reaches, entry_of};
-ghost use Rattle.warp_run.specs.Walk.{AreThrough, ahead, first_tag, given_by, live_of, through};
+ghost use Rattle.warp_run.specs.Walk.{AreThrough, FindsFirst, IsAhead, ahead, event_at, given_by, live_of, through};
 
 use warp_arena::{Arena, NodeId};
 use warp_step::Given;
@@ -20,11 +20,38 @@ pub(crate) fn is_after(last: Option<Tag>, tag: Tag) -> bool
     }
 }
 
-/// Whether the entry's event counts: one came, and it is not withdrawn.
-fn is_live(entry: &Entry) -> bool
-    ensures { result ≡ is_some (live_event entry.now) }
+/// A live event of an arena's place.
+#[derive(Clone, Copy, Debug)]
+pub(crate) struct Live {
+    /// Its place.
+    pub node: NodeId,
+    pub tag: Tag,
+    /// What it gives.
+    pub given: Given,
+}
+
+/// A row that is next.
+#[derive(Clone, Copy, Debug)]
+pub(crate) struct Next {
+    pub tag: Tag,
+    /// The first live event after the last row, where it is known to be at this tag.
+    pub event: Option<Live>,
+}
+
+/// The event of an entry at this place, where it counts: one came, and it is not withdrawn.
+#[inline(always)]
+fn live_at(node: NodeId, entry: &Entry) -> Option<Live>
+    ensures { result ≡ option_map (event_at node) (live_event entry.now) }
 {
-    entry.event.is_some() && !entry.withdrawn
+    if entry.withdrawn {
+        return None;
+    }
+    let (input, value) = entry.event?;
+    Some(Live {
+        node,
+        tag: entry.tag,
+        given: Given { input, value },
+    })
 }
 
 /// Adds what a live entry gives.
@@ -39,31 +66,57 @@ fn add_given(entry: &Entry, given: &mut Vec<Given>) -> Result<(), OutOfMemory>
     Ok(())
 }
 
-/// The tag of the first live event from the cursor on. No live event is after the latest tag, so the walk ends there.
-pub(crate) fn next_event(arena: &Arena, cursor: Option<NodeId>, latest: Option<Tag>) -> Option<Tag>
+/// The first live event from the cursor on. No live event is after the latest tag, so the walk ends there.
+#[inline(always)]
+pub(crate) fn next_event(arena: &Arena, cursor: Option<NodeId>, latest: Option<Tag>) -> Option<Live>
     requires { (rest : List Place) × Reaches arena.now.places rest cursor × AreThrough latest (live_of rest) }
-    ensures { (rest : List Place) → Reaches arena.now.places rest cursor → AreThrough latest (live_of rest) → result ≡ first_tag (live_of rest) }
+    ensures { (rest : List Place) → Reaches arena.now.places rest cursor → AreThrough latest (live_of rest) → FindsFirst arena.now.places rest result }
 {
     arena.ordered();
     let latest = latest?;
     let mut at = cursor;
     while let Some(node) = at {
         let entry = arena.entry(node);
-        let tag = entry.tag;
-        let live = is_live(&entry);
-        if latest.is_before(tag) {
-            return None;
+        let live = live_at(node, &entry);
+        if live.is_some() {
+            return live;
         }
-        if live {
-            return Some(tag);
+        if latest.is_before(entry.tag) {
+            return None;
         }
         at = arena.next(node);
     }
     None
 }
 
-/// Gathers what the live events from the cursor on give, up to a tag and with it, and answers the first place after it.
+/// Gathers what the live events from the cursor on give, up to the tag of the next row and with it, and answers the first
+/// place after it. Where the first of them is known, the walk begins behind it.
+#[inline(always)]
 pub(crate) fn gather(
+    arena: &Arena,
+    cursor: Option<NodeId>,
+    next: &Next,
+    given: &mut Vec<Given>,
+) -> Result<Option<NodeId>, OutOfMemory>
+    requires { (rest : List Place) × Reaches arena.now.places rest cursor
+        × IfSome next.now.event (IsAhead arena.now.places rest next.now.tag) }
+    ensures { IfOk result (λ at. (rest : List Place) → Reaches arena.now.places rest cursor →
+        IfSome next.now.event (IsAhead arena.now.places rest next.now.tag) →
+        Reaches arena.now.places (ahead (Some next.now.tag) rest) at × (given.new.items ≡ given_by (through next.now.tag rest))) }
+{
+    given.clear();
+    match next.event {
+        Some(live) => {
+            given.push(live.given)?;
+            gather_from(arena, arena.next(live.node), next.tag, given)
+        }
+        None => gather_from(arena, cursor, next.tag, given),
+    }
+}
+
+/// Adds what the live events from a place on give, up to a tag and with it, and answers the first place after it.
+#[inline(always)]
+fn gather_from(
     arena: &Arena,
     cursor: Option<NodeId>,
     tag: Tag,
@@ -71,10 +124,9 @@ pub(crate) fn gather(
 ) -> Result<Option<NodeId>, OutOfMemory>
     requires { (rest : List Place) × Reaches arena.now.places rest cursor }
     ensures { IfOk result (λ at. (rest : List Place) → Reaches arena.now.places rest cursor →
-        Reaches arena.now.places (ahead (Some tag) rest) at × (given.new.items ≡ given_by (through tag rest))) }
+        Reaches arena.now.places (ahead (Some tag) rest) at × (given.new.items ≡ given.old.items ++ given_by (through tag rest))) }
 {
     arena.ordered();
-    given.clear();
     let mut at = cursor;
     while let Some(node) = at {
         let entry = arena.entry(node);

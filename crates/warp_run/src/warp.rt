@@ -6,12 +6,12 @@ ghost use Rattle.warp_step.specs.Events.{IsNameOf};
 ghost use Rattle.warp_step.specs.Run.{Row, IsNext, is_after};
 ghost use Rattle.warp_arena.specs.Places.{Reaches, entry_of};
 ghost use Rattle.warp_line.specs.Timeline.{Standing, IsDone};
-ghost use Rattle.warp_run.specs.Walk.{ahead};
+ghost use Rattle.warp_run.specs.Walk.{IsAhead, ahead};
 ghost use Rattle.warp_run.specs.Front.{GoesBack, IsAt};
 ghost use Rattle.warp_run.specs.Warp.{Goes, HasRoom, NamesAt, StandsFor, latest_with};
 
 use crate::front::Front;
-use crate::walk::{first_after, gather, is_after, next_event};
+use crate::walk::{Next, first_after, gather, is_after, next_event};
 use std::alloc::Global;
 use warp_arena::law::{changes_found, changes_new, finds_known};
 use warp_arena::{Arena, NodeId};
@@ -129,37 +129,52 @@ impl Warp {
         ensures unsettled { self.new.settled ≡ false }
         ensures done { OnOk result ((m : Standing) → StandsFor self.new m → m.program ≡ program.now → IsDone m) }
     {
-        while let Some(tag) = self.next_tag() {
-            self.turn(program, tag, meter)?;
+        while let Some(next) = self.next_row() {
+            self.turn(program, &next, meter)?;
         }
         Ok(())
     }
 
-    /// The next tag that waits: of a live event or a pending entry.
-    fn next_tag(&self) -> Option<Tag>
+    /// The next row: at the next tag that waits, of a live event or a pending entry.
+    #[inline(always)]
+    fn next_row(&self) -> Option<Next>
         requires { (m : Standing) × StandsFor self.now m }
         ensures none { result ≡ None → (m : Standing) → StandsFor self.now m → IsDone m }
-        ensures some { IfSome result (λ t. (m : Standing) → StandsFor self.now m → IsNext (live m.table) self.now.front.last self.now.front.state t) }
+        ensures some { IfSome result (λ r. (m : Standing) → StandsFor self.now m → IsNext (live m.table) self.now.front.last self.now.front.state r.tag) }
+        ensures event { IfSome result (λ r. IfSome r.event (IsAhead self.now.arena.places (ahead self.now.front.last self.now.arena.places) r.tag)) }
     {
         self.arena.ordered();
         let event = next_event(&self.arena, self.cursor, self.latest);
         let Some(pending) = self.front.state().next() else {
-            return event;
+            let live = event?;
+            return Some(Next {
+                tag: live.tag,
+                event: Some(live),
+            });
         };
         match event {
-            Some(event) if event.is_before(pending) => Some(event),
-            _ => Some(pending),
+            Some(live) if live.tag.is_before(pending) => Some(Next {
+                tag: live.tag,
+                event: Some(live),
+            }),
+            _ => Some(Next {
+                tag: pending,
+                event: None,
+            }),
         }
     }
 
-    /// Executes the row at the next tag. An `Err` leaves what is executed as it was.
+    /// Executes the next row. An `Err` leaves what is executed as it was.
+    #[inline(always)]
     fn turn<M: Meter>(
         &mut self,
         program: &Program,
-        tag: Tag,
+        next: &Next,
         meter: &mut M,
     ) -> Result<(), OutOfMemory>
-        requires next { (m : Standing) × StandsFor self.old m × (m.program ≡ program.now) × IsNext (live m.table) self.old.front.last self.old.front.state tag }
+        requires next { (m : Standing) × StandsFor self.old m × (m.program ≡ program.now)
+            × IsNext (live m.table) self.old.front.last self.old.front.state next.now.tag }
+        requires event { IfSome next.now.event (IsAhead self.old.arena.places (ahead self.old.front.last self.old.arena.places) next.now.tag) }
         requires unsettled { self.old.settled ≡ false }
         ensures goes { Goes program.now self.old self.new (M.ticks meter.new - M.ticks meter.old) }
         ensures ticked { OnOk result (M.ticks meter.new ≡ M.ticks meter.old + 1) }
@@ -167,8 +182,8 @@ impl Warp {
         ensures unsettled { self.new.settled ≡ false }
     {
         self.arena.ordered();
-        let cursor = gather(&self.arena, self.cursor, tag, &mut self.given)?;
-        self.front.step(program, tag, &self.given, meter)?;
+        let cursor = gather(&self.arena, self.cursor, next, &mut self.given)?;
+        self.front.step(program, next.tag, &self.given, meter)?;
         self.cursor = cursor;
         Ok(())
     }

@@ -3,25 +3,25 @@ use Rattle.std.proofs.Common.{◌++◌, arith}
 use Rattle.warp_run.proofs.TurnsGoing.{fewer_left, goes_on}
 use Rattle.warp_run.proofs.warp.Warp.catch_up.Goals as goal
 
-pub loop-tag-smaller : goal.loop-tag-smaller
-loop-tag-smaller g c =
+pub loop-next-smaller : goal.loop-next-smaller
+loop-next-smaller g c =
     let P = c.args.program.now in
-    let n = c.loop-tag.invariant.stands in
+    let n = c.loop-next.invariant.stands in
     let turn = c.turn.ensures.goes n.0 n.1 n.2 in
     let ticked = c.in_ok-turn.ensures.ticked in
     let length_is = turn.2 in
-    fewer_left P c.loop-tag.self c.turn.new.self n.0 turn.0 n.1 turn.1 n.2 (omega arith)
+    fewer_left P c.loop-next.self c.turn.new.self n.0 turn.0 n.1 turn.1 n.2 (omega arith)
 
-pub loop-tag-preserved : goal.loop-tag-preserved
-loop-tag-preserved g c =
+pub loop-next-preserved : goal.loop-next-preserved
+loop-next-preserved g c =
     let P = c.args.program.now in
-    let i = c.loop-tag.invariant in
+    let i = c.loop-next.invariant in
     let n = i.stands in
     let turn = c.turn.ensures.goes n.0 n.1 n.2 in
     let before = i.ticked in
     let ticked = c.in_ok-turn.ensures.ticked in
     record {
-      goes = goes_on P c.args.self.now c.loop-tag.self c.turn.new.self _ _ _ i.goes c.turn.ensures.goes (omega arith);
+      goes = goes_on P c.args.self.now c.loop-next.self c.turn.new.self _ _ _ i.goes c.turn.ensures.goes (omega arith);
       ticked = omega arith;
       unsettled = c.turn.ensures.unsettled;
       stands = (record n.0 { done = n.0.done ++ turn.0 }, turn.1, n.2);
@@ -29,7 +29,7 @@ loop-tag-preserved g c =
 
 pub returns-in_err-turn-clause-goes : goal.returns-in_err-turn-clause-goes
 returns-in_err-turn-clause-goes g c =
-    let i = c.loop-tag.invariant in
+    let i = c.loop-next.invariant in
     let before = i.ticked in
     let ticks = c.in_err-turn.ensures.stays in
-    goes_on c.args.program.now c.args.self.now c.loop-tag.self c.turn.new.self _ _ _ i.goes c.turn.ensures.goes (omega arith)
+    goes_on c.args.program.now c.args.self.now c.loop-next.self c.turn.new.self _ _ _ i.goes c.turn.ensures.goes (omega arith)

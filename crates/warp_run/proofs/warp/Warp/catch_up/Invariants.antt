@@ -7,8 +7,8 @@ use Rattle.warp_run.specs.Warp.{Goes, StandsFor}
 use Rattle.warp_run.proofs.TurnsRuns.{trace_of}
 use Rattle.warp_run.proofs.warp.Warp.catch_up.Given as goal
 
-abbrev pub invariant-loop-tag : goal.invariant-loop-tag
-invariant-loop-tag g l = record {
+abbrev pub invariant-loop-next : goal.invariant-loop-next
+invariant-loop-next g l = record {
   goes : Goes l.program l.fn.self l.self (g.M.Meter.ticks l.meter - g.M.Meter.ticks l.fn.meter);
   ticked : g.M.Meter.ticks l.fn.meter ≤ g.M.Meter.ticks l.meter;
   unsettled : l.self.settled ≡ false;
@@ -16,5 +16,5 @@ invariant-loop-tag g l = record {
 }
 
 -- rows that are left
-abbrev pub decreases-loop-tag : goal.decreases-loop-tag
-decreases-loop-tag g l = length (trace_of l.program (live (entries_of l.self.arena.places))) - l.self.front.rows
+abbrev pub decreases-loop-next : goal.decreases-loop-next
+decreases-loop-next g l = length (trace_of l.program (live (entries_of l.self.arena.places))) - l.self.front.rows

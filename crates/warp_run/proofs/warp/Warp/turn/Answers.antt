@@ -18,8 +18,8 @@ pub step-requires-clause-at : goal.step-requires-clause-at
 step-requires-clause-at g c =
     let w = c.args.self.now in
     let n = c.requires.next in
-    let given = c.in_ok-cursor.ensures (ahead w.front.last w.arena.places) n.1.cursor in
-    let is = given_is w n.0 n.1 c.args.tag n.3 c.deref.result.now c.gather.new.given.items c.deref.ensures.value given.1 in (
+    let given = c.in_ok-cursor.ensures (ahead w.front.last w.arena.places) n.1.cursor c.requires.event in
+    let is = given_is w n.0 n.1 c.args.next.now.tag n.3 c.deref.result.now c.gather.new.given.items c.deref.ensures.value given.1 in (
       live n.0.table,
       n.0.done,
       subst (λ (P : Program). IsAt P (live n.0.table) w.front n.0.done) n.2 n.1.front,
@@ -31,15 +31,15 @@ pub step-requires-clause-given : goal.step-requires-clause-given
 step-requires-clause-given g c =
     let w = c.args.self.now in
     let n = c.requires.next in
-    let given = c.in_ok-cursor.ensures (ahead w.front.last w.arena.places) n.1.cursor in
-    let is = given_is w n.0 n.1 c.args.tag n.3 c.deref.result.now c.gather.new.given.items c.deref.ensures.value given.1 in
-    subst (λ (P : Program). CanGive P c.args.tag c.deref.result.now) n.2
-    (can_give w n.0 n.1 c.args.tag n.3 c.deref.result.now c.ordered.ensures.order is)
+    let given = c.in_ok-cursor.ensures (ahead w.front.last w.arena.places) n.1.cursor c.requires.event in
+    let is = given_is w n.0 n.1 c.args.next.now.tag n.3 c.deref.result.now c.gather.new.given.items c.deref.ensures.value given.1 in
+    subst (λ (P : Program). CanGive P c.args.next.now.tag c.deref.result.now) n.2
+    (can_give w n.0 n.1 c.args.next.now.tag n.3 c.deref.result.now c.ordered.ensures.order is)
 
 pub step-requires-clause-few : goal.step-requires-clause-few
 step-requires-clause-few g c =
     let n = c.requires.next in
-    few c.args.self.now n.0 n.1 c.args.tag n.3
+    few c.args.self.now n.0 n.1 c.args.next.now.tag n.3
 
 pub returns-in_err-step-clause-goes : goal.returns-in_err-step-clause-goes
 returns-in_err-step-clause-goes g c = λ m h same.
@@ -56,12 +56,12 @@ returns-clause-goes g c = λ m h same.
     let w = c.args.self.now in
     let n = c.requires.next in
     let ok = c.in_ok-step.ensures in
-    let next = same_next w n.0 m c.args.tag n.1 h n.3 in
-    let gathered = c.in_ok-cursor.ensures (ahead w.front.last w.arena.places) h.cursor in
-    let given = given_is w m h c.args.tag next c.deref.result.now c.gather.new.given.items c.deref.ensures.value gathered.1 in
+    let next = same_next w n.0 m c.args.next.now.tag n.1 h n.3 in
+    let gathered = c.in_ok-cursor.ensures (ahead w.front.last w.arena.places) h.cursor c.requires.event in
+    let given = given_is w m h c.args.next.now.tag next c.deref.result.now c.gather.new.given.items c.deref.ensures.value gathered.1 in
     let stepped = ok.stepped (live m.table) m.done (subst (λ (P : Program). IsAt P (live m.table) w.front m.done) same h.front) next given in
     let front = subst (λ (P : Program). IsAt P (live m.table) c.step.new.self (m.done ++ stepped.0 ∷ [])) (sym same) stepped.1 in
-    let cursor = cursor_next w m h c.args.tag next c.in_ok-cursor.cursor gathered.0 c.step.new.self.last ok.last in
+    let cursor = cursor_next w m h c.args.next.now.tag next c.in_ok-cursor.cursor gathered.0 c.step.new.self.last ok.last in
     let ticked = ok.ticked in (
       stepped.0 ∷ [],
       stands_on w _ m (m.done ++ stepped.0 ∷ []) h refl front cursor h.latest

@@ -1,10 +1,10 @@
 use Rattle.std.proofs.Common.{length}
 use Rattle.warp_arena.specs.Places.{left_at}
 use Rattle.warp_run.proofs.PlacesWalks.{Gathers}
-use Rattle.warp_run.proofs.walk.gather.Given as goal
+use Rattle.warp_run.proofs.walk.gather_from.Given as goal
 
 abbrev pub invariant-loop-at : goal.invariant-loop-at
-invariant-loop-at l = Gathers l.tag l.arena.places (left_at l.fn.cursor l.arena.places) l.at l.given.items
+invariant-loop-at l = Gathers l.tag l.arena.places (left_at l.fn.cursor l.arena.places) l.fn.given.items l.at l.given.items
 
 abbrev pub decreases-loop-at : goal.decreases-loop-at
 decreases-loop-at l = length (left_at l.at l.arena.places)
