@@ -1,5 +1,5 @@
 //! Words that are numbers, read and written. Each number has one spelling: no leading zero, no `+`, no `-0`.
-ghost use Rattle.std.specs.Prelude.{◌≡◌, ℕ, ℤ, ◌+◌, ◌*◌, ◌<◌, ◌≤◌, ◌^◌, ◌∷◌, ◌++◌, IfSome, IfNone, SomeIff, IsTrue, ◌↔◌, length, slice_index, FitsSigned, decimal, vec_len, vec_capacity};
+ghost use Rattle.std.specs.Prelude.{◌≡◌, ℕ, ℤ, ◌+◌, ◌-◌, ◌*◌, ◌<◌, ◌≤◌, ◌^◌, ◌∷◌, ◌++◌, take, drop, IfSome, IfNone, SomeIff, IsTrue, ◌↔◌, length, slice_index, FitsSigned, decimal, vec_len, vec_capacity};
 ghost use Rattle.std.specs.Char.{digit_value};
 ghost use Rattle.std.specs.Fmt.{signed_decimal};
 ghost use Rattle.std.specs.Int.{w64};
@@ -9,6 +9,15 @@ use itoa::{Buffer, Integer, write_digits};
 
 /// The end of the numbers that `append_u32` writes as one block.
 const BLOCK_END: u32 = 100_000_000;
+
+/// How many bytes have room for the number of 64 bits that ends there, its sign and a space.
+const WIDE_END: usize = 22;
+
+/// How many bytes are copied for a space and a number of 64 bits, which has up to 20 bytes.
+const WIDE: usize = 24;
+
+/// How many bytes a block has, so that wherever a number of it starts, `WIDE` bytes are there to copy.
+const WIDE_BLOCK: usize = 48;
 
 /// The most digits that are read without a look at overflow: no number of so many digits overflows 64 bits.
 pub(crate) const FEW_DIGITS: usize = 18;
@@ -173,4 +182,61 @@ pub(crate) fn append_u32(out: &mut Vec<u8>, number: u32)
     }
     out.push_reserved(b' ');
     append_block(out, number);
+}
+
+/// Writes the number's text into the block so that it ends at `WIDE_END`, and returns where it starts.
+#[inline(always)]
+fn write_int(number: i64, block: &mut [u8; WIDE_BLOCK]) -> usize
+    ensures start { result + length (signed_decimal number) ≡ WIDE_END }
+    ensures some { 2 ≤ result }
+    ensures written { drop result block.new ≡ signed_decimal number ++ drop WIDE_END block.old }
+{
+    let start = write_digits(number.unsigned_abs(), block, WIDE_END);
+    if number >= 0 {
+        return start;
+    }
+    block[start - 1] = b'-';
+    start - 1
+}
+
+/// Appends a space and the text that stands in the block up to `WIDE_END`, for which there is room for `WIDE` bytes.
+#[inline(always)]
+fn append_wide(out: &mut Vec<u8>, block: &mut [u8; WIDE_BLOCK], start: usize)
+    requires place { (1 ≤ start) × (start ≤ WIDE_END) }
+    requires room { vec_len out.old + WIDE ≤ vec_capacity out.old }
+    ensures items { out.new.items ≡ out.old.items ++ 32 ∷ take (WIDE_END - start) (drop start block.old) }
+    ensures len { vec_len out.new ≤ vec_len out.old + WIDE }
+    ensures capacity { vec_capacity out.old ≤ vec_capacity out.new }
+{
+    let first = start - 1;
+    block[first] = b' ';
+    let length = out.len() + (WIDE_END - first);
+    append(out, &block[first..first + WIDE]);
+    out.truncate(length);
+}
+
+/// Appends a space and the number, for which there is room for `WIDE` bytes: as a block of them, of which it leaves the text.
+#[inline(always)]
+pub(crate) fn append_int(out: &mut Vec<u8>, number: i64)
+    requires { vec_len out.old + 24 ≤ vec_capacity out.old }
+    ensures items { out.new.items ≡ out.old.items ++ 32 ∷ signed_decimal number }
+    ensures len { vec_len out.new ≤ vec_len out.old + 24 }
+    ensures capacity { vec_capacity out.old ≤ vec_capacity out.new }
+{
+    let mut block = [0; WIDE_BLOCK];
+    let start = write_int(number, &mut block);
+    append_wide(out, &mut block, start);
+}
+
+/// Appends a space and the count, for which there is room for `WIDE` bytes: as a block of them, of which it leaves the digits.
+#[inline(always)]
+pub(crate) fn append_u64(out: &mut Vec<u8>, count: u64)
+    requires { vec_len out.old + 24 ≤ vec_capacity out.old }
+    ensures items { out.new.items ≡ out.old.items ++ 32 ∷ decimal count }
+    ensures len { vec_len out.new ≤ vec_len out.old + 24 }
+    ensures capacity { vec_capacity out.old ≤ vec_capacity out.new }
+{
+    let mut block = [0; WIDE_BLOCK];
+    let start = write_digits(count, &mut block, WIDE_END);
+    append_wide(out, &mut block, start);
 }

@@ -9,7 +9,7 @@ ghost use Rattle.warp_record.specs.declared.record.Record.{Record};
 ghost use Rattle.warp_record.specs.Record.{IsRecord, record_words, record_spelling, tag_words};
 
 use crate::count::{Count, MAX_COUNT};
-use crate::number::{append, append_number, read_int, read_number, read_u32};
+use crate::number::{append, append_number, append_u32, read_int, read_number, read_u32};
 use crate::room::{RECORD_ROOM, REPLY_ROOM};
 use crate::words::is_keyword;
 use warp_tag::{LAST_MICROSTEP, MAX_TIME, Tag};
@@ -152,8 +152,8 @@ pub(crate) fn append_tag(out: &mut Vec<u8>, tag: Tag)
     ensures len { vec_len out.new ≤ vec_len out.old + 32 }
     ensures capacity { vec_capacity out.old ≤ vec_capacity out.new }
 {
-    append_number(out, tag.time());
-    append_number(out, tag.micro());
+    append_u32(out, tag.time() as u32);
+    append_u32(out, tag.micro());
 }
 
 /// Appends the record's spelling, for which there is room.

@@ -1,5 +1,6 @@
 //! The replies, and the one spelling of each, read and written.
 ghost use Rattle.std.specs.Prelude.{◌≡◌, ◌≢◌, ℕ, Bool, codes, map, ◌+◌, ◌<◌, ◌≤◌, [], ◌∷◌, ◌++◌, IfSome, IfNone, decimal, length, vec_len, vec_capacity};
+ghost use Rattle.std.specs.Fmt.{signed_decimal};
 ghost use Rattle.std.specs.List.{join_with_byte};
 ghost use Rattle.warp_tag.specs.Limits.{greatest_count, most_records};
 ghost use Rattle.warp_tag.specs.Moment.{Moment, IsInRange};
@@ -12,7 +13,7 @@ ghost use Rattle.warp_record.specs.Reply.{IsOut, IsReply, flag_word, out_words, 
 
 use crate::count::MAX_COUNT;
 use crate::line::{BOARD, BREACH, HORIZON, LOG, LOST, OUTPUT, OUTPUTS, RELEASED, ROW, VAR};
-use crate::number::{append, append_number, append_u32, read_int, read_number, read_u32};
+use crate::number::{append, append_int, append_u32, append_u64, read_int, read_number, read_u32};
 use crate::record::{Record, append_record, append_tag, read_record, read_tag};
 use crate::room::REPLY_ROOM;
 use crate::words::{is_keyword, split_words};
@@ -366,15 +367,41 @@ fn append_numbered(out: &mut Vec<u8>, word: &[u8], number: u32)
     append_first(out, number);
 }
 
-/// Appends the word, a number and a count, for which there is room.
-fn append_count(out: &mut Vec<u8>, word: &[u8], number: u32, count: u64)
-    requires { vec_len out.old + (length word.now + 32) ≤ vec_capacity out.old }
-    ensures items { out.new.items ≡ out.old.items ++ join_with_byte 32 (word.now ∷ decimal number ∷ decimal count ∷ []) }
-    ensures len { vec_len out.new ≤ vec_len out.old + (length word.now + 32) }
+/// Appends the length of a log and a count, a space in front of each, for which there is room.
+#[inline(never)]
+fn append_length_and_count(out: &mut Vec<u8>, log: u32, count: u64)
+    requires { vec_len out.old + 35 ≤ vec_capacity out.old }
+    ensures items { out.new.items ≡ out.old.items ++ 32 ∷ decimal log ++ 32 ∷ decimal count }
+    ensures len { vec_len out.new ≤ vec_len out.old + 35 }
     ensures capacity { vec_capacity out.old ≤ vec_capacity out.new }
 {
-    append_numbered(out, word, number);
-    append_number(out, count);
+    append_u32(out, log);
+    append_u64(out, count);
+}
+
+/// Appends the word, a number and a count, for which there is room.
+#[inline(always)]
+fn append_count(out: &mut Vec<u8>, word: &[u8], number: u32, count: u64)
+    requires { vec_len out.old + (length word.now + 35) ≤ vec_capacity out.old }
+    ensures items { out.new.items ≡ out.old.items ++ join_with_byte 32 (word.now ∷ decimal number ∷ decimal count ∷ []) }
+    ensures len { vec_len out.new ≤ vec_len out.old + (length word.now + 35) }
+    ensures capacity { vec_capacity out.old ≤ vec_capacity out.new }
+{
+    append(out, word);
+    append_length_and_count(out, number, count);
+}
+
+/// Appends the reply that tells a variable's value, for which there is room.
+#[inline(never)]
+fn append_var(out: &mut Vec<u8>, log: u32, value: i64)
+    requires { vec_len out.old + 38 ≤ vec_capacity out.old }
+    ensures items { out.new.items ≡ out.old.items ++ join_with_byte 32 (codes "var" ∷ decimal log ∷ signed_decimal value ∷ []) }
+    ensures len { vec_len out.new ≤ vec_len out.old + 38 }
+    ensures capacity { vec_capacity out.old ≤ vec_capacity out.new }
+{
+    append(out, VAR);
+    append_u32(out, log);
+    append_int(out, value);
 }
 
 /// Appends the word, a number and a flag, for which there is room.
@@ -390,14 +417,14 @@ fn append_flagged(out: &mut Vec<u8>, word: &[u8], number: u32, flag: bool)
 
 /// Appends a space and the output's words, for which there is room.
 fn append_output(out: &mut Vec<u8>, output: Out)
-    requires { vec_len out.old + 64 ≤ vec_capacity out.old }
+    requires { vec_len out.old + 67 ≤ vec_capacity out.old }
     ensures items { out.new.items ≡ out.old.items ++ 32 ∷ join_with_byte 32 (out_words output) }
-    ensures len { vec_len out.new ≤ vec_len out.old + 64 }
+    ensures len { vec_len out.new ≤ vec_len out.old + 67 }
     ensures capacity { vec_capacity out.old ≤ vec_capacity out.new }
 {
     append_tag(out, output.tag);
-    append_number(out, output.port);
-    append_number(out, output.value);
+    append_u32(out, output.port);
+    append_int(out, output.value);
 }
 
 /// Appends the reply's spelling, for which there is room, and leaves room for a line feed. It takes no memory.
@@ -411,10 +438,7 @@ pub fn write_reply(out: &mut Vec<u8>, reply: &Reply)
         Reply::Taken(place) => append_placed(out, TAKEN, place),
         Reply::Known(place) => append_placed(out, KNOWN, place),
         Reply::Refused(refusal) => append_numbered(out, REFUSED, refusal.number()),
-        Reply::Var { log, value } => {
-            append_numbered(out, VAR, log);
-            append_number(out, value);
-        }
+        Reply::Var { log, value } => append_var(out, log, value),
         Reply::Outputs { log, count } => append_count(out, OUTPUTS, log, count),
         Reply::Output { log, output } => {
             append_numbered(out, OUTPUT, log);
