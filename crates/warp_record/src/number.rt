@@ -10,7 +10,7 @@ use itoa::{Buffer, Integer, write_digits};
 /// The end of the numbers that `append_u32` writes as one block.
 const BLOCK_END: u32 = 100_000_000;
 
-/// How many bytes have room for the number of 64 bits that ends there, its sign and a space.
+/// Where the text of a number of 64 bits ends in a block: in front of it is room for the text and a space.
 const WIDE_END: usize = 22;
 
 /// How many bytes are copied for a space and a number of 64 bits, which has up to 20 bytes.
@@ -215,7 +215,7 @@ fn append_wide(out: &mut Vec<u8>, block: &mut [u8; WIDE_BLOCK], start: usize)
     out.truncate(length);
 }
 
-/// Appends a space and the number, for which there is room for `WIDE` bytes: as a block of them, of which it leaves the text.
+/// Appends a space and the number, where there is room for `WIDE` bytes: as a block, of which it leaves the text.
 #[inline(always)]
 pub(crate) fn append_int(out: &mut Vec<u8>, number: i64)
     requires { vec_len out.old + 24 ≤ vec_capacity out.old }
@@ -228,7 +228,7 @@ pub(crate) fn append_int(out: &mut Vec<u8>, number: i64)
     append_wide(out, &mut block, start);
 }
 
-/// Appends a space and the count, for which there is room for `WIDE` bytes: as a block of them, of which it leaves the digits.
+/// Appends a space and the count, where there is room for `WIDE` bytes: as a block, of which it leaves the digits.
 #[inline(always)]
 pub(crate) fn append_u64(out: &mut Vec<u8>, count: u64)
     requires { vec_len out.old + 24 ≤ vec_capacity out.old }
