@@ -78,7 +78,7 @@ fn place(entries: &[Entry], origin: u32, tag: Tag) -> usize
     ensures { result ≤ length entries.now }
 {
     for (i, entry) in entries.iter().enumerate() {
-        if (tag, origin) <= (entry.tag, entry.origin) {
+        if !entry.comes_before(origin, tag) {
             return i;
         }
     }
@@ -216,10 +216,10 @@ fn same_as_sorted_vec(rt: HostRuntime) -> Result<(), Fail> {
         let payload = ((draw % 2) as u32, (draw / 153 % 7) as i64 - 3);
         match draw / 1071 % 10 {
             0 => {
-                let stay = entries.iter().filter(|e| at < e.tag).count();
+                let stay = entries.iter().filter(|e| at.is_before(e.tag)).count();
                 let freed = arena.free_through(at);
                 assert_eq!(rt; freed, entries.len().saturating_sub(stay), "in call {call}");
-                entries.retain(|e| at < e.tag);
+                entries.retain(|e| at.is_before(e.tag));
             }
             1 | 2 => record_in_both(&rt, &mut arena, &mut entries, alloc, origin, at, None)?,
             _ => record_in_both(
