@@ -6,7 +6,7 @@ use Rattle.std.proofs.lemmas.List.FromFn.{get_or-map-range_with_len}
 use Rattle.warp_body.specs.Presence.{target_fits}
 use Rattle.warp_body.specs.declared.place.Target.{Target}
 use Rattle.warp_body.specs.declared.place.Target.TheVariants as to
-use Rattle.warp_step.specs.Plan.{most_places, numbered_place, place_number}
+use Rattle.warp_step.specs.Plan.{most_places, place_numbers, numbered_place, place_number}
 use Rattle.warp_step.specs.Program.{Program}
 use Rattle.warp_step.specs.Step.{marks_of, plan_of}
 use Rattle.warp_step.specs.Valid.{is_valid, program_places}
@@ -61,6 +61,7 @@ place_with_own P (to.Port n) valid fits = port_with n
 -- a plan has the marks of those whom a place of the program concerns
 pub concerned_fits : (P : Program) (place : Target) → IsTrue (is_valid P) → IsTrue (target_fits (program_places P) place)
     → slice_index_or (plan_of P).places (place_number place) [] ≡ marks_of P (place ∷ [])
+unfolding place_numbers
 concerned_fits P place valid fits =
     get_or-map-range_with_len (λ (n : ℕ). marks_of P (numbered_place n ∷ [])) 0 most_places (place_number place) (place_number place) [] (place_within P place valid fits) (omega arith)
     ∙ ap (λ (p : Target). marks_of P (p ∷ [])) (place_with_own P place valid fits)

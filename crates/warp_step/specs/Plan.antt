@@ -1,7 +1,7 @@
 -- Whom a step may have to look at where a place becomes present: the reactions that it may trigger, the links and the program
 -- outputs whose port it is, and the timer that it is. Each has its triggers.
 use Rattle.std.specs.Prelude.{ℕ, ◌+◌, ◌-◌, Bool, true, false, nat_lt, nat_eq, List, [], ◌∷◌, Option, None, Some, slice_index_or, if◌then◌else◌}
-use Rattle.std.specs.List.{list_any}
+use Rattle.std.specs.List.{list_any, range_with_len}
 use Rattle.warp_body.specs.Presence.{is_target}
 use Rattle.warp_body.specs.declared.place.Target.{Target}
 use Rattle.warp_body.specs.declared.place.Target.TheVariants as to
@@ -71,6 +71,10 @@ numbered_place n =
 -- the most places of a program
 abbrev pub most_places : ℕ
 most_places = 337
+
+-- the numbers of all places. It is opened only where it is asked for, since a tactic would write all of them out.
+unfoldable pub place_numbers : List ℕ
+place_numbers = range_with_len 0 most_places
 
 -- Whom each place concerns, by the place's number; and whom what a reaction writes concerns, by the reaction's number: as marks.
 pub record Plan : Type 0 where

@@ -1,7 +1,7 @@
 -- One step of a program at a tag, in the order of its six parts.
 use Rattle.std.specs.Prelude.{◌≡◌, ℕ, ℤ, pos, ◌+◌, ◌≤◌, Bool, not, ◌&&◌, ◌||◌, ◌==◌, IsTrue, List, [], ◌∷◌, length, map, filter, replicate, slice_set, slice_get, slice_index, nat_lt, Option, Some, None, is_some, is_none, if◌then◌else◌}
 use Rattle.std.specs.Option.{option_map_or}
-use Rattle.std.specs.List.{list_any, list_all, range_with_len}
+use Rattle.std.specs.List.{list_any, list_all}
 use Rattle.arrayvec.specs.ArrayVec.{ArrayVec}
 use Rattle.warp_tag.specs.Moment.{Moment, is_before, is_same}
 use Rattle.warp_body.specs.Presence.{Presence, nothing_present, present_at, with_value}
@@ -12,7 +12,7 @@ use Rattle.warp_body.specs.declared.place.Target.TheVariants as to
 use Rattle.warp_body.specs.declared.stmt.Wish.{Wish}
 use Rattle.warp_step.specs.Program.{Rule, Program, delay_of}
 use Rattle.warp_step.specs.Marks.{first_link, first_output, first_reaction, first_timer, no_marks}
-use Rattle.warp_step.specs.Plan.{Plan, is_port, link_heeds, numbered_place, most_places, output_heeds, reaction_heeds, timer_heeds, with_watchers}
+use Rattle.warp_step.specs.Plan.{Plan, is_port, link_heeds, numbered_place, output_heeds, place_numbers, reaction_heeds, timer_heeds, with_watchers}
 use Rattle.warp_step.specs.Valid.{is_distinct, program_places}
 use Rattle.warp_step.specs.Snapshot.{Snapshot, IsStateOf, landed}
 use Rattle.warp_step.specs.declared.parts.Link.{Link}
@@ -194,7 +194,7 @@ marks_of P places =
 -- whom each place of the program concerns, and whom what each reaction writes does
 abbrev pub plan_of : Program → Plan
 plan_of P = record {
-  places = map (λ n. marks_of P (numbered_place n ∷ [])) (range_with_len 0 most_places);
+  places = map (λ n. marks_of P (numbered_place n ∷ [])) place_numbers;
   after = map (λ rule. marks_of P (filter is_port rule.writes)) P.reactions;
 }
 

@@ -1,11 +1,11 @@
 //! Whom the presence of a place concerns: a step looks only at those.
 ghost use Rattle.std.specs.Prelude.{◌≡◌, ℕ, ◌+◌, ◌<◌, ◌≤◌, List, [], ◌∷◌, map, filter, length, IfOk, slice_index_or, if◌then◌else◌};
-ghost use Rattle.std.specs.List.{list_any, range_with_len};
+ghost use Rattle.std.specs.List.{list_any};
 ghost use Rattle.warp_tag.specs.Limits.{most_links, most_outputs, most_reactions, most_timers};
 ghost use Rattle.warp_body.specs.declared.place.Target.{Target};
 ghost use Rattle.warp_body.specs.declared.place.Target.TheVariants as to;
 ghost use Rattle.warp_step.specs.Marks.{first_link, first_output, first_reaction, first_timer, most_marks, with_mark};
-ghost use Rattle.warp_step.specs.Plan.{heeds, heeds_any, is_port, link_heeds, most_places, numbered_place, output_heeds, place_number, place_of, reaction_heeds, timer_heeds, with_watchers};
+ghost use Rattle.warp_step.specs.Plan.{heeds, heeds_any, is_port, link_heeds, most_places, numbered_place, output_heeds, place_number, place_numbers, place_of, reaction_heeds, timer_heeds, with_watchers};
 ghost use Rattle.warp_step.specs.Program.{rule_of};
 ghost use Rattle.warp_step.specs.Step.{marks_of, plan_of, sources_of};
 
@@ -174,7 +174,7 @@ fn place_number(place: Target) -> usize
 /// Whom each place concerns, by its number.
 fn of_places(alloc: Global, program: &Program, sources: &[u32]) -> Result<Vec<Marks>, OutOfMemory>
     requires { sources.now ≡ sources_of program.now }
-    ensures { IfOk result (λ all. map (λ marks. marks.words) all.items ≡ map (λ n. marks_of program.now (numbered_place n ∷ [])) (range_with_len 0 most_places)) }
+    ensures { IfOk result (λ all. map (λ marks. marks.words) all.items ≡ map (λ n. marks_of program.now (numbered_place n ∷ [])) place_numbers) }
 {
     let mut all = Vec::with_capacity(alloc, PLACES)?;
     for number in 0..PLACES {

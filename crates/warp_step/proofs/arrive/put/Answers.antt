@@ -7,7 +7,7 @@ use Rattle.warp_body.specs.declared.place.Places.{Places}
 use Rattle.warp_body.specs.declared.place.Target.{Target}
 use Rattle.warp_step.specs.Marks.{mark_at}
 use Rattle.warp_step.specs.Program.{Program}
-use Rattle.warp_step.specs.Plan.{Plan, numbered_place, place_number, most_places}
+use Rattle.warp_step.specs.Plan.{Plan, numbered_place, place_number, place_numbers, most_places}
 use Rattle.warp_step.specs.Step.{marks_of, sources_of}
 use Rattle.warp_step.specs.Valid.{is_valid, program_places}
 use Rattle.warp_step.specs.inner.Due.{AreDue}
@@ -16,6 +16,7 @@ use Rattle.warp_step.proofs.PlaceLemmas.{concerned_fits, place_within}
 use Rattle.warp_step.proofs.arrive.put.Goals as goal
 
 pub concerned-requires : goal.concerned-requires
+unfolding place_numbers
 concerned-requires c =
     let P = c.args.program.now in
     let target = c.args.target in

@@ -5,7 +5,7 @@ use Rattle.std.proofs.lemmas.List.{map-append}
 use Rattle.std.proofs.lemmas.List.FromFn.{map-range_with_len_more}
 use Rattle.warp_body.specs.declared.place.Target.{Target}
 use Rattle.warp_step.specs.declared.marks.Marks.{Marks}
-use Rattle.warp_step.specs.Plan.{numbered_place}
+use Rattle.warp_step.specs.Plan.{numbered_place, place_numbers}
 use Rattle.warp_step.specs.Step.{marks_of}
 use Rattle.warp_step.proofs.plan.of_places.Goals as goal
 
@@ -22,6 +22,7 @@ loop-number-preserved c =
     ∙ sym (map-range_with_len_more f 0 n n (omega arith))
 
 pub returns : goal.returns
+unfolding place_numbers
 returns c =
     let P = c.args.program.now in
     let most : c.loop-number.number ≤ 337 = c.loop-number.auto.number-end in
