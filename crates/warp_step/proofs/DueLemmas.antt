@@ -2,14 +2,14 @@
 use Rattle.std.proofs.Common.{◌≡◌, ◌⊎◌, inl, inr, ℕ, ℤ, zero, suc, ◌+◌, ◌-◌, ◌/◌, ◌<◌, ◌≤◌, Bool, true, false, ◌||◌, eqb, List, [], ◌∷◌, length, get_or, replicate, Option, None, Some, IsTrue, is_some, if◌then◌else◌, refl, sym, ap, ◌∙◌, subst, arith}
 use Rattle.std.specs.Prelude.{slice_get, slice_index_or}
 use Rattle.std.specs.List.{list_any}
-use Rattle.std.proofs.lemmas.Bool.{cases_Bool, or_from, eqb-false}
+use Rattle.std.proofs.lemmas.Bool.{cases_Bool, or_from, eqb-false, leb-true}
 use Rattle.std.proofs.lemmas.List.{get_or-set_other}
 use Rattle.std.proofs.lemmas.Option.{slice_get_within}
 use Rattle.warp_body.specs.Presence.{Presence, is_target, nothing_present, present_at, with_value}
 use Rattle.warp_body.specs.declared.place.Places.{Places}
 use Rattle.warp_body.specs.declared.place.Target.{Target}
 use Rattle.warp_body.specs.declared.place.Target.TheVariants as to
-use Rattle.warp_step.specs.Marks.{first_link, first_output, first_reaction, first_timer, mark_at, no_marks, with_mark}
+use Rattle.warp_step.specs.Marks.{first_link, first_output, first_reaction, first_timer, has_few_marks, mark_at, no_marks, with_mark}
 use Rattle.warp_step.specs.Plan.{heeds, heeds_any, link_heeds, output_heeds, place_of, reaction_heeds, timer_heeds, with_watchers}
 use Rattle.warp_step.specs.Program.{Program}
 use Rattle.warp_step.specs.Step.{marks_of, sources_of}
@@ -75,35 +75,35 @@ MarksAll {X} triggers first xs sources places words =
 -- and so are all parts of a program that do
 pub record Marks (P : Program) (places : List Target) (words : List ℕ) : Type 0 where
   pub reactions : MarksAll reaction_heeds first_reaction P.reactions (sources_of P) places words
-  pub links : MarksAll link_heeds first_link P.links (sources_of P) places words
-  pub outputs : MarksAll output_heeds first_output P.outputs (sources_of P) places words
-  pub timers : MarksAll timer_heeds first_timer P.timers (sources_of P) places words
+  pub links : MarksAll link_heeds (first_link P) P.links (sources_of P) places words
+  pub outputs : MarksAll output_heeds (first_output P) P.outputs (sources_of P) places words
+  pub timers : MarksAll timer_heeds (first_timer P) P.timers (sources_of P) places words
 
 pub marks_all : (P : Program) (places : List Target) → IsTrue (is_valid P) → Marks P places (marks_of P places)
 marks_all P places valid =
     let limits = (validity P valid).limits in
     let ss = sources_of P in
     let a = with_watchers reaction_heeds first_reaction ss places 0 P.reactions no_marks in
-    let b = with_watchers link_heeds first_link ss places 0 P.links a in
-    let d = with_watchers output_heeds first_output ss places 0 P.outputs b in
+    let b = with_watchers link_heeds (first_link P) ss places 0 P.links a in
+    let d = with_watchers output_heeds (first_output P) ss places 0 P.outputs b in
     let a_ten : length a ≡ 10 = length-with_watchers reaction_heeds first_reaction ss places 0 P.reactions no_marks in
-    let b_ten : length b ≡ 10 = length-with_watchers link_heeds first_link ss places 0 P.links a ∙ a_ten in
-    let d_ten : length d ≡ 10 = length-with_watchers output_heeds first_output ss places 0 P.outputs b ∙ b_ten in
+    let b_ten : length b ≡ 10 = length-with_watchers link_heeds (first_link P) ss places 0 P.links a ∙ a_ten in
+    let d_ten : length d ≡ 10 = length-with_watchers output_heeds (first_output P) ss places 0 P.outputs b ∙ b_ten in
     let reactions = limits.reactions in
     let links = limits.links in
     let outputs = limits.outputs in
     let timers = limits.timers in
-    let keep_b = λ (m : ℕ). with_watchers_keep link_heeds first_link ss places 0 P.links a m a_ten (omega (arith, links)) in
-    let keep_d = λ (m : ℕ). with_watchers_keep output_heeds first_output ss places 0 P.outputs b m b_ten (omega (arith, outputs)) in
-    let keep = λ (m : ℕ). with_watchers_keep timer_heeds first_timer ss places 0 P.timers d m d_ten (omega (arith, timers)) in
+    let keep_b = λ (m : ℕ). with_watchers_keep link_heeds (first_link P) ss places 0 P.links a m a_ten (omega (arith, reactions, links)) in
+    let keep_d = λ (m : ℕ). with_watchers_keep output_heeds (first_output P) ss places 0 P.outputs b m b_ten (omega (arith, reactions, links, outputs)) in
+    let keep = λ (m : ℕ). with_watchers_keep timer_heeds (first_timer P) ss places 0 P.timers d m d_ten (omega (arith, reactions, links, outputs, timers)) in
     record {
       reactions = λ n x at heeded. keep (first_reaction + n) (keep_d (first_reaction + n) (keep_b (first_reaction + n)
           (with_watchers_mark reaction_heeds first_reaction ss places 0 P.reactions no_marks n n x (omega arith) refl (omega (arith, reactions)) at heeded)));
-      links = λ n x at heeded. keep (first_link + n) (keep_d (first_link + n)
-          (with_watchers_mark link_heeds first_link ss places 0 P.links a n n x (omega arith) a_ten (omega (arith, links)) at heeded));
-      outputs = λ n x at heeded. keep (first_output + n)
-          (with_watchers_mark output_heeds first_output ss places 0 P.outputs b n n x (omega arith) b_ten (omega (arith, outputs)) at heeded);
-      timers = λ n x at heeded. with_watchers_mark timer_heeds first_timer ss places 0 P.timers d n n x (omega arith) d_ten (omega (arith, timers)) at heeded;
+      links = λ n x at heeded. keep (first_link P + n) (keep_d (first_link P + n)
+          (with_watchers_mark link_heeds (first_link P) ss places 0 P.links a n n x (omega arith) a_ten (omega (arith, reactions, links)) at heeded));
+      outputs = λ n x at heeded. keep (first_output P + n)
+          (with_watchers_mark output_heeds (first_output P) ss places 0 P.outputs b n n x (omega arith) b_ten (omega (arith, reactions, links, outputs)) at heeded);
+      timers = λ n x at heeded. with_watchers_mark timer_heeds (first_timer P) ss places 0 P.timers d n n x (omega arith) d_ten (omega (arith, reactions, links, outputs, timers)) at heeded;
     }
 
 -- a place that a trigger does not heed leaves it
@@ -172,25 +172,31 @@ marked_after {X} triggers first xs places before after old new follows keeps mar
       | inr heeded ↦ marks n x at heeded
     ]
 
+-- where there are few marks, all of a program's stand in the first word
+few_within : (P : Program) (few : Bool) (m : ℕ) → few ≡ has_few_marks P → m < first_timer P + length P.timers → few ≡ true → m < 64
+few_within P few m is lt h =
+    let most = leb-true (first_timer P + length P.timers) 64 (sym is ∙ h) in
+    omega (arith, lt, most)
+
 -- Those that are due stay marked, where all whom the places concern are marked.
-pub due_after : (P : Program) (places : List Target) (before after : Presence) (old called new : List ℕ) → IsTrue (is_valid P) → before.sources ≡ sources_of P
-    → Follows places before after → called ≡ marks_of P places → ((m : ℕ) → mark_at old m ≡ 1 → mark_at new m ≡ 1)
-    → ((m : ℕ) → mark_at called m ≡ 1 → mark_at new m ≡ 1) → AreDue P before old → AreDue P after new
-due_after P places before after old called new valid own follows is keeps adds were =
+pub due_after : (P : Program) (places : List Target) (before after : Presence) (few : Bool) (old called new : List ℕ) → IsTrue (is_valid P) → before.sources ≡ sources_of P
+    → few ≡ has_few_marks P → Follows places before after → called ≡ marks_of P places → ((m : ℕ) → mark_at old m ≡ 1 → mark_at new m ≡ 1)
+    → ((m : ℕ) → (few ≡ true → m < 64) → mark_at called m ≡ 1 → mark_at new m ≡ 1) → AreDue P before old → AreDue P after new
+due_after P places before after few old called new valid own few_is follows is keeps adds were =
     let all = marks_all P places valid in
-    let add : (m : ℕ) → mark_at (marks_of P places) m ≡ 1 → mark_at new m ≡ 1 =
-    λ m h. adds m (ap (λ (words : List ℕ). mark_at words m) is ∙ h) in
+    let add : (m : ℕ) → m < first_timer P + length P.timers → mark_at (marks_of P places) m ≡ 1 → mark_at new m ≡ 1 =
+    λ m lt h. adds m (few_within P few m few_is lt) (ap (λ (words : List ℕ). mark_at words m) is ∙ h) in
     let by_own : (triggers : List Target) → heeds_any before.sources triggers places ≡ true → heeds_any (sources_of P) triggers places ≡ true =
     λ triggers h. ap (λ (ss : List ℕ). heeds_any ss triggers places) (sym own) ∙ h in
     record {
       reactions = marked_after reaction_heeds first_reaction P.reactions places before after old new follows keeps
-          (λ n x at h. add (first_reaction + n) (all.reactions n x at (by_own (reaction_heeds n x) h))) were.reactions;
-      links = marked_after link_heeds first_link P.links places before after old new follows keeps
-          (λ n x at h. add (first_link + n) (all.links n x at (by_own (link_heeds n x) h))) were.links;
-      outputs = marked_after output_heeds first_output P.outputs places before after old new follows keeps
-          (λ n x at h. add (first_output + n) (all.outputs n x at (by_own (output_heeds n x) h))) were.outputs;
-      timers = marked_after timer_heeds first_timer P.timers places before after old new follows keeps
-          (λ n x at h. add (first_timer + n) (all.timers n x at (by_own (timer_heeds n x) h))) were.timers;
+          (λ n x at h. add (first_reaction + n) (omega (arith, slice_get_within P.reactions n x at)) (all.reactions n x at (by_own (reaction_heeds n x) h))) were.reactions;
+      links = marked_after link_heeds (first_link P) P.links places before after old new follows keeps
+          (λ n x at h. add (first_link P + n) (omega (arith, slice_get_within P.links n x at)) (all.links n x at (by_own (link_heeds n x) h))) were.links;
+      outputs = marked_after output_heeds (first_output P) P.outputs places before after old new follows keeps
+          (λ n x at h. add (first_output P + n) (omega (arith, slice_get_within P.outputs n x at)) (all.outputs n x at (by_own (output_heeds n x) h))) were.outputs;
+      timers = marked_after timer_heeds (first_timer P) P.timers places before after old new follows keeps
+          (λ n x at h. add (first_timer P + n) (omega (arith, slice_get_within P.timers n x at)) (all.timers n x at (by_own (timer_heeds n x) h))) were.timers;
     }
 
 -- a list of absent values has none
@@ -218,9 +224,9 @@ none_due P places sources words =
     λ triggers m h. let no : false ≡ true = sym (none_triggers places sources triggers) ∙ h in cc in
     record {
       reactions = λ n x at h. idle (reaction_heeds n x) (first_reaction + n) h;
-      links = λ n x at h. idle (link_heeds n x) (first_link + n) h;
-      outputs = λ n x at h. idle (output_heeds n x) (first_output + n) h;
-      timers = λ n x at h. idle (timer_heeds n x) (first_timer + n) h;
+      links = λ n x at h. idle (link_heeds n x) (first_link P + n) h;
+      outputs = λ n x at h. idle (output_heeds n x) (first_output P + n) h;
+      timers = λ n x at h. idle (timer_heeds n x) (first_timer P + n) h;
     }
 
 -- an element that is not marked has no trigger that is present

@@ -60,3 +60,11 @@ set_within word from run fits set = elim (cases_lt (from + run) 64) [
       let there : bit_at (word / 2 ^ from) run ≡ bit_at word (from + run) = ap (λ (x : ℕ). x % 2) (shr-shr word from run) in
       absurd (omega (arith, set, there, bit_at_above word 64 (from + run) fits ge))
 ]
+
+-- a run of zeros in a word from a number's bit on: so many numbers are not marked
+pub unmarked_run : (words : List ℕ) (at run m : ℕ) → ((i : ℕ) → i < run → bit_at (slice_index_or words (at / 64) 0 / 2 ^ (at % 64)) i ≡ 0) → at % 64 + run ≤ 64
+    → at ≤ m → m < at + run → mark_at words m ≡ 0
+unmarked_run words at run m below within from l =
+    let same : m / 64 ≡ at / 64 = omega (arith, within, from, l) in
+    ap (λ (j : ℕ). bit_at (slice_index_or words j 0) (m % 64)) same
+    ∙ lowest_from (slice_index_or words (at / 64) 0) (at % 64) run (m % 64) below (omega (arith, same, from)) (omega (arith, same, l))

@@ -10,7 +10,7 @@ use Rattle.warp_tag.specs.Moment.{Moment}
 use Rattle.warp_body.specs.Effect.{Done}
 use Rattle.warp_body.specs.Presence.{Presence, present_at}
 use Rattle.warp_body.specs.declared.place.Target.TheVariants as to
-use Rattle.warp_step.specs.Marks.{first_link, first_output, first_reaction, first_timer, mark_at}
+use Rattle.warp_step.specs.Marks.{first_reaction, mark_at}
 use Rattle.warp_step.specs.Plan.{link_heeds, output_heeds, reaction_heeds, source_if_delayed, timer_heeds}
 use Rattle.warp_step.specs.Program.{Program, Rule}
 use Rattle.warp_step.specs.Snapshot.{Snapshot, landed}
@@ -57,23 +57,23 @@ absent None h = refl
 absent (Some v) h = let no : true ≡ false = h in cc
 
 -- the timers
-module _ (P : Program) (t : Moment) (present : Presence) (s : Snapshot) (words : List ℕ) (due : AreMarked timer_heeds first_timer P.timers present words) where
-  idle_timer : (n : ℕ) → n < length P.timers → mark_at words (first_timer + n) ≡ 0
+module _ (P : Program) (t : Moment) (present : Presence) (s : Snapshot) (words : List ℕ) (first : ℕ) (due : AreMarked timer_heeds first P.timers present words) where
+  idle_timer : (n : ℕ) → n < length P.timers → mark_at words (first + n) ≡ 0
       → with_repeats P t present n (drop n P.timers) s ≡ with_repeats P t present (n + 1) (drop (n + 1) P.timers) s
   idle_timer n lt idle =
       let some : Timer = record { reactor = 0; offset = 0; period = 0 } in
       let timer = get_or P.timers n some in
       let at : slice_get P.timers n ≡ Some timer = slice_get-get_or P.timers n some lt in
-      let none = absent (present_at present (to.Timer n)) (unmarked timer_heeds first_timer P.timers present words due n timer at idle) in
+      let none = absent (present_at present (to.Timer n)) (unmarked timer_heeds first P.timers present words due n timer at idle) in
       let rests : repeats present n timer ≡ false = λ i. is_some (none i) && nat_lt 0 timer.period in
       ap (λ (left : List Timer). with_repeats P t present n left s) (drop_more P.timers n some lt)
       ∙ ap (λ (u : Snapshot). with_repeats P t present (n + 1) (drop (n + 1) P.timers) u)
       (cond-false (repeats present n timer) (landed P t timer.period (to.Timer n) (pos 0) s) s rests)
 
-  pub skip_timers : (from to : ℕ) → first_timer ≤ from → from ≤ to → to ≤ first_timer + length P.timers → NoneMarked words from to
-      → with_repeats P t present (from - first_timer) (drop (from - first_timer) P.timers) s ≡ with_repeats P t present (to - first_timer) (drop (to - first_timer) P.timers) s
+  pub skip_timers : (from to : ℕ) → first ≤ from → from ≤ to → to ≤ first + length P.timers → NoneMarked words from to
+      → with_repeats P t present (from - first) (drop (from - first) P.timers) s ≡ with_repeats P t present (to - first) (drop (to - first) P.timers) s
   skip_timers from to starts order within none =
-      skip (λ (n : ℕ). with_repeats P t present n (drop n P.timers) s) words first_timer (length P.timers) idle_timer (to - from) (from - first_timer) (to - first_timer)
+      skip (λ (n : ℕ). with_repeats P t present n (drop n P.timers) s) words first (length P.timers) idle_timer (to - from) (from - first) (to - first)
       (omega (arith, starts, order)) (omega (arith, within)) (λ m l below. none m (omega (arith, l)) (omega (arith, below, starts, order)))
 
 -- the timers from a number on are the one with it, and those from the next one on
@@ -93,22 +93,22 @@ undelivered P t present target source (Some v) (Some d) s is h =
     let none : Some v ≡ None = is ∙ absent (present_at present (to.Port source)) h in
     cc
 
-module _ (P : Program) (t : Moment) (present : Presence) (s : Snapshot) (words : List ℕ) (due : AreMarked link_heeds first_link P.links present words) where
-  idle_link : (n : ℕ) → n < length P.links → mark_at words (first_link + n) ≡ 0
+module _ (P : Program) (t : Moment) (present : Presence) (s : Snapshot) (words : List ℕ) (first : ℕ) (due : AreMarked link_heeds first P.links present words) where
+  idle_link : (n : ℕ) → n < length P.links → mark_at words (first + n) ≡ 0
       → with_links P t present (drop n P.links) s ≡ with_links P t present (drop (n + 1) P.links) s
   idle_link n lt idle =
       let some : Link = record { source = 0; target = 0; delay = None } in
       let link = get_or P.links n some in
       let at : slice_get P.links n ≡ Some link = slice_get-get_or P.links n some lt in
-      let none = unmarked link_heeds first_link P.links present words due n link at idle in
+      let none = unmarked link_heeds first P.links present words due n link at idle in
       ap (λ (left : List Link). with_links P t present left s) (drop_more P.links n some lt)
       ∙ ap (λ (u : Snapshot). with_links P t present (drop (n + 1) P.links) u)
       (undelivered P t present link.target link.source (present_at present (to.Port link.source)) link.delay s refl none)
 
-  pub skip_links : (from to : ℕ) → first_link ≤ from → from ≤ to → to ≤ first_link + length P.links → NoneMarked words from to
-      → with_links P t present (drop (from - first_link) P.links) s ≡ with_links P t present (drop (to - first_link) P.links) s
+  pub skip_links : (from to : ℕ) → first ≤ from → from ≤ to → to ≤ first + length P.links → NoneMarked words from to
+      → with_links P t present (drop (from - first) P.links) s ≡ with_links P t present (drop (to - first) P.links) s
   skip_links from to starts order within none =
-      skip (λ (n : ℕ). with_links P t present (drop n P.links) s) words first_link (length P.links) idle_link (to - from) (from - first_link) (to - first_link)
+      skip (λ (n : ℕ). with_links P t present (drop n P.links) s) words first (length P.links) idle_link (to - from) (from - first) (to - first)
       (omega (arith, starts, order)) (omega (arith, within)) (λ m l below. none m (omega (arith, l)) (omega (arith, below, starts, order)))
 
 -- the links from a number on are the one with it, and those from the next one on
@@ -120,18 +120,18 @@ links_one_more P t present n link s lt is =
     ∙ ap (λ (own : Link). with_links P t present (drop (n + 1) P.links) (delivered P t own.target (present_at present (to.Port own.source)) own.delay s)) (sym is)
 
 -- the program outputs
-module _ (P : Program) (t : Moment) (present : Presence) (words : List ℕ) (due : AreMarked output_heeds first_output P.outputs present words) where
-  idle_output : (n : ℕ) → n < length P.outputs → mark_at words (first_output + n) ≡ 0
+module _ (P : Program) (t : Moment) (present : Presence) (words : List ℕ) (first : ℕ) (due : AreMarked output_heeds first P.outputs present words) where
+  idle_output : (n : ℕ) → n < length P.outputs → mark_at words (first + n) ≡ 0
       → outputs_from n t present (drop n P.outputs) ≡ outputs_from (n + 1) t present (drop (n + 1) P.outputs)
   idle_output n lt idle =
       let port = get_or P.outputs n 0 in
       let at : slice_get P.outputs n ≡ Some port = slice_get-get_or P.outputs n 0 lt in
-      let none = absent (present_at present (to.Port port)) (unmarked output_heeds first_output P.outputs present words due n port at idle) in
+      let none = absent (present_at present (to.Port port)) (unmarked output_heeds first P.outputs present words due n port at idle) in
       ap (λ (left : List ℕ). outputs_from n t present left) (drop_more P.outputs n 0 lt)
       ∙ ap (λ (o : Option ℤ). with_output n t o (outputs_from (n + 1) t present (drop (n + 1) P.outputs))) none
 
-  pub skip_outputs : (from to : ℕ) → first_output ≤ from → from ≤ to → to ≤ first_output + length P.outputs → NoneMarked words from to
-      → outputs_from (from - first_output) t present (drop (from - first_output) P.outputs) ≡ outputs_from (to - first_output) t present (drop (to - first_output) P.outputs)
+  pub skip_outputs : (from to : ℕ) → first ≤ from → from ≤ to → to ≤ first + length P.outputs → NoneMarked words from to
+      → outputs_from (from - first) t present (drop (from - first) P.outputs) ≡ outputs_from (to - first) t present (drop (to - first) P.outputs)
   skip_outputs from to starts order within none =
-      skip (λ (n : ℕ). outputs_from n t present (drop n P.outputs)) words first_output (length P.outputs) idle_output (to - from) (from - first_output) (to - first_output)
+      skip (λ (n : ℕ). outputs_from n t present (drop n P.outputs)) words first (length P.outputs) idle_output (to - from) (from - first) (to - first)
       (omega (arith, starts, order)) (omega (arith, within)) (λ m l below. none m (omega (arith, l)) (omega (arith, below, starts, order)))

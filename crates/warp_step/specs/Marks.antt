@@ -1,24 +1,29 @@
--- Marks: a set of numbers below 640, in ten words of 64 bits. Reactions, links, program outputs and timers each have numbers
--- of their own among them.
-use Rattle.std.specs.Prelude.{ℕ, ◌/◌, ◌%◌, ◌*◌, ◌^◌, List, replicate, slice_index_or, slice_set}
+-- Marks: a set of numbers below 640, in ten words of 64 bits. A program's reactions, links, program outputs and timers each have
+-- numbers of their own among them, one kind behind the other.
+use Rattle.std.specs.Prelude.{ℕ, ◌+◌, ◌/◌, ◌%◌, ◌*◌, ◌^◌, Bool, nat_le, List, length, replicate, slice_index_or, slice_set}
 use Rattle.std.specs.Int.{bit_at}
 use Rattle.std.specs.Int.RustNames.{bit_or}
+use Rattle.warp_step.specs.Program.{Program}
 
 -- where the marks of each kind begin, and where all end
 abbrev pub first_reaction : ℕ
 first_reaction = 0
 
-abbrev pub first_link : ℕ
-first_link = 256
+abbrev pub first_link : Program → ℕ
+first_link P = length P.reactions
 
-abbrev pub first_output : ℕ
-first_output = 512
+abbrev pub first_output : Program → ℕ
+first_output P = length P.reactions + length P.links
 
-abbrev pub first_timer : ℕ
-first_timer = 576
+abbrev pub first_timer : Program → ℕ
+first_timer P = length P.reactions + length P.links + length P.outputs
 
 abbrev pub most_marks : ℕ
 most_marks = 640
+
+-- the program's marks all stand in the first word
+abbrev pub has_few_marks : Program → Bool
+has_few_marks P = nat_le (first_timer P + length P.timers) 64
 
 -- 1 where the number is marked, else 0
 abbrev pub mark_at : List ℕ → ℕ → ℕ

@@ -76,7 +76,9 @@ most_places = 337
 unfoldable pub place_numbers : List ℕ
 place_numbers = range_with_len 0 most_places
 
--- Whom each place concerns, by the place's number; and whom what a reaction writes concerns, by the reaction's number: as marks.
+-- Whom each place concerns, by the place's number; and whom what a reaction writes concerns, by the reaction's number: as marks,
+-- of which there may be so few that they all stand in the first word.
 pub record Plan : Type 0 where
   pub places : List (List ℕ)
   pub after : List (List ℕ)
+  pub few : Bool

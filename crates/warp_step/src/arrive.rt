@@ -94,7 +94,7 @@ fn put(
 {
     program.valid();
     present.put(target, value);
-    due.add_all(plan.concerned(target));
+    due.add_all(plan.concerned(target), plan.few());
 }
 
 /// Makes the ports of the given inputs present. Whom they concern is due.

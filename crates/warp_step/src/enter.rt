@@ -11,7 +11,7 @@ ghost use Rattle.warp_step.specs.inner.Due.{AreDue};
 ghost use Rattle.warp_step.specs.inner.Flagged.{HasNone};
 ghost use Rattle.warp_step.specs.Step.{repeats, with_repeats, with_wishes, with_all_wishes, with_links, delivered, lists_of};
 
-use crate::marks::{FIRST_LINK, FIRST_TIMER, Marks};
+use crate::marks::{Marks, first_link, first_timer};
 use crate::parts::{Link, Timer};
 use crate::program::Program;
 use crate::state::State;
@@ -34,10 +34,11 @@ impl State {
     {
         program.valid();
         let timers = program.timers();
-        let end = FIRST_TIMER + timers.len();
-        let mut mark = due.next(FIRST_TIMER, end);
+        let first = first_timer(program);
+        let end = first + timers.len();
+        let mut mark = due.next(first, end);
         while mark < end {
-            let number = mark - FIRST_TIMER;
+            let number = mark - first;
             self.repeat_timer(program, tag, present, number as u32, &timers[number]);
             mark = due.next(mark + 1, end);
         }
@@ -131,10 +132,11 @@ impl State {
     {
         program.valid();
         let links = program.links();
-        let end = FIRST_LINK + links.len();
-        let mut mark = due.next(FIRST_LINK, end);
+        let first = first_link(program);
+        let end = first + links.len();
+        let mut mark = due.next(first, end);
         while mark < end {
-            self.deliver_link(program, tag, present, &links[mark - FIRST_LINK]);
+            self.deliver_link(program, tag, present, &links[mark - first]);
             mark = due.next(mark + 1, end);
         }
     }

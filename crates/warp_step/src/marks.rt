@@ -1,16 +1,45 @@
 //! Marks: sets of numbers, by which a step knows whom it may have to look at.
-ghost use Rattle.std.specs.Prelude.{◌≡◌, ℕ, ◌≤◌, ◌<◌, length};
-ghost use Rattle.std.specs.Int.{bit_at};
-ghost use Rattle.warp_step.specs.Marks.{mark_at, most_marks, no_marks, with_mark};
+ghost use Rattle.std.specs.Prelude.{◌≡◌, ℕ, ◌+◌, ◌≤◌, ◌<◌, true, length};
+ghost use Rattle.warp_step.specs.Marks.{first_link, first_output, first_timer, has_few_marks, mark_at, most_marks, no_marks, with_mark};
 
-/// The number that marks the first link; reactions have the numbers before it.
-pub(crate) const FIRST_LINK: usize = 256;
+use crate::program::Program;
 
-/// The number that marks the first program output.
-pub(crate) const FIRST_OUTPUT: usize = 512;
+/// The number that marks a program's first link; reactions have the numbers before it.
+#[inline(always)]
+pub(crate) fn first_link(program: &Program) -> usize
+    ensures first { result ≡ first_link program.now }
+    ensures room { result + length program.now.links ≤ most_marks }
+{
+    program.valid();
+    program.reactions().len()
+}
 
-/// The number that marks the first timer.
-pub(crate) const FIRST_TIMER: usize = 576;
+/// The number that marks a program's first output; links have the numbers before it.
+#[inline(always)]
+pub(crate) fn first_output(program: &Program) -> usize
+    ensures first { result ≡ first_output program.now }
+    ensures room { result + length program.now.outputs ≤ most_marks }
+{
+    program.valid();
+    first_link(program) + program.links().len()
+}
+
+/// The number that marks a program's first timer; outputs have the numbers before it.
+#[inline(always)]
+pub(crate) fn first_timer(program: &Program) -> usize
+    ensures first { result ≡ first_timer program.now }
+    ensures room { result + length program.now.timers ≤ most_marks }
+{
+    program.valid();
+    first_output(program) + program.outputs().len()
+}
+
+/// Whether a program's marks all stand in the first word.
+pub(crate) fn has_few_marks(program: &Program) -> bool
+    ensures { result ≡ has_few_marks program.now }
+{
+    first_timer(program) + program.timers().len() <= 64
+}
 
 /// A set of numbers below 640.
 #[derive(Drop)]
@@ -26,11 +55,16 @@ impl Marks {
         Marks { words: [0; 10] }
     }
 
-    /// Takes all numbers out.
-    pub fn reset(&mut self)
-        ensures { self.new.words ≡ no_marks }
+    /// Takes all numbers out. Where there are few, they stand in the first word.
+    #[inline(always)]
+    pub fn reset(&mut self, few: bool)
+        ensures { (m : ℕ) → (few ≡ true → m < 64) → mark_at self.new.words m ≡ 0 }
     {
-        self.words = [0; 10];
+        if few {
+            self.words[0] = 0;
+        } else {
+            self.words = [0; 10];
+        }
     }
 
     /// Puts a number in.
@@ -41,9 +75,21 @@ impl Marks {
         self.words[number / 64] |= 1 << (number % 64);
     }
 
-    /// Puts all numbers of another set in.
+    /// Puts all numbers of another set in. Where there are few, they stand in the first word.
     #[inline(always)]
-    pub fn add_all(&mut self, other: &Marks)
+    pub fn add_all(&mut self, other: &Marks, few: bool)
+        ensures kept { (m : ℕ) → mark_at self.old.words m ≡ 1 → mark_at self.new.words m ≡ 1 }
+        ensures added { (m : ℕ) → (few ≡ true → m < 64) → mark_at other.now.words m ≡ 1 → mark_at self.new.words m ≡ 1 }
+    {
+        if few {
+            self.words[0] |= other.words[0];
+        } else {
+            self.add_words(other);
+        }
+    }
+
+    /// Puts all numbers of another set in, word by word.
+    fn add_words(&mut self, other: &Marks)
         ensures kept { (m : ℕ) → mark_at self.old.words m ≡ 1 → mark_at self.new.words m ≡ 1 }
         ensures added { (m : ℕ) → mark_at other.now.words m ≡ 1 → mark_at self.new.words m ≡ 1 }
     {
@@ -63,27 +109,12 @@ impl Marks {
     {
         let mut at = from;
         while at < limit {
-            let bit = first_bit(self.words[at / 64], at % 64);
-            at = at / 64 * 64 + bit;
-            if bit < 64 {
-                return at.min(limit);
+            let rest = self.words[at / 64] >> (at % 64);
+            if rest != 0 {
+                return (at + rest.trailing_zeros() as usize).min(limit);
             }
+            at = (at / 64 + 1) * 64;
         }
         limit
     }
-}
-
-/// The place of the lowest bit from one on that is set in a word, else 64.
-#[inline(always)]
-fn first_bit(word: u64, from: usize) -> usize
-    requires { from < 64 }
-    ensures from { from ≤ result }
-    ensures limit { result ≤ 64 }
-    ensures between { (k : ℕ) → from ≤ k → k < result → bit_at word k ≡ 0 }
-{
-    let rest = word >> from;
-    if rest == 0 {
-        return 64;
-    }
-    from + rest.trailing_zeros() as usize
 }

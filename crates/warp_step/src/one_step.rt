@@ -184,7 +184,7 @@ fn advance(
 {
     program.valid();
     present.clear();
-    due.reset();
+    due.reset(plan.few());
     clear_wishes(wishes, wished);
     state.take_entries(program, plan, due, tag, present);
     arrive(program, plan, due, given, present);

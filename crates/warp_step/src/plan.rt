@@ -1,15 +1,15 @@
 //! Whom the presence of a place concerns: a step looks only at those.
 ghost use Rattle.std.specs.Prelude.{◌≡◌, ℕ, ◌+◌, ◌<◌, ◌≤◌, List, [], ◌∷◌, map, filter, length, IfOk, slice_index_or, if◌then◌else◌};
 ghost use Rattle.std.specs.List.{list_any};
-ghost use Rattle.warp_tag.specs.Limits.{most_links, most_outputs, most_reactions, most_timers};
+ghost use Rattle.warp_tag.specs.Limits.{most_reactions};
 ghost use Rattle.warp_body.specs.declared.place.Target.{Target};
 ghost use Rattle.warp_body.specs.declared.place.Target.TheVariants as to;
-ghost use Rattle.warp_step.specs.Marks.{first_link, first_output, first_reaction, first_timer, most_marks, with_mark};
+ghost use Rattle.warp_step.specs.Marks.{first_reaction, most_marks, with_mark};
 ghost use Rattle.warp_step.specs.Plan.{heeds, heeds_any, is_port, link_heeds, most_places, numbered_place, output_heeds, place_number, place_numbers, place_of, reaction_heeds, timer_heeds, with_watchers};
 ghost use Rattle.warp_step.specs.Program.{rule_of};
 ghost use Rattle.warp_step.specs.Step.{marks_of, plan_of, sources_of};
 
-use crate::marks::{FIRST_LINK, FIRST_OUTPUT, FIRST_TIMER, Marks};
+use crate::marks::{Marks, first_link, first_output, first_timer, has_few_marks};
 use crate::parts::{Link, Timer};
 use crate::program::Program;
 use crate::reaction::Reaction;
@@ -68,27 +68,40 @@ fn watch_reactions(marks: &mut Marks, reactions: &[Reaction], sources: &[u32], p
 }
 
 /// Marks the links with a delay whose source's place is one of the places.
-fn watch_links(marks: &mut Marks, links: &[Link], sources: &[u32], places: &[Target])
-    requires { length links.now ≤ most_links }
-    ensures { marks.new.words ≡ with_watchers link_heeds first_link sources.now places.now 0 links.now marks.old.words }
+fn watch_links(
+    marks: &mut Marks,
+    first: usize,
+    links: &[Link],
+    sources: &[u32],
+    places: &[Target],
+)
+    requires { first + length links.now ≤ most_marks }
+    ensures { marks.new.words ≡ with_watchers link_heeds first sources.now places.now 0 links.now marks.old.words }
 {
     for (number, link) in links.iter().enumerate() {
-        watch_link(marks, number, link, sources, places);
+        watch_link(marks, first, number, link, sources, places);
     }
 }
 
 /// Marks the link with this number if it has a delay, and one of the places is that of its source.
-fn watch_link(marks: &mut Marks, number: usize, link: &Link, sources: &[u32], places: &[Target])
-    requires { number < most_links }
+fn watch_link(
+    marks: &mut Marks,
+    first: usize,
+    number: usize,
+    link: &Link,
+    sources: &[u32],
+    places: &[Target],
+)
+    requires { first + number < most_marks }
     ensures { marks.new.words ≡ (if heeds_any sources.now (link_heeds number link.now) places.now
-        then with_mark (first_link + number) marks.old.words
+        then with_mark (first + number) marks.old.words
         else marks.old.words) }
 {
     match link.delay {
-        None => watch(marks, FIRST_LINK + number, &[], sources, places),
+        None => watch(marks, first + number, &[], sources, places),
         Some(_) => watch(
             marks,
-            FIRST_LINK + number,
+            first + number,
             &[Target::Port(link.source)],
             sources,
             places,
@@ -97,14 +110,20 @@ fn watch_link(marks: &mut Marks, number: usize, link: &Link, sources: &[u32], pl
 }
 
 /// Marks the program outputs whose port's place is one of the places.
-fn watch_outputs(marks: &mut Marks, ports: &[u32], sources: &[u32], places: &[Target])
-    requires { length ports.now ≤ most_outputs }
-    ensures { marks.new.words ≡ with_watchers output_heeds first_output sources.now places.now 0 ports.now marks.old.words }
+fn watch_outputs(
+    marks: &mut Marks,
+    first: usize,
+    ports: &[u32],
+    sources: &[u32],
+    places: &[Target],
+)
+    requires { first + length ports.now ≤ most_marks }
+    ensures { marks.new.words ≡ with_watchers output_heeds first sources.now places.now 0 ports.now marks.old.words }
 {
     for (number, port) in ports.iter().enumerate() {
         watch(
             marks,
-            FIRST_OUTPUT + number,
+            first + number,
             &[Target::Port(*port)],
             sources,
             places,
@@ -113,14 +132,20 @@ fn watch_outputs(marks: &mut Marks, ports: &[u32], sources: &[u32], places: &[Ta
 }
 
 /// Marks the timers that are one of the places.
-fn watch_timers(marks: &mut Marks, timers: &[Timer], sources: &[u32], places: &[Target])
-    requires { length timers.now ≤ most_timers }
-    ensures { marks.new.words ≡ with_watchers timer_heeds first_timer sources.now places.now 0 timers.now marks.old.words }
+fn watch_timers(
+    marks: &mut Marks,
+    first: usize,
+    timers: &[Timer],
+    sources: &[u32],
+    places: &[Target],
+)
+    requires { first + length timers.now ≤ most_marks }
+    ensures { marks.new.words ≡ with_watchers timer_heeds first sources.now places.now 0 timers.now marks.old.words }
 {
     for (number, _timer) in timers.iter().enumerate() {
         watch(
             marks,
-            FIRST_TIMER + number,
+            first + number,
             &[Target::Timer(number as u32)],
             sources,
             places,
@@ -136,9 +161,12 @@ fn marks_of(program: &Program, sources: &[u32], places: &[Target]) -> Marks
     program.valid();
     let mut marks = Marks::new();
     watch_reactions(&mut marks, program.reactions(), sources, places);
-    watch_links(&mut marks, program.links(), sources, places);
-    watch_outputs(&mut marks, program.outputs(), sources, places);
-    watch_timers(&mut marks, program.timers(), sources, places);
+    let first = first_link(program);
+    watch_links(&mut marks, first, program.links(), sources, places);
+    let first = first_output(program);
+    watch_outputs(&mut marks, first, program.outputs(), sources, places);
+    let first = first_timer(program);
+    watch_timers(&mut marks, first, program.timers(), sources, places);
     marks
 }
 
@@ -213,11 +241,13 @@ fn after_reactions(
     Ok(all)
 }
 
-/// Whom each place of a program concerns, by the place's number, and whom what each reaction writes does.
+/// Whom each place of a program concerns, by the place's number, and whom what each reaction writes does; and whether all marks
+/// stand in the first word.
 #[derive(Drop)]
 pub(crate) struct Plan {
     places: Vec<Marks>,
     after: Vec<Marks>,
+    few: bool,
 }
 
 impl Model for Plan {
@@ -229,6 +259,7 @@ impl Model for Plan {
     ghost view = { λ p. record {
       places = map (λ marks. marks.words) p.places.items;
       after = map (λ marks. marks.words) p.after.items;
+      few = p.few;
     } };
 }
 
@@ -240,7 +271,16 @@ impl Plan {
     {
         let places = of_places(alloc, program, sources)?;
         let after = after_reactions(alloc, program, sources)?;
-        Ok(Plan { places, after })
+        let few = has_few_marks(program);
+        Ok(Plan { places, after, few })
+    }
+
+    /// Whether all marks stand in the first word.
+    #[inline(always)]
+    pub fn few(&self) -> bool
+        ensures { result ≡ self.now.few }
+    {
+        self.few
     }
 
     /// The marks of those whom a place concerns.

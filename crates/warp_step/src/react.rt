@@ -8,12 +8,13 @@ ghost use Rattle.warp_body.specs.Effect.{body_fits, schedules_of, wish_fits};
 ghost use Rattle.warp_body.specs.Term.{sizes_of};
 ghost use Rattle.warp_step.specs.Program.{Program, rule_of};
 ghost use Rattle.warp_step.specs.Valid.{is_valid, program_places, program_sizes, rule_fits};
+ghost use Rattle.warp_step.specs.Marks.{has_few_marks};
 ghost use Rattle.warp_step.specs.Plan.{is_port};
 ghost use Rattle.warp_step.specs.inner.Due.{AreDue};
 ghost use Rattle.warp_step.specs.inner.Flagged.{HasNone};
 ghost use Rattle.warp_step.specs.Step.{Reacting, after_reactions, is_triggered, lists_of, marks_of, no_wishes, order_of, outputs_from, plan_of, react, sources_of, with_output};
 
-use crate::marks::{FIRST_OUTPUT, Marks};
+use crate::marks::{Marks, first_output};
 use crate::out::Out;
 use crate::plan::Plan;
 use crate::program::Program;
@@ -52,6 +53,7 @@ fn run_reaction(
     number: usize,
     reaction: &Reaction,
     after: &Marks,
+    few: bool,
     due: &mut Marks,
     vars: &mut Vars,
     present: &mut Present,
@@ -70,12 +72,12 @@ fn run_reaction(
     ensures wishes { IsTrue (list_all (list_all (wish_fits (sizes_of vars.old present.old))) (lists_of wishes.old)) →
         IsTrue (list_all (list_all (wish_fits (sizes_of vars.old present.old))) (lists_of wishes.new)) }
     ensures none { result ≡ false → lists_of wishes.new ≡ lists_of wishes.old }
-    ensures due { (P : Program) → IsTrue (is_valid P) → IsTrue (rule_fits P (rule_of reaction.now)) → present.old.sources ≡ sources_of P
+    ensures due { (P : Program) → IsTrue (is_valid P) → IsTrue (rule_fits P (rule_of reaction.now)) → present.old.sources ≡ sources_of P → few ≡ has_few_marks P
         → after.now.words ≡ marks_of P (filter is_port (rule_of reaction.now).writes)
         → AreDue P present.old due.old.words → AreDue P present.new due.new.words }
 {
     if triggered(reaction, present) {
-        due.add_all(after);
+        due.add_all(after, few);
         run_body(&reaction.body, vars, present, &mut wishes[number]);
         return !wishes[number].is_empty();
     }
@@ -119,6 +121,7 @@ pub(crate) fn run_reactions(
             number,
             &reactions[number],
             after,
+            plan.few(),
             due,
             vars,
             present,
@@ -164,10 +167,11 @@ pub(crate) fn put_outputs(
 {
     program.valid();
     let ports = program.outputs();
-    let end = FIRST_OUTPUT + ports.len();
-    let mut mark = due.next(FIRST_OUTPUT, end);
+    let first = first_output(program);
+    let end = first + ports.len();
+    let mut mark = due.next(first, end);
     while mark < end {
-        let number = mark - FIRST_OUTPUT;
+        let number = mark - first;
         put_output(number as u32, ports[number], tag, present, out);
         mark = due.next(mark + 1, end);
     }

@@ -15,6 +15,6 @@ AreMarked {X} triggers first xs present words =
 -- all that are to be looked at are marked
 pub record AreDue (P : Program) (present : Presence) (words : List ℕ) : Type 0 where
   pub reactions : AreMarked reaction_heeds first_reaction P.reactions present words
-  pub links : AreMarked link_heeds first_link P.links present words
-  pub outputs : AreMarked output_heeds first_output P.outputs present words
-  pub timers : AreMarked timer_heeds first_timer P.timers present words
+  pub links : AreMarked link_heeds (first_link P) P.links present words
+  pub outputs : AreMarked output_heeds (first_output P) P.outputs present words
+  pub timers : AreMarked timer_heeds (first_timer P) P.timers present words

@@ -1,10 +1,9 @@
 -- the marks so far, and then those for the links that are left, are those for all
 use Rattle.std.proofs.Common.{◌≡◌, drop}
-use Rattle.warp_step.specs.Marks.{first_link}
 use Rattle.warp_step.specs.Plan.{link_heeds, with_watchers}
 use Rattle.warp_step.proofs.plan.watch_links.Given as goal
 
 abbrev pub invariant-loop-number : goal.invariant-loop-number
 invariant-loop-number l =
-    with_watchers link_heeds first_link l.sources l.places l.number (drop l.number l.links) l.marks.words
-    ≡ with_watchers link_heeds first_link l.sources l.places 0 l.links l.fn.marks.words
+    with_watchers link_heeds l.first l.sources l.places l.number (drop l.number l.links) l.marks.words
+    ≡ with_watchers link_heeds l.first l.sources l.places 0 l.links l.fn.marks.words

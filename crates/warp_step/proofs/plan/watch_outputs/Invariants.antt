@@ -1,10 +1,9 @@
 -- the marks so far, and then those for the outputs that are left, are those for all
 use Rattle.std.proofs.Common.{◌≡◌, drop}
-use Rattle.warp_step.specs.Marks.{first_output}
 use Rattle.warp_step.specs.Plan.{output_heeds, with_watchers}
 use Rattle.warp_step.proofs.plan.watch_outputs.Given as goal
 
 abbrev pub invariant-loop-number : goal.invariant-loop-number
 invariant-loop-number l =
-    with_watchers output_heeds first_output l.sources l.places l.number (drop l.number l.ports) l.marks.words
-    ≡ with_watchers output_heeds first_output l.sources l.places 0 l.ports l.fn.marks.words
+    with_watchers output_heeds l.first l.sources l.places l.number (drop l.number l.ports) l.marks.words
+    ≡ with_watchers output_heeds l.first l.sources l.places 0 l.ports l.fn.marks.words

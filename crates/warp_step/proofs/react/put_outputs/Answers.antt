@@ -1,11 +1,13 @@
 -- outputs are ports of a valid program, and few enough; those that are not marked are not present
-use Rattle.std.proofs.Common.{◌≡◌, ℕ, ◌+◌, ◌-◌, ◌<◌, ◌≤◌, ◌++◌, List, [], drop, get_or, nat_lt, length, ap, sym, ◌∙◌, arith}
+use Rattle.std.proofs.Common.{◌≡◌, ℕ, ◌+◌, ◌-◌, ◌<◌, ◌≤◌, ◌++◌, List, [], drop, get_or, nat_lt, length, ap, sym, ◌∙◌, subst, arith}
 use Rattle.std.proofs.lemmas.Bool.{ltb-true}
 use Rattle.warp_tag.specs.Limits.{most_outputs}
 use Rattle.warp_body.specs.Presence.{present_at}
 use Rattle.warp_body.specs.declared.place.Places.{Places}
 use Rattle.warp_body.specs.declared.place.Target.TheVariants as to
 use Rattle.warp_step.specs.Program.{Program}
+use Rattle.warp_step.specs.Plan.{output_heeds}
+use Rattle.warp_step.specs.inner.Due.{AreMarked}
 use Rattle.warp_step.specs.Step.{outputs_from, with_output}
 use Rattle.warp_step.specs.Valid.{is_valid}
 use Rattle.warp_step.specs.declared.out.Out.{Out}
@@ -29,7 +31,7 @@ next-mark-requires-in-loop-mark-clause-limit c =
 pub put_output-requires : goal.put_output-requires
 put_output-requires c =
     let P = c.args.program.now in
-    let n = c.loop-mark.mark - 512 in
+    let n = c.loop-mark.mark - c.first_output-first.result in
     let len : length c.outputs-ports.result.now ≡ length P.outputs = ap length c.outputs-ports.ensures in
     let starts = c.loop-mark.invariant.first in
     let lt : n < length P.outputs = omega (arith, len, starts, c.loop-mark-test.true) in
@@ -44,13 +46,17 @@ put_output-requires c =
 pub loop-mark-init : goal.loop-mark-init
 loop-mark-init c =
     let P = c.args.program.now in
+    let first = c.first_output-first.result in
+    let due = subst (λ (at : ℕ). AreMarked output_heeds at P.outputs c.args.present.now c.args.due.now.words) (sym c.first_output-first.ensures.first) c.requires.due.outputs in
     let len : length c.outputs-ports.result.now ≡ length P.outputs = ap length c.outputs-ports.ensures in
-    let skipped = skip_outputs P c.args.tag c.args.present.now c.args.due.now.words c.requires.due.outputs 512 c.next-mark.result (omega arith)
+    let skipped = skip_outputs P c.args.tag c.args.present.now c.args.due.now.words first due first c.next-mark.result (omega arith)
     c.next-mark.ensures.from (omega (arith, len, c.next-mark.ensures.limit)) c.next-mark.ensures.between in
+    let none : first - first ≡ 0 = omega arith in
+    let outs = λ (k : ℕ). outputs_from k c.args.tag c.args.present.now (drop k P.outputs) in
     record {
       first = c.next-mark.ensures.from;
       within = c.next-mark.ensures.limit;
-      rest = ap (λ (outs : List Out). c.args.out.now.items ++ outs) (sym skipped);
+      rest = ap (λ (more : List Out). c.args.out.now.items ++ more) (sym skipped ∙ ap outs none);
       room = omega (arith, c.requires.room);
       capacity = omega arith;
     }
@@ -58,7 +64,9 @@ loop-mark-init c =
 pub loop-mark-preserved : goal.loop-mark-preserved
 loop-mark-preserved c =
     let P = c.args.program.now in
-    let n = c.loop-mark.mark - 512 in
+    let first = c.first_output-first.result in
+    let due = subst (λ (at : ℕ). AreMarked output_heeds at P.outputs c.args.present.now c.args.due.now.words) (sym c.first_output-first.ensures.first) c.requires.due.outputs in
+    let n = c.loop-mark.mark - c.first_output-first.result in
     let front = c.loop-mark.out.items in
     let t = c.args.tag in
     let present = c.args.present.now in
@@ -66,9 +74,9 @@ loop-mark-preserved c =
     let starts = c.loop-mark.invariant.first in
     let lt : n < length P.outputs = omega (arith, len, starts, c.loop-mark-test.true) in
     let next = c.next-mark-in-loop-mark in
-    let skipped = skip_outputs P t present c.args.due.now.words c.requires.due.outputs (c.loop-mark.mark + 1) next.result (omega (arith, starts))
+    let skipped = skip_outputs P t present c.args.due.now.words first due (c.loop-mark.mark + 1) next.result (omega (arith, starts))
     next.ensures.from (omega (arith, len, next.ensures.limit)) next.ensures.between in
-    let after : c.loop-mark.mark + 1 - 512 ≡ n + 1 = omega (arith, starts) in
+    let after : c.loop-mark.mark + 1 - c.first_output-first.result ≡ n + 1 = omega (arith, starts) in
     let put = c.put_output.ensures.outputs in
     let room = c.loop-mark.invariant.room in
     let more = c.put_output.ensures.len in

@@ -116,7 +116,7 @@ loop-number-preserved c =
     let ran = c.run_reaction-wished in
     let after : Reacting = record { vars = ran.new.vars; present = ran.new.present; wishes = lists_of ran.new.wishes } in
     let now : Reacting = record { vars = c.loop-number.vars; present = c.loop-number.present; wishes = lists_of c.loop-number.wishes } in
-    let due = ran.ensures.due P c.valid.ensures may own (c.after-after.ensures ∙ after_in_plan P c.args.plan.now n rule c.requires.plan at.0 at.1) c.loop-number.invariant.due in
+    let due = ran.ensures.due P c.valid.ensures may own (c.few.ensures ∙ ap (λ (p : Plan). p.few) c.requires.plan) (c.after-after.ensures ∙ after_in_plan P c.args.plan.now n rule c.requires.plan at.0 at.1) c.loop-number.invariant.due in
     let next = c.next-number-in-loop-number in
     let skipped = skip_reactions P after ran.new.due.words due.reactions (n + 1) next.result next.ensures.from
     (omega (arith, count, next.ensures.limit)) next.ensures.between in

@@ -1,5 +1,5 @@
--- both parts are the plan's
+-- all parts are the plan's
 use Rattle.warp_step.proofs.plan.Plan.new.Goals as goal
 
 pub returns : goal.returns
-returns c = λ i. record { places = c.in_ok-places.ensures i; after = c.in_ok-after.ensures i }
+returns c = λ i. record { places = c.in_ok-places.ensures i; after = c.in_ok-after.ensures i; few = c.has_few_marks-few.ensures i }

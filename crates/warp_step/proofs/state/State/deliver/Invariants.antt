@@ -5,9 +5,9 @@ use Rattle.warp_step.proofs.state.State.deliver.Given as goal
 
 abbrev pub invariant-loop-mark : goal.invariant-loop-mark
 invariant-loop-mark l = record {
-  first : 256 ≤ l.mark;
+  first : l.first ≤ l.mark;
   within : l.mark ≤ l.end;
-  rest : with_links l.program l.tag l.present (drop (l.mark - 256) l.program.links) l.self
+  rest : with_links l.program l.tag l.present (drop (l.mark - l.first) l.program.links) l.self
       ≡ with_links l.program l.tag l.present l.program.links l.fn.self;
 }
 

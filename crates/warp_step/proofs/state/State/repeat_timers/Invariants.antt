@@ -5,9 +5,9 @@ use Rattle.warp_step.proofs.state.State.repeat_timers.Given as goal
 
 abbrev pub invariant-loop-mark : goal.invariant-loop-mark
 invariant-loop-mark l = record {
-  first : 576 ≤ l.mark;
+  first : l.first ≤ l.mark;
   within : l.mark ≤ l.end;
-  rest : with_repeats l.program l.tag l.present (l.mark - 576) (drop (l.mark - 576) l.program.timers) l.self
+  rest : with_repeats l.program l.tag l.present (l.mark - l.first) (drop (l.mark - l.first) l.program.timers) l.self
       ≡ with_repeats l.program l.tag l.present 0 l.program.timers l.fn.self;
 }
 

@@ -1,7 +1,7 @@
 -- what was marked still is, and so is what the other marks in the words so far
 use Rattle.std.proofs.Common.{◌≡◌, ℕ, ◌<◌, ◌/◌, length}
 use Rattle.warp_step.specs.Marks.{mark_at}
-use Rattle.warp_step.proofs.marks.Marks.add_all.Given as goal
+use Rattle.warp_step.proofs.marks.Marks.add_words.Given as goal
 
 abbrev pub invariant-loop-place : goal.invariant-loop-place
 invariant-loop-place l = record {
