@@ -3,7 +3,7 @@
 use Rattle.std.proofs.Common.{◌≡◌, ℕ, ℤ, zero, suc, ◌+◌, ◌-◌, ◌<◌, ◌≤◌, nat_lt, true, false, ◌&&◌, ◌||◌, List, [], ◌∷◌, length, drop, get_or, Option, None, Some, is_some, if◌then◌else◌, refl, sym, ap, ◌∙◌, arith}
 use Rattle.std.specs.Prelude.{slice_get, pos}
 use Rattle.std.specs.List.{list_any}
-use Rattle.std.proofs.lemmas.Bool.{cond-false, or_parts}
+use Rattle.std.proofs.lemmas.Bool.{cond-false}
 use Rattle.std.proofs.lemmas.List.{drop_more}
 use Rattle.std.proofs.lemmas.Option.{slice_get-get_or}
 use Rattle.warp_tag.specs.Moment.{Moment}
@@ -14,8 +14,7 @@ use Rattle.warp_step.specs.Marks.{first_reaction, mark_at}
 use Rattle.warp_step.specs.Plan.{link_heeds, output_heeds, reaction_heeds, source_if_delayed, timer_heeds}
 use Rattle.warp_step.specs.Program.{Program, Rule}
 use Rattle.warp_step.specs.Snapshot.{Snapshot, landed}
-use Rattle.warp_step.specs.Step.{Reacting, after_reactions, delivered, is_triggered, numbers, outputs_from, react, repeats, with_links, with_output, with_repeats}
-use Rattle.warp_step.specs.declared.out.Out.{Out}
+use Rattle.warp_step.specs.Step.{Reacting, after_reactions, delivered, is_triggered, numbers, outputs_from, repeats, with_links, with_output, with_repeats}
 use Rattle.warp_step.specs.declared.parts.Link.{Link}
 use Rattle.warp_step.specs.declared.parts.Timer.{Timer}
 use Rattle.warp_step.specs.inner.Due.{AreMarked}

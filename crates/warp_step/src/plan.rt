@@ -68,13 +68,7 @@ fn watch_reactions(marks: &mut Marks, reactions: &[Reaction], sources: &[u32], p
 }
 
 /// Marks the links with a delay whose source's place is one of the places.
-fn watch_links(
-    marks: &mut Marks,
-    first: usize,
-    links: &[Link],
-    sources: &[u32],
-    places: &[Target],
-)
+fn watch_links(marks: &mut Marks, first: usize, links: &[Link], sources: &[u32], places: &[Target])
     requires { first + length links.now ≤ most_marks }
     ensures { marks.new.words ≡ with_watchers link_heeds first sources.now places.now 0 links.now marks.old.words }
 {
@@ -110,13 +104,7 @@ fn watch_link(
 }
 
 /// Marks the program outputs whose port's place is one of the places.
-fn watch_outputs(
-    marks: &mut Marks,
-    first: usize,
-    ports: &[u32],
-    sources: &[u32],
-    places: &[Target],
-)
+fn watch_outputs(marks: &mut Marks, first: usize, ports: &[u32], sources: &[u32], places: &[Target])
     requires { first + length ports.now ≤ most_marks }
     ensures { marks.new.words ≡ with_watchers output_heeds first sources.now places.now 0 ports.now marks.old.words }
 {

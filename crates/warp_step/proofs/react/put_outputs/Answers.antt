@@ -5,12 +5,10 @@ use Rattle.warp_tag.specs.Limits.{most_outputs}
 use Rattle.warp_body.specs.Presence.{present_at}
 use Rattle.warp_body.specs.declared.place.Places.{Places}
 use Rattle.warp_body.specs.declared.place.Target.TheVariants as to
-use Rattle.warp_step.specs.Program.{Program}
 use Rattle.warp_step.specs.Plan.{output_heeds}
-use Rattle.warp_step.specs.inner.Due.{AreMarked}
 use Rattle.warp_step.specs.Step.{outputs_from, with_output}
-use Rattle.warp_step.specs.Valid.{is_valid}
 use Rattle.warp_step.specs.declared.out.Out.{Out}
+use Rattle.warp_step.specs.inner.Due.{AreMarked}
 use Rattle.warp_step.proofs.ReactLemmas.{outputs_one_more}
 use Rattle.warp_step.proofs.SkipLemmas.{skip_outputs}
 use Rattle.warp_step.proofs.ValidLemmas.{list_all_get, outputs_within, validity}

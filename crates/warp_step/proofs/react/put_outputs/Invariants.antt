@@ -1,5 +1,5 @@
 -- the outputs so far and those of the ports that are left are those of all
-use Rattle.std.proofs.Common.{◌≡◌, ℕ, ◌+◌, ◌-◌, ◌≤◌, ◌++◌, drop, length, vec_len, vec_capacity}
+use Rattle.std.proofs.Common.{◌≡◌, ◌+◌, ◌-◌, ◌≤◌, ◌++◌, drop, length, vec_len, vec_capacity}
 use Rattle.warp_step.specs.Step.{outputs_from}
 use Rattle.warp_step.proofs.react.put_outputs.Given as goal
 

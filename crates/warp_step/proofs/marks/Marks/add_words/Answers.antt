@@ -1,9 +1,8 @@
 -- one word more is joined
-use Rattle.std.proofs.Common.{◌≡◌, ℕ, ◌<◌, ◌≤◌, ◌/◌, ◌%◌, inl, inr, length, slice_index_or, rules, arith, ap, sym, ◌∙◌}
+use Rattle.std.proofs.Common.{◌≡◌, ℕ, ◌<◌, ◌/◌, ◌%◌, inl, inr, length, slice_index_or, rules, arith, ap, sym, ◌∙◌}
 use Rattle.std.proofs.lemmas.Bool.{cases_lt}
 use Rattle.std.proofs.lemmas.List.{length-set}
 use Rattle.std.specs.Int.{bit_at}
-use Rattle.warp_step.specs.Marks.{mark_at}
 use Rattle.warp_step.proofs.MarkLemmas.{joined_adds, joined_keeps, unmarked_past}
 use Rattle.warp_step.proofs.marks.Marks.add_words.Goals as goal
 

@@ -1,11 +1,11 @@
 -- a valid program's links fit; links that are not marked deliver nothing
-use Rattle.std.proofs.Common.{◌≡◌, ℕ, ◌+◌, ◌-◌, ◌<◌, ◌≤◌, List, None, IsTrue, length, drop, get_or, ap, sym, ◌∙◌, subst, arith}
+use Rattle.std.proofs.Common.{◌≡◌, ℕ, ◌+◌, ◌-◌, ◌<◌, List, None, IsTrue, length, drop, get_or, ap, sym, ◌∙◌, subst, arith}
 use Rattle.warp_step.specs.Plan.{link_heeds}
-use Rattle.warp_step.specs.inner.Due.{AreMarked}
 use Rattle.warp_step.specs.Step.{with_links}
 use Rattle.warp_step.specs.Snapshot.{Snapshot}
 use Rattle.warp_step.specs.Valid.{link_fits}
 use Rattle.warp_step.specs.declared.parts.Link.{Link}
+use Rattle.warp_step.specs.inner.Due.{AreMarked}
 use Rattle.warp_step.proofs.SkipLemmas.{get_or_same, links_one_more, skip_links}
 use Rattle.warp_step.proofs.ValidLemmas.{list_all_get, validity}
 use Rattle.warp_step.proofs.state.State.deliver.Goals as goal

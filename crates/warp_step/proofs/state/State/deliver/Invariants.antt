@@ -1,5 +1,5 @@
 -- the links that are left deliver as all do at the start
-use Rattle.std.proofs.Common.{◌≡◌, ℕ, ◌-◌, ◌≤◌, drop}
+use Rattle.std.proofs.Common.{◌≡◌, ◌-◌, ◌≤◌, drop}
 use Rattle.warp_step.specs.Step.{with_links}
 use Rattle.warp_step.proofs.state.State.deliver.Given as goal
 

@@ -2,10 +2,10 @@
 use Rattle.std.proofs.Common.{◌≡◌, ℕ, ◌+◌, ◌-◌, ◌<◌, ◌≤◌, List, length, drop, get_or, ap, sym, ◌∙◌, subst, arith}
 use Rattle.warp_tag.specs.Limits.{most_timers}
 use Rattle.warp_step.specs.Plan.{timer_heeds}
-use Rattle.warp_step.specs.inner.Due.{AreMarked}
 use Rattle.warp_step.specs.Step.{with_repeats}
 use Rattle.warp_step.specs.Snapshot.{Snapshot}
 use Rattle.warp_step.specs.declared.parts.Timer.{Timer}
+use Rattle.warp_step.specs.inner.Due.{AreMarked}
 use Rattle.warp_step.proofs.SkipLemmas.{get_or_same, skip_timers, timers_one_more}
 use Rattle.warp_step.proofs.ValidLemmas.{timer_period, validity}
 use Rattle.warp_step.proofs.state.State.repeat_timers.Goals as goal

@@ -1,5 +1,5 @@
 -- the timers that are left repeat as all do at the start
-use Rattle.std.proofs.Common.{◌≡◌, ℕ, ◌-◌, ◌≤◌, drop}
+use Rattle.std.proofs.Common.{◌≡◌, ◌-◌, ◌≤◌, drop}
 use Rattle.warp_step.specs.Step.{with_repeats}
 use Rattle.warp_step.proofs.state.State.repeat_timers.Given as goal
 
