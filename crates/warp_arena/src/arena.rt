@@ -12,10 +12,11 @@ use warp_tag::{Entry, OutOfMemory, Tag};
 /// Only `start` and `reserve_one` take memory.
 ///
 /// For a name, `find`, `insert` and `enter` walk back along its origin's list: from the entry of the origin that was
-/// touched last (that came in, or got an event or a withdrawal), where that is after the name, and else from the list's end.
-/// Where the name comes in, a walk back along the tag list follows: from the origin's first entry after the name, or from
-/// the end where there is none. It passes entries of other origins alone. So where names come in order of tags no walk takes
-/// a hop. Where an origin's come newest first, the first takes one, and the other one for each entry that lies between.
+/// touched last (that came in, or got an event or a withdrawal), where that is after the name, and else from the
+/// list's end. Where the name comes in, a walk back along the tag list follows: from the origin's first entry after
+/// the name, or from the end where there is none. It passes entries of other origins alone. So where names come in
+/// order of tags no walk takes a hop. Where an origin's come newest first, the first takes one, and the other one for
+/// each entry that lies between.
 #[derive(Drop)]
 pub struct Arena {
     nodes: Vec<Node>,
@@ -66,8 +67,8 @@ impl Arena {
     }
 
     /// Makes sure that a node is free, so that one `insert` can follow. Where one is, nothing changes. Else it makes
-    /// one, and takes memory only where no room is left: for twice as many nodes as before, and for four at least. The only error is want of
-    /// memory, where no node is free and no room is left; then all is as before.
+    /// one, and takes memory only where no room is left: for twice as many nodes as before, and for four at least.
+    /// The only error is want of memory, where no node is free and no room is left; then all is as before.
     pub fn reserve_one(&mut self, _alloc: Global) -> Result<(), OutOfMemory>
         requires { length self.old.places < most_names }
         ensures ok { OnOk result (self.new ≡ with_free self.old) }
@@ -84,7 +85,8 @@ impl Arena {
     }
 
     /// The handle of this name, or none where the arena does not hold it. It walks the list of the origin alone, back
-    /// from the node touched last where that is after the tag, and else from its end, to the first that is not after it.
+    /// from the node touched last where that is after the tag, and else from its end, to the first that is not after
+    /// it.
     pub fn find(&self, origin: u32, tag: Tag) -> Option<NodeId>
         ensures handle { result ≡ node_of origin tag self.now.places }
         ensures named { IfSome result
@@ -130,8 +132,8 @@ impl Arena {
         self.insert_behind(origin, tag, own_before)
     }
 
-    /// The handle of this name, which comes in where the arena does not hold it: what `find` answers, and else `insert`. It walks
-    /// the list of the origin once.
+    /// The handle of this name, which comes in where the arena does not hold it: what `find` answers, and else
+    /// `insert`. It walks the list of the origin once.
     pub fn enter(&mut self, origin: u32, tag: Tag) -> NodeId
         requires origin { origin < self.old.origins }
         requires reserved { 0 < self.old.free }
@@ -266,8 +268,8 @@ impl Arena {
         self.used
     }
 
-    /// What is known of any arena: its entries are in order of tag, then of origin, each name once, each has a handle of
-    /// its own, and there is room for all nodes.
+    /// What is known of any arena: its entries are in order of tag, then of origin, each name once, each has a handle
+    /// of its own, and there is room for all nodes.
     pub fn ordered(&self)
         ensures order { IsOrdered self.now }
         ensures room { length self.now.places + self.now.free ≤ self.now.room }
@@ -357,8 +359,9 @@ impl Arena {
         }
     }
 
-    /// Where the walk back along the tag list starts, where it is known which of the origin's nodes is the last that is not
-    /// after the name: at the next one of the origin, since all behind that are after the name too, and else at this end.
+    /// Where the walk back along the tag list starts, where it is known which of the origin's nodes is the last that
+    /// is not after the name: at the next one of the origin, since all behind that are after the name too, and else
+    /// at this end.
     fn start_beside(&self, origin: u32, tag: Tag, own_before: u32, end: u32) -> u32
         requires origin { origin < self.now.origins }
         requires own_before { own_before ≡ last_not_after origin tag (places_of origin self.now.places) }
@@ -369,8 +372,8 @@ impl Arena {
         if own_after == NO_NODE { end } else { own_after }
     }
 
-    /// The last node of the tag list whose name is not after this one, or `NO_NODE`, where it is known which of the origin's
-    /// nodes is.
+    /// The last node of the tag list whose name is not after this one, or `NO_NODE`, where it is known which of the
+    /// origin's nodes is.
     fn last_through(&self, origin: u32, tag: Tag, own_before: u32) -> u32
         requires origin { origin < self.now.origins }
         requires own_before { own_before ≡ last_not_after origin tag (places_of origin self.now.places) }

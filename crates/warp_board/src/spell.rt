@@ -19,7 +19,8 @@ pub fn spell_row(row: Out) -> (u64, u64)
     (first, row.value.cast_unsigned())
 }
 
-/// The row that the two words spell; `None` exactly where they spell none, since the first word has no tag and port in range.
+/// The row that the two words spell; `None` exactly where they spell none, since the first word has no tag and port
+/// in range.
 pub fn read_row(first: u64, second: u64) -> Option<Out>
     ensures { (row : Out) → (result ≡ Some row) ↔ Spells row first second }
 {

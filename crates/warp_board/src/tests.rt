@@ -105,8 +105,8 @@ fn has_rows(board: &Board, reader: &mut Reader, from: u64, to: u64) -> bool
     true
 }
 
-// Follows the board until all rows were seen, or gives up after 10,000 turns of a millisecond; whether all were seen, each
-// the one for its place.
+// Follows the board until all rows were seen, or gives up after 10,000 turns of a millisecond; whether all were seen,
+// each the one for its place.
 fn follow<R: Clock>(rt: &R, board: &Board, mut reader: Reader) -> (Reader, bool)
     requires { reader.board ≡ board.now }
     ensures { result.0.board ≡ board.now }

@@ -105,8 +105,8 @@ fn store_row(board: &Board, seat: &mut Seat, count: usize, row: &Out)
     shared.store::<StoreCount>(seat, 0, count as u64 + 1);
 }
 
-/// Ties what the reader has read to the writer's rows: all of it is so, and from now on the reader knows what the writer
-/// does. `Err` is for want of memory, and never comes.
+/// Ties what the reader has read to the writer's rows: all of it is so, and from now on the reader knows what the
+/// writer does. `Err` is for want of memory, and never comes.
 pub fn meet(board: &Board, writer: &mut Writer, reader: &mut Reader) -> Result<(), OutOfMemory>
     requires writer { writer.old.board ≡ board.now }
     requires reader { reader.old.board ≡ board.now }

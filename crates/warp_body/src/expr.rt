@@ -28,8 +28,8 @@ pub enum Expr {
 
 /// The value of an expression.
 ///
-/// It comes at once for a leaf, and for an operator of two operands, each a leaf or an operator over two leaves. The rest is left
-/// to functions of their own, which are called last, so that this one has no registers to save.
+/// It comes at once for a leaf, and for an operator of two operands, each a leaf or an operator over two leaves. The
+/// rest is left to functions of their own, which are called last, so that this one has no registers to save.
 #[cycle(eval_expr)]
 pub fn eval(expr: &Expr, vars: &Vars, present: &Present) -> i64
     requires { IsTrue (term_fits (sizes_of vars.now present.now) (term_of expr.now)) }

@@ -163,8 +163,8 @@ impl Vars {
     }
 }
 
-/// What is present at a tag, and with what value: startup, and each timer, action and port, is absent, or present with one
-/// value. A port to which a link without delay leads has the presence of the port from which it leads.
+/// What is present at a tag, and with what value: startup, and each timer, action and port, is absent, or present
+/// with one value. A port to which a link without delay leads has the presence of the port from which it leads.
 ///
 /// All places share one count of moments.
 #[derive(Debug, Drop)]

@@ -26,8 +26,8 @@ pub enum Pulled {
     Strange,
 }
 
-/// Pulls the log of another replica into a desk: it asks for place after place, from 1. Contracts see the place that it asks
-/// for next.
+/// Pulls the log of another replica into a desk: it asks for place after place, from 1. Contracts see the place that
+/// it asks for next.
 #[derive(Debug, Drop)]
 pub struct Puller {
     next: u32,
@@ -67,8 +67,8 @@ impl Puller {
         Query::Log(self.next)
     }
 
-    /// Does what the other replica's reply leads to; `None` is no reply that reads. The desk is asked at most one line, to take
-    /// the record that came.
+    /// Does what the other replica's reply leads to; `None` is no reply that reads. The desk is asked at most one
+    /// line, to take the record that came.
     pub fn on_reply<D: Desk>(&mut self, reply: Option<Reply>, desk: &mut D) -> Pulled
         requires { IfSome reply IsReply }
         ensures { Pulls D.gives (D.state desk.old) self.old reply (record { pulled = result; next = self.new }) (D.state desk.new) }
@@ -113,8 +113,8 @@ mod tests {
     use super::*;
     use warp_tag::Tag;
 
-    /// What another replica says: that its log has so many records and this is the one asked for, that it has so many and not
-    /// that one, a refusal, or nothing that reads.
+    /// What another replica says: that its log has so many records and this is the one asked for, that it has so many
+    /// and not that one, a refusal, or nothing that reads.
     #[derive(Clone, Copy, Debug)]
     enum Said {
         Log(u16),
@@ -193,7 +193,8 @@ mod tests {
     fn replies_in_turn(rt: HostRuntime) {
         use Pulled::{Got, Held, Level, Strange};
         use Refusal::{Busy, LogFull, NoMemory, NoOrigin};
-        // What is said, what the desk answers if it is asked, what that leads to, the next place, whether the desk was asked.
+        // What is said, what the desk answers if it is asked, what that leads to, the next place, whether the desk
+        // was asked.
         let rows = [
             (Said::Log(2), Answer::Taken, Got, 2, true),
             (Said::Log(2), Answer::Known, Got, 3, true),

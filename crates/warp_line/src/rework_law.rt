@@ -6,8 +6,9 @@ ghost use Rattle.warp_step.specs.Run.{Row, Run};
 ghost use Rattle.warp_line.specs.Timeline.{Standing, IsDone};
 ghost use Rattle.warp_line.specs.Rework.{Change, Follow, AreNotBefore, ChangeNothing, TicksAtMost, rework};
 
-/// A law: after changes of a timeline of which all rows were done, settling ticks at most once for each row of the new run
-/// that is not before the least tag at which a live event changed, and `slack` times more; not at all where none changed.
+/// A law: after changes of a timeline of which all rows were done, settling ticks at most once for each row of the
+/// new run that is not before the least tag at which a live event changed, and `slack` times more; not at all where
+/// none changed.
 pub fn rework_is_bounded()
     ensures bound { (slack : ℕ) (m n : Standing) (changes : List Change) (tag : Moment) (ticks : ℕ) (trace : List Row) →
         IsDone m → Follow slack m changes n → AreNotBefore tag m changes → TicksAtMost n ticks →

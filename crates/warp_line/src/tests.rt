@@ -1,5 +1,5 @@
-//! What no clause says: that the calls succeed, and the values of the program `twice`, and of one that beats, through the
-//! bound.
+//! What no clause says: that the calls succeed, and the values of the program `twice`, and of one that beats, through
+//! the bound.
 ghost use Rattle.std.specs.Prelude.{◌≡◌, ◌<◌, ◌≤◌, ◌+◌, ◌∷◌, [], pos, IfOk, IsTrue, OnOk, length};
 ghost use Rattle.warp_body.specs.Term.{Constant, OfTwo, VariableAt, term_of};
 ghost use Rattle.warp_body.specs.Effect.{SetVariable, PutOutput, Done, Then};

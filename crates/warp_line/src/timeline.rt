@@ -89,8 +89,8 @@ pub trait Timeline: Sized {
         requires { IsTrue (settled self.now) }
         ensures { (m : Standing) → stands_for self.now m → IsDone m × (result.now ≡ outputs_of m.done) };
 
-    /// Lets go of what is not needed for tags from `below` on: the caller says that nothing changes before it any more. It changes no answer,
-    /// leaves the done rows as they are, takes no memory, and cannot fail.
+    /// Lets go of what is not needed for tags from `below` on: the caller says that nothing changes before it any
+    /// more. It changes no answer, leaves the done rows as they are, takes no memory, and cannot fail.
     fn collect(&mut self, below: Tag)
         requires { IsTrue (settled self.old) }
         ensures stands { (m : Standing) → stands_for self.old m → stands_for self.new m }

@@ -8,7 +8,8 @@ use crate::file::{LinkPart, ProgramFile, Reactor};
 use crate::name::Name;
 use crate::named::is_same;
 
-/// Whether a link without delay leads to a reactor that does not stand later in the file than the one that it comes from.
+/// Whether a link without delay leads to a reactor that does not stand later in the file than the one that it comes
+/// from.
 pub(crate) fn leads_back(file: &ProgramFile) -> bool
     ensures { result ≡ leads_back (file_tree file.now) }
 {

@@ -1,5 +1,5 @@
-//! Files that are just within the format and just outside it: each range and each limit, and each place of a name, a port
-//! and a link.
+//! Files that are just within the format and just outside it: each range and each limit, and each place of a name, a
+//! port and a link.
 use crate::backward::leads_back;
 use crate::file::ProgramFile;
 use crate::limits::exceeds_limits;

@@ -13,7 +13,8 @@ use crate::named::{Named, is_same};
 /// How often a name or a port may stand.
 const ONCE: usize = 1;
 
-/// Whether a reactor's name or a name within a reactor stands twice, an input has two sources, or an output is listed twice.
+/// Whether a reactor's name or a name within a reactor stands twice, an input has two sources, or an output is listed
+/// twice.
 pub(crate) fn names_twice(file: &ProgramFile) -> bool
     ensures { result ≡ names_twice (file_tree file.now) }
 {

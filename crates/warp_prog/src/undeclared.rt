@@ -10,7 +10,8 @@ use crate::name::Name;
 use crate::named::is_among;
 use crate::uses::{Rule, Use, breaks};
 
-/// Whether a body reads or asks for what its reaction neither is on nor reads, or puts or schedules what it does not write.
+/// Whether a body reads or asks for what its reaction neither is on nor reads, or puts or schedules what it does not
+/// write.
 pub(crate) fn is_undeclared(file: &ProgramFile) -> bool
     ensures { result ≡ is_undeclared (file_tree file.now) }
 {
@@ -33,7 +34,8 @@ fn any_undeclared(reactor: &Reactor) -> bool
     false
 }
 
-/// Whether a reaction declares a use. A variable needs no declaration, also where an input or an action shares its name.
+/// Whether a reaction declares a use. A variable needs no declaration, also where an input or an action shares its
+/// name.
 pub(crate) fn is_declared(reactor: &Reactor, reaction: &Reaction, what: &Use) -> bool
     ensures { result ≡ is_declared (reactor_tree reactor.now) (reaction_tree reaction.now) (use_of what.now) }
 {

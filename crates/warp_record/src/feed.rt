@@ -137,8 +137,8 @@ impl Feed {
         (end + 1, Some(fed))
     }
 
-    /// The line that these bytes begin with, without its line feed, where nothing is kept of it and it is no longer than
-    /// `MAX_LINE`; `None` else. It takes nothing: the caller goes on behind the line feed.
+    /// The line that these bytes begin with, without its line feed, where nothing is kept of it and it is no longer
+    /// than `MAX_LINE`; `None` else. It takes nothing: the caller goes on behind the line feed.
     #[tactic(auto, using(crate::proofs::LineCuts::found_end, crate::proofs::LineCuts::no_end))]
     pub fn whole<'p>(&self, piece: &'p [u8]) -> Option<&'p [u8]>
         ensures found { IfSome result (λ text. (text.now ≡ before_first is_end piece.now)

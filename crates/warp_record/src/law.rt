@@ -23,8 +23,8 @@ pub fn no_line_feed()
     ensures replies { (reply : Reply) → IsReply reply → IsOneLine (reply_spelling reply) }
 {}
 
-/// No spelling with its line feed begins another with its line feed: bytes in which a line feed stands at their end alone
-/// begin no other such bytes.
+/// No spelling with its line feed begins another with its line feed: bytes in which a line feed stands at their end
+/// alone begin no other such bytes.
 pub fn no_front()
     ensures { (a b : List ℕ) → IsOneLine a → IsOneLine b → StartsWith (b ++ 10 ∷ []) (a ++ 10 ∷ []) → a ≡ b }
 {}

@@ -50,8 +50,8 @@ pub enum Record {
         /// Of which tag.
         tag: Tag,
     },
-    /// An announcement `announce O T M E W`: before the tag the origin has so many names with an event and so many with a
-    /// withdrawal, and will add none.
+    /// An announcement `announce O T M E W`: before the tag the origin has so many names with an event and so many
+    /// with a withdrawal, and will add none.
     Announce {
         /// Who says so, 0 to `LAST_ORIGIN`.
         origin: u32,

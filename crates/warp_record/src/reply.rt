@@ -280,8 +280,8 @@ fn read_middle(word: &[u8], number: u32, field: &[u8]) -> Option<Reply>
     }
 }
 
-/// The reply in range whose words are this keyword, which is not a row's, this number and two words more or longer; `None`
-/// where there is none.
+/// The reply in range whose words are this keyword, which is not a row's, this number and two words more or longer;
+/// `None` where there is none.
 #[tactic(auto, using(crate::proofs::ReplyLemmas::not_one_word))]
 fn read_long(word: &[u8], number: u32, fields: &[&[u8]]) -> Option<Reply>
     requires range { number ≤ most_records }

@@ -16,8 +16,8 @@ fn push_word<'a>(words: &mut ArrayVec<&'a [u8], MOST_WORDS>, word: &'a [u8]) -> 
     words.try_push(word).ok()
 }
 
-/// The words of the text; `None` where there are more than `MOST_WORDS`. A space at an end, or one behind another, has an
-/// empty word beside it.
+/// The words of the text; `None` where there are more than `MOST_WORDS`. A space at an end, or one behind another,
+/// has an empty word beside it.
 pub fn split_words(bytes: &[u8]) -> Option<ArrayVec<&[u8], MOST_WORDS>>
     ensures found { IfSome result (λ words. map (λ word. word.now) words.items ≡ slice_split is_space bytes.now) }
     ensures none { IfNone result (MOST_WORDS < length (slice_split is_space bytes.now)) }

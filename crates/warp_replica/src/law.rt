@@ -28,8 +28,8 @@ pub fn one_reply()
         GivesQuery P records query a → GivesQuery P records query b → a ≡ b }
 {}
 
-/// Logs of one set give a query the same replies, but for a query that asks for a place. The set is all that a program's
-/// answers see of a log: records taken in another order, or some of them again, have the same answers.
+/// Logs of one set give a query the same replies, but for a query that asks for a place. The set is all that a
+/// program's answers see of a log: records taken in another order, or some of them again, have the same answers.
 pub fn same_replies()
     ensures { (P : Program) (records other : List Record) (query : Query) (reply : Reply) →
         set_of records ≡ set_of other → ¬ AsksPlace query → GivesQuery P records query reply → GivesQuery P other query reply }
@@ -41,8 +41,8 @@ pub fn merging_joins()
     ensures once { (records other : List Record) → EachOnce records → EachOnce other → EachOnce (merged records other) }
 {}
 
-/// In what a program answers, joining two sets is commutative, associative and idempotent, and so is merging logs; a log
-/// that was merged brings nothing more.
+/// In what a program answers, joining two sets is commutative, associative and idempotent, and so is merging logs; a
+/// log that was merged brings nothing more.
 pub fn merging_laws()
     ensures commutes { (P : Program) (S T : Records) (a b : Answers) → AreAnswers P (union S T) a → AreAnswers P (union T S) b → a ≡ b }
     ensures associates { (P : Program) (S T U : Records) (a b : Answers) →
@@ -64,7 +64,8 @@ pub fn one_taking()
         (a : Result Took Refusal) × (after : List Record) × Takes P records said a after × (a ≢ Err Refusal.NoMemory) }
 {}
 
-/// What a puller does with a replica as its desk: the replica's log grows by the record that was replied, or not at all.
+/// What a puller does with a replica as its desk: the replica's log grows by the record that was replied, or not at
+/// all.
 pub fn pulled_record()
     ensures { (s s' : LocalState) (place : ℕ) (said : Option Reply) (step : Step) → Pulls LocalGives s place said step s' →
         (s'.program ≡ s.program) × ((s'.records ≡ s.records)

@@ -21,7 +21,8 @@ pub fn honest_subsets()
     ensures { (S U : Records) → IsHonest U → IsWithin S U → IsHonest S }
 {}
 
-/// Within an honest set of records that the program takes, what a smaller set releases begins what a larger one releases.
+/// Within an honest set of records that the program takes, what a smaller set releases begins what a larger one
+/// releases.
 pub fn released_stays()
     ensures { (P : Program) (S T U : Records) (a b : Answers) → IsHonest U → AreTaken P U →
         IsWithin S T → IsWithin T U → AreAnswers P S a → AreAnswers P T b → StartsWith b.released a.released }

@@ -9,8 +9,8 @@ use warp_record::{Count, Line, Query, Record, Refusal, Reply};
 use warp_step::Out;
 use warp_tag::Tag;
 
-/// A record of an origin at a time, with microstep 0: an event with this value for the origin's own input, or an announcement of
-/// so many events and no withdrawal.
+/// A record of an origin at a time, with microstep 0: an event with this value for the origin's own input, or an
+/// announcement of so many events and no withdrawal.
 #[derive(Clone, Copy, Debug)]
 enum Says {
     Event(u32, u64, i64),
@@ -52,8 +52,8 @@ fn answer(rt: &impl Abort, replica: &mut Replica<Plain>, alloc: Global, query: Q
     replica.answer(query)
 }
 
-/// Takes a new record, and compares the horizon's time, how many outputs are released, and whether the first origin broke an
-/// announcement.
+/// Takes a new record, and compares the horizon's time, how many outputs are released, and whether the first origin
+/// broke an announcement.
 fn row(
     rt: &impl Abort,
     replica: &mut Replica<Plain>,
@@ -114,7 +114,8 @@ fn honest(rt: &impl Abort, alloc: Global, order: &[usize]) -> Replica<Plain> {
     replica
 }
 
-/// What a replica of these records releases: the first of its outputs, up to this horizon. No origin broke an announcement.
+/// What a replica of these records releases: the first of its outputs, up to this horizon. No origin broke an
+/// announcement.
 fn released(rt: &impl Abort, alloc: Global, order: &[usize], time: u64) -> Vec<Out> {
     let mut replica = honest(rt, alloc, order);
     let log = replica.len();

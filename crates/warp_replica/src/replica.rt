@@ -68,8 +68,8 @@ impl<T: Timeline> Replica<T> {
         })
     }
 
-    /// What is known of any replica: its timeline stands for its program and its records, of which there are at most 100,000,
-    /// none twice and none against which the program has a reason. It does nothing.
+    /// What is known of any replica: its timeline stands for its program and its records, of which there are at most
+    /// 100,000, none twice and none against which the program has a reason. It does nothing.
     pub fn valid(&self)
         ensures allowed { AreAllowed self.now.program self.now.records }
         ensures stands { (done : List Row) × Stands T.stands_for self.now done }
@@ -132,7 +132,8 @@ impl<T: Timeline> Replica<T> {
         }
     }
 
-    /// The place of a record that was there before, which needs neither room nor memory; of another one why it does not come in.
+    /// The place of a record that was there before, which needs neither room nor memory; of another one why it does
+    /// not come in.
     fn find(&self, record: &Record, refusal: Refusal) -> Result<Took, Refusal>
         ensures known { IfOk result (λ took. (place : ℕ) × (took ≡ Took.Known place) × IsAt self.now.records place «record».now × (place ≤ most_records)) }
         ensures lacking { IfErr result (λ why. (why ≡ refusal) × (¬ Contains self.now.records «record».now)) }
@@ -143,8 +144,8 @@ impl<T: Timeline> Replica<T> {
         }
     }
 
-    /// Takes a record that the program has no reason against, where the log is not full. An `Err` changes neither the records nor
-    /// what is done.
+    /// Takes a record that the program has no reason against, where the log is not full. An `Err` changes neither the
+    /// records nor what is done.
     fn add(&mut self, alloc: Global, record: &Record) -> Result<Took, OutOfMemory>
         requires allowed { refusal_of self.old.program «record».now ≡ None }
         requires room { length self.old.records < most_records }
@@ -194,8 +195,9 @@ impl<T: Timeline> Replica<T> {
         self.timeline.is_settled()
     }
 
-    /// Answers a query from the run over all records, which is done: `refused 6` where the program has no such variable,
-    /// `refused 2` where it has no such origin, and `none` where there is no such output, or no such place in the log.
+    /// Answers a query from the run over all records, which is done: `refused 6` where the program has no such
+    /// variable, `refused 2` where it has no such origin, and `none` where there is no such output, or no such place
+    /// in the log.
     pub fn answer(&self, query: Query) -> Reply
         requires { IsTrue (T.settled self.now.timeline) }
         ensures gives { GivesQuery self.now.program self.now.records query result }
@@ -349,8 +351,8 @@ impl<T: Timeline> Replica<T> {
         }
     }
 
-    /// Lets go of what is not needed before the horizon, and tells how many records there are. It changes no answer, and what is
-    /// done stays done.
+    /// Lets go of what is not needed before the horizon, and tells how many records there are. It changes no answer,
+    /// and what is done stays done.
     pub fn collect(&mut self) -> Reply
         requires { IsTrue (T.settled self.old.timeline) }
         ensures reply { result ≡ Reply.Collected (length self.old.records) }
@@ -374,8 +376,9 @@ impl<T: Timeline> Replica<T> {
         self.program.is_same(&other.program)
     }
 
-    /// Takes the records of another replica of the same program, in the order of its log, and gives how many these are. An
-    /// `Err` says how many of them are in, and why the next one is not: the log is full, or no memory was to be had.
+    /// Takes the records of another replica of the same program, in the order of its log, and gives how many these
+    /// are. An `Err` says how many of them are in, and why the next one is not: the log is full, or no memory was to
+    /// be had.
     pub fn merge<U: Timeline>(
         &mut self,
         alloc: Global,

@@ -64,8 +64,8 @@ impl Front {
         &self.outputs
     }
 
-    /// Executes one more row, at the next tag that waits, with what is given there. Where no checkpoint stands at sixteen
-    /// times the number of all, it makes one first. An `Err` leaves what is executed as it was.
+    /// Executes one more row, at the next tag that waits, with what is given there. Where no checkpoint stands at
+    /// sixteen times the number of all, it makes one first. An `Err` leaves what is executed as it was.
     pub fn step<M: Meter>(
         &mut self,
         program: &Program,
@@ -119,8 +119,8 @@ impl Front {
         Ok(())
     }
 
-    /// Goes back to the newest checkpoint before a tag that is not after the last row, and drops those after it. It takes no
-    /// memory.
+    /// Goes back to the newest checkpoint before a tag that is not after the last row, and drops those after it. It
+    /// takes no memory.
     pub fn go_back(&mut self, tag: Tag)
         requires at { (P : Program) × (E : List Event) × (done : List Row) × IsAt P E self.old done }
         requires late { is_after self.old.last tag ≡ false }

@@ -1,4 +1,5 @@
-//! The checkpoints of a run, in lists that they share, so that each costs what is in use, and going back cuts the lists.
+//! The checkpoints of a run, in lists that they share, so that each costs what is in use, and going back cuts the
+//! lists.
 ghost use Rattle.std.specs.Prelude.{◌≡◌, ◌<◌, ◌-◌, ℕ, List, [], ◌∷◌, length, drop, IfOk, OnOk, OnErr};
 ghost use Rattle.warp_step.specs.Snapshot.{Snapshot};
 ghost use Rattle.warp_run.specs.History.{Saved, before, newest, saved_at};
@@ -43,8 +44,8 @@ struct Mark {
 
 /// The checkpoints of one run. Contracts see them as a list, the newest first.
 ///
-/// Each has as many values of variables as the program has variables; the values of all stand in one list, and so do the
-/// pending entries.
+/// Each has as many values of variables as the program has variables; the values of all stand in one list, and so do
+/// the pending entries.
 #[derive(Debug, Drop)]
 pub(crate) struct History {
     width: usize,

@@ -89,8 +89,8 @@ pub(crate) fn next_event(arena: &Arena, cursor: Option<NodeId>, latest: Option<T
     None
 }
 
-/// Gathers what the live events from the cursor on give, up to the tag of the next row and with it, and answers the first
-/// place after it. Where the first of them is known, the walk begins behind it.
+/// Gathers what the live events from the cursor on give, up to the tag of the next row and with it, and answers the
+/// first place after it. Where the first of them is known, the walk begins behind it.
 #[inline(always)]
 pub(crate) fn gather(
     arena: &Arena,

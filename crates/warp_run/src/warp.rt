@@ -19,8 +19,8 @@ use warp_line::Timeline;
 use warp_step::{Given, Meter, Out, Program, State};
 use warp_tag::{OutOfMemory, Tag};
 
-/// The timeline that executes at once what it has, and after a change at a tag that is executed already goes back to the
-/// newest checkpoint before that tag.
+/// The timeline that executes at once what it has, and after a change at a tag that is executed already goes back to
+/// the newest checkpoint before that tag.
 #[derive(Drop)]
 pub struct Warp {
     arena: Arena,

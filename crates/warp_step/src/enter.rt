@@ -66,7 +66,8 @@ impl State {
         }
     }
 
-    /// Enters the wishes of the reactions, then what links with a delay deliver. The flag says whether there may be wishes.
+    /// Enters the wishes of the reactions, then what links with a delay deliver. The flag says whether there may be
+    /// wishes.
     pub(crate) fn enter_later(
         &mut self,
         program: &Program,

@@ -1,5 +1,5 @@
-//! The list of the pending entries. The earliest are taken out at its front without moving the rest, and a new one moves those on
-//! its shorter side, where there is room.
+//! The list of the pending entries. The earliest are taken out at its front without moving the rest, and a new one
+//! moves those on its shorter side, where there is room.
 ghost use Rattle.std.specs.Prelude.{◌≡◌, ◌+◌, ◌-◌, ◌<◌, ◌≤◌, [], length, take, drop, slice_range, slice_set};
 ghost use Rattle.std.specs.List.{insert};
 ghost use Rattle.warp_tag.specs.Limits.{most_pending};
@@ -84,7 +84,8 @@ impl Entries {
         self.items[place] = entry;
     }
 
-    /// Inserts an entry at its place. Those in front of it move where they are fewer and there is room, else those behind it.
+    /// Inserts an entry at its place. Those in front of it move where they are fewer and there is room, else those
+    /// behind it.
     #[inline(always)]
     pub(crate) fn insert(&mut self, at: usize, entry: Waiting)
         requires within { at ≤ length self.old }

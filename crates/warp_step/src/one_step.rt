@@ -23,8 +23,8 @@ use std::marker::Model;
 use warp_body::{Places, Present, Wishes};
 use warp_tag::{OutOfMemory, Tag};
 
-/// Room that the steps of one program share. Contracts see of which program it is: its places, the sources of its ports, how
-/// many bodies it has, and whom each place concerns.
+/// Room that the steps of one program share. Contracts see of which program it is: its places, the sources of its
+/// ports, how many bodies it has, and whom each place concerns.
 #[derive(Drop)]
 pub struct Scratch {
     present: Present,
@@ -116,9 +116,9 @@ fn empty_wishes(alloc: Global, count: usize) -> Result<Vec<Wishes>, OutOfMemory>
 
 /// One step of a program at a tag, with what is given there. It takes no memory and ticks the meter once.
 ///
-/// The state and the scratch are of this program, and `out` has room for each program output. What is pending at the tag
-/// and what is given is present; timers repeat; the triggered reactions run; their wishes, and what links with a delay
-/// deliver, are entered; and each program output that is present is appended.
+/// The state and the scratch are of this program, and `out` has room for each program output. What is pending at the
+/// tag and what is given is present; timers repeat; the triggered reactions run; their wishes, and what links with a
+/// delay deliver, are entered; and each program output that is present is appended.
 pub fn step<M: Meter>(
     program: &Program,
     state: &mut State,

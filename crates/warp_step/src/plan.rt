@@ -229,8 +229,8 @@ fn after_reactions(
     Ok(all)
 }
 
-/// Whom each place of a program concerns, by the place's number, and whom what each reaction writes does; and whether all marks
-/// stand in the first word.
+/// Whom each place of a program concerns, by the place's number, and whom what each reaction writes does; and whether
+/// all marks stand in the first word.
 #[derive(Drop)]
 pub(crate) struct Plan {
     places: Vec<Marks>,

@@ -47,8 +47,8 @@ fn is_one_present(targets: &[Target], present: &Present) -> bool
     false
 }
 
-/// Runs the reaction with this number if it is triggered, and says whether it has wishes then. Whom what it writes concerns is
-/// due then: those are the marks after it.
+/// Runs the reaction with this number if it is triggered, and says whether it has wishes then. Whom what it writes
+/// concerns is due then: those are the marks after it.
 fn run_reaction(
     number: usize,
     reaction: &Reaction,
@@ -84,8 +84,8 @@ fn run_reaction(
     false
 }
 
-/// Runs the reactions that are triggered, in their order, and says whether one has wishes then. It looks at those that are
-/// due, which all are that something present triggers.
+/// Runs the reactions that are triggered, in their order, and says whether one has wishes then. It looks at those
+/// that are due, which all are that something present triggers.
 pub(crate) fn run_reactions(
     program: &Program,
     plan: &Plan,

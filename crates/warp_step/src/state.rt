@@ -91,7 +91,8 @@ impl State {
         self.lost = self.lost.saturating_add(1);
     }
 
-    /// Enters a value for a target where a delay lands: past the stop nothing is added, past the last microstep it is lost.
+    /// Enters a value for a target where a delay lands: past the stop nothing is added, past the last microstep it is
+    /// lost.
     #[inline(always)]
     pub(crate) fn land(
         &mut self,
@@ -133,7 +134,8 @@ impl State {
         })
     }
 
-    /// Appends the values of the variables and the pending entries to lists that have room for them. It takes no memory.
+    /// Appends the values of the variables and the pending entries to lists that have room for them. It takes no
+    /// memory.
     pub fn append_to(&self, values: &mut Vec<i64>, entries: &mut Vec<Waiting>)
         requires values { vec_len values.old + length self.now.vars ≤ vec_capacity values.old }
         requires entries { vec_len entries.old + length self.now.pending ≤ vec_capacity entries.old }
@@ -147,8 +149,8 @@ impl State {
         let _ = entries.extend_from_slice(self.pending.as_slice());
     }
 
-    /// Becomes the state with these values of the variables, by number, these pending entries, at most 256 and in order, and
-    /// this loss. It takes no memory.
+    /// Becomes the state with these values of the variables, by number, these pending entries, at most 256 and in
+    /// order, and this loss. It takes no memory.
     pub fn restore(&mut self, values: &[i64], entries: &[Waiting], lost: u64)
         requires vars { length values.now ≡ length self.old.vars }
         requires few { length entries.now ≤ most_pending }
@@ -160,8 +162,8 @@ impl State {
         self.lost = lost;
     }
 
-    /// That at most 256 variables have values, and at most 256 entries are pending, in order of tag, then of target, each tag
-    /// and target once, as in each state. It does nothing.
+    /// That at most 256 variables have values, and at most 256 entries are pending, in order of tag, then of target,
+    /// each tag and target once, as in each state. It does nothing.
     pub fn valid(&self)
         ensures variables { length self.now.vars ≤ most_variables }
         ensures few { length self.now.pending ≤ most_pending }
@@ -185,8 +187,8 @@ impl State {
         self.pending.as_slice()
     }
 
-    /// How many entries were lost: a new one while 256 were pending, or one that would land past the last microstep. The
-    /// count stays at the greatest number of 64 bits.
+    /// How many entries were lost: a new one while 256 were pending, or one that would land past the last microstep.
+    /// The count stays at the greatest number of 64 bits.
     pub fn lost(&self) -> u64
         ensures { result ≡ self.now.lost }
     {

@@ -347,7 +347,8 @@ fn go_and_return(rt: &impl Abort, alloc: Global, program: &Program, state: &mut 
     state.restore(&values[1..], &entries[1..], lost);
 }
 
-/// A state with pending entries that is kept in lists behind others, and restored after further steps, is the state that it was.
+/// A state with pending entries that is kept in lists behind others, and restored after further steps, is the state
+/// that it was.
 #[test]
 fn a_kept_state_is_restored(rt: HostRuntime) -> Result<(), Fail> {
     let program = pulse(&rt, rt.alloc());

@@ -141,7 +141,8 @@ fn names_before(names: &[OfName], end: Tag) -> Counted {
     all
 }
 
-/// Draws an announcement: of what is there before the tag, or of one name more, so that it is reached at once, later or never.
+/// Draws an announcement: of what is there before the tag, or of one name more, so that it is reached at once, later
+/// or never.
 fn drawn_announcement(names: &[OfName], seed: &mut u32, tag: Tag) -> Says {
     let all = names_before(names, tag);
     let events = all.events.saturating_add(draw(seed, 2));
@@ -211,8 +212,8 @@ fn told_by_count(rt: &impl Abort, table: &Table) -> (Tag, bool, bool) {
     (horizon, first_broke, second_broke)
 }
 
-/// Fills a table with drawn records, and compares after each. Answers whether both origins stood unbroken while the horizon was
-/// past the beginning, and whether one was broken.
+/// Fills a table with drawn records, and compares after each. Answers whether both origins stood unbroken while the
+/// horizon was past the beginning, and whether one was broken.
 fn walk(rt: &impl Abort, program: &Program, table: &mut Table, seed: &mut u32) -> (bool, bool) {
     let mut seen = (false, false);
     for _ in 0..DRAWN {

@@ -1,7 +1,7 @@
 //! One origin: which of its names came, what it announced, and how far that is reached.
 //!
-//! Each announcement keeps how many names are before its tag. A new name is counted in the announcements beyond it, from
-//! the newest end, so that what comes in order of tag costs no pass over what came before.
+//! Each announcement keeps how many names are before its tag. A new name is counted in the announcements beyond it,
+//! from the newest end, so that what comes in order of tag costs no pass over what came before.
 ghost use Rattle.std.specs.Prelude.{◌≡◌, ◌↔◌, ◌⊎◌, ◌+◌, ◌<◌, ◌^◌, ◌||◌, All, Contains, IsTrue, OnOk, OnErr, fold, map};
 ghost use Rattle.warp_table.specs.inner.Heard.{Announced, IsExceeded, IsHeardTo, earlier_of, nothing_heard, with_tag};
 ghost use Rattle.warp_table.specs.inner.Tally.{AreInOrder, before_of, beyond, counted, has_doubled, is_exceeded, is_met, with_name, with_tally};

@@ -1,8 +1,9 @@
 //! The records that were taken, in order: their places, why a program refuses one, what they say of names, how far the
 //! announcements let the horizon come, and which origins broke theirs.
 //!
-//! Contracts see a `Table` as the list of its records. What that list says of names, the horizon and who broke an announcement
-//! follow from the set of its records alone (`known_by_set`, `one_table`, `live_by_set`, `one_horizon`, `some_reach`).
+//! Contracts see a `Table` as the list of its records. What that list says of names, the horizon and who broke an
+//! announcement follow from the set of its records alone (`known_by_set`, `one_table`, `live_by_set`, `one_horizon`,
+//! `some_reach`).
 #![tactic(auto)]
 
 #[cfg(test)]

@@ -1,9 +1,10 @@
-//! The records that were taken, in order, what is known of the names that they speak of, and what is heard of each origin.
+//! The records that were taken, in order, what is known of the names that they speak of, and what is heard of each
+//! origin.
 //!
-//! Names are found by hash, and a name keeps the places of its event that counts and of its withdrawal. So a new record costs one
-//! hash; only announcements, and events of a name with a lesser payload, are found by a hash of their own. What an origin announced
-//! is kept by its `Announcer`, so that in order of tags no record costs a pass over all announcements or names. A horizon costs
-//! a look at each origin of the program.
+//! Names are found by hash, and a name keeps the places of its event that counts and of its withdrawal. So a new
+//! record costs one hash; only announcements, and events of a name with a lesser payload, are found by a hash of
+//! their own. What an origin announced is kept by its `Announcer`, so that in order of tags no record costs a pass
+//! over all announcements or names. A horizon costs a look at each origin of the program.
 ghost use Rattle.std.specs.Prelude.{◌≡◌, ◌↔◌, ◌⊎◌, ℕ, ℤ, ◌+◌, ◌<◌, ◌≤◌, List, [], ◌∷◌, ◌++◌, None, Some, true, false, length, slice_get, vec_len, Contains, IsTrue, IfSome, IfNone, IfOk, IsOk, OnOk, OnErr, MatchResult};
 ghost use Rattle.std.specs.Option.{option_copied};
 ghost use Rattle.warp_tag.specs.Limits.{most_origins, most_records};
@@ -31,7 +32,8 @@ use warp_tag::{Entry, OutOfMemory, Tag};
 /// The most records that a table holds.
 pub const MAX_RECORDS: u32 = 100_000;
 
-/// Where a record stands that was added: its place, 1 to `MAX_RECORDS`, and whether it came in there or was there before.
+/// Where a record stands that was added: its place, 1 to `MAX_RECORDS`, and whether it came in there or was there
+/// before.
 #[derive(Clone, Copy)]
 pub struct Added {
     /// The place.
@@ -94,9 +96,9 @@ struct Parted {
     event: u32,
 }
 
-/// Records in the order of taking, each once, at most `MAX_RECORDS`. It is seen as their list. Beside them it keeps what is
-/// known of each name, the places of the records that no name keeps, and for each origin up to the greatest of a record an
-/// `Announcer`: which of its names came, what it announced, and how far that is reached.
+/// Records in the order of taking, each once, at most `MAX_RECORDS`. It is seen as their list. Beside them it keeps
+/// what is known of each name, the places of the records that no name keeps, and for each origin up to the greatest
+/// of a record an `Announcer`: which of its names came, what it announced, and how far that is reached.
 #[derive(Drop)]
 pub struct Table {
     records: Vec<Record>,
@@ -178,8 +180,8 @@ impl Table {
         place_of(&self.records, &self.names, &self.others, record)
     }
 
-    /// Adds a record where it is not there yet, notes what it says of its name and to its origin, and tells its place and
-    /// whether it is new. A record that was there stays in its place. An `Err` changes nothing.
+    /// Adds a record where it is not there yet, notes what it says of its name and to its origin, and tells its place
+    /// and whether it is new. A record that was there stays in its place. An `Err` changes nothing.
     pub fn add(&mut self, record: &Record) -> Result<Added, OutOfMemory>
         requires room { length self.old < most_records }
         requires origin { origin_of «record».now < most_origins }
@@ -220,8 +222,9 @@ impl Table {
         Some(entry_of(&self.records, name, known))
     }
 
-    /// Up to which tag the announcements of all origins of the program are reached: the least, over its origins, of the greatest
-    /// tag of a reached announcement, the beginning for an origin where none is. Outputs before it are released.
+    /// Up to which tag the announcements of all origins of the program are reached: the least, over its origins, of
+    /// the greatest tag of a reached announcement, the beginning for an origin where none is. Outputs before it are
+    /// released.
     pub fn horizon(&self, program: &Program) -> Tag
         ensures { IsHorizon program.now (set_of self.now) result }
     {
@@ -247,8 +250,8 @@ impl Table {
         }
     }
 
-    /// Whether the origin broke an announcement of its own: more of its names before the announced tag have an event, or a
-    /// withdrawal, than it said, or one of them has two payloads.
+    /// Whether the origin broke an announcement of its own: more of its names before the announced tag have an event,
+    /// or a withdrawal, than it said, or one of them has two payloads.
     pub fn broken(&self, origin: u32) -> bool
         ensures { IsTrue result ↔ IsBroken (set_of self.now) origin }
     {
@@ -371,8 +374,8 @@ fn counts_less(one: Option<(u32, i64)>, other: (u32, i64)) -> bool
     }
 }
 
-/// Of the event at the place `kept` and a new one of the same name with this payload the one that counts less, which goes to the
-/// others.
+/// Of the event at the place `kept` and a new one of the same name with this payload the one that counts less, which
+/// goes to the others.
 fn part(records: &[Record], kept: u32, record: &Record, payload: (u32, i64)) -> Parted
     requires { length records.now < most_records }
     ensures { result ≡ parted_of records.now kept «record».now payload }
@@ -406,8 +409,8 @@ fn note_other(
     Ok(())
 }
 
-/// Notes an event of a name that has one, at the place `kept`: known where it stands there or among the others, and else a
-/// second payload, which is told to its origin. An `Err` changes nothing.
+/// Notes an event of a name that has one, at the place `kept`: known where it stands there or among the others, and
+/// else a second payload, which is told to its origin. An `Err` changes nothing.
 fn note_further_event(
     records: &[Record],
     others: &mut IndexMap<Record, u32>,
@@ -474,8 +477,8 @@ fn note_first_event(
     })
 }
 
-/// Adds an event: known where its name keeps it or the others have it, and else noted and told to its origin. An `Err` changes
-/// nothing.
+/// Adds an event: known where its name keeps it or the others have it, and else noted and told to its origin. An
+/// `Err` changes nothing.
 fn add_event(
     records: &[Record],
     names: &mut IndexMap<Name, Known>,
@@ -536,8 +539,8 @@ fn note_event(
     note_further_event(records, others, announcer, kept, name, payload)
 }
 
-/// Adds a withdrawal, which goes to `next`: known where its name keeps one, and else noted and told to its origin. An `Err`
-/// changes nothing.
+/// Adds a withdrawal, which goes to `next`: known where its name keeps one, and else noted and told to its origin. An
+/// `Err` changes nothing.
 fn add_withdrawal(
     names: &mut IndexMap<Name, Known>,
     announcer: &mut Announcer,
@@ -576,8 +579,8 @@ fn add_withdrawal(
     })
 }
 
-/// Adds an announcement, which goes to `next`: known where the others have it, and else noted and told to its origin. An `Err`
-/// changes nothing.
+/// Adds an announcement, which goes to `next`: known where the others have it, and else noted and told to its origin.
+/// An `Err` changes nothing.
 fn add_announcement(
     others: &mut IndexMap<Record, u32>,
     announcer: &mut Announcer,
@@ -639,8 +642,8 @@ fn keep_up_to(announcers: &mut Vec<Announcer>, origin: u32) -> Result<(), OutOfM
     Ok(())
 }
 
-/// Adds a record, behind those that there are where it is new, to what is kept of names and places, and tells it to its origin. An
-/// `Err` changes nothing.
+/// Adds a record, behind those that there are where it is new, to what is kept of names and places, and tells it to
+/// its origin. An `Err` changes nothing.
 fn note_own(
     records: &[Record],
     names: &mut IndexMap<Name, Known>,
@@ -684,8 +687,8 @@ fn note_own(
     }
 }
 
-/// Adds a record, behind those that there are where it is new, to what is kept and heard. What is kept stays on an `Err`, and what
-/// is heard.
+/// Adds a record, behind those that there are where it is new, to what is kept and heard. What is kept stays on an
+/// `Err`, and what is heard.
 fn note(
     records: &[Record],
     names: &mut IndexMap<Name, Known>,

@@ -9,7 +9,8 @@ use warp_record::{Count, Record, Refusal};
 use warp_step::Program;
 use warp_tag::{Entry, Tag};
 
-/// What a record says beside its origin and its tag: an event's input and value, how many events and withdrawals are announced.
+/// What a record says beside its origin and its tag: an event's input and value, how many events and withdrawals are
+/// announced.
 #[derive(Clone, Copy)]
 pub(crate) enum Says {
     Event(u32, i64),

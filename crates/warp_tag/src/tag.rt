@@ -29,8 +29,8 @@ const MICROSTEPS: u32 = 256;
 
 /// A time, 0 to `MAX_TIME`, and a microstep, 0 to `LAST_MICROSTEP`. Tags are ordered by time, then by microstep.
 ///
-/// It is kept as one number of 32 bits, 256 times the time plus the microstep, since a log keeps a tag of each record at several
-/// places, and numbers are compared at once.
+/// It is kept as one number of 32 bits, 256 times the time plus the microstep, since a log keeps a tag of each record
+/// at several places, and numbers are compared at once.
 #[derive(Clone, Copy, Debug, Default)]
 pub struct Tag {
     number: u32,

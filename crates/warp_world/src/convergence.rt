@@ -1,7 +1,8 @@
 //! Convergence: what two replicas of one program answer and release, however each came to its records.
 //!
-//! The two calls take any two settled replicas, over any two timelines: what they did before (which records they took in which
-//! order and how often, what they merged, when they settled, collected or started anew) is nowhere in their contracts.
+//! The two calls take any two settled replicas, over any two timelines: what they did before (which records they took
+//! in which order and how often, what they merged, when they settled, collected or started anew) is nowhere in their
+//! contracts.
 ghost use Rattle.std.specs.Prelude.{◌≡◌, ◌⊎◌, IsTrue};
 ghost use Rattle.warp_tag.specs.Lists.{StartsWith};
 ghost use Rattle.warp_table.specs.Announced.{IsHonest, IsWithin};
@@ -15,9 +16,9 @@ use warp_record::{Query, Reply};
 use warp_replica::Replica;
 use warp_step::Out;
 
-/// The replies of two settled replicas of one program whose logs have the same records, in whatever order: they are the same,
-/// but where the query asks for a place of the log. Each is the reply by the one run of the program over the live events of these
-/// records.
+/// The replies of two settled replicas of one program whose logs have the same records, in whatever order: they are
+/// the same, but where the query asks for a place of the log. Each is the reply by the one run of the program over
+/// the live events of these records.
 pub fn replies<T: Timeline, U: Timeline>(
     one: &Replica<T>,
     other: &Replica<U>,
@@ -33,9 +34,9 @@ pub fn replies<T: Timeline, U: Timeline>(
     (one.answer(query), other.answer(query))
 }
 
-/// What two settled replicas of one program release. Where their logs have the same records, that is the same. Where the records
-/// of both are among some records that the program takes and in which no origin broke an announcement, the one list begins the
-/// other, and that of the smaller set begins that of the larger one.
+/// What two settled replicas of one program release. Where their logs have the same records, that is the same. Where
+/// the records of both are among some records that the program takes and in which no origin broke an announcement,
+/// the one list begins the other, and that of the smaller set begins that of the larger one.
 pub fn releases<'a, T: Timeline, U: Timeline>(
     one: &'a Replica<T>,
     other: &'a Replica<U>,

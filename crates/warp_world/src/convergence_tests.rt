@@ -1,5 +1,6 @@
-//! Two replicas that took the same records in other orders, with repeats, a merge, settling and collecting between, reply alike;
-//! and a replica of fewer records has released the first of the outputs. Over `Plain` and the program `twice`.
+//! Two replicas that took the same records in other orders, with repeats, a merge, settling and collecting between,
+//! reply alike; and a replica of fewer records has released the first of the outputs. Over `Plain` and the program
+//! `twice`.
 ghost use Rattle.std.specs.Prelude.{◌≡◌, IsTrue};
 ghost use Rattle.warp_step.specs.Counter.{IsUnused};
 ghost use Rattle.warp_step.specs.Twice.{twice};

@@ -17,9 +17,9 @@ pub fn equal_sets()
         set_of left ≡ set_of right → AreAnswers P (set_of left) a → AreAnswers P (set_of right) b → a ≡ b }
 {}
 
-/// While no origin broke an announcement in all that was made by the end, of what any two replicas release, each after some of
-/// the moves, the one list begins the other; and what a replica releases begins what it releases later, unless it was restarted
-/// between.
+/// While no origin broke an announcement in all that was made by the end, of what any two replicas release, each
+/// after some of the moves, the one list begins the other; and what a replica releases begins what it releases later,
+/// unless it was restarted between.
 pub fn released_fronts()
     ensures agree { (P : Program) (count : ℕ) (moves : List Move) (i j one other : ℕ) (left right : List Record) (a b : Answers) →
         IsHonest (world_after P count moves).made →

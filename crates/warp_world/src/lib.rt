@@ -1,7 +1,8 @@
 //! Several replicas of one program, and every schedule of what may happen to them.
 //!
-//! A schedule is a list of moves: a record is made at a replica, an entry of one log is carried to another replica, a replica is
-//! collected, settled or restarted. `play` plays one; contracts see the replicas' logs, which are those of `world_after`.
+//! A schedule is a list of moves: a record is made at a replica, an entry of one log is carried to another replica, a
+//! replica is collected, settled or restarted. `play` plays one; contracts see the replicas' logs, which are those of
+//! `world_after`.
 #![tactic(auto)]
 
 mod convergence;

@@ -116,8 +116,8 @@ fn read_move(bytes: &[u8]) -> Option<(Move, &[u8])>
     Some((move_of(&words)?, rest))
 }
 
-/// How many replicas a schedule file names, 1 to `MAX_REPLICAS`, and its moves. `Err` says at which line it is refused, which
-/// is 0 where it has more than `MAX_SCHEDULE` bytes, or that memory was wanting.
+/// How many replicas a schedule file names, 1 to `MAX_REPLICAS`, and its moves. `Err` says at which line it is
+/// refused, which is 0 where it has more than `MAX_SCHEDULE` bytes, or that memory was wanting.
 pub fn read_schedule(alloc: Global, bytes: &[u8]) -> Result<(usize, Vec<Move>), ScheduleFault>
     ensures found { IfOk result (λ schedule. SpellsSchedule bytes.now schedule.0 schedule.1.items) }
     ensures refused { IfErr result (λ fault. IsFault bytes.now fault) }

@@ -37,8 +37,8 @@ impl<T: Timeline> Model for World<T> {
     ghost view = { λ w. w.replicas.items };
 }
 
-/// The world of `count` replicas of this program, 1 to 16, after these moves. An `Err` says that memory was wanting, at whichever
-/// move; then there is no world.
+/// The world of `count` replicas of this program, 1 to 16, after these moves. An `Err` says that memory was wanting,
+/// at whichever move; then there is no world.
 pub fn play<T: Timeline + Drop>(
     alloc: Global,
     program: &Program,
@@ -72,8 +72,8 @@ impl<T: Timeline> World<T> {
         self.replicas.get(number)
     }
 
-    /// Executes in each replica what is not done. At an `Err` memory was wanting; then some may be settled, and no log is
-    /// another.
+    /// Executes in each replica what is not done. At an `Err` memory was wanting; then some may be settled, and no
+    /// log is another.
     pub fn settle(&mut self, alloc: Global) -> Result<(), OutOfMemory>
         ensures logs { logs_of self.new ≡ logs_of self.old }
         ensures programs { map (λ r. r.program) self.new ≡ map (λ r. r.program) self.old }
@@ -125,8 +125,8 @@ impl<T: Timeline> World<T> {
         self.replicas.get(replica as usize)?.entry(place)
     }
 
-    /// Lets a replica take a record, if there is such a replica. Where it is refused, nothing happens; an `Err` says that memory
-    /// was wanting.
+    /// Lets a replica take a record, if there is such a replica. Where it is refused, nothing happens; an `Err` says
+    /// that memory was wanting.
     fn bring(&mut self, alloc: Global, replica: u32, record: &Record) -> Result<(), OutOfMemory>
         ensures logs { (P : Program) → RunAll P self.old → OnOk result ((made : Records) → let w = world_of made self.old in
             logs_of self.new ≡ (after_carry P replica w (Some «record».now) (log_of w replica)).logs) }

@@ -11,8 +11,8 @@ ghost use Rattle.warp_table.specs.Records.{IsIn, set_of};
 ghost use Rattle.warp_world.specs.World.{log_of, world_after};
 ghost use Rattle.warp_world.specs.declared.moves.Move.{Move};
 
-/// In every world each log has each record once and at most 100,000, each of them one that was made; and the program takes
-/// each record that was made.
+/// In every world each log has each record once and at most 100,000, each of them one that was made; and the program
+/// takes each record that was made.
 pub fn logs_are_made()
     ensures once { (P : Program) (count : ℕ) (moves : List Move) (replica : ℕ) (log : List Record) →
         log_of (world_after P count moves) replica ≡ Some log → EachOnce log }

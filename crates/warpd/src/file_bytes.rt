@@ -8,8 +8,8 @@ use crate::outcome::Outcome;
 use std::alloc::Global;
 use std::io::{self, Read};
 
-/// The bytes of a reader, or where there are more than `most`, the first `most` of them. Where they couldn't be read, the
-/// run ends as `unread` says, or for want of memory.
+/// The bytes of a reader, or where there are more than `most`, the first `most` of them. Where they couldn't be read,
+/// the run ends as `unread` says, or for want of memory.
 pub(crate) fn first_bytes<R: Read + Drop>(
     alloc: Global,
     reader: R,

@@ -388,8 +388,8 @@ mod tests {
         Ok(())
     }
 
-    /// How playing a schedule of these bytes over the program `twice` ends, and what it wrote. Its failures are counted in
-    /// these ledgers.
+    /// How playing a schedule of these bytes over the program `twice` ends, and what it wrote. Its failures are
+    /// counted in these ledgers.
     fn play_over_memory<L: Ledger, M: Ledger>(
         alloc: Global,
         schedule: &[u8],

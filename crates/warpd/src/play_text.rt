@@ -19,9 +19,9 @@ use warp_step::Program;
 use warp_tag::OutOfMemory;
 use warp_world::{ScheduleFault, World, play, read_schedule};
 
-/// What is printed of a schedule: for each replica, after all moves and settled, its number, its horizon, how many outputs there
-/// are and how many are released, how much was lost, and its variables. `Err` says at which line the schedule is refused, or
-/// that memory was wanting.
+/// What is printed of a schedule: for each replica, after all moves and settled, its number, its horizon, how many
+/// outputs there are and how many are released, how much was lost, and its variables. `Err` says at which line the
+/// schedule is refused, or that memory was wanting.
 pub fn play_text(
     alloc: Global,
     program: &Program,
@@ -83,8 +83,8 @@ fn append_title(text: &mut Vec<u8>, number: usize) -> Result<(), OutOfMemory>
     Ok(())
 }
 
-/// Appends the lines with a settled replica's horizon, how many outputs there are and how many are released, and how much was
-/// lost.
+/// Appends the lines with a settled replica's horizon, how many outputs there are and how many are released, and how
+/// much was lost.
 fn append_counts<T: Timeline>(text: &mut Vec<u8>, replica: &Replica<T>) -> Result<(), OutOfMemory>
     requires { IsTrue (T.settled replica.now.timeline) }
     ensures { OnOk result (Adds replica.now.program (set_of replica.now.records) count_lines text.old.items text.new.items) }

@@ -210,9 +210,9 @@ fn begin(alloc: Global) -> Result<(Vec<u8>, Transcriber), AllocError>
     Ok((buffer, transcriber))
 }
 
-/// Reads lines to the end of `source`, and writes to `sink` what `desk` replies to each, in order. Replies are gathered,
-/// and written before the next read. A last line without a line feed is refused 1, a line of more than 128 bytes
-/// refused 9.
+/// Reads lines to the end of `source`, and writes to `sink` what `desk` replies to each, in order. Replies are
+/// gathered, and written before the next read. A last line without a line feed is refused 1, a line of more than 128
+/// bytes refused 9.
 pub fn session<R: Source, W: Sink, D: Desk>(
     alloc: Global,
     source: &mut R,

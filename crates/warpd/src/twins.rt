@@ -1,5 +1,5 @@
-//! A replica with rollback beside its slow twin, which runs from the start: they answer the same, and going back executes
-//! no more again than the rows at tags from the least change on, and sixteen.
+//! A replica with rollback beside its slow twin, which runs from the start: they answer the same, and going back
+//! executes no more again than the rows at tags from the least change on, and sixteen.
 ghost use Rattle.std.specs.Prelude.{◌≡◌, IsTrue};
 ghost use Rattle.warp_step.specs.Counter.{IsUnused};
 
@@ -175,8 +175,8 @@ fn take<T: Timeline, U: Timeline>(
     assert!(rt; took == other.take(alloc, record), "{record:?}");
 }
 
-/// Settles a replica with rollback and its slow twin. They answer the same, and the one executes at most the rows from the
-/// least changed tag on, and sixteen; none where the twin executes none, since no live event changed.
+/// Settles a replica with rollback and its slow twin. They answer the same, and the one executes at most the rows
+/// from the least changed tag on, and sixteen; none where the twin executes none, since no live event changed.
 fn settle_both<T: Timeline, U: Timeline>(
     rt: &impl Abort,
     alloc: Global,
@@ -308,7 +308,8 @@ fn is_total<T: Timeline>(rt: &impl Abort, replica: &Replica<T>, log: u32, value:
     assert!(rt; replica.answer(Query::Var(0)) == Reply::Var { log, value });
 }
 
-/// After forty events a tardy one costs what is after it, and at most sixteen more; what changes no live event costs nothing.
+/// After forty events a tardy one costs what is after it, and at most sixteen more; what changes no live event costs
+/// nothing.
 #[test]
 fn rework_is_bounded(rt: HostRuntime) {
     let alloc = rt.alloc();
