@@ -18,3 +18,4 @@ pub mod Touching
 pub mod Handles
 pub mod ByName
 pub mod Beside
+pub mod Ends

@@ -92,27 +92,28 @@ unthreadable a l =
     }
 
 -- what the reads of the first node and of its origin's ends give
-pub record FirstRead (a : Inside) (n : Node) (own : Origin) : Type 0 where
-  pub is_own : ((threads a).entry a.ends.next).origin ≡ n.entry.origin
-  pub own_is : own ≡ get_or a.by_origin.items n.entry.origin no_origin
+pub record FirstRead (a : Inside) (o : ℕ) (own : Origin) : Type 0 where
+  pub is_own : ((threads a).entry a.ends.next).origin ≡ o
+  pub own_is : own ≡ get_or a.by_origin.items o no_origin
   pub owns : CanUnthread (length a.nodes.items) (next_in own.ends (threads a).own_links) a.ends.next
 
-pub first_declared : (a : Inside) (l : Leaving a) (n : Node) → n ≡ get_or a.nodes.items a.ends.next n → n.entry.origin < length a.by_origin.items
-first_declared a l n rn =
-    subst (λ (m : Node). m.entry.origin < length a.by_origin.items) (sym (node_read a.nodes.items a.ends.next n (unthreadable a l).tags.at_in rn)) l.shape.declared.0
+module _ (a : Inside) (l : Leaving a) (n : Node) (read : n ≡ get_or a.nodes.items a.ends.next n) (o : ℕ) (o_is : o ≡ n.entry.origin) where
+  is_read : ((threads a).entry a.ends.next).origin ≡ o
+  is_read = ap (λ (m : Node). m.entry.origin) (sym (node_read a.nodes.items a.ends.next n (unthreadable a l).tags.at_in read)) ∙ sym o_is
 
-pub first_read : (a : Inside) (l : Leaving a) (n : Node) (own : Origin) → n ≡ get_or a.nodes.items a.ends.next n → own ≡ get_or a.by_origin.items n.entry.origin own → FirstRead a n own
-first_read a l n own rn ro =
-    let u = unthreadable a l in
-    let is_own : ((threads a).entry a.ends.next).origin ≡ n.entry.origin = ap (λ (m : Node). m.entry.origin) (sym (node_read a.nodes.items a.ends.next n u.tags.at_in rn)) in
-    let own_is = origin_read a.by_origin.items n.entry.origin own (first_declared a l n rn) ro in
-    record {
-      is_own = is_own;
-      own_is = own_is;
-      owns =
-          subst (λ (k : Origin). CanUnthread (length a.nodes.items) (next_in k.ends (threads a).own_links) a.ends.next)
-          (ap (λ o. get_or a.by_origin.items o no_origin) is_own ∙ sym own_is) u.owns;
-    }
+  pub first_declared : o < length a.by_origin.items
+  first_declared = subst (λ q. q < length a.by_origin.items) is_read l.shape.declared.0
+
+  pub first_read : (own : Origin) → own ≡ get_or a.by_origin.items o own → FirstRead a o own
+  first_read own own_read =
+      let own_is = origin_read a.by_origin.items o own first_declared own_read in
+      record {
+        is_own = is_read;
+        own_is = own_is;
+        owns =
+            subst (λ (k : Origin). CanUnthread (length a.nodes.items) (next_in k.ends (threads a).own_links) a.ends.next)
+            (ap (λ q. get_or a.by_origin.items q no_origin) is_read ∙ sym own_is) (unthreadable a l).owns;
+      }
 
 module _ (a : Inside) (l : Leaving a) (new : List Node) (own : Origin) (ends' e' : Links) (o k : ℕ)
     (is_own : ((threads a).entry a.ends.next).origin ≡ o)

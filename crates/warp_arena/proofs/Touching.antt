@@ -144,15 +144,16 @@ module _ (a : Inside) (w : IsWhole (threads a) a.used) (i : ℕ) (h : IsSome (en
         };
       }
 
-  module _ (j : ℕ) (same : j ≡ i) (n : Node) (read : n ≡ get_or a.nodes.items j n) where
-    is_read : ((threads a).entry i).origin ≡ n.entry.origin
-    is_read = ap (λ (m : Node). m.entry.origin) (sym (node_read a.nodes.items i n (used_found_below a w i h) (subst (λ k. n ≡ get_or a.nodes.items k n) same read)))
+  module _ (j : ℕ) (same : j ≡ i) (n : Node) (read : n ≡ get_or a.nodes.items j n) (o : ℕ) (o_is : o ≡ n.entry.origin) where
+    is_read : ((threads a).entry i).origin ≡ o
+    is_read =
+        ap (λ (m : Node). m.entry.origin) (sym (node_read a.nodes.items i n (used_found_below a w i h) (subst (λ k. n ≡ get_or a.nodes.items k n) same read)))
+        ∙ sym o_is
 
-    pub read_declared : n.entry.origin < length a.by_origin.items
-    read_declared = subst (λ o. o < length a.by_origin.items) is_read found_origin
+    pub read_declared : o < length a.by_origin.items
+    read_declared = subst (λ q. q < length a.by_origin.items) is_read found_origin
 
-    pub whole_touched : (own : Origin) → own ≡ get_or a.by_origin.items n.entry.origin own → IsWhole (threads_of a.nodes.items (set a.by_origin.items n.entry.origin (record { ends = own.ends; touched = j })) a.ends a.free) a.used
+    pub whole_touched : (own : Origin) → own ≡ get_or a.by_origin.items o own → IsWhole (threads_of a.nodes.items (set a.by_origin.items o (record { ends = own.ends; touched = j })) a.ends a.free) a.used
     whole_touched own is_own =
-        let o : ℕ = n.entry.origin in
         subst (λ k. IsWhole (threads_of a.nodes.items (set a.by_origin.items o (record { ends = own.ends; touched = k })) a.ends a.free) a.used) (sym same)
         (origin_touched o is_read own (origin_read a.by_origin.items o own read_declared is_own))

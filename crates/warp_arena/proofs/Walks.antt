@@ -132,7 +132,7 @@ module _ (nodes : List Node) (links : Node → Links) (ends : Links) (is : List 
       ] in
       omega arith
 
-  stops : (at : ℕ) → Here at → (at ≢ NO_NODE → not (later (node_at nodes at).entry) ≡ true) → at ≡ last_or NO_NODE (filter (λ i. not (later (node_at nodes i).entry)) is)
+  pub stops : (at : ℕ) → Here at → (at ≢ NO_NODE → not (later (node_at nodes at).entry) ≡ true) → at ≡ last_or NO_NODE (filter (λ i. not (later (node_at nodes i).entry)) is)
   stops at s here =
       last_kept (λ i. not (later (node_at nodes i).entry)) s.front s.back at s.last
       (All-weaker (λ i. later (node_at nodes i).entry ≡ true) (λ i. not (later (node_at nodes i).entry) ≡ false) (λ i h. ap not h) s.back s.past) here

@@ -1,6 +1,7 @@
 //! The arena: entries of names, in order, each at a handle.
-use crate::links::{add_node, handle, next_of_origin, thread_node, unthread_node};
-use crate::node::{Links, MAX_USED, NO_NODE, Node, NodeId, Origin};
+use crate::links::{add_node, handle, is_passed, next_of_origin, thread_node, unthread_node};
+use crate::node::{Gap, Links, MAX_USED, NO_NODE, Node, NodeId, Origin};
+use crate::packed::Packed;
 use std::alloc::Global;
 use std::marker::Model;
 use warp_tag::{Entry, OutOfMemory, Tag};
@@ -148,6 +149,9 @@ impl Arena {
             → (node : ℕ) → node ≢ result → entry_of node self.new.places ≡ entry_of node self.old.places }
         ensures named { IsSomeAnd (entry_of result self.new.places) (λ e. IsTrue (has_name origin tag e)) }
     {
+        if let Some(gap) = self.gap_at_end(origin, tag) {
+            return self.insert_into(origin, tag, gap.before, gap.own_before);
+        }
         let own_before = self.last_of_origin_through(origin, tag);
         if let Some(node) = self.named_at(origin, tag, own_before) {
             return node;
@@ -155,7 +159,26 @@ impl Arena {
         self.insert_behind(origin, tag, own_before)
     }
 
+    /// Where this name comes in, where it comes behind both the last entry of all and the last one of its origin.
+    fn gap_at_end(&self, origin: u32, tag: Tag) -> Option<Gap>
+        requires { origin < self.now.origins }
+        ensures before { IfSome result (λ gap. gap.before ≡ last_not_after origin tag self.now.places) }
+        ensures own { IfSome result (λ gap. gap.own_before ≡ last_not_after origin tag (places_of origin self.now.places)) }
+        ensures absent { IfSome result (λ gap. node_of origin tag self.now.places ≡ None) }
+    {
+        let before = self.ends.prev;
+        let own_before = self.by_origin[origin as usize].ends.prev;
+        if is_passed(&self.nodes, before, origin, tag)
+            && is_passed(&self.nodes, own_before, origin, tag)
+        {
+            Some(Gap { before, own_before })
+        } else {
+            None
+        }
+    }
+
     /// Takes in this name behind the last of the origin's nodes that are not after it.
+    #[inline(never)]
     fn insert_behind(&mut self, origin: u32, tag: Tag, own_before: u32) -> NodeId
         requires origin { origin < self.old.origins }
         requires reserved { 0 < self.old.free }
@@ -170,10 +193,28 @@ impl Arena {
         ensures others { (node : ℕ) → node ≢ result → entry_of node self.new.places ≡ entry_of node self.old.places }
     {
         let before = self.last_through(origin, tag, own_before);
+        self.insert_into(origin, tag, before, own_before)
+    }
+
+    /// Takes in this name behind the last of all nodes, and the last of the origin's nodes, that are not after it.
+    fn insert_into(&mut self, origin: u32, tag: Tag, before: u32, own_before: u32) -> NodeId
+        requires origin { origin < self.old.origins }
+        requires reserved { 0 < self.old.free }
+        requires absent { node_of origin tag self.old.places ≡ None }
+        requires before { before ≡ last_not_after origin tag self.old.places }
+        requires own_before { own_before ≡ last_not_after origin tag (places_of origin self.old.places) }
+        ensures places { self.new ≡ record self.old {
+          places = with_place (record { node = result; entry = fresh origin tag }) self.old.places;
+          free = self.old.free - 1;
+        } }
+        ensures new_handle { entry_of result self.old.places ≡ None }
+        ensures entry { entry_of result self.new.places ≡ Some (fresh origin tag) }
+        ensures others { (node : ℕ) → node ≢ result → entry_of node self.new.places ≡ entry_of node self.old.places }
+    {
         let at = self.free;
         self.free = self.nodes[at as usize].by_tag.next;
         let mut own_ends = self.by_origin[origin as usize].ends;
-        let entry = Entry::fresh(origin, tag);
+        let entry = Packed::fresh(origin, tag);
         thread_node(
             &mut self.nodes,
             &mut self.ends,
@@ -222,7 +263,7 @@ impl Arena {
         ensures head { places_from node self.now.places
             ≡ record { node = node; entry = result } ∷ places_after node self.now.places }
     {
-        self.nodes[node.index() as usize].entry
+        self.nodes[node.index() as usize].entry.entry()
     }
 
     /// The handle of the first entry, or none where there is no entry.
@@ -322,7 +363,7 @@ impl Arena {
         ensures { self.new ≡ record self.old { places = drop 1 self.old.places; free = self.old.free + 1 } }
     {
         let at = self.ends.next;
-        let origin = self.nodes[at as usize].entry.origin as usize;
+        let origin = self.nodes[at as usize].entry.origin() as usize;
         let own = self.by_origin[origin];
         let mut own_ends = own.ends;
         let free = self.free;
@@ -341,7 +382,7 @@ impl Arena {
         ensures { self.new ≡ self.old }
     {
         let at = node.index();
-        let origin = self.nodes[at as usize].entry.origin as usize;
+        let origin = self.nodes[at as usize].entry.origin() as usize;
         self.by_origin[origin].touched = at;
     }
 

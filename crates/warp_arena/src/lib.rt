@@ -14,6 +14,7 @@ mod arena;
 pub mod law;
 mod links;
 mod node;
+mod packed;
 #[cfg(test)]
 mod tests;
 

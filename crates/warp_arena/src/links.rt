@@ -1,12 +1,13 @@
 //! The links of an arena's nodes: how a node comes into its two lists and goes from them.
-ghost use Rattle.std.specs.Prelude.{◌≡◌, ℕ, ◌<◌, [], ◌∷◌, ◌++◌, length, None, Some, if◌then◌else◌, ◌==◌, is_ok, IsOk, OnOk, OnErr};
+ghost use Rattle.std.specs.Prelude.{◌≡◌, ℕ, ◌<◌, [], ◌∷◌, ◌++◌, length, None, Some, if◌then◌else◌, ◌==◌, is_ok, IsOk, IsTrue, OnOk, OnErr};
 ghost use Rattle.std.specs.Vec.{vec_capacity};
 ghost use Rattle.warp_arena.specs.Places.{room_after};
 ghost use Rattle.warp_arena.specs.Shape.{by_tag, of_origin, next_in, prev_in, no_node};
-ghost use Rattle.warp_arena.specs.Changes.{IsPlace, CanThread, CanUnthread, SetsNext, SetsPrev, KeepsButTags, KeepsButOwn, Inserts, Skips, Threaded, Unthreaded};
+ghost use Rattle.warp_arena.specs.Changes.{IsPassed, IsPlace, CanThread, CanUnthread, SetsNext, SetsPrev, KeepsButTags, KeepsButOwn, Inserts, Skips, Threaded, Unthreaded};
 
 use crate::node::{Links, NO_NODE, Node, NodeId};
-use warp_tag::{Entry, OutOfMemory};
+use crate::packed::Packed;
+use warp_tag::{OutOfMemory, Tag};
 
 /// The handle of the node at this index, or none for `NO_NODE`.
 pub(crate) fn handle(index: u32) -> Option<NodeId>
@@ -34,6 +35,14 @@ pub(crate) fn add_node(nodes: &mut Vec<Node>) -> Result<(), OutOfMemory>
     }
     nodes.push_reserved(Node::unused());
     Ok(())
+}
+
+/// Whether the place is a list's end, or the name of its entry comes before this one.
+pub(crate) fn is_passed(nodes: &[Node], at: u32, origin: u32, tag: Tag) -> bool
+    requires { IsPlace (length nodes.now) at }
+    ensures { IsTrue result → IsPassed origin tag nodes.now at }
+{
+    at == NO_NODE || nodes[at as usize].entry.comes_before(origin, tag)
 }
 
 /// Makes this place of the tag list lead on to another; `NO_NODE` stands for the list's end.
@@ -154,7 +163,7 @@ pub(crate) fn thread_node(
     before: u32,
     own_before: u32,
     at: u32,
-    entry: Entry,
+    entry: Packed,
 )
     requires tags { CanThread (length nodes.old) (next_in ends.old (by_tag nodes.old)) before at }
     requires owns { CanThread (length nodes.old) (next_in own_ends.old (of_origin nodes.old)) own_before at }

@@ -1,6 +1,7 @@
 //! The nodes of an arena: their entries, their links, and the handles that name them.
+use crate::packed::Packed;
 use std::marker::Model;
-use warp_tag::{Entry, Tag};
+use warp_tag::Tag;
 
 /// The most entries that an arena holds.
 pub const MAX_USED: usize = 4_000_000_000;
@@ -58,6 +59,13 @@ impl Links {
     };
 }
 
+/// Where a node comes in: the places behind which it stands in the tag list and in its origin's list.
+#[derive(Clone, Copy)]
+pub(crate) struct Gap {
+    pub before: u32,
+    pub own_before: u32,
+}
+
 /// What the arena keeps of an origin: the ends of its list, and the node of it that was touched last, or `NO_NODE`.
 #[derive(Clone, Copy, Debug, PartialEq, Eq)]
 pub(crate) struct Origin {
@@ -86,11 +94,11 @@ impl Origin {
     }
 }
 
-/// A node: its entry, and its neighbours in the tag list and in its origin's list. Of an unused node only
+/// A node of 40 bytes: its entry, and its neighbours in the tag list and in its origin's list. Of an unused node only
 /// `by_tag.next` counts, the next node of the free list.
-#[derive(Clone, Copy, Debug, PartialEq, Eq)]
+#[derive(Drop)]
 pub(crate) struct Node {
-    pub entry: Entry,
+    pub entry: Packed,
     pub by_tag: Links,
     pub of_origin: Links,
 }
@@ -104,7 +112,7 @@ impl Node {
         ensures { result ≡ no_node }
     {
         Node {
-            entry: Entry::fresh(0, Tag::new(0, 0).unwrap()),
+            entry: Packed::fresh(0, Tag::new(0, 0).unwrap()),
             by_tag: Links::EMPTY,
             of_origin: Links::EMPTY,
         }

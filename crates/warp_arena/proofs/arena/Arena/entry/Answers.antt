@@ -17,7 +17,7 @@ returns-clause-entry c =
     let h = subst (λ v. IsSome (entry_of c.args.node v.places)) (sym c.self.view_is) c.requires in
     let read = node_read a.nodes.items c.args.node c.index-2.result.now (used_found_below a c.self.invariant c.args.node h) (subst (λ i. c.index-2.result.now ≡ get_or a.nodes.items i c.index-2.result.now) c.index.ensures c.index-2.ensures) in
     ap (λ v. entry_of c.args.node v.places) (sym c.self.view_is)
-    ∙ entry_found a c.self.invariant c.args.node h ∙ ap (λ n. Some n.entry) (sym read)
+    ∙ entry_found a c.self.invariant c.args.node h ∙ ap Some (ap (λ n. n.entry) (sym read) ∙ sym c.entry.ensures)
 
 pub returns-clause-head : goal.returns-clause-head
 returns-clause-head c =
@@ -26,5 +26,5 @@ returns-clause-head c =
     let read = node_read a.nodes.items c.args.node c.index-2.result.now (used_found_below a c.self.invariant c.args.node h) (subst (λ i. c.index-2.result.now ≡ get_or a.nodes.items i c.index-2.result.now) c.index.ensures c.index-2.ensures) in
     ap (λ v. places_from c.args.node v.places) (sym c.self.view_is)
     ∙ head_found a c.self.invariant c.args.node h
-    ∙ ap (λ (e : Entry). let p : Place = record { node = c.args.node; entry = e } in p ∷ places_after c.args.node (places a)) (ap (λ n. n.entry) (sym read))
-    ∙ ap (λ v. let p : Place = record { node = c.args.node; entry = c.index-2.result.now.entry } in p ∷ places_after c.args.node v.places) c.self.view_is
+    ∙ ap (λ (e : Entry). let p : Place = record { node = c.args.node; entry = e } in p ∷ places_after c.args.node (places a)) (ap (λ n. n.entry) (sym read) ∙ sym c.entry.ensures)
+    ∙ ap (λ v. let p : Place = record { node = c.args.node; entry = c.entry.result } in p ∷ places_after c.args.node v.places) c.self.view_is

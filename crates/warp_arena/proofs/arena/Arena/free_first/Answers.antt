@@ -18,7 +18,7 @@ pub index-requires-2 : goal.index-requires-2
 index-requires-2 c =
     let a = c.self.inside in
     let l = leaving_of a c.args.self.now c.self.view_is c.self.invariant c.requires in
-    omega (arith, a.by_origin.ok.0, first_declared a l c.index.result.now c.index.ensures)
+    omega (arith, a.by_origin.ok.0, first_declared a l c.index.result.now c.index.ensures c.origin-origin.result c.origin-origin.ensures)
 
 pub unthread_node-requires-clause-tags : goal.unthread_node-requires-clause-tags
 unthread_node-requires-clause-tags c =
@@ -30,21 +30,21 @@ pub unthread_node-requires-clause-owns : goal.unthread_node-requires-clause-owns
 unthread_node-requires-clause-owns c =
     let a = c.self.inside in
     let l = leaving_of a c.args.self.now c.self.view_is c.self.invariant c.requires in
-    let r = first_read a l c.index.result.now c.index-2.result.now c.index.ensures c.index-2.ensures in
+    let r = first_read a l c.index.result.now c.index.ensures c.origin-origin.result c.origin-origin.ensures c.index-2.result.now c.index-2.ensures in
     subst (λ (ns : List Node). CanUnthread (length ns) (next_in c.index-2.result.now.ends (of_origin ns)) a.ends.next) (sym c.deref_mut.ensures.value) r.owns
 
 pub index_mut-requires : goal.index_mut-requires
 index_mut-requires c =
     let a = c.self.inside in
     let l = leaving_of a c.args.self.now c.self.view_is c.self.invariant c.requires in
-    omega (arith, a.by_origin.ok.0, first_declared a l c.index.result.now c.index.ensures)
+    omega (arith, a.by_origin.ok.0, first_declared a l c.index.result.now c.index.ensures c.origin-origin.result c.origin-origin.ensures)
 
 pub invariant_of-self : goal.invariant_of-self
 invariant_of-self c =
     let a = c.self.inside in
     let l = leaving_of a c.args.self.now c.self.view_is c.self.invariant c.requires in
-    let r = first_read a l c.index.result.now c.index-2.result.now c.index.ensures c.index-2.ensures in
-    let o : ℕ = c.index.result.now.entry.origin in
+    let r = first_read a l c.index.result.now c.index.ensures c.origin-origin.result c.origin-origin.ensures c.index-2.result.now c.index-2.ensures in
+    let o : ℕ = c.origin-origin.result in
     let change = subst (λ ns. Unthreaded ns c.unthread_node.new.nodes a.ends c.unthread_node.new.ends c.index-2.result.now.ends c.unthread_node.new.own_ends a.ends.next a.free)
     c.deref_mut.ensures.value c.unthread_node.ensures in
     let items = with_items_is a.nodes c.unthread_node.new.nodes (omega (arith, change.len, a.nodes.ok.0)) in
@@ -55,8 +55,8 @@ pub returns : goal.returns
 returns c =
     let a = c.self.inside in
     let l = leaving_of a c.args.self.now c.self.view_is c.self.invariant c.requires in
-    let r = first_read a l c.index.result.now c.index-2.result.now c.index.ensures c.index-2.ensures in
-    let o : ℕ = c.index.result.now.entry.origin in
+    let r = first_read a l c.index.result.now c.index.ensures c.origin-origin.result c.origin-origin.ensures c.index-2.result.now c.index-2.ensures in
+    let o : ℕ = c.origin-origin.result in
     let change = subst (λ ns. Unthreaded ns c.unthread_node.new.nodes a.ends c.unthread_node.new.ends c.index-2.result.now.ends c.unthread_node.new.own_ends a.ends.next a.free)
     c.deref_mut.ensures.value c.unthread_node.ensures in
     let items = with_items_is a.nodes c.unthread_node.new.nodes (omega (arith, change.len, a.nodes.ok.0)) in

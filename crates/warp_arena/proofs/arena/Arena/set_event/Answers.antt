@@ -18,7 +18,7 @@ invariant_of-self c =
     let a = c.self.inside in
     let h = subst (λ v. IsSome (entry_of c.args.node v.places)) (sym (c.self.view_is ∙ c.touch.ensures)) c.requires in
     let r = changing a c.self.invariant c.args.node c.index.result c.index.ensures h c.index_mut.result.now c.index_mut.ensures.value
-    (with_event c.args.input c.args.value) (λ _. refl) (λ _. refl) c.note_event.new.self (c.note_event.ensures.entry ∙ ap (λ z. with_event c.args.input z c.index_mut.result.now.entry) (to_z-of_z w64 c.args.value c.ranges.value)) in
+    (with_event c.args.input c.args.value) (λ _. refl) (λ _. refl) c.note_event.new.self (c.note_event.ensures ∙ ap (λ z. with_event c.args.input z c.index_mut.result.now.entry) (to_z-of_z w64 c.args.value c.ranges.value)) in
     r.whole
 
 pub returns-clause-places : goal.returns-clause-places
@@ -26,7 +26,7 @@ returns-clause-places c =
     let a = c.self.inside in
     let h = subst (λ v. IsSome (entry_of c.args.node v.places)) (sym (c.self.view_is ∙ c.touch.ensures)) c.requires in
     let r = changing a c.self.invariant c.args.node c.index.result c.index.ensures h c.index_mut.result.now c.index_mut.ensures.value
-    (with_event c.args.input c.args.value) (λ _. refl) (λ _. refl) c.note_event.new.self (c.note_event.ensures.entry ∙ ap (λ z. with_event c.args.input z c.index_mut.result.now.entry) (to_z-of_z w64 c.args.value c.ranges.value)) in
+    (with_event c.args.input c.args.value) (λ _. refl) (λ _. refl) c.note_event.new.self (c.note_event.ensures ∙ ap (λ z. with_event c.args.input z c.index_mut.result.now.entry) (to_z-of_z w64 c.args.value c.ranges.value)) in
     r.contents
     ∙ ap (λ v. let w : Contents = record { origins = v.origins; places = with_change (with_event c.args.input c.args.value) c.args.node v.places; free = v.free; room = v.room } in w) (c.self.view_is ∙ c.touch.ensures)
 

@@ -17,7 +17,7 @@ invariant_of-self c =
     let a = c.self.inside in
     let h = subst (λ v. IsSome (entry_of c.args.node v.places)) (sym (c.self.view_is ∙ c.touch.ensures)) c.requires in
     let r = changing a c.self.invariant c.args.node c.index.result c.index.ensures h c.index_mut.result.now c.index_mut.ensures.value
-    with_withdrawal (λ _. refl) (λ _. refl) c.withdraw.new.self c.withdraw.ensures.entry in
+    with_withdrawal (λ _. refl) (λ _. refl) c.withdraw.new.self c.withdraw.ensures in
     r.whole
 
 pub returns-clause-places : goal.returns-clause-places
@@ -25,7 +25,7 @@ returns-clause-places c =
     let a = c.self.inside in
     let h = subst (λ v. IsSome (entry_of c.args.node v.places)) (sym (c.self.view_is ∙ c.touch.ensures)) c.requires in
     let r = changing a c.self.invariant c.args.node c.index.result c.index.ensures h c.index_mut.result.now c.index_mut.ensures.value
-    with_withdrawal (λ _. refl) (λ _. refl) c.withdraw.new.self c.withdraw.ensures.entry in
+    with_withdrawal (λ _. refl) (λ _. refl) c.withdraw.new.self c.withdraw.ensures in
     r.contents
     ∙ ap (λ v. let w : Contents = record { origins = v.origins; places = with_change with_withdrawal c.args.node v.places; free = v.free; room = v.room } in w) (c.self.view_is ∙ c.touch.ensures)
 

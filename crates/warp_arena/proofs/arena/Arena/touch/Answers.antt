@@ -14,10 +14,10 @@ pub index_mut-requires : goal.index_mut-requires
 index_mut-requires c =
     let a = c.self.inside in
     let h = subst (λ v. IsSome (entry_of c.args.node v.places)) (sym c.self.view_is) c.requires in
-    omega (arith, a.by_origin.ok.0, read_declared a c.self.invariant c.args.node h c.index-at.result c.index-at.ensures c.index.result.now c.index.ensures)
+    omega (arith, a.by_origin.ok.0, read_declared a c.self.invariant c.args.node h c.index-at.result c.index-at.ensures c.index.result.now c.index.ensures c.origin-origin.result c.origin-origin.ensures)
 
 pub invariant_of-self : goal.invariant_of-self
 invariant_of-self c =
     let a = c.self.inside in
     let h = subst (λ v. IsSome (entry_of c.args.node v.places)) (sym c.self.view_is) c.requires in
-    whole_touched a c.self.invariant c.args.node h c.index-at.result c.index-at.ensures c.index.result.now c.index.ensures c.index_mut.result.now c.index_mut.ensures.value
+    whole_touched a c.self.invariant c.args.node h c.index-at.result c.index-at.ensures c.index.result.now c.index.ensures c.origin-origin.result c.origin-origin.ensures c.index_mut.result.now c.index_mut.ensures.value
