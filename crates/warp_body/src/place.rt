@@ -99,7 +99,7 @@ pub struct Sizes {
 /// The values of a program's variables, by number.
 #[derive(Debug, Drop)]
 pub struct Vars {
-    values: Vec<i64>,
+    pub(crate) values: Vec<i64>,
 }
 
 impl Model for Vars {

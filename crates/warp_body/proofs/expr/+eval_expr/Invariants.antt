@@ -4,8 +4,8 @@ use Rattle.warp_body.specs.Term.{term_of}
 use Rattle.warp_body.proofs.Terms.{operators}
 use Rattle.warp_body.proofs.expr.+eval_expr.Given as goal
 
-abbrev pub decreases-eval : goal.decreases-eval
-decreases-eval l = 2 * operators (term_of l.expr.now)
+abbrev pub decreases-evaluate : goal.decreases-evaluate
+decreases-evaluate l = 2 * operators (term_of l.expr.now)
 
 abbrev pub decreases-unary : goal.decreases-unary
 decreases-unary l = 2 * operators (term_of l.a.now) + 1
