@@ -1,109 +1,83 @@
 -- Whom a place concerns: that those whom a new value concerns are marked, and so that those that are due stay marked.
-use Rattle.std.proofs.Common.{◌≡◌, ◌⊎◌, inl, inr, ℕ, ℤ, zero, suc, ◌+◌, ◌/◌, ◌<◌, ◌≤◌, Bool, true, false, ◌||◌, eqb, List, [], ◌∷◌, length, get_or, replicate, Option, None, Some, IsTrue, is_some, if◌then◌else◌, refl, sym, ap, ◌∙◌, arith}
+use Rattle.std.proofs.Common.{◌≡◌, ◌⊎◌, inl, inr, ℕ, ℤ, zero, suc, ◌+◌, ◌<◌, ◌≤◌, Bool, true, false, ◌||◌, eqb, List, [], ◌∷◌, get_or, replicate, Option, None, Some, bit_or, is_some, if◌then◌else◌, refl, sym, ap, ◌∙◌, subst, arith}
 use Rattle.std.specs.Prelude.{slice_get, slice_index_or}
 use Rattle.std.specs.List.{list_any}
-use Rattle.std.proofs.lemmas.Bool.{cases_Bool, or_from, eqb-false, leb-true}
+use Rattle.std.proofs.lemmas.Bool.{cases_Bool, or_from, eqb-false}
 use Rattle.std.proofs.lemmas.List.{get_or-set_other}
-use Rattle.std.proofs.lemmas.Option.{slice_get_within}
 use Rattle.warp_body.specs.Presence.{Presence, is_target, nothing_present, present_at, with_value}
 use Rattle.warp_body.specs.declared.place.Places.{Places}
 use Rattle.warp_body.specs.declared.place.Target.{Target}
 use Rattle.warp_body.specs.declared.place.Target.TheVariants as to
-use Rattle.warp_step.specs.Marks.{first_link, first_output, first_reaction, first_timer, has_few_marks, mark_at, no_marks, with_mark}
+use Rattle.warp_step.specs.Marks.{first_link, first_output, first_reaction, first_timer, mark_at, no_marks, with_mark}
 use Rattle.warp_step.specs.Plan.{heeds, heeds_any, link_heeds, output_heeds, place_of, reaction_heeds, timer_heeds, with_watchers}
 use Rattle.warp_step.specs.Program.{Program}
 use Rattle.warp_step.specs.Step.{marks_of, sources_of}
-use Rattle.warp_step.specs.Valid.{is_valid}
 use Rattle.warp_step.specs.inner.Due.{AreDue, AreMarked}
-use Rattle.warp_step.proofs.MarkLemmas.{length-with_mark, with_mark_adds, with_mark_keeps}
-use Rattle.warp_step.proofs.ValidLemmas.{validity}
+use Rattle.warp_step.proofs.MarkLemmas.{joined_adds, joined_keeps, with_mark_adds, with_mark_keeps}
 
 -- one number more, if a test says so
-module _ (n : ℕ) (words : List ℕ) where
-  length-mark_if : (b : Bool) → length (if b then with_mark n words else words) ≡ length words
-  length-mark_if true = length-with_mark n words
-  length-mark_if false = refl
+module _ (n word : ℕ) where
+  mark_if_keeps : (b : Bool) (m : ℕ) → mark_at word m ≡ 1 → mark_at (if b then with_mark n word else word) m ≡ 1
+  mark_if_keeps true m h = with_mark_keeps n word m h
+  mark_if_keeps false m h = h
 
-  mark_if_keeps : (b : Bool) (m : ℕ) → n / 64 < length words → mark_at words m ≡ 1 → mark_at (if b then with_mark n words else words) m ≡ 1
-  mark_if_keeps true m lt h = with_mark_keeps n words m lt h
-  mark_if_keeps false m lt h = h
-
-  mark_if_adds : (b : Bool) → b ≡ true → n / 64 < length words → mark_at (if b then with_mark n words else words) n ≡ 1
-  mark_if_adds true h lt = with_mark_adds n words lt
-  mark_if_adds false h lt = let no : false ≡ true = h in cc
+  mark_if_adds : (b : Bool) → b ≡ true → mark_at (if b then with_mark n word else word) n ≡ 1
+  mark_if_adds true h = with_mark_adds n word
+  mark_if_adds false h = let no : false ≡ true = h in cc
 
 -- the marks of the elements of a list that heed one of the places
 module _ {X : Type 0} (triggers : ℕ → X → List Target) (first : ℕ) (sources : List ℕ) (places : List Target) where
-  length-with_watchers : (n : ℕ) (xs : List X) (words : List ℕ) → length (with_watchers triggers first sources places n xs words) ≡ length words
-  length-with_watchers n [] words = refl
-  length-with_watchers n (x ∷ xs) words =
-      length-with_watchers (n + 1) xs (if heeds_any sources (triggers n x) places then with_mark (first + n) words else words)
-      ∙ length-mark_if (first + n) words (heeds_any sources (triggers n x) places)
-
-  with_watchers_keep : (n : ℕ) (xs : List X) (words : List ℕ) (m : ℕ) → length words ≡ 10 → first + n + length xs ≤ 640
-      → mark_at words m ≡ 1 → mark_at (with_watchers triggers first sources places n xs words) m ≡ 1
-  with_watchers_keep n [] words m ten within h = h
-  with_watchers_keep n (x ∷ xs) words m ten within h =
+  with_watchers_keep : (n : ℕ) (xs : List X) (word m : ℕ) → mark_at word m ≡ 1 → mark_at (with_watchers triggers first sources places n xs word) m ≡ 1
+  with_watchers_keep n [] word m h = h
+  with_watchers_keep n (x ∷ xs) word m h =
       let test = heeds_any sources (triggers n x) places in
-      with_watchers_keep (n + 1) xs (if test then with_mark (first + n) words else words) m
-      (length-mark_if (first + n) words test ∙ ten) (omega (arith, within))
-      (mark_if_keeps (first + n) words test m (omega (arith, ten, within)) h)
+      with_watchers_keep (n + 1) xs (if test then with_mark (first + n) word else word) m (mark_if_keeps (first + n) word test m h)
 
-  with_watchers_mark : (n : ℕ) (xs : List X) (words : List ℕ) (k j : ℕ) (x : X) → n + k ≡ j → length words ≡ 10 → first + n + length xs ≤ 640 → slice_get xs k ≡ Some x
-      → heeds_any sources (triggers j x) places ≡ true → mark_at (with_watchers triggers first sources places n xs words) (first + j) ≡ 1
-  with_watchers_mark n [] words k j x sum ten within at heeded = let no : None ≡ Some x = at in cc
-  with_watchers_mark n (y ∷ ys) words zero j x sum ten within at heeded =
+  with_watchers_mark : (n : ℕ) (xs : List X) (word k j : ℕ) (x : X) → n + k ≡ j → slice_get xs k ≡ Some x
+      → heeds_any sources (triggers j x) places ≡ true → mark_at (with_watchers triggers first sources places n xs word) (first + j) ≡ 1
+  with_watchers_mark n [] word k j x sum at heeded = let no : None ≡ Some x = at in cc
+  with_watchers_mark n (y ∷ ys) word zero j x sum at heeded =
       let some : Some y ≡ Some x = at in
       let same : y ≡ x = cc in
       let here : n ≡ j = omega (arith, sum) in
       let test = heeds_any sources (triggers n y) places in
       let own : test ≡ true = (λ i. heeds_any sources (triggers (here i) (same i)) places) ∙ heeded in
-      let marked = mark_if_adds (first + n) words test own (omega (arith, ten, within)) in
-      let kept = with_watchers_keep (n + 1) ys (if test then with_mark (first + n) words else words) (first + n)
-      (length-mark_if (first + n) words test ∙ ten) (omega (arith, within)) marked in
-      ap (λ (m : ℕ). mark_at (with_watchers triggers first sources places n (y ∷ ys) words) (first + m)) (sym here) ∙ kept
-  with_watchers_mark n (y ∷ ys) words (suc k) j x sum ten within at heeded =
+      let marked = mark_if_adds (first + n) word test own in
+      let kept = with_watchers_keep (n + 1) ys (if test then with_mark (first + n) word else word) (first + n) marked in
+      ap (λ (m : ℕ). mark_at (with_watchers triggers first sources places n (y ∷ ys) word) (first + m)) (sym here) ∙ kept
+  with_watchers_mark n (y ∷ ys) word (suc k) j x sum at heeded =
       let test = heeds_any sources (triggers n y) places in
-      with_watchers_mark (n + 1) ys (if test then with_mark (first + n) words else words) k j x (omega (arith, sum))
-      (length-mark_if (first + n) words test ∙ ten) (omega (arith, within)) at heeded
+      with_watchers_mark (n + 1) ys (if test then with_mark (first + n) word else word) k j x (omega (arith, sum)) at heeded
 
 -- all elements of a list that heed one of the places are marked
-abbrev pub MarksAll : {X : Type 0} → (ℕ → X → List Target) → ℕ → List X → List ℕ → List Target → List ℕ → Type 0
-MarksAll {X} triggers first xs sources places words =
-    (n : ℕ) (x : X) → slice_get xs n ≡ Some x → heeds_any sources (triggers n x) places ≡ true → mark_at words (first + n) ≡ 1
+abbrev pub MarksAll : {X : Type 0} → (ℕ → X → List Target) → ℕ → List X → List ℕ → List Target → ℕ → Type 0
+MarksAll {X} triggers first xs sources places word =
+    (n : ℕ) (x : X) → slice_get xs n ≡ Some x → heeds_any sources (triggers n x) places ≡ true → mark_at word (first + n) ≡ 1
 
 -- and so are all parts of a program that do
-pub record Marks (P : Program) (places : List Target) (words : List ℕ) : Type 0 where
-  pub reactions : MarksAll reaction_heeds first_reaction P.reactions (sources_of P) places words
-  pub links : MarksAll link_heeds (first_link P) P.links (sources_of P) places words
-  pub outputs : MarksAll output_heeds (first_output P) P.outputs (sources_of P) places words
-  pub timers : MarksAll timer_heeds (first_timer P) P.timers (sources_of P) places words
+pub record Marks (P : Program) (places : List Target) (word : ℕ) : Type 0 where
+  pub reactions : MarksAll reaction_heeds first_reaction P.reactions (sources_of P) places word
+  pub links : MarksAll link_heeds (first_link P) P.links (sources_of P) places word
+  pub outputs : MarksAll output_heeds (first_output P) P.outputs (sources_of P) places word
+  pub timers : MarksAll timer_heeds (first_timer P) P.timers (sources_of P) places word
 
-pub marks_all : (P : Program) (places : List Target) → IsTrue (is_valid P) → Marks P places (marks_of P places)
-marks_all P places valid =
-    let limits = (validity P valid).limits in
+pub marks_all : (P : Program) (places : List Target) → Marks P places (marks_of P places)
+marks_all P places =
     let ss = sources_of P in
     let a = with_watchers reaction_heeds first_reaction ss places 0 P.reactions no_marks in
     let b = with_watchers link_heeds (first_link P) ss places 0 P.links a in
     let d = with_watchers output_heeds (first_output P) ss places 0 P.outputs b in
-    let a_ten : length a ≡ 10 = length-with_watchers reaction_heeds first_reaction ss places 0 P.reactions no_marks in
-    let b_ten : length b ≡ 10 = length-with_watchers link_heeds (first_link P) ss places 0 P.links a ∙ a_ten in
-    let d_ten : length d ≡ 10 = length-with_watchers output_heeds (first_output P) ss places 0 P.outputs b ∙ b_ten in
-    let reactions = limits.reactions in
-    let links = limits.links in
-    let outputs = limits.outputs in
-    let timers = limits.timers in
-    let keep_b = λ (m : ℕ). with_watchers_keep link_heeds (first_link P) ss places 0 P.links a m a_ten (omega (arith, reactions, links)) in
-    let keep_d = λ (m : ℕ). with_watchers_keep output_heeds (first_output P) ss places 0 P.outputs b m b_ten (omega (arith, reactions, links, outputs)) in
-    let keep = λ (m : ℕ). with_watchers_keep timer_heeds (first_timer P) ss places 0 P.timers d m d_ten (omega (arith, reactions, links, outputs, timers)) in
+    let keep_b = with_watchers_keep link_heeds (first_link P) ss places 0 P.links a in
+    let keep_d = with_watchers_keep output_heeds (first_output P) ss places 0 P.outputs b in
+    let keep = with_watchers_keep timer_heeds (first_timer P) ss places 0 P.timers d in
     record {
       reactions = λ n x at heeded. keep (first_reaction + n) (keep_d (first_reaction + n) (keep_b (first_reaction + n)
-          (with_watchers_mark reaction_heeds first_reaction ss places 0 P.reactions no_marks n n x (omega arith) refl (omega (arith, reactions)) at heeded)));
+          (with_watchers_mark reaction_heeds first_reaction ss places 0 P.reactions no_marks n n x (omega arith) at heeded)));
       links = λ n x at heeded. keep (first_link P + n) (keep_d (first_link P + n)
-          (with_watchers_mark link_heeds (first_link P) ss places 0 P.links a n n x (omega arith) a_ten (omega (arith, reactions, links)) at heeded));
+          (with_watchers_mark link_heeds (first_link P) ss places 0 P.links a n n x (omega arith) at heeded));
       outputs = λ n x at heeded. keep (first_output P + n)
-          (with_watchers_mark output_heeds (first_output P) ss places 0 P.outputs b n n x (omega arith) b_ten (omega (arith, reactions, links, outputs)) at heeded);
-      timers = λ n x at heeded. with_watchers_mark timer_heeds (first_timer P) ss places 0 P.timers d n n x (omega arith) d_ten (omega (arith, reactions, links, outputs, timers)) at heeded;
+          (with_watchers_mark output_heeds (first_output P) ss places 0 P.outputs b n n x (omega arith) at heeded);
+      timers = λ n x at heeded. with_watchers_mark timer_heeds (first_timer P) ss places 0 P.timers d n n x (omega arith) at heeded;
     }
 
 -- a place that a trigger does not heed leaves it
@@ -163,41 +137,32 @@ follows_value target v present = λ triggers h. elim (cases_Bool (heeds present.
 ]
 
 -- the elements of one list that are due stay marked
-marked_after : {X : Type 0} (triggers : ℕ → X → List Target) (first : ℕ) (xs : List X) (places : List Target) (before after : Presence) (old new : List ℕ)
-    → Follows places before after → ((m : ℕ) → mark_at old m ≡ 1 → mark_at new m ≡ 1) → MarksAll triggers first xs before.sources places new
-    → AreMarked triggers first xs before old → AreMarked triggers first xs after new
-marked_after {X} triggers first xs places before after old new follows keeps marks were = λ n x at present.
+marked_after : {X : Type 0} (triggers : ℕ → X → List Target) (first : ℕ) (xs : List X) (places : List Target) (before after : Presence) (old called : ℕ)
+    → Follows places before after → MarksAll triggers first xs before.sources places called
+    → AreMarked triggers first xs before old → AreMarked triggers first xs after (bit_or old called)
+marked_after {X} triggers first xs places before after old called follows marks were = λ n x at present.
     elim (follows (triggers n x) present) [
-      | inl was ↦ keeps (first + n) (were n x at was)
-      | inr heeded ↦ marks n x at heeded
+      | inl was ↦ joined_keeps old called (first + n) (were n x at was)
+      | inr heeded ↦ joined_adds old called (first + n) (marks n x at heeded)
     ]
 
--- where there are few marks, all of a program's stand in the first word
-few_within : (P : Program) (few : Bool) (m : ℕ) → few ≡ has_few_marks P → m < first_timer P + length P.timers → few ≡ true → m < 64
-few_within P few m is lt h =
-    let most = leb-true (first_timer P + length P.timers) 64 (sym is ∙ h) in
-    omega (arith, lt, most)
-
 -- Those that are due stay marked, where all whom the places concern are marked.
-pub due_after : (P : Program) (places : List Target) (before after : Presence) (few : Bool) (old called new : List ℕ) → IsTrue (is_valid P) → before.sources ≡ sources_of P
-    → few ≡ has_few_marks P → Follows places before after → called ≡ marks_of P places → ((m : ℕ) → mark_at old m ≡ 1 → mark_at new m ≡ 1)
-    → ((m : ℕ) → (few ≡ true → m < 64) → mark_at called m ≡ 1 → mark_at new m ≡ 1) → AreDue P before old → AreDue P after new
-due_after P places before after few old called new valid own few_is follows is keeps adds were =
-    let all = marks_all P places valid in
-    let add : (m : ℕ) → m < first_timer P + length P.timers → mark_at (marks_of P places) m ≡ 1 → mark_at new m ≡ 1 =
-    λ m lt h. adds m (few_within P few m few_is lt) (ap (λ (words : List ℕ). mark_at words m) is ∙ h) in
+pub due_after : (P : Program) (places : List Target) (before after : Presence) (old called new : ℕ) → before.sources ≡ sources_of P
+    → Follows places before after → called ≡ marks_of P places → new ≡ bit_or old called → AreDue P before old → AreDue P after new
+due_after P places before after old called new own follows is joined were =
+    let all = subst (λ (word : ℕ). Marks P places word) (sym is) (marks_all P places) in
     let by_own : (triggers : List Target) → heeds_any before.sources triggers places ≡ true → heeds_any (sources_of P) triggers places ≡ true =
     λ triggers h. ap (λ (ss : List ℕ). heeds_any ss triggers places) (sym own) ∙ h in
-    record {
-      reactions = marked_after reaction_heeds first_reaction P.reactions places before after old new follows keeps
-          (λ n x at h. add (first_reaction + n) (omega (arith, slice_get_within P.reactions n x at)) (all.reactions n x at (by_own (reaction_heeds n x) h))) were.reactions;
-      links = marked_after link_heeds (first_link P) P.links places before after old new follows keeps
-          (λ n x at h. add (first_link P + n) (omega (arith, slice_get_within P.links n x at)) (all.links n x at (by_own (link_heeds n x) h))) were.links;
-      outputs = marked_after output_heeds (first_output P) P.outputs places before after old new follows keeps
-          (λ n x at h. add (first_output P + n) (omega (arith, slice_get_within P.outputs n x at)) (all.outputs n x at (by_own (output_heeds n x) h))) were.outputs;
-      timers = marked_after timer_heeds (first_timer P) P.timers places before after old new follows keeps
-          (λ n x at h. add (first_timer P + n) (omega (arith, slice_get_within P.timers n x at)) (all.timers n x at (by_own (timer_heeds n x) h))) were.timers;
-    }
+    subst (λ (word : ℕ). AreDue P after word) (sym joined) (record {
+      reactions = marked_after reaction_heeds first_reaction P.reactions places before after old called follows
+          (λ n x at h. all.reactions n x at (by_own (reaction_heeds n x) h)) were.reactions;
+      links = marked_after link_heeds (first_link P) P.links places before after old called follows
+          (λ n x at h. all.links n x at (by_own (link_heeds n x) h)) were.links;
+      outputs = marked_after output_heeds (first_output P) P.outputs places before after old called follows
+          (λ n x at h. all.outputs n x at (by_own (output_heeds n x) h)) were.outputs;
+      timers = marked_after timer_heeds (first_timer P) P.timers places before after old called follows
+          (λ n x at h. all.timers n x at (by_own (timer_heeds n x) h)) were.timers;
+    })
 
 -- a list of absent values has none
 none_at : (n k : ℕ) → get_or {A = Option ℤ} (replicate n None) k None ≡ None
@@ -218,9 +183,9 @@ none_triggers places sources (t ∷ ts) =
     or_from _ _ (ap (λ (o : Option ℤ). is_some o) (absent_at places sources t)) (none_triggers places sources ts)
 
 -- where nothing is present, none is to be looked at, and so all are marked
-pub none_due : (P : Program) (places : Places) (sources : List ℕ) (words : List ℕ) → AreDue P (nothing_present places sources) words
-none_due P places sources words =
-    let idle : (triggers : List Target) (m : ℕ) → list_any (λ trigger. is_some (present_at (nothing_present places sources) trigger)) triggers ≡ true → mark_at words m ≡ 1 =
+pub none_due : (P : Program) (places : Places) (sources : List ℕ) (word : ℕ) → AreDue P (nothing_present places sources) word
+none_due P places sources word =
+    let idle : (triggers : List Target) (m : ℕ) → list_any (λ trigger. is_some (present_at (nothing_present places sources) trigger)) triggers ≡ true → mark_at word m ≡ 1 =
     λ triggers m h. let no : false ≡ true = sym (none_triggers places sources triggers) ∙ h in cc in
     record {
       reactions = λ n x at h. idle (reaction_heeds n x) (first_reaction + n) h;
@@ -230,17 +195,17 @@ none_due P places sources words =
     }
 
 -- an element that is not marked has no trigger that is present
-pub unmarked : {X : Type 0} (triggers : ℕ → X → List Target) (first : ℕ) (xs : List X) (present : Presence) (words : List ℕ) → AreMarked triggers first xs present words
-    → (n : ℕ) (x : X) → slice_get xs n ≡ Some x → mark_at words (first + n) ≡ 0 → list_any (λ trigger. is_some (present_at present trigger)) (triggers n x) ≡ false
-unmarked {X} triggers first xs present words due n x at idle = elim (cases_Bool (list_any (λ trigger. is_some (present_at present trigger)) (triggers n x))) [
+pub unmarked : {X : Type 0} (triggers : ℕ → X → List Target) (first : ℕ) (xs : List X) (present : Presence) (word : ℕ) → AreMarked triggers first xs present word
+    → (n : ℕ) (x : X) → slice_get xs n ≡ Some x → mark_at word (first + n) ≡ 0 → list_any (λ trigger. is_some (present_at present trigger)) (triggers n x) ≡ false
+unmarked {X} triggers first xs present word due n x at idle = elim (cases_Bool (list_any (λ trigger. is_some (present_at present trigger)) (triggers n x))) [
   | inl some ↦ absurd (omega (arith, idle, due n x at some))
   | inr none ↦ none
 ]
 
 -- What is the same at an element that is not marked and at the next one is the same at two between which none is marked.
-pub skip : {A : Type 0} (f : ℕ → A) (words : List ℕ) (first len : ℕ) → ((n : ℕ) → n < len → mark_at words (first + n) ≡ 0 → f n ≡ f (n + 1))
-    → (count from to : ℕ) → from + count ≡ to → to ≤ len → ((m : ℕ) → first + from ≤ m → m < first + to → mark_at words m ≡ 0) → f from ≡ f to
-skip {A} f words first len same zero from to sum within none = let here : from ≡ to = omega (arith, sum) in ap f here
-skip {A} f words first len same (suc count) from to sum within none =
+pub skip : {A : Type 0} (f : ℕ → A) (word : ℕ) (first len : ℕ) → ((n : ℕ) → n < len → mark_at word (first + n) ≡ 0 → f n ≡ f (n + 1))
+    → (count from to : ℕ) → from + count ≡ to → to ≤ len → ((m : ℕ) → first + from ≤ m → m < first + to → mark_at word m ≡ 0) → f from ≡ f to
+skip {A} f word first len same zero from to sum within none = let here : from ≡ to = omega (arith, sum) in ap f here
+skip {A} f word first len same (suc count) from to sum within none =
     same from (omega (arith, sum, within)) (none (first + from) (omega arith) (omega (arith, sum)))
-    ∙ skip f words first len same count (from + 1) to (omega (arith, sum)) within (λ m l below. none m (omega (arith, l)) below)
+    ∙ skip f word first len same count (from + 1) to (omega (arith, sum)) within (λ m l below. none m (omega (arith, l)) below)

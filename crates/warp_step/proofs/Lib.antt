@@ -11,6 +11,7 @@ pub mod PlaceLemmas
 pub mod PlanLemmas
 pub mod ReactLemmas
 pub mod RowsBefore
+pub mod SameStates
 pub mod Sameness
 pub mod SkipLemmas
 pub mod SourceLemmas

@@ -1,70 +1,100 @@
 -- Marks, bit by bit.
-use Rattle.std.proofs.Common.{◌≡◌, ℕ, ◌+◌, ◌-◌, ◌*◌, ◌/◌, ◌%◌, ◌^◌, ◌<◌, ◌≤◌, List, length, inl, inr, slice_index_or, slice_set, bit_or, w64, sym, ap, ◌∙◌, subst, shr-shr, arith}
-use Rattle.std.specs.Int.{bit_at}
+use Rattle.std.proofs.Common.{◌≡◌, ℕ, zero, suc, ◌+◌, ◌-◌, ◌*◌, ◌/◌, ◌%◌, ◌^◌, ◌<◌, ◌≤◌, inl, inr, bit_and, bit_or, w64, sym, ap, ◌∙◌, shr-shr, arith}
+use Rattle.std.specs.Int.{bit_at, rotate_right, trailing_zeros}
+use Rattle.std.specs.Int.Count.{trailing_of_zero}
 use Rattle.std.proofs.lemmas.Bool.{cases_eq, cases_lt}
-use Rattle.std.proofs.lemmas.List.{get_or-set_other, get_or-set_same, length-set, get_or_past}
-use Rattle.std.proofs.lemmas.Nat.Bits.{bit_at_or, bit_at_above, bit_at_set_same, bit_at-zero}
-use Rattle.warp_step.specs.Marks.{mark_at, with_mark}
+use Rattle.std.proofs.lemmas.Nat.{and_le_r, pow_pos}
+use Rattle.std.proofs.lemmas.Nat.Bits.{bit_at-lt, bit_at-trailing_zeros, bit_at-zero, bit_at_and, bit_at_cat_high, bit_at_cat_low, bit_at_clear_other, bit_at_clear_same, bit_at_or, bit_at_set_same}
+use Rattle.warp_step.specs.Marks.{mark_at, marks_from, with_mark}
 
--- a word that is joined with another keeps what is marked, and marks what the other does
-pub joined_keeps : (words : List ℕ) (k v m : ℕ) → k < length words → mark_at words m ≡ 1 → mark_at (slice_set words k (bit_or (slice_index_or words k 0) v)) m ≡ 1
-joined_keeps words k v m lt h =
-    let joined = bit_or (slice_index_or words k 0) v in
-    elim (cases_eq (m / 64) k) [
-      | inl same ↦
-          let own : bit_at (slice_index_or words k 0) (m % 64) ≡ 1 =
-          subst (λ (j : ℕ). bit_at (slice_index_or words j 0) (m % 64) ≡ 1) same h in
-          ap (λ (j : ℕ). bit_at (slice_index_or (slice_set words k joined) j 0) (m % 64)) same
-          ∙ ap (λ (w : ℕ). bit_at w (m % 64)) (get_or-set_same words k joined 0 lt)
-          ∙ omega (arith, own, bit_at_or (slice_index_or words k 0) v (m % 64))
-      | inr other ↦ ap (λ (w : ℕ). bit_at w (m % 64)) (get_or-set_other words k (m / 64) joined 0 other) ∙ h
-    ]
+-- what is marked in one word or in another is marked in both together
+pub joined_keeps : (word other m : ℕ) → mark_at word m ≡ 1 → mark_at (bit_or word other) m ≡ 1
+joined_keeps word other m h = omega (arith, h, bit_at_or word other (m % 64), bit_at-lt other (m % 64))
 
-pub joined_adds : (words : List ℕ) (k v m : ℕ) → k < length words → m / 64 ≡ k → bit_at v (m % 64) ≡ 1 → mark_at (slice_set words k (bit_or (slice_index_or words k 0) v)) m ≡ 1
-joined_adds words k v m lt same h =
-    let joined = bit_or (slice_index_or words k 0) v in
-    ap (λ (j : ℕ). bit_at (slice_index_or (slice_set words k joined) j 0) (m % 64)) same
-    ∙ ap (λ (w : ℕ). bit_at w (m % 64)) (get_or-set_same words k joined 0 lt)
-    ∙ omega (arith, h, bit_at_or (slice_index_or words k 0) v (m % 64))
+pub joined_adds : (word other m : ℕ) → mark_at other m ≡ 1 → mark_at (bit_or word other) m ≡ 1
+joined_adds word other m h = omega (arith, h, bit_at_or word other (m % 64), bit_at-lt word (m % 64))
 
 -- with one number more, all that were marked are, and that one is
-pub with_mark_keeps : (n : ℕ) (words : List ℕ) (m : ℕ) → n / 64 < length words → mark_at words m ≡ 1 → mark_at (with_mark n words) m ≡ 1
-with_mark_keeps n words m lt h = joined_keeps words (n / 64) (1 * 2 ^ (n % 64) % 2 ^ 64) m lt h
+pub with_mark_keeps : (n word m : ℕ) → mark_at word m ≡ 1 → mark_at (with_mark n word) m ≡ 1
+with_mark_keeps n word m h = joined_keeps word (1 * 2 ^ (n % 64) % 2 ^ 64) m h
 
-pub with_mark_adds : (n : ℕ) (words : List ℕ) → n / 64 < length words → mark_at (with_mark n words) n ≡ 1
-with_mark_adds n words lt =
-    let word = slice_index_or words (n / 64) 0 in
-    let joined = bit_or word (1 * 2 ^ (n % 64) % 2 ^ 64) in
-    ap (λ (w : ℕ). bit_at w (n % 64)) (get_or-set_same words (n / 64) joined 0 lt)
-    ∙ bit_at_set_same w64 word (n % 64) (omega arith)
+pub with_mark_adds : (n word : ℕ) → mark_at (with_mark n word) n ≡ 1
+with_mark_adds n word = bit_at_set_same w64 word (n % 64) (omega arith)
 
-pub length-with_mark : (n : ℕ) (words : List ℕ) → length (with_mark n words) ≡ length words
-length-with_mark n words = length-set words (n / 64) (bit_or (slice_index_or words (n / 64) 0) (1 * 2 ^ (n % 64) % 2 ^ 64))
-
--- past the words nothing is marked
-pub unmarked_past : (words : List ℕ) (m : ℕ) → length words ≤ m / 64 → mark_at words m ≡ 0
-unmarked_past words m past = ap (λ (w : ℕ). bit_at w (m % 64)) (get_or_past words (m / 64) 0 past) ∙ bit_at-zero (m % 64)
-
--- the lowest bit of a word from a place on
-pub lowest_from : (word from run k : ℕ) → ((i : ℕ) → i < run → bit_at (word / 2 ^ from) i ≡ 0) → from ≤ k → k < from + run → bit_at word k ≡ 0
-lowest_from word from run k below later l =
-    let place = below (k - from) (omega arith) in
-    let same : from + (k - from) ≡ k = omega arith in
-    sym (ap (λ (x : ℕ). x % 2) (shr-shr word from (k - from)) ∙ ap (bit_at word) same) ∙ place
-
--- a bit that is set stands below the word's end
-pub set_within : (word from run : ℕ) → word < 2 ^ 64 → bit_at (word / 2 ^ from) run ≡ 1 → from + run < 64
-set_within word from run fits set = elim (cases_lt (from + run) 64) [
-  | inl l ↦ l
-  | inr ge ↦
-      let there : bit_at (word / 2 ^ from) run ≡ bit_at word (from + run) = ap (λ (x : ℕ). x % 2) (shr-shr word from run) in
-      absurd (omega (arith, set, there, bit_at_above word 64 (from + run) fits ge))
+-- of so many numbers from one on each is marked
+pub marks_from_mark : (first count k : ℕ) → k < count → mark_at (marks_from first count) (first + k) ≡ 1
+marks_from_mark first zero k lt = absurd (omega (arith, lt))
+marks_from_mark first (suc count) k lt = elim (cases_eq k count) [
+  | inl last ↦
+      ap (λ (j : ℕ). mark_at (marks_from first (suc count)) (first + j)) last
+      ∙ with_mark_adds (first + count) (marks_from first count)
+  | inr other ↦
+      with_mark_keeps (first + count) (marks_from first count) (first + k)
+      (marks_from_mark first count k (omega (arith, lt, other)))
 ]
 
--- a run of zeros in a word from a number's bit on: so many numbers are not marked
-pub unmarked_run : (words : List ℕ) (at run m : ℕ) → ((i : ℕ) → i < run → bit_at (slice_index_or words (at / 64) 0 / 2 ^ (at % 64)) i ≡ 0) → at % 64 + run ≤ 64
-    → at ≤ m → m < at + run → mark_at words m ≡ 0
-unmarked_run words at run m below within from l =
-    let same : m / 64 ≡ at / 64 = omega (arith, within, from, l) in
-    ap (λ (j : ℕ). bit_at (slice_index_or words j 0) (m % 64)) same
-    ∙ lowest_from (slice_index_or words (at / 64) 0) (at % 64) run (m % 64) below (omega (arith, same, from)) (omega (arith, same, l))
+-- where two words share no bit, what is marked in one is not in the other
+pub apart : (word other m : ℕ) → bit_and word other ≡ 0 → mark_at other m ≡ 1 → mark_at word m ≡ 0
+apart word other m none h =
+    let both = bit_at_and word other (m % 64) in
+    let zeros : bit_at (bit_and word other) (m % 64) ≡ 0 = ap (λ (w : ℕ). bit_at w (m % 64)) none ∙ bit_at-zero (m % 64) in
+    omega (arith, both, zeros, h, bit_at-lt word (m % 64))
+
+-- a bit of a word's low part
+bit_low : (n i : ℕ) → i < 64 → bit_at (n % 2 ^ 64) i ≡ bit_at n i
+bit_low n i lt =
+    let whole : n / 2 ^ 64 * 2 ^ 64 + n % 2 ^ 64 ≡ n = omega arith in
+    sym (bit_at_cat_low (n / 2 ^ 64) 64 (n % 2 ^ 64) i lt) ∙ ap (λ (k : ℕ). bit_at k i) whole
+
+-- a bit of a shifted word
+bit_shifted : (n k i : ℕ) → k ≤ i → bit_at (n * 2 ^ k) i ≡ bit_at n (i - k)
+bit_shifted n k i le =
+    let plain : n * 2 ^ k + 0 ≡ n * 2 ^ k = omega arith in
+    sym (ap (λ (x : ℕ). bit_at x i) plain) ∙ bit_at_cat_high n k 0 i (pow_pos k) le
+
+-- in a word that is turned to the right each bit stands so many places lower, and those that fall out come in at the top
+pub turned : (word by i : ℕ) → by < 64 → i < 64 → bit_at (rotate_right w64 word by) i ≡ 0 → bit_at word ((by + i) % 64) ≡ 0
+turned word by i small lt none =
+    let k = by % 64 in
+    let j = (64 - k) % 64 in
+    let high = word / 2 ^ k in
+    let low = word * 2 ^ j % 2 ^ 64 in
+    let parts = bit_at_or high low i in
+    elim (cases_lt (by + i) 64) [
+      | inl within ↦
+          let place : k + i ≡ (by + i) % 64 = omega (arith, small, within) in
+          let zero_high : bit_at high i ≡ 0 = omega (arith, none, parts) in
+          sym (ap (λ (x : ℕ). x % 2) (shr-shr word k i) ∙ ap (bit_at word) place) ∙ zero_high
+      | inr past ↦
+          let place : i - j ≡ (by + i) % 64 = omega (arith, small, lt, past) in
+          let zero_low : bit_at low i ≡ 0 = omega (arith, none, parts) in
+          sym (bit_low (word * 2 ^ j) i lt ∙ bit_shifted word j i (omega (arith, small, past)) ∙ ap (bit_at word) place) ∙ zero_low
+    ]
+
+-- below the lowest bit that is set, or where none is, each bit is zero
+pub zeros_below : (word i : ℕ) → word < 2 ^ 64 → i < trailing_zeros w64 word → bit_at word i ≡ 0
+zeros_below word i fits lt = elim (cases_eq word 0) [
+  | inl none ↦ ap (λ (w : ℕ). bit_at w i) none ∙ bit_at-zero i
+  | inr some ↦ (bit_at-trailing_zeros w64 word (omega (arith, some)) fits).2 i lt
+]
+
+-- a word without its lowest bit has the others, and where one of them is set the lowest is behind that bit's place
+pub others_stay : (word i : ℕ) → 0 < i → i < 64 → bit_at (bit_and word 18446744073709551614) i ≡ 0 → bit_at word i ≡ 0
+others_stay word i some short none = sym (bit_at_clear_other w64 word 0 (omega arith) i short (omega (arith, some))) ∙ none
+
+pub past_lowest : (word : ℕ) → 0 < trailing_zeros w64 (bit_and word 18446744073709551614)
+past_lowest word =
+    let rest = bit_and word 18446744073709551614 in
+    let fits : rest < 2 ^ 64 = omega (arith, and_le_r word 18446744073709551614) in
+    let cleared : bit_at rest 0 ≡ 0 = bit_at_clear_same w64 word 0 (omega arith) in
+    elim (cases_eq rest 0) [
+      | inl none ↦
+          let all : trailing_zeros w64 rest ≡ 64 = ap (trailing_zeros w64) none ∙ trailing_of_zero 64 in
+          omega (arith, all)
+      | inr some ↦ elim (cases_eq (trailing_zeros w64 rest) 0) [
+        | inl lowest ↦
+            let set : bit_at rest 0 ≡ 1 = sym (ap (bit_at rest) lowest) ∙ (bit_at-trailing_zeros w64 rest (omega (arith, some)) fits).1 in
+            absurd (omega (arith, cleared, set))
+        | inr past ↦ omega (arith, past)
+      ]
+    ]

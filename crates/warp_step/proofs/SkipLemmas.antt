@@ -3,6 +3,7 @@
 use Rattle.std.proofs.Common.{◌≡◌, ℕ, ℤ, zero, suc, ◌+◌, ◌-◌, ◌<◌, ◌≤◌, nat_lt, true, false, ◌&&◌, ◌||◌, List, [], ◌∷◌, length, drop, get_or, Option, None, Some, is_some, if◌then◌else◌, refl, sym, ap, ◌∙◌, arith}
 use Rattle.std.specs.Prelude.{slice_get, pos}
 use Rattle.std.specs.List.{list_any}
+use Rattle.std.proofs.Math.Seq.{drop-length}
 use Rattle.std.proofs.lemmas.Bool.{cond-false}
 use Rattle.std.proofs.lemmas.List.{drop_more}
 use Rattle.std.proofs.lemmas.Option.{slice_get-get_or}
@@ -10,7 +11,7 @@ use Rattle.warp_tag.specs.Moment.{Moment}
 use Rattle.warp_body.specs.Effect.{Done}
 use Rattle.warp_body.specs.Presence.{Presence, present_at}
 use Rattle.warp_body.specs.declared.place.Target.TheVariants as to
-use Rattle.warp_step.specs.Marks.{first_reaction, mark_at}
+use Rattle.warp_step.specs.Marks.{first_reaction, mark_at, marks_from}
 use Rattle.warp_step.specs.Plan.{link_heeds, output_heeds, reaction_heeds, source_if_delayed, timer_heeds}
 use Rattle.warp_step.specs.Program.{Program, Rule}
 use Rattle.warp_step.specs.Snapshot.{Snapshot, landed}
@@ -19,11 +20,18 @@ use Rattle.warp_step.specs.declared.parts.Link.{Link}
 use Rattle.warp_step.specs.declared.parts.Timer.{Timer}
 use Rattle.warp_step.specs.inner.Due.{AreMarked}
 use Rattle.warp_step.proofs.DueLemmas.{skip, unmarked}
+use Rattle.warp_step.proofs.MarkLemmas.{marks_from_mark}
 use Rattle.warp_step.proofs.ReactLemmas.{after_one_more}
 
 -- none is marked from a number on up to another
-abbrev pub NoneMarked : List ℕ → ℕ → ℕ → Type 0
-NoneMarked words from to = (m : ℕ) → from ≤ m → m < to → mark_at words m ≡ 0
+abbrev pub NoneMarked : ℕ → ℕ → ℕ → Type 0
+NoneMarked word from to = (m : ℕ) → from ≤ m → m < to → mark_at word m ≡ 0
+
+-- none of so many numbers from one on is marked where all of those are apart from what is
+pub none_marked : (first count word : ℕ) → ((m : ℕ) → mark_at (marks_from first count) m ≡ 1 → mark_at word m ≡ 0) → NoneMarked word first (first + count)
+none_marked first count word apart = λ m from below.
+    let here : first + (m - first) ≡ m = omega (arith, from) in
+    apart m (ap (mark_at (marks_from first count)) (sym here) ∙ marks_from_mark first count (m - first) (omega (arith, from, below)))
 
 -- what stands at an index does not depend on what is given for none
 pub get_or_same : {X : Type 0} (xs : List X) (n : ℕ) (d e : X) → n < length xs → get_or xs n d ≡ get_or xs n e
@@ -32,22 +40,22 @@ get_or_same {X} (x ∷ xs) zero d e lt = refl
 get_or_same {X} (x ∷ xs) (suc n) d e lt = get_or_same xs n d e (omega (arith, lt))
 
 -- the reactions
-module _ (P : Program) (now : Reacting) (words : List ℕ) (due : AreMarked reaction_heeds first_reaction P.reactions now.present words) where
-  idle_reaction : (n : ℕ) → n < length P.reactions → mark_at words (first_reaction + n) ≡ 0
+module _ (P : Program) (now : Reacting) (word : ℕ) (due : AreMarked reaction_heeds first_reaction P.reactions now.present word) where
+  idle_reaction : (n : ℕ) → n < length P.reactions → mark_at word (first_reaction + n) ≡ 0
       → after_reactions P (numbers n (drop n P.reactions)) now ≡ after_reactions P (numbers (n + 1) (drop (n + 1) P.reactions)) now
   idle_reaction n lt idle =
       let some : Rule = record { reactor = 0; triggers = []; reads = []; writes = []; body = Done } in
       let rule = get_or P.reactions n some in
       let at : slice_get P.reactions n ≡ Some rule = slice_get-get_or P.reactions n some lt in
-      let none : is_triggered rule now.present ≡ false = unmarked reaction_heeds first_reaction P.reactions now.present words due n rule at idle in
+      let none : is_triggered rule now.present ≡ false = unmarked reaction_heeds first_reaction P.reactions now.present word due n rule at idle in
       let same : get_or P.reactions n some ≡ get_or P.reactions n rule = get_or_same P.reactions n some rule lt in
       after_one_more P n rule now lt same
       ∙ ap (λ (r : Reacting). after_reactions P (numbers (n + 1) (drop (n + 1) P.reactions)) r) (cond-false (is_triggered rule now.present) _ now none)
 
-  pub skip_reactions : (from to : ℕ) → from ≤ to → to ≤ length P.reactions → NoneMarked words from to
+  pub skip_reactions : (from to : ℕ) → from ≤ to → to ≤ length P.reactions → NoneMarked word from to
       → after_reactions P (numbers from (drop from P.reactions)) now ≡ after_reactions P (numbers to (drop to P.reactions)) now
   skip_reactions from to order within none =
-      skip (λ (n : ℕ). after_reactions P (numbers n (drop n P.reactions)) now) words first_reaction (length P.reactions) idle_reaction (to - from) from to
+      skip (λ (n : ℕ). after_reactions P (numbers n (drop n P.reactions)) now) word first_reaction (length P.reactions) idle_reaction (to - from) from to
       (omega (arith, order)) within (λ m l below. none m (omega (arith, l)) (omega (arith, below)))
 
 -- where one of one trigger is not present, it is absent
@@ -56,24 +64,30 @@ absent None h = refl
 absent (Some v) h = let no : true ≡ false = h in cc
 
 -- the timers
-module _ (P : Program) (t : Moment) (present : Presence) (s : Snapshot) (words : List ℕ) (first : ℕ) (due : AreMarked timer_heeds first P.timers present words) where
-  idle_timer : (n : ℕ) → n < length P.timers → mark_at words (first + n) ≡ 0
+module _ (P : Program) (t : Moment) (present : Presence) (s : Snapshot) (word : ℕ) (first : ℕ) (due : AreMarked timer_heeds first P.timers present word) where
+  idle_timer : (n : ℕ) → n < length P.timers → mark_at word (first + n) ≡ 0
       → with_repeats P t present n (drop n P.timers) s ≡ with_repeats P t present (n + 1) (drop (n + 1) P.timers) s
   idle_timer n lt idle =
       let some : Timer = record { reactor = 0; offset = 0; period = 0 } in
       let timer = get_or P.timers n some in
       let at : slice_get P.timers n ≡ Some timer = slice_get-get_or P.timers n some lt in
-      let none = absent (present_at present (to.Timer n)) (unmarked timer_heeds first P.timers present words due n timer at idle) in
+      let none = absent (present_at present (to.Timer n)) (unmarked timer_heeds first P.timers present word due n timer at idle) in
       let rests : repeats present n timer ≡ false = λ i. is_some (none i) && nat_lt 0 timer.period in
       ap (λ (left : List Timer). with_repeats P t present n left s) (drop_more P.timers n some lt)
       ∙ ap (λ (u : Snapshot). with_repeats P t present (n + 1) (drop (n + 1) P.timers) u)
       (cond-false (repeats present n timer) (landed P t timer.period (to.Timer n) (pos 0) s) s rests)
 
-  pub skip_timers : (from to : ℕ) → first ≤ from → from ≤ to → to ≤ first + length P.timers → NoneMarked words from to
+  pub skip_timers : (from to : ℕ) → first ≤ from → from ≤ to → to ≤ first + length P.timers → NoneMarked word from to
       → with_repeats P t present (from - first) (drop (from - first) P.timers) s ≡ with_repeats P t present (to - first) (drop (to - first) P.timers) s
   skip_timers from to starts order within none =
-      skip (λ (n : ℕ). with_repeats P t present n (drop n P.timers) s) words first (length P.timers) idle_timer (to - from) (from - first) (to - first)
+      skip (λ (n : ℕ). with_repeats P t present n (drop n P.timers) s) word first (length P.timers) idle_timer (to - from) (from - first) (to - first)
       (omega (arith, starts, order)) (omega (arith, within)) (λ m l below. none m (omega (arith, l)) (omega (arith, below, starts, order)))
+
+  pub timers_rest : NoneMarked word first (first + length P.timers) → with_repeats P t present 0 P.timers s ≡ s
+  timers_rest none =
+      skip (λ (n : ℕ). with_repeats P t present n (drop n P.timers) s) word first (length P.timers) idle_timer (length P.timers) 0 (length P.timers)
+      (omega arith) (omega arith) (λ m l below. none m (omega (arith, l)) below)
+      ∙ ap (λ (left : List Timer). with_repeats P t present (length P.timers) left s) (drop-length P.timers)
 
 -- the timers from a number on are the one with it, and those from the next one on
 pub timers_one_more : (P : Program) (t : Moment) (present : Presence) (n : ℕ) (timer : Timer) (s : Snapshot) → n < length P.timers → timer ≡ get_or P.timers n timer
@@ -82,6 +96,29 @@ pub timers_one_more : (P : Program) (t : Moment) (present : Presence) (n : ℕ) 
 timers_one_more P t present n timer s lt is =
     ap (λ (left : List Timer). with_repeats P t present n left s) (drop_more P.timers n timer lt)
     ∙ ap (λ (own : Timer). with_repeats P t present (n + 1) (drop (n + 1) P.timers) (if repeats present n own then landed P t own.period (to.Timer n) (pos 0) s else s)) (sym is)
+
+-- where one timer alone is marked, at most that one repeats
+pub only_timer : (P : Program) (t : Moment) (present : Presence) (s : Snapshot) (word first : ℕ) → AreMarked timer_heeds first P.timers present word
+    → (mark : ℕ) (timer : Timer) → first ≤ mark → mark < first + length P.timers → timer ≡ get_or P.timers (mark - first) timer
+    → NoneMarked word first mark → NoneMarked word (mark + 1) (first + length P.timers)
+    → (if repeats present (mark - first) timer then landed P t timer.period (to.Timer (mark - first)) (pos 0) s else s) ≡ with_repeats P t present 0 P.timers s
+only_timer P t present s word first due mark timer starts within is before behind =
+    let n = mark - first in
+    let new = if repeats present n timer then landed P t timer.period (to.Timer n) (pos 0) s else s in
+    let none : first - first ≡ 0 = omega arith in
+    let next : mark + 1 - first ≡ n + 1 = omega (arith, starts) in
+    let all : first + length P.timers - first ≡ length P.timers = omega arith in
+    let up_to = skip_timers P t present s word first due first mark (omega arith) starts (omega (arith, within)) before in
+    let from = skip_timers P t present new word first due (mark + 1) (first + length P.timers) (omega (arith, starts)) (omega (arith, within)) (omega arith) behind in
+    let end : with_repeats P t present (length P.timers) (drop (length P.timers) P.timers) new ≡ new =
+    ap (λ (left : List Timer). with_repeats P t present (length P.timers) left new) (drop-length P.timers) in
+    sym end
+    ∙ ap (λ (k : ℕ). with_repeats P t present k (drop k P.timers) new) (sym all)
+    ∙ sym from
+    ∙ ap (λ (k : ℕ). with_repeats P t present k (drop k P.timers) new) next
+    ∙ sym (timers_one_more P t present n timer s (omega (arith, starts, within)) is)
+    ∙ sym up_to
+    ∙ ap (λ (k : ℕ). with_repeats P t present k (drop k P.timers) s) none
 
 -- the links
 undelivered : (P : Program) (t : Moment) (present : Presence) (target source : ℕ) (o : Option ℤ) (delay : Option ℕ) (s : Snapshot) → o ≡ present_at present (to.Port source)
@@ -92,23 +129,29 @@ undelivered P t present target source (Some v) (Some d) s is h =
     let none : Some v ≡ None = is ∙ absent (present_at present (to.Port source)) h in
     cc
 
-module _ (P : Program) (t : Moment) (present : Presence) (s : Snapshot) (words : List ℕ) (first : ℕ) (due : AreMarked link_heeds first P.links present words) where
-  idle_link : (n : ℕ) → n < length P.links → mark_at words (first + n) ≡ 0
+module _ (P : Program) (t : Moment) (present : Presence) (s : Snapshot) (word : ℕ) (first : ℕ) (due : AreMarked link_heeds first P.links present word) where
+  idle_link : (n : ℕ) → n < length P.links → mark_at word (first + n) ≡ 0
       → with_links P t present (drop n P.links) s ≡ with_links P t present (drop (n + 1) P.links) s
   idle_link n lt idle =
       let some : Link = record { source = 0; target = 0; delay = None } in
       let link = get_or P.links n some in
       let at : slice_get P.links n ≡ Some link = slice_get-get_or P.links n some lt in
-      let none = unmarked link_heeds first P.links present words due n link at idle in
+      let none = unmarked link_heeds first P.links present word due n link at idle in
       ap (λ (left : List Link). with_links P t present left s) (drop_more P.links n some lt)
       ∙ ap (λ (u : Snapshot). with_links P t present (drop (n + 1) P.links) u)
       (undelivered P t present link.target link.source (present_at present (to.Port link.source)) link.delay s refl none)
 
-  pub skip_links : (from to : ℕ) → first ≤ from → from ≤ to → to ≤ first + length P.links → NoneMarked words from to
+  pub skip_links : (from to : ℕ) → first ≤ from → from ≤ to → to ≤ first + length P.links → NoneMarked word from to
       → with_links P t present (drop (from - first) P.links) s ≡ with_links P t present (drop (to - first) P.links) s
   skip_links from to starts order within none =
-      skip (λ (n : ℕ). with_links P t present (drop n P.links) s) words first (length P.links) idle_link (to - from) (from - first) (to - first)
+      skip (λ (n : ℕ). with_links P t present (drop n P.links) s) word first (length P.links) idle_link (to - from) (from - first) (to - first)
       (omega (arith, starts, order)) (omega (arith, within)) (λ m l below. none m (omega (arith, l)) (omega (arith, below, starts, order)))
+
+  pub links_rest : NoneMarked word first (first + length P.links) → with_links P t present P.links s ≡ s
+  links_rest none =
+      skip (λ (n : ℕ). with_links P t present (drop n P.links) s) word first (length P.links) idle_link (length P.links) 0 (length P.links)
+      (omega arith) (omega arith) (λ m l below. none m (omega (arith, l)) below)
+      ∙ ap (λ (left : List Link). with_links P t present left s) (drop-length P.links)
 
 -- the links from a number on are the one with it, and those from the next one on
 pub links_one_more : (P : Program) (t : Moment) (present : Presence) (n : ℕ) (link : Link) (s : Snapshot) → n < length P.links → link ≡ get_or P.links n link
@@ -119,18 +162,18 @@ links_one_more P t present n link s lt is =
     ∙ ap (λ (own : Link). with_links P t present (drop (n + 1) P.links) (delivered P t own.target (present_at present (to.Port own.source)) own.delay s)) (sym is)
 
 -- the program outputs
-module _ (P : Program) (t : Moment) (present : Presence) (words : List ℕ) (first : ℕ) (due : AreMarked output_heeds first P.outputs present words) where
-  idle_output : (n : ℕ) → n < length P.outputs → mark_at words (first + n) ≡ 0
+module _ (P : Program) (t : Moment) (present : Presence) (word : ℕ) (first : ℕ) (due : AreMarked output_heeds first P.outputs present word) where
+  idle_output : (n : ℕ) → n < length P.outputs → mark_at word (first + n) ≡ 0
       → outputs_from n t present (drop n P.outputs) ≡ outputs_from (n + 1) t present (drop (n + 1) P.outputs)
   idle_output n lt idle =
       let port = get_or P.outputs n 0 in
       let at : slice_get P.outputs n ≡ Some port = slice_get-get_or P.outputs n 0 lt in
-      let none = absent (present_at present (to.Port port)) (unmarked output_heeds first P.outputs present words due n port at idle) in
+      let none = absent (present_at present (to.Port port)) (unmarked output_heeds first P.outputs present word due n port at idle) in
       ap (λ (left : List ℕ). outputs_from n t present left) (drop_more P.outputs n 0 lt)
       ∙ ap (λ (o : Option ℤ). with_output n t o (outputs_from (n + 1) t present (drop (n + 1) P.outputs))) none
 
-  pub skip_outputs : (from to : ℕ) → first ≤ from → from ≤ to → to ≤ first + length P.outputs → NoneMarked words from to
+  pub skip_outputs : (from to : ℕ) → first ≤ from → from ≤ to → to ≤ first + length P.outputs → NoneMarked word from to
       → outputs_from (from - first) t present (drop (from - first) P.outputs) ≡ outputs_from (to - first) t present (drop (to - first) P.outputs)
   skip_outputs from to starts order within none =
-      skip (λ (n : ℕ). outputs_from n t present (drop n P.outputs)) words first (length P.outputs) idle_output (to - from) (from - first) (to - first)
+      skip (λ (n : ℕ). outputs_from n t present (drop n P.outputs)) word first (length P.outputs) idle_output (to - from) (from - first) (to - first)
       (omega (arith, starts, order)) (omega (arith, within)) (λ m l below. none m (omega (arith, l)) (omega (arith, below, starts, order)))

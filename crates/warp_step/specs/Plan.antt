@@ -45,10 +45,10 @@ timer_heeds number timer = to.Timer number ∷ []
 
 -- with a mark for each element of a list that heeds one of the places; the first mark is at this number, and the elements count
 -- from the next one on
-abbrev pub with_watchers : {X : Type 0} → (ℕ → X → List Target) → ℕ → List ℕ → List Target → ℕ → List X → List ℕ → List ℕ
-with_watchers {X} triggers first sources places n [] words = words
-with_watchers {X} triggers first sources places n (x ∷ xs) words =
-    with_watchers triggers first sources places (n + 1) xs (if heeds_any sources (triggers n x) places then with_mark (first + n) words else words)
+abbrev pub with_watchers : {X : Type 0} → (ℕ → X → List Target) → ℕ → List ℕ → List Target → ℕ → List X → ℕ → ℕ
+with_watchers {X} triggers first sources places n [] word = word
+with_watchers {X} triggers first sources places n (x ∷ xs) word =
+    with_watchers triggers first sources places (n + 1) xs (if heeds_any sources (triggers n x) places then with_mark (first + n) word else word)
 
 -- the ports among targets: what a body writes there is present at the same tag
 abbrev pub is_port : Target → Bool
@@ -76,9 +76,10 @@ most_places = 337
 unfoldable pub place_numbers : List ℕ
 place_numbers = range_with_len 0 most_places
 
--- Whom each place concerns, by the place's number; and whom what a reaction writes concerns, by the reaction's number: as marks,
--- of which there may be so few that they all stand in the first word.
+-- Whom each place concerns, by the place's number, and whom what a reaction writes concerns, by the reaction's number: as marks.
+-- And the marks of all links, and of all timers.
 pub record Plan : Type 0 where
-  pub places : List (List ℕ)
-  pub after : List (List ℕ)
-  pub few : Bool
+  pub places : List ℕ
+  pub after : List ℕ
+  pub links : ℕ
+  pub timers : ℕ

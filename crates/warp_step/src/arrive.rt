@@ -19,7 +19,8 @@ use warp_body::{Present, Target};
 use warp_tag::Tag;
 
 impl State {
-    /// Makes the targets of the entries at the tag present, and takes these entries out.
+    /// Makes the targets of the entries at the tag present, and takes these entries out. Whom they concern is due.
+    #[inline(always)]
     pub(crate) fn take_entries(
         &mut self,
         program: &Program,
@@ -37,7 +38,7 @@ impl State {
         ensures present { present.new ≡ arrived_entries (filter (λ w. is_same w.tag tag) self.old.pending) present.old }
         ensures places { places_of present.new ≡ places_of present.old }
         ensures sources { present.new.sources ≡ present.old.sources }
-        ensures due { AreDue program.now present.old due.old.words → AreDue program.now present.new due.new.words }
+        ensures due { AreDue program.now present.old due.old.word → AreDue program.now present.new due.new.word }
     {
         let count = arrive_entries(self.pending.as_slice(), program, plan, due, tag, present);
         self.pending.drop_front(count);
@@ -45,6 +46,7 @@ impl State {
 }
 
 /// Makes the targets of the first entries with this tag present, and says how many have it. Whom they concern is due.
+#[inline(always)]
 fn arrive_entries(
     entries: &[Waiting],
     program: &Program,
@@ -63,7 +65,7 @@ fn arrive_entries(
     ensures present { present.new ≡ arrived_entries (take result entries.now) present.old }
     ensures places { places_of present.new ≡ places_of present.old }
     ensures sources { present.new.sources ≡ present.old.sources }
-    ensures due { AreDue program.now present.old due.old.words → AreDue program.now present.new due.new.words }
+    ensures due { AreDue program.now present.old due.old.word → AreDue program.now present.new due.new.word }
 {
     for (count, entry) in entries.iter().enumerate() {
         if !entry.tag.is_same(tag) {
@@ -75,6 +77,7 @@ fn arrive_entries(
 }
 
 /// Makes a target present with a value. Whom it concerns is due.
+#[inline(always)]
 fn put(
     program: &Program,
     plan: &Plan,
@@ -90,14 +93,15 @@ fn put(
     ensures value { present.new ≡ with_value target value present.old }
     ensures places { places_of present.new ≡ places_of present.old }
     ensures sources { present.new.sources ≡ present.old.sources }
-    ensures due { AreDue program.now present.old due.old.words → AreDue program.now present.new due.new.words }
+    ensures due { AreDue program.now present.old due.old.word → AreDue program.now present.new due.new.word }
 {
     program.valid();
     present.put(target, value);
-    due.add_all(plan.concerned(target), plan.few());
+    due.add_all(plan.concerned(target));
 }
 
 /// Makes the ports of the given inputs present. Whom they concern is due.
+#[inline(always)]
 pub(crate) fn arrive(
     program: &Program,
     plan: &Plan,
@@ -112,7 +116,7 @@ pub(crate) fn arrive(
     ensures present { present.new ≡ arrived program.now given.now present.old }
     ensures places { places_of present.new ≡ places_of present.old }
     ensures sources { present.new.sources ≡ present.old.sources }
-    ensures due { AreDue program.now present.old due.old.words → AreDue program.now present.new due.new.words }
+    ensures due { AreDue program.now present.old due.old.word → AreDue program.now present.new due.new.word }
 {
     for g in given {
         let port = Target::Port(program.port(g.input));

@@ -1,5 +1,5 @@
 //! What a step enters into the pending entries: timers that repeat, wishes, and what links with a delay deliver.
-ghost use Rattle.std.specs.Prelude.{◌≡◌, ◌<◌, ◌≤◌, IsTrue, length, map, pos, List, if◌then◌else◌};
+ghost use Rattle.std.specs.Prelude.{◌≡◌, ◌<◌, ◌≤◌, IsTrue, length, map, pos, replicate, List, [], if◌then◌else◌};
 ghost use Rattle.std.specs.List.{list_all};
 ghost use Rattle.warp_tag.specs.Limits.{longest_period};
 ghost use Rattle.warp_body.specs.Presence.{places_of, present_at};
@@ -9,27 +9,66 @@ ghost use Rattle.warp_step.specs.Valid.{link_fits, program_places, program_sizes
 ghost use Rattle.warp_step.specs.Snapshot.{landed};
 ghost use Rattle.warp_step.specs.inner.Due.{AreDue};
 ghost use Rattle.warp_step.specs.inner.Flagged.{HasNone};
-ghost use Rattle.warp_step.specs.Step.{repeats, with_repeats, with_wishes, with_all_wishes, with_links, delivered, lists_of};
+ghost use Rattle.warp_step.specs.Step.{repeats, with_repeats, with_wishes, with_all_wishes, with_links, delivered, lists_of, plan_of};
 
 use crate::marks::{Marks, first_link, first_timer};
 use crate::parts::{Link, Timer};
+use crate::plan::Plan;
 use crate::program::Program;
+use crate::react::clear_wishes;
 use crate::state::State;
 use warp_body::{Present, Target, Wish, Wishes};
 use warp_tag::Tag;
 
 impl State {
-    /// Makes each timer that is present and has a period pending again. It looks at those that are due.
+    /// Makes each timer that is present and has a period pending again. Where none is due it is one test.
+    #[inline(always)]
     pub(crate) fn repeat_timers(
         &mut self,
         program: &Program,
+        plan: &Plan,
         tag: Tag,
-        due: &Marks,
+        due: Marks,
         present: &Present,
     )
         requires time { tag.time ≤ program.now.stop }
         requires places { places_of present.now ≡ program_places program.now }
-        requires due { AreDue program.now present.now due.now.words }
+        requires plan { plan.now ≡ plan_of program.now }
+        requires due { AreDue program.now present.now due.word }
+        ensures { self.new ≡ with_repeats program.now tag present.now 0 program.now.timers self.old }
+    {
+        if due.meets(plan.timers()) {
+            self.repeat_due(program, tag, due, present);
+        }
+    }
+
+    /// Makes the timers that are due pending again. Nearly always it is one, and then nothing comes after it.
+    #[inline(never)]
+    fn repeat_due(&mut self, program: &Program, tag: Tag, due: Marks, present: &Present)
+        requires time { tag.time ≤ program.now.stop }
+        requires places { places_of present.now ≡ program_places program.now }
+        requires due { AreDue program.now present.now due.word }
+        ensures { self.new ≡ with_repeats program.now tag present.now 0 program.now.timers self.old }
+    {
+        program.valid();
+        let timers = program.timers();
+        let start = first_timer(program);
+        let limit = start + timers.len();
+        let mark = due.next(start, limit);
+        if mark == limit || due.after(mark, limit) < limit {
+            self.repeat_each(program, tag, due, present);
+            return;
+        }
+        let number = mark - start;
+        self.repeat_timer(program, tag, present, number as u32, &timers[number]);
+    }
+
+    /// Looks at the timers that are due, and makes each that is present and has a period pending again.
+    #[inline(never)]
+    fn repeat_each(&mut self, program: &Program, tag: Tag, due: Marks, present: &Present)
+        requires time { tag.time ≤ program.now.stop }
+        requires places { places_of present.now ≡ program_places program.now }
+        requires due { AreDue program.now present.now due.word }
         ensures { self.new ≡ with_repeats program.now tag present.now 0 program.now.timers self.old }
     {
         program.valid();
@@ -40,11 +79,12 @@ impl State {
         while mark < end {
             let number = mark - first;
             self.repeat_timer(program, tag, present, number as u32, &timers[number]);
-            mark = due.next(mark + 1, end);
+            mark = due.after(mark, end);
         }
     }
 
     /// Makes the timer with this number pending again if it is present and has a period.
+    #[inline(always)]
     fn repeat_timer(
         &mut self,
         program: &Program,
@@ -66,30 +106,36 @@ impl State {
         }
     }
 
-    /// Enters the wishes of the reactions, then what links with a delay deliver. The flag says whether there may be
-    /// wishes.
+    /// Enters the wishes of the reactions and empties their lists, then enters what links with a delay deliver. The
+    /// flag says whether there may be wishes.
+    #[inline(always)]
     pub(crate) fn enter_later(
         &mut self,
         program: &Program,
+        plan: &Plan,
         tag: Tag,
-        due: &Marks,
+        due: Marks,
         present: &Present,
-        wishes: &[Wishes],
+        wishes: &mut [Wishes],
         wished: bool,
     )
         requires time { tag.time ≤ program.now.stop }
         requires places { places_of present.now ≡ program_places program.now }
-        requires due { AreDue program.now present.now due.now.words }
-        requires wishes { IsTrue (list_all (list_all (wish_fits (program_sizes program.now))) (lists_of wishes.now)) }
-        requires none { HasNone wished (lists_of wishes.now) }
-        ensures { self.new ≡ with_links program.now tag present.now program.now.links
-            (with_all_wishes program.now tag (lists_of wishes.now) self.old) }
+        requires plan { plan.now ≡ plan_of program.now }
+        requires due { AreDue program.now present.now due.word }
+        requires wishes { IsTrue (list_all (list_all (wish_fits (program_sizes program.now))) (lists_of wishes.old)) }
+        requires none { HasNone wished (lists_of wishes.old) }
+        ensures state { self.new ≡ with_links program.now tag present.now program.now.links
+            (with_all_wishes program.now tag (lists_of wishes.old) self.old) }
+        ensures none { lists_of wishes.new ≡ replicate (length wishes.old) [] }
     {
         self.enter_wishes(program, tag, wishes, wished);
-        self.deliver(program, tag, due, present);
+        clear_wishes(wishes, wished);
+        self.deliver(program, plan, tag, due, present);
     }
 
     /// Enters the wishes of the reactions, of which there may be some where the flag says so.
+    #[inline(always)]
     fn enter_wishes(&mut self, program: &Program, tag: Tag, wishes: &[Wishes], wished: bool)
         requires time { tag.time ≤ program.now.stop }
         requires wishes { IsTrue (list_all (list_all (wish_fits (program_sizes program.now))) (lists_of wishes.now)) }
@@ -102,6 +148,7 @@ impl State {
     }
 
     /// Enters the wishes of each reaction, in the order of the file.
+    #[inline(never)]
     fn enter_lists(&mut self, program: &Program, tag: Tag, wishes: &[Wishes])
         requires time { tag.time ≤ program.now.stop }
         requires wishes { IsTrue (list_all (list_all (wish_fits (program_sizes program.now))) (lists_of wishes.now)) }
@@ -124,11 +171,26 @@ impl State {
         }
     }
 
-    /// Enters what each link with a delay delivers whose source is present. It looks at those that are due.
-    pub(crate) fn deliver(&mut self, program: &Program, tag: Tag, due: &Marks, present: &Present)
+    /// Enters what each link with a delay delivers whose source is present. Where none is due it is one test.
+    #[inline(always)]
+    fn deliver(&mut self, program: &Program, plan: &Plan, tag: Tag, due: Marks, present: &Present)
         requires time { tag.time ≤ program.now.stop }
         requires places { places_of present.now ≡ program_places program.now }
-        requires due { AreDue program.now present.now due.now.words }
+        requires plan { plan.now ≡ plan_of program.now }
+        requires due { AreDue program.now present.now due.word }
+        ensures { self.new ≡ with_links program.now tag present.now program.now.links self.old }
+    {
+        if due.meets(plan.links()) {
+            self.deliver_due(program, tag, due, present);
+        }
+    }
+
+    /// Looks at the links that are due, and enters what each with a delay delivers whose source is present.
+    #[inline(never)]
+    fn deliver_due(&mut self, program: &Program, tag: Tag, due: Marks, present: &Present)
+        requires time { tag.time ≤ program.now.stop }
+        requires places { places_of present.now ≡ program_places program.now }
+        requires due { AreDue program.now present.now due.word }
         ensures { self.new ≡ with_links program.now tag present.now program.now.links self.old }
     {
         program.valid();
@@ -138,7 +200,7 @@ impl State {
         let mut mark = due.next(first, end);
         while mark < end {
             self.deliver_link(program, tag, present, &links[mark - first]);
-            mark = due.next(mark + 1, end);
+            mark = due.after(mark, end);
         }
     }
 

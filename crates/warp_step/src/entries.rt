@@ -1,18 +1,26 @@
 //! The list of the pending entries. The earliest are taken out at its front without moving the rest, and a new one
 //! moves those on its shorter side, where there is room.
-ghost use Rattle.std.specs.Prelude.{◌≡◌, ◌+◌, ◌-◌, ◌<◌, ◌≤◌, [], length, take, drop, slice_range, slice_set};
-ghost use Rattle.std.specs.List.{insert};
+ghost use Rattle.std.specs.Prelude.{◌≡◌, ℕ, ◌+◌, ◌-◌, ◌<◌, ◌≤◌, ◌++◌, [], true, false, length, take, drop, slice_index_or, slice_range, slice_set, if◌then◌else◌};
+ghost use Rattle.std.specs.List.{copy_within, insert};
 ghost use Rattle.warp_tag.specs.Limits.{most_pending};
+ghost use Rattle.warp_tag.specs.Moment.{is_before};
+ghost use Rattle.warp_step.specs.declared.pending.Waiting.{Waiting as Entry};
+ghost use Rattle.warp_step.specs.Snapshot.{AreInOrder, with_entry};
 
 use crate::pending::Waiting;
 use std::fmt;
 use std::marker::Model;
+use warp_body::Target;
+use warp_tag::Tag;
 
 /// How many entries may be pending.
 pub(crate) const MOST_PENDING: usize = 256;
 
 /// How many places there are for them: with twice as many, entries move to the front once in 256 insertions at most.
 const PLACES: usize = 512;
+
+/// Up to so many entries are moved one by one as a place is sought from the end.
+const FEW: usize = 4;
 
 /// The pending entries, in order: those from `start` up to `end`.
 #[derive(Drop)]
@@ -56,6 +64,15 @@ impl Entries {
         &all[self.start..self.end]
     }
 
+    /// The last entry.
+    #[inline(always)]
+    pub(crate) fn last(&self) -> &Waiting
+        requires { 0 < length self.now }
+        ensures { result.now ≡ slice_index_or self.now (length self.now - 1) result.now }
+    {
+        &self.items[self.end - 1]
+    }
+
     /// How many there are.
     #[inline(always)]
     pub(crate) fn len(&self) -> usize
@@ -84,14 +101,54 @@ impl Entries {
         self.items[place] = entry;
     }
 
-    /// Inserts an entry at its place. Those in front of it move where they are fewer and there is room, else those
-    /// behind it.
+    /// Puts an entry behind all others, if the places behind them are not used up. Answers whether it is in.
     #[inline(always)]
-    pub(crate) fn insert(&mut self, at: usize, entry: Waiting)
+    pub(crate) fn push(&mut self, entry: Waiting) -> bool
+        requires room { length self.old < most_pending }
+        ensures { self.new ≡ (if result then insert self.old (length self.old) entry else self.old) }
+    {
+        let end = self.end;
+        if end < PLACES {
+            self.items[end] = entry;
+            self.end = end + 1;
+            return true;
+        }
+        false
+    }
+
+    /// Inserts an entry, if few are later, it comes behind all others, and the places behind the last are not used up.
+    /// Answers whether it is in.
+    #[inline(always)]
+    pub(crate) fn insert_near(&mut self, entry: Waiting) -> bool
+        requires order { AreInOrder self.old }
+        requires room { length self.old < most_pending }
+        ensures { self.new ≡ (if result then with_entry entry.tag entry.target entry.value self.old else self.old) }
+    {
+        if self.end == PLACES || !self.is_near(entry.tag) {
+            return false;
+        }
+        if !insert_later(&mut self.items, self.start, self.end, entry) {
+            return false;
+        }
+        self.end += 1;
+        true
+    }
+
+    /// Whether only few entries are later than a tag. On this hangs what is tried, and nothing else.
+    #[inline(always)]
+    fn is_near(&self, tag: Tag) -> bool {
+        self.len() <= FEW || self.items[self.end - FEW - 1].tag.is_before(tag)
+    }
+
+    /// Inserts an entry at its place. Those in front of it move where they are fewer and there is room, else those
+    /// behind it. The entry comes in its parts, which need no place in memory.
+    #[inline(never)]
+    pub(crate) fn insert(&mut self, tag: Tag, target: Target, value: i64, at: usize)
         requires within { at ≤ length self.old }
         requires room { length self.old < most_pending }
-        ensures { self.new ≡ insert self.old at entry }
+        ensures { self.new ≡ insert self.old at (record { tag = tag; target = target; value = value }) }
     {
+        let entry = Waiting { tag, target, value };
         if self.start > 0 && at < self.end - self.start - at {
             insert_in_front(&mut self.items, self.start, self.end, at, entry);
             self.start -= 1;
@@ -113,6 +170,9 @@ impl Entries {
         requires { count ≤ length self.old }
         ensures { self.new ≡ drop count self.old }
     {
+        if count == 0 {
+            return;
+        }
         let start = self.start + count;
         if start < self.end {
             self.start = start;
@@ -137,6 +197,58 @@ impl fmt::Debug for Entries {
     fn fmt<W: fmt::Write>(&self, f: &mut fmt::Formatter<W>) -> fmt::Result {
         f.debug_list().entries(self.as_slice()).finish()
     }
+}
+
+/// Moves those of the entries from a place up to another up by one that are later than a tag, and says where the first
+/// of them stood.
+#[inline(always)]
+fn move_later(items: &mut [Waiting], start: usize, end: usize, tag: Tag) -> usize
+    requires order { start ≤ end }
+    requires room { end < length items.old }
+    ensures from { start ≤ result }
+    ensures to { result ≤ end }
+    ensures front { take (result + 1) items.new ≡ take (result + 1) items.old }
+    ensures behind { drop (result + 1) items.new ≡ take (end - result) (drop result items.old) ++ drop (end + 1) items.old }
+    ensures later { (k : ℕ) (d : Entry) → result ≤ k → k < end → is_before tag (slice_index_or items.old k d).tag ≡ true }
+    ensures len { length items.new ≡ length items.old }
+{
+    let mut at = end;
+    while at > start && tag.is_before(items[at - 1].tag) {
+        items[at] = items[at - 1];
+        at -= 1;
+    }
+    at
+}
+
+/// Moves the entries behind a place down by one.
+#[inline(never)]
+fn move_back(items: &mut [Waiting], at: usize, end: usize)
+    requires order { at ≤ end }
+    requires room { end < length items.old }
+    ensures items { items.new ≡ copy_within items.old (at + 1) (end + 1) at }
+    ensures len { length items.new ≡ length items.old }
+{
+    items.copy_within(at + 1..end + 1, at);
+}
+
+/// Inserts an entry among those from a place up to another, if it comes behind all that are not later. Answers whether
+/// it is in.
+#[inline(always)]
+fn insert_later(items: &mut [Waiting], start: usize, end: usize, entry: Waiting) -> bool
+    requires order { start ≤ end }
+    requires room { end < length items.old }
+    requires sorted { AreInOrder (slice_range items.old start end) }
+    ensures entered { result ≡ true → slice_range items.new start (end + 1) ≡ with_entry entry.tag entry.target entry.value (slice_range items.old start end) }
+    ensures same { result ≡ false → slice_range items.new start end ≡ slice_range items.old start end }
+    ensures len { length items.new ≡ length items.old }
+{
+    let at = move_later(items, start, end, entry.tag);
+    if at > start && !items[at - 1].comes_before(entry.tag, entry.target) {
+        move_back(items, at, end);
+        return false;
+    }
+    items[at] = entry;
+    true
 }
 
 /// Inserts an entry among those from a place up to another, of which the front moves down by one.

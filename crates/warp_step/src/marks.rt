@@ -1,120 +1,114 @@
-//! Marks: sets of numbers, by which a step knows whom it may have to look at.
-ghost use Rattle.std.specs.Prelude.{◌≡◌, ℕ, ◌+◌, ◌≤◌, ◌<◌, true, length};
-ghost use Rattle.warp_step.specs.Marks.{first_link, first_output, first_timer, has_few_marks, mark_at, most_marks, no_marks, with_mark};
+//! Marks: sets of numbers in one word, by which a step knows whom it may have to look at.
+ghost use Rattle.std.specs.Prelude.{◌≡◌, ℕ, ◌+◌, ◌≤◌, ◌<◌, false, length};
+ghost use Rattle.std.specs.Int.RustNames.{bit_or};
+ghost use Rattle.warp_step.specs.Marks.{first_link, first_output, first_timer, mark_at, marks_from, most_marks, no_marks, with_mark};
 
 use crate::program::Program;
 
-/// The number that marks a program's first link; reactions have the numbers before it.
-#[inline(always)]
-pub(crate) fn first_link(program: &Program) -> usize
-    ensures first { result ≡ first_link program.now }
-    ensures room { result + length program.now.links ≤ most_marks }
-{
-    program.valid();
-    program.reactions().len()
-}
-
-/// The number that marks a program's first output; links have the numbers before it.
+/// The number that marks a program's first output; reactions have the numbers before it.
 #[inline(always)]
 pub(crate) fn first_output(program: &Program) -> usize
     ensures first { result ≡ first_output program.now }
     ensures room { result + length program.now.outputs ≤ most_marks }
 {
     program.valid();
-    first_link(program) + program.links().len()
+    program.reactions().len()
 }
 
-/// The number that marks a program's first timer; outputs have the numbers before it.
+/// The number that marks a program's first link; outputs have the numbers before it.
+#[inline(always)]
+pub(crate) fn first_link(program: &Program) -> usize
+    ensures first { result ≡ first_link program.now }
+    ensures room { result + length program.now.links ≤ most_marks }
+{
+    program.valid();
+    first_output(program) + program.outputs().len()
+}
+
+/// The number that marks a program's first timer; links have the numbers before it.
 #[inline(always)]
 pub(crate) fn first_timer(program: &Program) -> usize
     ensures first { result ≡ first_timer program.now }
     ensures room { result + length program.now.timers ≤ most_marks }
 {
     program.valid();
-    first_output(program) + program.outputs().len()
+    first_link(program) + program.links().len()
 }
 
-/// Whether a program's marks all stand in the first word.
-pub(crate) fn has_few_marks(program: &Program) -> bool
-    ensures { result ≡ has_few_marks program.now }
-{
-    first_timer(program) + program.timers().len() <= 64
-}
-
-/// A set of numbers below 640.
-#[derive(Drop)]
+/// A set of numbers, in one word. Numbers that are 64 apart share a bit: they are in together, and where one of them is
+/// to be looked at, the others are looked at in vain.
+#[derive(Clone, Copy)]
 pub(crate) struct Marks {
-    words: [u64; 10],
+    word: u64,
 }
 
 impl Marks {
     /// No number.
-    pub fn new() -> Marks
-        ensures { result.words ≡ no_marks }
+    #[inline(always)]
+    pub fn none() -> Marks
+        ensures { result.word ≡ no_marks }
     {
-        Marks { words: [0; 10] }
+        Marks { word: 0 }
     }
 
-    /// Takes all numbers out. Where there are few, they stand in the first word.
-    #[inline(always)]
-    pub fn reset(&mut self, few: bool)
-        ensures { (m : ℕ) → (few ≡ true → m < 64) → mark_at self.new.words m ≡ 0 }
+    /// So many numbers, from one on.
+    pub fn range(first: usize, count: usize) -> Marks
+        requires { first + count ≤ most_marks }
+        ensures { result.word ≡ marks_from first count }
     {
-        if few {
-            self.words[0] = 0;
-        } else {
-            self.words = [0; 10];
+        let mut marks = Marks::none();
+        for number in 0..count {
+            marks.add(first + number);
         }
+        marks
     }
 
     /// Puts a number in.
     pub fn add(&mut self, number: usize)
-        requires { number < most_marks }
-        ensures { self.new.words ≡ with_mark number self.old.words }
+        ensures { self.new.word ≡ with_mark number self.old.word }
     {
-        self.words[number / 64] |= 1 << (number % 64);
+        self.word |= 1 << (number % 64);
     }
 
-    /// Puts all numbers of another set in. Where there are few, they stand in the first word.
+    /// Puts all numbers of another set in.
     #[inline(always)]
-    pub fn add_all(&mut self, other: &Marks, few: bool)
-        ensures kept { (m : ℕ) → mark_at self.old.words m ≡ 1 → mark_at self.new.words m ≡ 1 }
-        ensures added { (m : ℕ) → (few ≡ true → m < 64) → mark_at other.now.words m ≡ 1 → mark_at self.new.words m ≡ 1 }
+    pub fn add_all(&mut self, other: Marks)
+        ensures { self.new.word ≡ bit_or self.old.word other.word }
     {
-        if few {
-            self.words[0] |= other.words[0];
-        } else {
-            self.add_words(other);
-        }
+        self.word |= other.word;
     }
 
-    /// Puts all numbers of another set in, word by word.
-    fn add_words(&mut self, other: &Marks)
-        ensures kept { (m : ℕ) → mark_at self.old.words m ≡ 1 → mark_at self.new.words m ≡ 1 }
-        ensures added { (m : ℕ) → mark_at other.now.words m ≡ 1 → mark_at self.new.words m ≡ 1 }
+    /// Whether some number may be in both sets.
+    #[inline(always)]
+    pub fn meets(&self, other: Marks) -> bool
+        ensures { result ≡ false → (m : ℕ) → mark_at other.word m ≡ 1 → mark_at self.now.word m ≡ 0 }
     {
-        for place in 0..10 {
-            self.words[place] |= other.words[place];
-        }
+        self.word & other.word != 0
     }
 
-    /// The least number of the set from one on that is below a limit, else the limit.
+    /// The least number that may be in the set from one on, else a limit: no number before it is in the set.
     #[inline(always)]
     pub fn next(&self, from: usize, limit: usize) -> usize
         requires order { from ≤ limit }
         requires limit { limit ≤ most_marks }
         ensures from { from ≤ result }
         ensures limit { result ≤ limit }
-        ensures between { (m : ℕ) → from ≤ m → m < result → mark_at self.now.words m ≡ 0 }
+        ensures between { (m : ℕ) → from ≤ m → m < result → mark_at self.now.word m ≡ 0 }
     {
-        let mut at = from;
-        while at < limit {
-            let rest = self.words[at / 64] >> (at % 64);
-            if rest != 0 {
-                return (at + rest.trailing_zeros() as usize).min(limit);
-            }
-            at = (at / 64 + 1) * 64;
-        }
-        limit
+        let ahead = self.word.rotate_right((from % 64) as u32);
+        (from + ahead.trailing_zeros() as usize).min(limit)
+    }
+
+    /// The least number that may be in the set after one, else a limit: no number between them is in the set.
+    #[inline(always)]
+    pub fn after(&self, number: usize, limit: usize) -> usize
+        requires order { number < limit }
+        requires limit { limit ≤ most_marks }
+        ensures from { number + 1 ≤ result }
+        ensures limit { result ≤ limit }
+        ensures between { (m : ℕ) → number + 1 ≤ m → m < result → mark_at self.now.word m ≡ 0 }
+    {
+        let ahead = self.word.rotate_right((number % 64) as u32) & !1;
+        (number + ahead.trailing_zeros() as usize).min(limit)
     }
 }

@@ -6,7 +6,6 @@ ghost use Rattle.warp_body.specs.Presence.{places_of};
 ghost use Rattle.warp_step.specs.Valid.{program_places};
 ghost use Rattle.warp_step.specs.Snapshot.{Snapshot, IsStateOf};
 ghost use Rattle.warp_step.specs.inner.Due.{AreDue};
-ghost use Rattle.warp_step.specs.inner.Flagged.{HasNone};
 ghost use Rattle.warp_step.specs.Step.{CanStep, Step, Room, lists_of, plan_of, reacted, room_of, source_of, sources_of, state_after};
 
 use crate::arrive::arrive;
@@ -16,7 +15,7 @@ use crate::out::{Given, Out};
 use crate::parts::Link;
 use crate::plan::Plan;
 use crate::program::Program;
-use crate::react::{clear_wishes, put_outputs, run_reactions};
+use crate::react::{put_outputs, run_reactions};
 use crate::state::State;
 use std::alloc::Global;
 use std::marker::Model;
@@ -29,11 +28,8 @@ use warp_tag::{OutOfMemory, Tag};
 pub struct Scratch {
     present: Present,
     plan: Plan,
-    /// Whom this step has to look at; it may be some in vain.
-    due: Marks,
+    /// The wishes of each reaction. Between steps there are none.
     wishes: Vec<Wishes>,
-    /// Whether a list of wishes may have some. Nearly always none has, and then nothing goes over them.
-    wished: bool,
 }
 
 impl Model for Scratch {
@@ -45,11 +41,10 @@ impl Model for Scratch {
 
     ghost view = { λ s. record { places = places_of s.present; sources = s.present.sources; bodies = length s.wishes.items; plan = s.plan } };
 
-    ghost use Rattle.std.specs.Prelude.{◌≡◌};
+    ghost use Rattle.std.specs.Prelude.{◌≡◌, [], replicate};
     ghost use Rattle.warp_step.specs.Step.{lists_of};
-    ghost use Rattle.warp_step.specs.inner.Flagged.{HasNone};
 
-    ghost invariant = { λ s. HasNone s.wished (lists_of s.wishes.items) };
+    ghost invariant = { λ s. lists_of s.wishes.items ≡ replicate (length s.wishes.items) [] };
 }
 
 impl Scratch {
@@ -70,9 +65,7 @@ impl Scratch {
         Ok(Scratch {
             present,
             plan,
-            due: Marks::new(),
             wishes,
-            wished: false,
         })
     }
 }
@@ -139,22 +132,23 @@ pub fn step<M: Meter>(
     ensures ticks { M.ticks meter.new ≡ M.ticks meter.old + 1 }
 {
     meter.tick();
-    scratch.wished = advance(
+    let mut due = Marks::none();
+    advance(
         program,
         state,
         &scratch.plan,
-        &mut scratch.due,
+        &mut due,
         &mut scratch.present,
         &mut scratch.wishes,
-        scratch.wished,
         tag,
         given,
     );
-    put_outputs(program, tag, &scratch.due, &scratch.present, out);
+    put_outputs(program, tag, due, &scratch.present, out);
 }
 
-/// Takes the state through the step, and leaves what is present after the reactions. The flag says whether there may be
-/// wishes of the step before, and the answer whether there are some of this one.
+/// Takes the state through the step, and leaves what is present after the reactions and whom that concerns.
+/// There are no wishes before, and none after.
+#[inline(always)]
 fn advance(
     program: &Program,
     state: &mut State,
@@ -162,16 +156,15 @@ fn advance(
     due: &mut Marks,
     present: &mut Present,
     wishes: &mut [Wishes],
-    wished: bool,
     tag: Tag,
     given: &[Given],
-) -> bool
+)
     requires plan { plan.now ≡ plan_of program.now }
     requires can { CanStep program.now state.old tag given.now }
     requires places { places_of present.old ≡ program_places program.now }
     requires sources { present.old.sources ≡ sources_of program.now }
     requires bodies { length wishes.old ≡ length program.now.reactions }
-    requires none { HasNone wished (lists_of wishes.old) }
+    requires none { lists_of wishes.old ≡ replicate (length wishes.old) [] }
     ensures state { state.new ≡ state_after program.now state.old tag given.now }
     ensures present { present.new ≡ (reacted program.now state.old tag given.now).present }
     ensures of_program { IsStateOf program.now state.new }
@@ -179,17 +172,14 @@ fn advance(
     ensures places { places_of present.new ≡ places_of present.old }
     ensures sources { present.new.sources ≡ present.old.sources }
     ensures bodies { length wishes.new ≡ length wishes.old }
-    ensures none { HasNone result (lists_of wishes.new) }
-    ensures due { AreDue program.now present.new due.new.words }
+    ensures none { lists_of wishes.new ≡ replicate (length wishes.new) [] }
+    ensures due { AreDue program.now present.new due.new.word }
 {
     program.valid();
     present.clear();
-    due.reset(plan.few());
-    clear_wishes(wishes, wished);
     state.take_entries(program, plan, due, tag, present);
     arrive(program, plan, due, given, present);
-    state.repeat_timers(program, tag, due, present);
+    state.repeat_timers(program, plan, tag, *due, present);
     let wished = run_reactions(program, plan, due, &mut state.vars, present, wishes);
-    state.enter_later(program, tag, due, present, wishes, wished);
-    wished
+    state.enter_later(program, plan, tag, *due, present, wishes, wished);
 }

@@ -10,9 +10,6 @@ use crate::entries::{Entries, MOST_PENDING};
 use warp_body::Target;
 use warp_tag::Tag;
 
-/// Up to so many of the last entries are passed for one that comes in among them.
-const FEW: usize = 8;
-
 /// A pending entry: at its tag its target is present with its value.
 #[derive(Clone, Copy, Debug, PartialEq, Eq, Default)]
 pub struct Waiting {
@@ -27,7 +24,7 @@ pub struct Waiting {
 impl Waiting {
     /// Whether it comes before this tag and target: by tag, then by target.
     #[inline(always)]
-    fn comes_before(&self, tag: Tag, target: Target) -> bool
+    pub(crate) fn comes_before(&self, tag: Tag, target: Target) -> bool
         ensures { result ≡ key_before self.now.tag self.now.target (record { tag = tag; target = target; value = self.now.value }) }
     {
         self.tag.is_before(tag) || (self.tag.is_same(tag) && self.target.is_before(target))
@@ -53,27 +50,6 @@ fn is_in_front(entries: &[Waiting], tag: Tag, target: Target) -> bool
     }
 }
 
-/// Whether the place of this tag and target is among the last few. On this hangs what is looked at, and nothing else.
-#[inline(always)]
-fn is_near_the_end(entries: &[Waiting], tag: Tag, target: Target) -> bool {
-    let passed = entries.len().saturating_sub(FEW);
-    passed == 0 || entries[passed - 1].comes_before(tag, target)
-}
-
-/// How many entries come before this tag and target, sought from the last one on.
-#[inline(always)]
-fn place_from_the_end(entries: &[Waiting], tag: Tag, target: Target) -> usize
-    requires { AreInOrder entries.now }
-    ensures place { result ≡ prefix_len (λ w. key_before w.tag w.target (record { tag = tag; target = target; value = w.value })) entries.now }
-    ensures within { result ≤ length entries.now }
-{
-    let mut at = entries.len();
-    while at > 0 && !entries[at - 1].comes_before(tag, target) {
-        at -= 1;
-    }
-    at
-}
-
 /// How many entries come before this tag and target, sought by halves.
 #[inline(never)]
 fn place_by_halves(entries: &[Waiting], tag: Tag, target: Target) -> usize
@@ -84,7 +60,7 @@ fn place_by_halves(entries: &[Waiting], tag: Tag, target: Target) -> usize
     entries.partition_point(|entry| entry.comes_before(tag, target))
 }
 
-/// How many entries come before this tag and target. A timer that is pending again lands mostly at one of the ends.
+/// How many entries come before this tag and target. What is to happen at once has none before it.
 #[inline(always)]
 fn place(entries: &[Waiting], tag: Tag, target: Target) -> usize
     requires { AreInOrder entries.now }
@@ -93,8 +69,6 @@ fn place(entries: &[Waiting], tag: Tag, target: Target) -> usize
 {
     if is_in_front(entries, tag, target) {
         0
-    } else if is_near_the_end(entries, tag, target) {
-        place_from_the_end(entries, tag, target)
     } else {
         place_by_halves(entries, tag, target)
     }
@@ -118,9 +92,49 @@ fn is_there(entries: &[Waiting], at: usize, tag: Tag, target: Target) -> bool
     }
 }
 
+/// Whether this tag and target is behind all entries.
+#[inline(always)]
+fn is_behind(entries: &Entries, tag: Tag, target: Target) -> bool
+    requires { AreInOrder entries.now }
+    ensures { IsTrue result → length entries.now ≡ prefix_len (λ w. key_before w.tag w.target (record { tag = tag; target = target; value = w.value })) entries.now }
+{
+    if entries.len() == 0 {
+        return true;
+    }
+    entries.last().comes_before(tag, target)
+}
+
+/// Enters a value at a tag to a target that is behind all entries, if it is and there is room. Answers whether it is
+/// in. A timer that is pending again lands there mostly.
+#[inline(always)]
+pub(crate) fn enter_last(entries: &mut Entries, tag: Tag, target: Target, value: i64) -> bool
+    requires { AreInOrder entries.old }
+    ensures room { IsTrue result → IsTrue (nat_lt (length entries.old) most_pending) }
+    ensures entries { entries.new ≡ (if result then with_entry tag target value entries.old else entries.old) }
+{
+    if entries.len() < MOST_PENDING && is_behind(entries, tag, target) {
+        return entries.push(Waiting { tag, target, value });
+    }
+    false
+}
+
+/// Enters a value at a tag to a target, if few entries are later, it comes behind all others, and there is room.
+/// Answers whether it is in.
+#[inline(always)]
+pub(crate) fn enter_near(entries: &mut Entries, tag: Tag, target: Target, value: i64) -> bool
+    requires { AreInOrder entries.old }
+    ensures room { IsTrue result → IsTrue (nat_lt (length entries.old) most_pending) }
+    ensures entries { entries.new ≡ (if result then with_entry tag target value entries.old else entries.old) }
+{
+    if entries.len() < MOST_PENDING {
+        return entries.insert_near(Waiting { tag, target, value });
+    }
+    false
+}
+
 /// Enters a value at a tag to a target: one that is there takes it, a new one comes in where there is room. Answers
 /// whether it is in.
-#[inline(never)]
+#[inline(always)]
 pub(crate) fn enter(entries: &mut Entries, tag: Tag, target: Target, value: i64) -> bool
     requires { AreInOrder entries.old }
     ensures answer { result ≡ (list_any (has_key tag target) entries.old || nat_lt (length entries.old) most_pending) }
@@ -134,7 +148,7 @@ pub(crate) fn enter(entries: &mut Entries, tag: Tag, target: Target, value: i64)
     }
     let is_room = entries.len() < MOST_PENDING;
     if is_room {
-        entries.insert(at, entry);
+        entries.insert(tag, target, value, at);
     }
     is_room
 }

@@ -1,15 +1,15 @@
 //! Whom the presence of a place concerns: a step looks only at those.
-ghost use Rattle.std.specs.Prelude.{◌≡◌, ℕ, ◌+◌, ◌<◌, ◌≤◌, List, [], ◌∷◌, map, filter, length, IfOk, slice_index_or, if◌then◌else◌};
+ghost use Rattle.std.specs.Prelude.{◌≡◌, ◌+◌, ◌<◌, ◌≤◌, [], ◌∷◌, map, filter, length, IfOk, slice_index_or, if◌then◌else◌};
 ghost use Rattle.std.specs.List.{list_any};
 ghost use Rattle.warp_tag.specs.Limits.{most_reactions};
 ghost use Rattle.warp_body.specs.declared.place.Target.{Target};
 ghost use Rattle.warp_body.specs.declared.place.Target.TheVariants as to;
-ghost use Rattle.warp_step.specs.Marks.{first_reaction, most_marks, with_mark};
+ghost use Rattle.warp_step.specs.Marks.{first_link, first_reaction, first_timer, marks_from, most_marks, with_mark};
 ghost use Rattle.warp_step.specs.Plan.{heeds, heeds_any, is_port, link_heeds, most_places, numbered_place, output_heeds, place_number, place_numbers, place_of, reaction_heeds, timer_heeds, with_watchers};
 ghost use Rattle.warp_step.specs.Program.{rule_of};
 ghost use Rattle.warp_step.specs.Step.{marks_of, plan_of, sources_of};
 
-use crate::marks::{Marks, first_link, first_output, first_timer, has_few_marks};
+use crate::marks::{Marks, first_link, first_output, first_timer};
 use crate::parts::{Link, Timer};
 use crate::program::Program;
 use crate::reaction::Reaction;
@@ -49,8 +49,7 @@ fn heeds_any(triggers: &[Target], sources: &[u32], places: &[Target]) -> bool
 
 /// Marks a number if one of the places is that of one of the triggers.
 fn watch(marks: &mut Marks, number: usize, triggers: &[Target], sources: &[u32], places: &[Target])
-    requires { number < most_marks }
-    ensures { marks.new.words ≡ (if heeds_any sources.now triggers.now places.now then with_mark number marks.old.words else marks.old.words) }
+    ensures { marks.new.word ≡ (if heeds_any sources.now triggers.now places.now then with_mark number marks.old.word else marks.old.word) }
 {
     if heeds_any(triggers, sources, places) {
         marks.add(number);
@@ -60,7 +59,7 @@ fn watch(marks: &mut Marks, number: usize, triggers: &[Target], sources: &[u32],
 /// Marks the reactions that one of the places may trigger.
 fn watch_reactions(marks: &mut Marks, reactions: &[Reaction], sources: &[u32], places: &[Target])
     requires { length reactions.now ≤ most_reactions }
-    ensures { marks.new.words ≡ with_watchers reaction_heeds first_reaction sources.now places.now 0 (map rule_of reactions.now) marks.old.words }
+    ensures { marks.new.word ≡ with_watchers reaction_heeds first_reaction sources.now places.now 0 (map rule_of reactions.now) marks.old.word }
 {
     for (number, reaction) in reactions.iter().enumerate() {
         watch(marks, number, &reaction.triggers, sources, places);
@@ -70,7 +69,7 @@ fn watch_reactions(marks: &mut Marks, reactions: &[Reaction], sources: &[u32], p
 /// Marks the links with a delay whose source's place is one of the places.
 fn watch_links(marks: &mut Marks, first: usize, links: &[Link], sources: &[u32], places: &[Target])
     requires { first + length links.now ≤ most_marks }
-    ensures { marks.new.words ≡ with_watchers link_heeds first sources.now places.now 0 links.now marks.old.words }
+    ensures { marks.new.word ≡ with_watchers link_heeds first sources.now places.now 0 links.now marks.old.word }
 {
     for (number, link) in links.iter().enumerate() {
         watch_link(marks, first, number, link, sources, places);
@@ -87,9 +86,9 @@ fn watch_link(
     places: &[Target],
 )
     requires { first + number < most_marks }
-    ensures { marks.new.words ≡ (if heeds_any sources.now (link_heeds number link.now) places.now
-        then with_mark (first + number) marks.old.words
-        else marks.old.words) }
+    ensures { marks.new.word ≡ (if heeds_any sources.now (link_heeds number link.now) places.now
+        then with_mark (first + number) marks.old.word
+        else marks.old.word) }
 {
     match link.delay {
         None => watch(marks, first + number, &[], sources, places),
@@ -106,7 +105,7 @@ fn watch_link(
 /// Marks the program outputs whose port's place is one of the places.
 fn watch_outputs(marks: &mut Marks, first: usize, ports: &[u32], sources: &[u32], places: &[Target])
     requires { first + length ports.now ≤ most_marks }
-    ensures { marks.new.words ≡ with_watchers output_heeds first sources.now places.now 0 ports.now marks.old.words }
+    ensures { marks.new.word ≡ with_watchers output_heeds first sources.now places.now 0 ports.now marks.old.word }
 {
     for (number, port) in ports.iter().enumerate() {
         watch(
@@ -128,7 +127,7 @@ fn watch_timers(
     places: &[Target],
 )
     requires { first + length timers.now ≤ most_marks }
-    ensures { marks.new.words ≡ with_watchers timer_heeds first sources.now places.now 0 timers.now marks.old.words }
+    ensures { marks.new.word ≡ with_watchers timer_heeds first sources.now places.now 0 timers.now marks.old.word }
 {
     for (number, _timer) in timers.iter().enumerate() {
         watch(
@@ -144,10 +143,10 @@ fn watch_timers(
 /// The marks of those whom the presence of one of the places concerns.
 fn marks_of(program: &Program, sources: &[u32], places: &[Target]) -> Marks
     requires { sources.now ≡ sources_of program.now }
-    ensures { result.words ≡ marks_of program.now places.now }
+    ensures { result.word ≡ marks_of program.now places.now }
 {
     program.valid();
-    let mut marks = Marks::new();
+    let mut marks = Marks::none();
     watch_reactions(&mut marks, program.reactions(), sources, places);
     let first = first_link(program);
     watch_links(&mut marks, first, program.links(), sources, places);
@@ -190,7 +189,7 @@ fn place_number(place: Target) -> usize
 /// Whom each place concerns, by its number.
 fn of_places(alloc: Global, program: &Program, sources: &[u32]) -> Result<Vec<Marks>, OutOfMemory>
     requires { sources.now ≡ sources_of program.now }
-    ensures { IfOk result (λ all. map (λ marks. marks.words) all.items ≡ map (λ n. marks_of program.now (numbered_place n ∷ [])) place_numbers) }
+    ensures { IfOk result (λ all. map (λ marks. marks.word) all.items ≡ map (λ n. marks_of program.now (numbered_place n ∷ [])) place_numbers) }
 {
     let mut all = Vec::with_capacity(alloc, PLACES)?;
     for number in 0..PLACES {
@@ -219,7 +218,7 @@ fn after_reactions(
     sources: &[u32],
 ) -> Result<Vec<Marks>, OutOfMemory>
     requires { sources.now ≡ sources_of program.now }
-    ensures { IfOk result (λ all. map (λ marks. marks.words) all.items ≡ map (λ rule. marks_of program.now (filter is_port rule.writes)) program.now.reactions) }
+    ensures { IfOk result (λ all. map (λ marks. marks.word) all.items ≡ map (λ rule. marks_of program.now (filter is_port rule.writes)) program.now.reactions) }
 {
     let mut all = Vec::with_capacity(alloc, program.reactions().len())?;
     for reaction in program.reactions() {
@@ -229,13 +228,14 @@ fn after_reactions(
     Ok(all)
 }
 
-/// Whom each place of a program concerns, by the place's number, and whom what each reaction writes does; and whether
-/// all marks stand in the first word.
+/// Whom each place of a program concerns, by the place's number, and whom what each reaction writes does; and the marks
+/// of all links and of all timers.
 #[derive(Drop)]
 pub(crate) struct Plan {
     places: Vec<Marks>,
     after: Vec<Marks>,
-    few: bool,
+    links: Marks,
+    timers: Marks,
 }
 
 impl Model for Plan {
@@ -245,9 +245,10 @@ impl Model for Plan {
     ghost Value = { specs.Plan };
 
     ghost view = { λ p. record {
-      places = map (λ marks. marks.words) p.places.items;
-      after = map (λ marks. marks.words) p.after.items;
-      few = p.few;
+      places = map (λ marks. marks.word) p.places.items;
+      after = map (λ marks. marks.word) p.after.items;
+      links = p.links.word;
+      timers = p.timers.word;
     } };
 }
 
@@ -259,33 +260,59 @@ impl Plan {
     {
         let places = of_places(alloc, program, sources)?;
         let after = after_reactions(alloc, program, sources)?;
-        let few = has_few_marks(program);
-        Ok(Plan { places, after, few })
-    }
-
-    /// Whether all marks stand in the first word.
-    #[inline(always)]
-    pub fn few(&self) -> bool
-        ensures { result ≡ self.now.few }
-    {
-        self.few
+        Ok(Plan {
+            places,
+            after,
+            links: all_links(program),
+            timers: all_timers(program),
+        })
     }
 
     /// The marks of those whom a place concerns.
     #[inline(always)]
-    pub fn concerned(&self, place: Target) -> &Marks
+    pub fn concerned(&self, place: Target) -> Marks
         requires { place_number place < length self.now.places }
-        ensures { result.now.words ≡ slice_index_or self.now.places (place_number place) [] }
+        ensures { result.word ≡ slice_index_or self.now.places (place_number place) 0 }
     {
-        &self.places[place_number(place)]
+        self.places[place_number(place)]
     }
 
     /// The marks of those whom what the reaction with this number writes concerns.
     #[inline(always)]
-    pub fn after(&self, number: usize) -> &Marks
+    pub fn after(&self, number: usize) -> Marks
         requires { number < length self.now.after }
-        ensures { result.now.words ≡ slice_index_or self.now.after number [] }
+        ensures { result.word ≡ slice_index_or self.now.after number 0 }
     {
-        &self.after[number]
+        self.after[number]
     }
+
+    /// The marks of all links.
+    #[inline(always)]
+    pub fn links(&self) -> Marks
+        ensures { result.word ≡ self.now.links }
+    {
+        self.links
+    }
+
+    /// The marks of all timers.
+    #[inline(always)]
+    pub fn timers(&self) -> Marks
+        ensures { result.word ≡ self.now.timers }
+    {
+        self.timers
+    }
+}
+
+/// The marks of all links of a program.
+fn all_links(program: &Program) -> Marks
+    ensures { result.word ≡ marks_from (first_link program.now) (length program.now.links) }
+{
+    Marks::range(first_link(program), program.links().len())
+}
+
+/// The marks of all timers of a program.
+fn all_timers(program: &Program) -> Marks
+    ensures { result.word ≡ marks_from (first_timer program.now) (length program.now.timers) }
+{
+    Marks::range(first_timer(program), program.timers().len())
 }

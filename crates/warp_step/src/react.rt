@@ -8,7 +8,6 @@ ghost use Rattle.warp_body.specs.Effect.{body_fits, schedules_of, wish_fits};
 ghost use Rattle.warp_body.specs.Term.{sizes_of};
 ghost use Rattle.warp_step.specs.Program.{Program, rule_of};
 ghost use Rattle.warp_step.specs.Valid.{is_valid, program_places, program_sizes, rule_fits};
-ghost use Rattle.warp_step.specs.Marks.{has_few_marks};
 ghost use Rattle.warp_step.specs.Plan.{is_port};
 ghost use Rattle.warp_step.specs.inner.Due.{AreDue};
 ghost use Rattle.warp_step.specs.inner.Flagged.{HasNone};
@@ -23,6 +22,7 @@ use warp_body::{Present, Target, Vars, Wishes, run_body};
 use warp_tag::Tag;
 
 /// Whether one of the reaction's triggers is present.
+#[inline(always)]
 fn triggered(reaction: &Reaction, present: &Present) -> bool
     requires { IsTrue (list_all (target_fits (places_of present.now)) (rule_of reaction.now).triggers) }
     ensures { result ≡ is_triggered (rule_of reaction.now) present.now }
@@ -30,8 +30,31 @@ fn triggered(reaction: &Reaction, present: &Present) -> bool
     // Nearly always there is one, and a loop would cost more than it.
     match reaction.triggers.as_slice() {
         [] => false,
-        [first, rest @ ..] => present.get(*first).is_some() || is_one_present(rest, present),
+        [first, rest @ ..] => is_present(*first, present) || is_one_present(rest, present),
     }
+}
+
+/// Whether the target is present.
+#[inline(always)]
+fn is_present(target: Target, present: &Present) -> bool
+    requires { IsTrue (target_fits (places_of present.now) target) }
+    ensures { result ≡ is_some (present_at present.now target) }
+{
+    // Two kinds are a test each; with a third here it would be a jump by table.
+    match target {
+        Target::Port(n) => present.get(Target::Port(n)).is_some(),
+        Target::Timer(n) => present.get(Target::Timer(n)).is_some(),
+        _ => is_seldom_present(target, present),
+    }
+}
+
+/// Whether the target is present.
+#[inline(never)]
+fn is_seldom_present(target: Target, present: &Present) -> bool
+    requires { IsTrue (target_fits (places_of present.now) target) }
+    ensures { result ≡ is_some (present_at present.now target) }
+{
+    present.get(target).is_some()
 }
 
 /// Whether one of the targets is present.
@@ -49,11 +72,11 @@ fn is_one_present(targets: &[Target], present: &Present) -> bool
 
 /// Runs the reaction with this number if it is triggered, and says whether it has wishes then. Whom what it writes
 /// concerns is due then: those are the marks after it.
+#[inline(always)]
 fn run_reaction(
     number: usize,
     reaction: &Reaction,
-    after: &Marks,
-    few: bool,
+    after: Marks,
     due: &mut Marks,
     vars: &mut Vars,
     present: &mut Present,
@@ -72,12 +95,12 @@ fn run_reaction(
     ensures wishes { IsTrue (list_all (list_all (wish_fits (sizes_of vars.old present.old))) (lists_of wishes.old)) →
         IsTrue (list_all (list_all (wish_fits (sizes_of vars.old present.old))) (lists_of wishes.new)) }
     ensures none { result ≡ false → lists_of wishes.new ≡ lists_of wishes.old }
-    ensures due { (P : Program) → IsTrue (is_valid P) → IsTrue (rule_fits P (rule_of reaction.now)) → present.old.sources ≡ sources_of P → few ≡ has_few_marks P
-        → after.now.words ≡ marks_of P (filter is_port (rule_of reaction.now).writes)
-        → AreDue P present.old due.old.words → AreDue P present.new due.new.words }
+    ensures due { (P : Program) → IsTrue (is_valid P) → IsTrue (rule_fits P (rule_of reaction.now)) → present.old.sources ≡ sources_of P
+        → after.word ≡ marks_of P (filter is_port (rule_of reaction.now).writes)
+        → AreDue P present.old due.old.word → AreDue P present.new due.new.word }
 {
     if triggered(reaction, present) {
-        due.add_all(after, few);
+        due.add_all(after);
         run_body(&reaction.body, vars, present, &mut wishes[number]);
         return !wishes[number].is_empty();
     }
@@ -86,6 +109,7 @@ fn run_reaction(
 
 /// Runs the reactions that are triggered, in their order, and says whether one has wishes then. It looks at those
 /// that are due, which all are that something present triggers.
+#[inline(always)]
 pub(crate) fn run_reactions(
     program: &Program,
     plan: &Plan,
@@ -99,7 +123,7 @@ pub(crate) fn run_reactions(
     requires wishes { lists_of wishes.old ≡ no_wishes program.now }
     requires plan { plan.now ≡ plan_of program.now }
     requires own { present.old.sources ≡ sources_of program.now }
-    requires due { AreDue program.now present.old due.old.words }
+    requires due { AreDue program.now present.old due.old.word }
     ensures effect { record { vars = vars.new; present = present.new; wishes = lists_of wishes.new }
         ≡ after_reactions program.now (order_of program.now) (record { vars = vars.old; present = present.old; wishes = no_wishes program.now }) }
     ensures vars { length vars.new ≡ length vars.old }
@@ -108,7 +132,7 @@ pub(crate) fn run_reactions(
     ensures wishes { IsTrue (list_all (list_all (wish_fits (program_sizes program.now))) (lists_of wishes.new)) }
     ensures bodies { length wishes.new ≡ length wishes.old }
     ensures none { HasNone result (lists_of wishes.new) }
-    ensures due { AreDue program.now present.new due.new.words }
+    ensures due { AreDue program.now present.new due.new.word }
 {
     program.valid();
     let reactions = program.reactions();
@@ -121,18 +145,18 @@ pub(crate) fn run_reactions(
             number,
             &reactions[number],
             after,
-            plan.few(),
             due,
             vars,
             present,
             wishes,
         );
-        number = due.next(number + 1, count);
+        number = due.after(number, count);
     }
     wished
 }
 
 /// Forgets all wishes; the flag says whether there may be some.
+#[inline(always)]
 pub(crate) fn clear_wishes(wishes: &mut [Wishes], wished: bool)
     requires { HasNone wished (lists_of wishes.old) }
     ensures { lists_of wishes.new ≡ replicate (length wishes.old) [] }
@@ -143,6 +167,7 @@ pub(crate) fn clear_wishes(wishes: &mut [Wishes], wished: bool)
 }
 
 /// Empties all lists.
+#[inline(never)]
 fn clear_lists(wishes: &mut [Wishes])
     ensures { lists_of wishes.new ≡ replicate (length wishes.old) [] }
 {
@@ -151,16 +176,36 @@ fn clear_lists(wishes: &mut [Wishes])
     }
 }
 
-/// Appends an output for each program output that is present. It looks at those that are due.
+/// Appends an output for each program output that is present.
+#[inline(always)]
 pub(crate) fn put_outputs(
     program: &Program,
     tag: Tag,
-    due: &Marks,
+    due: Marks,
     present: &Present,
     out: &mut Vec<Out>,
 )
     requires places { places_of present.now ≡ program_places program.now }
-    requires due { AreDue program.now present.now due.now.words }
+    requires due { AreDue program.now present.now due.word }
+    requires room { vec_len out.old + length program.now.outputs ≤ vec_capacity out.old }
+    ensures outputs { out.new.items ≡ out.old.items ++ outputs_from 0 tag present.now program.now.outputs }
+    ensures capacity { vec_capacity out.old ≤ vec_capacity out.new }
+{
+    program.valid();
+    let ports = program.outputs();
+    // Many programs have one, and to look at it costs less than to look whether it is due.
+    if ports.len() == 1 {
+        put_output(0, ports[0], tag, present, out);
+    } else {
+        put_due_outputs(program, tag, due, present, out);
+    }
+}
+
+/// Appends an output for each program output that is present. It looks at those that are due.
+#[inline(always)]
+fn put_due_outputs(program: &Program, tag: Tag, due: Marks, present: &Present, out: &mut Vec<Out>)
+    requires places { places_of present.now ≡ program_places program.now }
+    requires due { AreDue program.now present.now due.word }
     requires room { vec_len out.old + length program.now.outputs ≤ vec_capacity out.old }
     ensures outputs { out.new.items ≡ out.old.items ++ outputs_from 0 tag present.now program.now.outputs }
     ensures capacity { vec_capacity out.old ≤ vec_capacity out.new }
@@ -173,11 +218,12 @@ pub(crate) fn put_outputs(
     while mark < end {
         let number = mark - first;
         put_output(number as u32, ports[number], tag, present, out);
-        mark = due.next(mark + 1, end);
+        mark = due.after(mark, end);
     }
 }
 
 /// Appends the output with this number if its port is present.
+#[inline(always)]
 fn put_output(number: u32, port: u32, tag: Tag, present: &Present, out: &mut Vec<Out>)
     requires port { port < length present.now.ports }
     requires room { vec_len out.old < vec_capacity out.old }

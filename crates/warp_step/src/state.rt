@@ -1,5 +1,5 @@
 //! The state of a program between two steps.
-ghost use Rattle.std.specs.Prelude.{◌≡◌, ◌≤◌, ◌+◌, ◌++◌, ℕ, pos, length, map, IfOk, vec_len, vec_capacity};
+ghost use Rattle.std.specs.Prelude.{◌≡◌, ◌≤◌, ◌+◌, ◌++◌, ◌↔◌, ℕ, pos, length, map, IfOk, IsTrue, vec_len, vec_capacity};
 ghost use Rattle.std.specs.List.{list_any};
 ghost use Rattle.warp_tag.specs.Limits.{longest_delay, most_pending, most_variables};
 ghost use Rattle.warp_step.specs.Program.{rule_of};
@@ -9,7 +9,7 @@ ghost use Rattle.warp_step.specs.Snapshot.{AreInOrder, IsStateOf, entered, lande
 
 use crate::entries::Entries;
 use crate::parts::Variable;
-use crate::pending::{Waiting, enter};
+use crate::pending::{Waiting, enter, enter_last, enter_near};
 use crate::program::Program;
 use crate::reaction::Reaction;
 use std::alloc::Global;
@@ -76,6 +76,26 @@ impl State {
     /// pending, and is lost where not.
     #[inline(always)]
     fn enter(&mut self, tag: Tag, target: Target, value: i64)
+        ensures { self.new ≡ entered tag target value self.old }
+    {
+        if !enter_last(&mut self.pending, tag, target, value) {
+            self.enter_among(tag, target, value);
+        }
+    }
+
+    /// Enters a value at a tag to a target whose place is not the last. Mostly few entries are later.
+    #[inline(never)]
+    fn enter_among(&mut self, tag: Tag, target: Target, value: i64)
+        ensures { self.new ≡ entered tag target value self.old }
+    {
+        if !enter_near(&mut self.pending, tag, target, value) {
+            self.enter_anywhere(tag, target, value);
+        }
+    }
+
+    /// Enters a value at a tag to a target whose place may be anywhere.
+    #[inline(never)]
+    fn enter_anywhere(&mut self, tag: Tag, target: Target, value: i64)
         ensures { self.new ≡ entered tag target value self.old }
     {
         if !enter(&mut self.pending, tag, target, value) {
@@ -162,6 +182,15 @@ impl State {
         self.lost = lost;
     }
 
+    /// Whether it is the state with these values of the variables, by number, these pending entries, and this loss.
+    pub fn is_same_as(&self, values: &[i64], entries: &[Waiting], lost: u64) -> bool
+        ensures { IsTrue result ↔ (self.now ≡ record { vars = values.now; pending = entries.now; lost = lost }) }
+    {
+        lost == self.lost
+            && same_values(self.vars.as_slice(), values)
+            && same_entries(self.pending.as_slice(), entries)
+    }
+
     /// That at most 256 variables have values, and at most 256 entries are pending, in order of tag, then of target,
     /// each tag and target once, as in each state. It does nothing.
     pub fn valid(&self)
@@ -194,6 +223,20 @@ impl State {
     {
         self.lost
     }
+}
+
+/// Whether these are the same values.
+fn same_values(a: &[i64], b: &[i64]) -> bool
+    ensures { IsTrue result ↔ (a.now ≡ b.now) }
+{
+    a == b
+}
+
+/// Whether these are the same entries.
+fn same_entries(a: &[Waiting], b: &[Waiting]) -> bool
+    ensures { IsTrue result ↔ (a.now ≡ b.now) }
+{
+    a == b
 }
 
 /// The start values of these variables.

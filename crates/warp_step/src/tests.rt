@@ -359,6 +359,10 @@ fn a_kept_state_is_restored(rt: HostRuntime) -> Result<(), Fail> {
     assert_eq!(rt; state.pending(), copy.pending());
     assert_eq!(rt; state.lost(), copy.lost());
     assert_eq!(rt; copy.pending().len(), 3);
+    assert!(rt; state.is_same_as(copy.vars(), copy.pending(), copy.lost()));
+    assert!(rt; !state.is_same_as(&[], copy.pending(), copy.lost()));
+    assert!(rt; !state.is_same_as(copy.vars(), &copy.pending()[1..], copy.lost()));
+    assert!(rt; !state.is_same_as(copy.vars(), copy.pending(), 1));
     Ok(())
 }
 

@@ -8,13 +8,13 @@ use Rattle.warp_step.specs.Plan.{link_heeds, output_heeds, reaction_heeds, timer
 use Rattle.warp_step.specs.Program.{Program}
 
 -- each element of a list that something present triggers is marked; the first mark is at this number
-abbrev pub AreMarked : {X : Type 0} → (ℕ → X → List Target) → ℕ → List X → Presence → List ℕ → Type 0
-AreMarked {X} triggers first xs present words =
-    (n : ℕ) (x : X) → slice_get xs n ≡ Some x → list_any (λ target. is_some (present_at present target)) (triggers n x) ≡ true → mark_at words (first + n) ≡ 1
+abbrev pub AreMarked : {X : Type 0} → (ℕ → X → List Target) → ℕ → List X → Presence → ℕ → Type 0
+AreMarked {X} triggers first xs present word =
+    (n : ℕ) (x : X) → slice_get xs n ≡ Some x → list_any (λ target. is_some (present_at present target)) (triggers n x) ≡ true → mark_at word (first + n) ≡ 1
 
 -- all that are to be looked at are marked
-pub record AreDue (P : Program) (present : Presence) (words : List ℕ) : Type 0 where
-  pub reactions : AreMarked reaction_heeds first_reaction P.reactions present words
-  pub links : AreMarked link_heeds (first_link P) P.links present words
-  pub outputs : AreMarked output_heeds (first_output P) P.outputs present words
-  pub timers : AreMarked timer_heeds (first_timer P) P.timers present words
+pub record AreDue (P : Program) (present : Presence) (word : ℕ) : Type 0 where
+  pub reactions : AreMarked reaction_heeds first_reaction P.reactions present word
+  pub links : AreMarked link_heeds (first_link P) P.links present word
+  pub outputs : AreMarked output_heeds (first_output P) P.outputs present word
+  pub timers : AreMarked timer_heeds (first_timer P) P.timers present word

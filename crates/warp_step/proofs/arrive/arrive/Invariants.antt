@@ -12,5 +12,5 @@ invariant-loop-g l = record {
   places : places_of l.present ≡ places_of l.fn.present;
   sources : l.present.sources ≡ l.fn.present.sources;
   known : IsTrue (list_all (λ g. nat_lt g.input (length l.program.inputs)) (drop l.g-index l.given));
-  due : AreDue l.program l.fn.present l.fn.due.words → AreDue l.program l.present l.due.words;
+  due : AreDue l.program l.fn.present l.fn.due.word → AreDue l.program l.present l.due.word;
 }

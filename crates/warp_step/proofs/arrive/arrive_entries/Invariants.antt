@@ -1,5 +1,5 @@
 -- the entries so far are at the tag, and have arrived, and whom they concern is due
-use Rattle.std.proofs.Common.{◌≡◌, length, take, drop, IsTrue}
+use Rattle.std.proofs.Common.{◌≡◌, take, drop, IsTrue}
 use Rattle.std.specs.List.{list_all}
 use Rattle.warp_tag.specs.Moment.{is_same}
 use Rattle.warp_body.specs.Presence.{places_of, target_fits}
@@ -14,5 +14,5 @@ invariant-loop-count l = record {
   places : places_of l.present ≡ places_of l.fn.present;
   sources : l.present.sources ≡ l.fn.present.sources;
   targets : IsTrue (list_all (λ w. target_fits (places_of l.fn.present) w.target) (drop l.count l.entries));
-  due : AreDue l.program l.fn.present l.fn.due.words → AreDue l.program l.present l.due.words;
+  due : AreDue l.program l.fn.present l.fn.due.word → AreDue l.program l.present l.due.word;
 }

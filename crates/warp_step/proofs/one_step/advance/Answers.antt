@@ -21,24 +21,24 @@ run_reactions-wished-requires-clause-vars c =
     ap (λ (vs : _). length vs) (view ∙ timers ∙ taken) ∙ c.requires.can.state.vars
 
 -- where nothing is present, any marks do
-none_is_due : (P : Program) (places : Places) (sources : List ℕ) (cleared : Presence) (words : List ℕ) → cleared ≡ nothing_present places sources → AreDue P cleared words
-none_is_due P places sources cleared words is = subst (λ (p : Presence). AreDue P p words) (sym is) (none_due P places sources words)
+none_is_due : (P : Program) (places : Places) (sources : List ℕ) (now : Presence) (word : ℕ) → now ≡ nothing_present places sources → AreDue P now word
+none_is_due P places sources now word is = subst (λ (p : Presence). AreDue P p word) (sym is) (none_due P places sources word)
 
 pub repeat_timers-requires-clause-due : goal.repeat_timers-requires-clause-due
 repeat_timers-requires-clause-due c =
     c.arrive.ensures.due (c.take_entries.ensures.due
-    (none_is_due c.args.program.now (places_of c.args.present.now) c.args.present.now.sources c.clear.new.self c.reset.new.self.words c.clear.ensures))
+    (none_is_due c.args.program.now (places_of c.args.present.now) c.args.present.now.sources c.clear.new.self c.args.due.now.word c.clear.ensures))
 
 pub run_reactions-wished-requires-clause-due : goal.run_reactions-wished-requires-clause-due
 run_reactions-wished-requires-clause-due c =
     c.arrive.ensures.due (c.take_entries.ensures.due
-    (none_is_due c.args.program.now (places_of c.args.present.now) c.args.present.now.sources c.clear.new.self c.reset.new.self.words c.clear.ensures))
+    (none_is_due c.args.program.now (places_of c.args.present.now) c.args.present.now.sources c.clear.new.self c.args.due.now.word c.clear.ensures))
 
 -- what the reactions make
-abbrev reacting : goal.After-enter_later → Reacting
+abbrev reacting : goal.After-wishes-2-1 → Reacting
 reacting c = record { vars = c.run_reactions-wished.new.vars; present = c.run_reactions-wished.new.present; wishes = lists_of c.run_reactions-wished.new.wishes }
 
-made : (c : goal.After-enter_later) → Made c.args.program.now c.args.state.now c.args.tag c.args.given.now c.arrive.new.present c.repeat_timers.new.self (reacting c) c.enter_later.new.self
+made : (c : goal.After-wishes-2-1) → Made c.args.program.now c.args.state.now c.args.tag c.args.given.now c.arrive.new.present c.repeat_timers.new.self (reacting c) c.enter_later.new.self
 made c =
     let P = c.args.program.now in
     let t = c.args.tag in
@@ -53,7 +53,7 @@ made c =
           c.run_reactions-wished.ensures.effect
           ∙ ap (λ (s : Snapshot). after_reactions P (order_of P) (record { vars = s.vars; present = c.arrive.new.present; wishes = no_wishes P })) c.state.view_is;
       enters =
-          c.enter_later.ensures
+          c.enter_later.ensures.state
           ∙ ap (λ (s : Snapshot). with_links P t c.run_reactions-wished.new.present P.links (with_all_wishes P t (lists_of c.run_reactions-wished.new.wishes) (record s { vars = c.run_reactions-wished.new.vars }))) c.state.view_is;
     }
 

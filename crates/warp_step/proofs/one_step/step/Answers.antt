@@ -3,5 +3,5 @@ use Rattle.std.proofs.Common.{ap, ◌∙◌}
 use Rattle.warp_step.specs.Step.{Room}
 use Rattle.warp_step.proofs.one_step.step.Goals as goal
 
-pub advance-scratch-inside-requires-clause-plan : goal.advance-scratch-inside-requires-clause-plan
-advance-scratch-inside-requires-clause-plan g c = ap (λ (r : Room). r.plan) (c.scratch.view_is ∙ c.requires.scratch)
+pub advance-requires-clause-plan : goal.advance-requires-clause-plan
+advance-requires-clause-plan g c = ap (λ (r : Room). r.plan) (c.scratch.view_is ∙ c.requires.scratch)

@@ -7,4 +7,4 @@ use Rattle.warp_step.proofs.plan.after_reactions.Given as goal
 
 abbrev pub invariant-loop-reaction : goal.invariant-loop-reaction
 invariant-loop-reaction l =
-    map (λ marks. marks.words) l.all.items ≡ map (λ rule. marks_of l.program (filter is_port rule.writes)) (map rule_of (take l.reaction-index l.reaction-items))
+    map (λ marks. marks.word) l.all.items ≡ map (λ rule. marks_of l.program (filter is_port rule.writes)) (map rule_of (take l.reaction-index l.reaction-items))

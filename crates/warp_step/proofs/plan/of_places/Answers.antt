@@ -1,5 +1,5 @@
 -- the marks of one place more, until there are those of all
-use Rattle.std.proofs.Common.{◌≡◌, ◌≤◌, List, ℕ, [], ◌∷◌, ◌++◌, map, ap, sym, ◌∙◌, arith}
+use Rattle.std.proofs.Common.{◌≡◌, ◌≤◌, ℕ, [], ◌∷◌, ◌++◌, map, ap, sym, ◌∙◌, arith}
 use Rattle.std.specs.List.{range_with_len}
 use Rattle.std.proofs.lemmas.List.{map-append}
 use Rattle.std.proofs.lemmas.List.FromFn.{map-range_with_len_more}
@@ -13,7 +13,7 @@ pub loop-number-preserved : goal.loop-number-preserved
 loop-number-preserved c =
     let P = c.args.program.now in
     let n = c.loop-number.number in
-    let view = λ (marks : Marks). marks.words in
+    let view = λ (marks : Marks). marks.word in
     let f = λ (k : ℕ). marks_of P (numbered_place k ∷ []) in
     let own = c.marks_of.ensures ∙ ap (λ (place : Target). marks_of P (place ∷ [])) c.numbered_place.ensures in
     ap (map view) c.in_ok-push.ensures.items

@@ -7,4 +7,4 @@ use Rattle.warp_step.proofs.plan.of_places.Given as goal
 
 abbrev pub invariant-loop-number : goal.invariant-loop-number
 invariant-loop-number l =
-    map (λ marks. marks.words) l.all.items ≡ map (λ n. marks_of l.program (numbered_place n ∷ [])) (range_with_len 0 l.number)
+    map (λ marks. marks.word) l.all.items ≡ map (λ n. marks_of l.program (numbered_place n ∷ [])) (range_with_len 0 l.number)

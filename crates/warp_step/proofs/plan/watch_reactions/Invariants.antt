@@ -7,5 +7,5 @@ use Rattle.warp_step.proofs.plan.watch_reactions.Given as goal
 
 abbrev pub invariant-loop-number : goal.invariant-loop-number
 invariant-loop-number l =
-    with_watchers reaction_heeds first_reaction l.sources l.places l.number (map rule_of (drop l.number l.reactions)) l.marks.words
-    ≡ with_watchers reaction_heeds first_reaction l.sources l.places 0 (map rule_of l.reactions) l.fn.marks.words
+    with_watchers reaction_heeds first_reaction l.sources l.places l.number (map rule_of (drop l.number l.reactions)) l.marks.word
+    ≡ with_watchers reaction_heeds first_reaction l.sources l.places 0 (map rule_of l.reactions) l.fn.marks.word

@@ -14,6 +14,6 @@ loop-number-preserved c =
     let n = c.loop-number.number in
     let lt : n < length timers = c.loop-number-test.true in
     let some : Timer = record { reactor = 0; offset = 0; period = 0 } in
-    ap (λ (words : List ℕ). with_watchers timer_heeds first sources places (n + 1) (drop (n + 1) timers) words) c.watch.ensures
-    ∙ ap (λ (left : List Timer). with_watchers timer_heeds first sources places n left c.loop-number.marks.words) (sym (drop_more timers n some lt))
+    ap (λ (word : ℕ). with_watchers timer_heeds first sources places (n + 1) (drop (n + 1) timers) word) c.watch.ensures
+    ∙ ap (λ (left : List Timer). with_watchers timer_heeds first sources places n left c.loop-number.marks.word) (sym (drop_more timers n some lt))
     ∙ c.loop-number.invariant

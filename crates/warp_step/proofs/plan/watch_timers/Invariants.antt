@@ -5,5 +5,5 @@ use Rattle.warp_step.proofs.plan.watch_timers.Given as goal
 
 abbrev pub invariant-loop-number : goal.invariant-loop-number
 invariant-loop-number l =
-    with_watchers timer_heeds l.first l.sources l.places l.number (drop l.number l.timers) l.marks.words
-    ≡ with_watchers timer_heeds l.first l.sources l.places 0 l.timers l.fn.marks.words
+    with_watchers timer_heeds l.first l.sources l.places l.number (drop l.number l.timers) l.marks.word
+    ≡ with_watchers timer_heeds l.first l.sources l.places 0 l.timers l.fn.marks.word

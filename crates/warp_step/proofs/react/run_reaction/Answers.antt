@@ -58,13 +58,13 @@ returns-then-triggered-clause-wishes c = λ all.
     (list_all_set (list_all fits) (lists_of W) n c.run_body.new.wishes.items all own)
 
 pub returns-then-triggered-clause-due : goal.returns-then-triggered-clause-due
-returns-then-triggered-clause-due c = λ P valid fits own few_is after_is were.
+returns-then-triggered-clause-due c = λ P valid fits own after_is were.
     let rule = rule_of c.args.reaction.now in
     let W = c.args.wishes.now in
     let room = c.index-wishes-number.result in
     let now : Effect = record { vars = c.args.vars.now; present = c.args.present.now; wishes = (get_or W c.args.number room).items } in
     let effect =
     c.run_body.ensures.effect ∙ ap (λ ss. effect_of (statements_of ss) now) c.deref.ensures.value in
-    subst (λ (p : Presence). AreDue P p c.add_all.new.self.words) (sym (ap (λ (e : Effect). e.present) effect))
-    (due_after P (filter is_port rule.writes) c.args.present.now (effect_of rule.body now).present c.args.few c.args.due.now.words c.args.after.now.words c.add_all.new.self.words
-    valid own few_is (follows_body P rule fits now) after_is c.add_all.ensures.kept c.add_all.ensures.added were)
+    subst (λ (p : Presence). AreDue P p c.add_all.new.self.word) (sym (ap (λ (e : Effect). e.present) effect))
+    (due_after P (filter is_port rule.writes) c.args.present.now (effect_of rule.body now).present c.args.due.now.word c.args.after.word c.add_all.new.self.word
+    own (follows_body P rule fits now) after_is c.add_all.ensures were)

@@ -34,17 +34,17 @@ few P items valid is =
 
 -- the plan of a program has whom what a reaction writes concerns
 after_in_plan : (P : Program) (plan : Plan) (n : ℕ) (rule : Rule) → plan ≡ plan_of P → n < length P.reactions → rule ≡ get_or P.reactions n rule
-    → slice_index_or plan.after n [] ≡ marks_of P (filter is_port rule.writes)
+    → slice_index_or plan.after n 0 ≡ marks_of P (filter is_port rule.writes)
 after_in_plan P plan n rule is lt at =
-    ap (λ (p : Plan). slice_index_or p.after n []) is
-    ∙ get_or-map (λ (r : Rule). marks_of P (filter is_port r.writes)) P.reactions n rule [] lt
+    ap (λ (p : Plan). slice_index_or p.after n 0) is
+    ∙ get_or-map (λ (r : Rule). marks_of P (filter is_port r.writes)) P.reactions n rule 0 lt
     ∙ ap (λ (r : Rule). marks_of P (filter is_port r.writes)) (sym at)
 
 pub next-number-requires-clause-limit : goal.next-number-requires-clause-limit
 next-number-requires-clause-limit c = few c.args.program.now c.reactions-reactions.result.now c.valid.ensures c.reactions-reactions.ensures
 
-pub next-number-requires-in-loop-number-clause-limit : goal.next-number-requires-in-loop-number-clause-limit
-next-number-requires-in-loop-number-clause-limit c = few c.args.program.now c.reactions-reactions.result.now c.valid.ensures c.reactions-reactions.ensures
+pub after-number-requires-clause-limit : goal.after-number-requires-clause-limit
+after-number-requires-clause-limit c = few c.args.program.now c.reactions-reactions.result.now c.valid.ensures c.reactions-reactions.ensures
 
 pub after-after-requires : goal.after-after-requires
 after-after-requires c =
@@ -60,7 +60,7 @@ loop-number-init c =
     let count = count_is P c.reactions-reactions.result.now c.reactions-reactions.ensures in
     let start = λ (wss : List (List Wish)). after_reactions P (order_of P) (record { vars = c.args.vars.now; present = c.args.present.now; wishes = wss }) in
     let now : Reacting = record { vars = c.args.vars.now; present = c.args.present.now; wishes = lists_of c.args.wishes.now } in
-    let skipped = skip_reactions P now c.args.due.now.words c.requires.due.reactions 0 c.next-number.result c.next-number.ensures.from
+    let skipped = skip_reactions P now c.args.due.now.word c.requires.due.reactions 0 c.next-number.result c.next-number.ensures.from
     (omega (arith, count, c.next-number.ensures.limit)) c.next-number.ensures.between in
     record {
       within = c.next-number.ensures.limit;
@@ -116,9 +116,9 @@ loop-number-preserved c =
     let ran = c.run_reaction-wished in
     let after : Reacting = record { vars = ran.new.vars; present = ran.new.present; wishes = lists_of ran.new.wishes } in
     let now : Reacting = record { vars = c.loop-number.vars; present = c.loop-number.present; wishes = lists_of c.loop-number.wishes } in
-    let due = ran.ensures.due P c.valid.ensures may own (c.few.ensures ∙ ap (λ (p : Plan). p.few) c.requires.plan) (c.after-after.ensures ∙ after_in_plan P c.args.plan.now n rule c.requires.plan at.0 at.1) c.loop-number.invariant.due in
-    let next = c.next-number-in-loop-number in
-    let skipped = skip_reactions P after ran.new.due.words due.reactions (n + 1) next.result next.ensures.from
+    let due = ran.ensures.due P c.valid.ensures may own (c.after-after.ensures ∙ after_in_plan P c.args.plan.now n rule c.requires.plan at.0 at.1) c.loop-number.invariant.due in
+    let next = c.after-number in
+    let skipped = skip_reactions P after ran.new.due.word due.reactions (n + 1) next.result next.ensures.from
     (omega (arith, count, next.ensures.limit)) next.ensures.between in
     record {
       within = next.ensures.limit;

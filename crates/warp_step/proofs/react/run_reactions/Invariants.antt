@@ -22,7 +22,7 @@ invariant-loop-number l = record {
   none : (k : ℕ) → l.number ≤ k → get_or (lists_of l.wishes) k [] ≡ [];
   wishes : IsTrue (list_all (list_all (wish_fits (program_sizes l.program))) (lists_of l.wishes));
   unwished : HasNone l.wished (lists_of l.wishes);
-  due : AreDue l.program l.present l.due.words;
+  due : AreDue l.program l.present l.due.word;
 }
 
 abbrev pub decreases-loop-number : goal.decreases-loop-number

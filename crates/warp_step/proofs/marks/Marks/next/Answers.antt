@@ -1,38 +1,18 @@
--- the zeros of a word up to the first bit that is set, or to the word's end
-use Rattle.std.proofs.Common.{inl, inr, ℕ, ◌-◌, ◌/◌, ◌%◌, ◌^◌, ◌<◌, slice_index_or, ap, ◌∙◌, rules, arith, w64}
-use Rattle.std.specs.Int.{bit_at, trailing_zeros}
-use Rattle.std.proofs.lemmas.Bool.{cases_lt}
-use Rattle.std.proofs.lemmas.Nat.Bits.{bit_at-trailing_zeros, bit_at-zero}
-use Rattle.warp_step.proofs.MarkLemmas.{set_within, unmarked_run}
+-- up to the first bit that is set, from a number's bit on and round, no number is marked
+use Rattle.std.proofs.Common.{◌≡◌, ℕ, ◌+◌, ◌-◌, ◌%◌, ◌<◌, w64, ap, sym, ◌∙◌, arith}
+use Rattle.std.specs.Int.{bit_at, rotate_right, trailing_zeros}
+use Rattle.std.proofs.lemmas.Nat.{trailing_le}
+use Rattle.warp_step.proofs.MarkLemmas.{turned, zeros_below}
 use Rattle.warp_step.proofs.marks.Marks.next.Goals as goal
 
-pub returns-then-rest-ne0-clause-between : goal.returns-then-rest-ne0-clause-between
-returns-then-rest-ne0-clause-between c =
-    let words = c.args.self.now.words in
-    let at = c.loop-at.at in
-    let word = slice_index_or words (at / 64) 0 in
-    let rest = word / 2 ^ (at % 64) in
-    let run = trailing_zeros w64 rest in
-    let range : word < 2 ^ 64 = search rules in
-    let fits : rest < 2 ^ 64 = omega (arith, range) in
-    let lowest = bit_at-trailing_zeros w64 rest (omega (arith, c.if-rest-ne0.true)) fits in
-    let within = set_within word (at % 64) run range lowest.1 in
-    λ m from l. elim (cases_lt m at) [
-      | inl before ↦ c.loop-at.invariant.between m from before
-      | inr ge ↦ unmarked_run words at run m lowest.2 (omega (arith, within)) ge (omega (arith, l, c.min.ensures))
-    ]
-
-pub loop-at-preserved : goal.loop-at-preserved
-loop-at-preserved c =
-    let words = c.args.self.now.words in
-    let at = c.loop-at.at in
-    let starts = c.loop-at.invariant.from in
-    record {
-      from = omega (arith, starts);
-      most = omega (arith, c.loop-at-test.true, c.requires.limit);
-      between = λ m from l. elim (cases_lt m at) [
-        | inl before ↦ c.loop-at.invariant.between m from before
-        | inr ge ↦ unmarked_run words at (64 - at % 64) m
-            (λ i below. ap (λ (rest : ℕ). bit_at rest i) c.if-rest-ne0.false ∙ bit_at-zero i) (omega arith) ge (omega (arith, l))
-      ];
-    }
+pub returns-clause-between : goal.returns-clause-between
+returns-clause-between c = λ m from l.
+    let word = c.args.self.now.word in
+    let ahead = c.rotate_right-ahead.result in
+    let i = m - c.args.from in
+    let run : i < trailing_zeros w64 ahead = omega (arith, from, l, c.min.ensures) in
+    let short : i < 64 = omega (arith, run, trailing_le 64 ahead) in
+    let zero : bit_at (rotate_right w64 word (c.args.from % 64)) i ≡ 0 =
+    ap (λ (w : ℕ). bit_at w i) (sym c.rotate_right-ahead.ensures) ∙ zeros_below ahead i c.rotate_right-ahead.type_inv run in
+    let here : (c.args.from % 64 + i) % 64 ≡ m % 64 = omega (arith, from) in
+    ap (bit_at word) (sym here) ∙ turned word (c.args.from % 64) i (omega arith) short zero
