@@ -1,7 +1,7 @@
 //! Cutting words off the front of a text, in one pass over its bytes.
 //!
 //! What is left of a text begins with the space behind the last word that was cut off, or is empty at the end.
-ghost use Rattle.std.specs.Prelude.{◌≡◌, ℕ, ℤ, ◌<◌, ◌≤◌, ◌^◌, [], ◌∷◌, List, IfSome, IfNone, SomeIff, IsTrue, ◌↔◌, FitsSigned, decimal, length, slice_index, take};
+ghost use Rattle.std.specs.Prelude.{◌≡◌, ℕ, ℤ, ◌+◌, ◌<◌, ◌≤◌, ◌^◌, [], ◌∷◌, List, IfSome, IfNone, SomeIff, IsTrue, ◌↔◌, FitsSigned, decimal, length, slice_index, take};
 ghost use Rattle.std.specs.Char.{digit_value};
 ghost use Rattle.std.specs.Fmt.{signed_decimal};
 ghost use Rattle.std.specs.Int.{w64};
@@ -12,6 +12,49 @@ ghost use Rattle.warp_record.specs.inner.Behind.{words_behind};
 
 use crate::number::{FEW_DIGITS, digit, is_padded, read_int};
 
+/// Whether these four bytes stand at the place: one comparison of numbers.
+#[inline(always)]
+pub(crate) fn are_four(bytes: &[u8], place: usize, four: [u8; 4]) -> bool
+    requires { place + 4 ≤ length bytes.now }
+    ensures { IsTrue result ↔ ((slice_index bytes.now place ≡ slice_index four 0)
+        × (slice_index bytes.now (place + 1) ≡ slice_index four 1)
+        × (slice_index bytes.now (place + 2) ≡ slice_index four 2)
+        × (slice_index bytes.now (place + 3) ≡ slice_index four 3)) }
+{
+    let found = [
+        bytes[place],
+        bytes[place + 1],
+        bytes[place + 2],
+        bytes[place + 3],
+    ];
+    u32::from_le_bytes(found) == u32::from_le_bytes(four)
+}
+
+/// How many digits are read with no look at the number of bytes.
+const KNOWN_TURNS: usize = 8;
+
+/// The number that the digits at the front write, of which it takes up to `most`, and how many these are.
+#[inline(always)]
+fn digits_up_to(bytes: &[u8], most: usize) -> (u64, usize)
+    requires { (most ≤ length bytes.now) × (most ≤ FEW_DIGITS) }
+    ensures within { result.1 ≤ position_or_len is_space bytes.now }
+    ensures short { result.1 ≤ most }
+    ensures all_digits { AllDigits 10 (take result.1 bytes.now) }
+    ensures value { digits_value 10 (take result.1 bytes.now) ≡ result.0 }
+    ensures end { result.1 < most → digit_value (slice_index bytes.now result.1) < 10 → ⊥ }
+{
+    let mut number = 0;
+    let mut place = 0;
+    while place < most {
+        let Some(next) = digit(bytes[place]) else {
+            return (number, place);
+        };
+        number = number * 10 + next;
+        place += 1;
+    }
+    (number, place)
+}
+
 /// The number that the digits at the front write, of which it takes up to `FEW_DIGITS`, and how many these are.
 #[inline(always)]
 fn front_digits(bytes: &[u8]) -> (u64, usize)
@@ -21,17 +64,14 @@ fn front_digits(bytes: &[u8]) -> (u64, usize)
     ensures value { digits_value 10 (take result.1 bytes.now) ≡ result.0 }
     ensures end { result.1 < FEW_DIGITS → result.1 < length bytes.now → digit_value (slice_index bytes.now result.1) < 10 → ⊥ }
 {
-    let few = bytes.len().min(FEW_DIGITS);
-    let mut number = 0;
-    let mut place = 0;
-    while place < few {
-        let Some(next) = digit(bytes[place]) else {
-            return (number, place);
-        };
-        number = number * 10 + next;
-        place += 1;
+    // Up to so many are read by a loop with a known number of turns, which is quick.
+    if bytes.len() >= KNOWN_TURNS {
+        let (number, count) = digits_up_to(bytes, KNOWN_TURNS);
+        if count < KNOWN_TURNS {
+            return (number, count);
+        }
     }
-    (number, place)
+    digits_up_to(bytes, bytes.len().min(FEW_DIGITS))
 }
 
 /// Whether so many bytes are all those up to the first space, or the end.

@@ -171,6 +171,7 @@ fn read_other(bytes: &[u8]) -> Option<Line>
 }
 
 /// The line in range with this spelling; `None` where there is none.
+#[inline(always)]
 pub fn read_line(bytes: &[u8]) -> Option<Line>
     ensures found { IfSome result (λ line. IsLine line × (bytes.now ≡ spelling line)) }
     ensures none { IfNone result ((line : Line) → IsLine line → bytes.now ≡ spelling line → ⊥) }

@@ -1,5 +1,5 @@
 //! Words that are numbers, read and written. Each number has one spelling: no leading zero, no `+`, no `-0`.
-ghost use Rattle.std.specs.Prelude.{◌≡◌, ℕ, ℤ, ◌+◌, ◌-◌, ◌*◌, ◌<◌, ◌≤◌, ◌^◌, ◌∷◌, ◌++◌, take, drop, IfSome, IfNone, SomeIff, IsTrue, ◌↔◌, length, slice_index, FitsSigned, decimal, vec_len, vec_capacity};
+ghost use Rattle.std.specs.Prelude.{◌≡◌, ℕ, ℤ, List, ◌+◌, ◌-◌, ◌*◌, ◌<◌, ◌≤◌, ◌^◌, ◌∷◌, ◌++◌, take, drop, IfSome, IfNone, SomeIff, IsTrue, ◌↔◌, length, slice_index, FitsSigned, decimal, vec_len, vec_capacity};
 ghost use Rattle.std.specs.Char.{digit_value};
 ghost use Rattle.std.specs.Fmt.{signed_decimal};
 ghost use Rattle.std.specs.Int.{w64};
@@ -163,9 +163,7 @@ fn append_block(out: &mut Vec<u8>, number: u32)
 {
     let mut block = [0; 16];
     let start = write_digits(u64::from(number), &mut block, 8);
-    let end = out.len() + (8 - start);
-    append(out, &block[start..start + 8]);
-    out.truncate(end);
+    append_from(out, &block, start, 8, 8);
 }
 
 /// Appends a space and the number, for which there is room. It is quick where the number has up to eight digits.
@@ -184,19 +182,50 @@ pub(crate) fn append_u32(out: &mut Vec<u8>, number: u32)
     append_block(out, number);
 }
 
-/// Writes the number's text into the block so that it ends at `WIDE_END`, and returns where it starts.
+/// Writes the word into the block so that it ends at `end`, and returns where it starts.
 #[inline(always)]
-fn write_int(number: i64, block: &mut [u8; WIDE_BLOCK]) -> usize
-    ensures start { result + length (signed_decimal number) ≡ WIDE_END }
-    ensures some { 2 ≤ result }
-    ensures written { drop result block.new ≡ signed_decimal number ++ drop WIDE_END block.old }
+pub(crate) fn write_word(word: &[u8], block: &mut [u8], end: usize) -> usize
+    requires { (length word.now ≤ end) × (end ≤ length block.old) }
+    ensures start { result + length word.now ≡ end }
+    ensures written { drop result block.new ≡ word.now ++ drop end block.old }
+    ensures len { length block.new ≡ length block.old }
 {
-    let start = write_digits(number.unsigned_abs(), block, WIDE_END);
+    let start = end - word.len();
+    block[start..end].copy_from_slice(word);
+    start
+}
+
+/// Writes the number's text into the block so that it ends at `end`, and returns where it starts.
+#[inline(always)]
+pub(crate) fn write_int(number: i64, block: &mut [u8], end: usize) -> usize
+    requires { (20 ≤ end) × (end ≤ length block.old) }
+    ensures start { result + length (signed_decimal number) ≡ end }
+    ensures short { end ≤ result + 20 }
+    ensures written { drop result block.new ≡ signed_decimal number ++ drop end block.old }
+    ensures len { length block.new ≡ length block.old }
+{
+    let start = write_digits(number.unsigned_abs(), block, end);
     if number >= 0 {
         return start;
     }
     block[start - 1] = b'-';
     start - 1
+}
+
+/// Appends what stands in the block from `start` to `end`. It copies `most` bytes, for which there is room and of which
+/// it leaves these.
+#[inline(always)]
+pub(crate) fn append_from(out: &mut Vec<u8>, block: &[u8], start: usize, end: usize, most: usize)
+    requires place { (start ≤ end) × (end ≤ start + most) × (start + most ≤ length block.now) }
+    requires room { vec_len out.old + most ≤ vec_capacity out.old }
+    ensures items { (text rest : List ℕ) → drop start block.now ≡ text ++ rest → start + length text ≡ end →
+        out.new.items ≡ out.old.items ++ text }
+    ensures len { vec_len out.new ≤ vec_len out.old + most }
+    ensures capacity { vec_capacity out.old ≤ vec_capacity out.new }
+{
+    let length = out.len() + (end - start);
+    append(out, &block[start..start + most]);
+    out.truncate(length);
 }
 
 /// Appends a space and the text that stands in the block up to `WIDE_END`, for which there is room for `WIDE` bytes.
@@ -210,9 +239,7 @@ fn append_wide(out: &mut Vec<u8>, block: &mut [u8; WIDE_BLOCK], start: usize)
 {
     let first = start - 1;
     block[first] = b' ';
-    let length = out.len() + (WIDE_END - first);
-    append(out, &block[first..first + WIDE]);
-    out.truncate(length);
+    append_from(out, block, first, WIDE_END, WIDE);
 }
 
 /// Appends a space and the number, where there is room for `WIDE` bytes: as a block, of which it leaves the text.
@@ -224,7 +251,7 @@ pub(crate) fn append_int(out: &mut Vec<u8>, number: i64)
     ensures capacity { vec_capacity out.old ≤ vec_capacity out.new }
 {
     let mut block = [0; WIDE_BLOCK];
-    let start = write_int(number, &mut block);
+    let start = write_int(number, &mut block, WIDE_END);
     append_wide(out, &mut block, start);
 }
 

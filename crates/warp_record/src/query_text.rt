@@ -6,7 +6,7 @@ ghost use Rattle.warp_record.specs.Line.{IsLine, spelling};
 ghost use Rattle.warp_record.specs.Number.{is_space};
 ghost use Rattle.warp_record.specs.inner.Behind.{words_behind};
 
-use crate::cut::{cut_u32, is_at_end};
+use crate::cut::{are_four, cut_u32, is_at_end};
 use crate::line::{Line, Query};
 
 /// What is left behind the word `var` and the space that follows it.
@@ -16,12 +16,7 @@ pub(crate) fn behind_var(bytes: &[u8]) -> Option<&[u8]>
     ensures none { IfNone result ((word : List ℕ) (words : List (List ℕ)) →
         slice_split is_space bytes.now ≡ codes "var" ∷ word ∷ words → ⊥) }
 {
-    if bytes.len() > 3
-        && bytes[0] == b'v'
-        && bytes[1] == b'a'
-        && bytes[2] == b'r'
-        && bytes[3] == b' '
-    {
+    if bytes.len() > 3 && are_four(bytes, 0, *b"var ") {
         Some(&bytes[3..])
     } else {
         None
@@ -34,10 +29,7 @@ pub(crate) fn behind_output(bytes: &[u8]) -> Option<&[u8]>
     ensures found { IfSome result (λ text. slice_split is_space bytes.now ≡ codes "output" ∷ words_behind text.now) }
 {
     if bytes.len() > 6
-        && bytes[0] == b'o'
-        && bytes[1] == b'u'
-        && bytes[2] == b't'
-        && bytes[3] == b'p'
+        && are_four(bytes, 0, *b"outp")
         && bytes[4] == b'u'
         && bytes[5] == b't'
         && bytes[6] == b' '

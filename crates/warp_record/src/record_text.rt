@@ -8,7 +8,7 @@ ghost use Rattle.warp_record.specs.Record.{IsRecord, record_words};
 ghost use Rattle.warp_record.specs.inner.Behind.{words_behind};
 
 use crate::count::{Count, MAX_COUNT};
-use crate::cut::{cut_last_int, cut_number, cut_u32, is_at_end};
+use crate::cut::{are_four, cut_last_int, cut_number, cut_u32, is_at_end};
 use crate::record::{LAST_INPUT, LAST_ORIGIN, Record};
 use warp_tag::{LAST_MICROSTEP, MAX_TIME, Tag};
 
@@ -19,14 +19,7 @@ pub(crate) fn behind_event(bytes: &[u8]) -> Option<&[u8]>
     ensures none { IfNone result ((word : List ℕ) (words : List (List ℕ)) →
         slice_split is_space bytes.now ≡ codes "event" ∷ word ∷ words → ⊥) }
 {
-    if bytes.len() > 5
-        && bytes[0] == b'e'
-        && bytes[1] == b'v'
-        && bytes[2] == b'e'
-        && bytes[3] == b'n'
-        && bytes[4] == b't'
-        && bytes[5] == b' '
-    {
+    if bytes.len() > 5 && are_four(bytes, 0, *b"even") && bytes[4] == b't' && bytes[5] == b' ' {
         Some(&bytes[5..])
     } else {
         None
@@ -41,14 +34,8 @@ pub(crate) fn behind_withdraw(bytes: &[u8]) -> Option<&[u8]>
         slice_split is_space bytes.now ≡ codes "withdraw" ∷ word ∷ words → ⊥) }
 {
     if bytes.len() > 8
-        && bytes[0] == b'w'
-        && bytes[1] == b'i'
-        && bytes[2] == b't'
-        && bytes[3] == b'h'
-        && bytes[4] == b'd'
-        && bytes[5] == b'r'
-        && bytes[6] == b'a'
-        && bytes[7] == b'w'
+        && are_four(bytes, 0, *b"with")
+        && are_four(bytes, 4, *b"draw")
         && bytes[8] == b' '
     {
         Some(&bytes[8..])
@@ -65,14 +52,8 @@ pub(crate) fn behind_announce(bytes: &[u8]) -> Option<&[u8]>
         slice_split is_space bytes.now ≡ codes "announce" ∷ word ∷ words → ⊥) }
 {
     if bytes.len() > 8
-        && bytes[0] == b'a'
-        && bytes[1] == b'n'
-        && bytes[2] == b'n'
-        && bytes[3] == b'o'
-        && bytes[4] == b'u'
-        && bytes[5] == b'n'
-        && bytes[6] == b'c'
-        && bytes[7] == b'e'
+        && are_four(bytes, 0, *b"anno")
+        && are_four(bytes, 4, *b"unce")
         && bytes[8] == b' '
     {
         Some(&bytes[8..])

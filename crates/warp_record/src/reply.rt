@@ -13,10 +13,14 @@ ghost use Rattle.warp_record.specs.Reply.{IsOut, IsReply, flag_word, out_words, 
 
 use crate::count::MAX_COUNT;
 use crate::line::{BOARD, BREACH, HORIZON, LOG, LOST, OUTPUT, OUTPUTS, RELEASED, ROW, VAR};
-use crate::number::{append, append_int, append_u32, append_u64, read_int, read_number, read_u32};
+use crate::number::{
+    append, append_from, append_int, append_u32, append_u64, read_int, read_number, read_u32,
+    write_int, write_word,
+};
 use crate::record::{Record, append_record, append_tag, read_record, read_tag};
 use crate::room::REPLY_ROOM;
 use crate::words::{is_keyword, split_words};
+use itoa::write_digits;
 use warp_step::Out;
 use warp_tag::Tag;
 
@@ -332,16 +336,21 @@ pub fn read_reply(bytes: &[u8]) -> Option<Reply>
     read_words(&words)
 }
 
-/// Appends the word and a place, for which there is room: the most frequent reply, written with no call.
-#[inline(always)]
-fn append_placed(out: &mut Vec<u8>, word: &[u8], place: u32)
-    requires { vec_len out.old + (length word.now + 11) ≤ vec_capacity out.old }
-    ensures items { out.new.items ≡ out.old.items ++ join_with_byte 32 (word.now ∷ decimal place ∷ []) }
-    ensures len { vec_len out.new ≤ vec_len out.old + (length word.now + 11) }
+/// The room for the reply that tells a place, and how many bytes are copied for it.
+const TAKEN_ROOM: usize = 16;
+
+/// Appends the reply that tells the place of a new record, for which there is room: the most frequent reply.
+#[inline(never)]
+fn append_taken(out: &mut Vec<u8>, place: u32)
+    requires { vec_len out.old + TAKEN_ROOM ≤ vec_capacity out.old }
+    ensures items { out.new.items ≡ out.old.items ++ join_with_byte 32 (codes "taken" ∷ decimal place ∷ []) }
+    ensures len { vec_len out.new ≤ vec_len out.old + TAKEN_ROOM }
     ensures capacity { vec_capacity out.old ≤ vec_capacity out.new }
 {
-    append(out, word);
-    append_u32(out, place);
+    let mut block = [0; 2 * TAKEN_ROOM];
+    let digits = write_digits(u64::from(place), &mut block, TAKEN_ROOM);
+    let start = write_word(b"taken ", &mut block, digits);
+    append_from(out, &block, start, TAKEN_ROOM, TAKEN_ROOM);
 }
 
 /// Appends a space and the number, for which there is room.
@@ -391,17 +400,23 @@ fn append_count(out: &mut Vec<u8>, word: &[u8], number: u32, count: u64)
     append_length_and_count(out, number, count);
 }
 
+/// The room for the reply that tells a variable's value, and how many bytes are copied for it.
+const VAR_ROOM: usize = 40;
+
 /// Appends the reply that tells a variable's value, for which there is room.
 #[inline(never)]
 fn append_var(out: &mut Vec<u8>, log: u32, value: i64)
-    requires { vec_len out.old + 38 ≤ vec_capacity out.old }
+    requires { vec_len out.old + VAR_ROOM ≤ vec_capacity out.old }
     ensures items { out.new.items ≡ out.old.items ++ join_with_byte 32 (codes "var" ∷ decimal log ∷ signed_decimal value ∷ []) }
-    ensures len { vec_len out.new ≤ vec_len out.old + 38 }
+    ensures len { vec_len out.new ≤ vec_len out.old + VAR_ROOM }
     ensures capacity { vec_capacity out.old ≤ vec_capacity out.new }
 {
-    append(out, VAR);
-    append_u32(out, log);
-    append_int(out, value);
+    let mut block = [0; 2 * VAR_ROOM];
+    let text = write_int(value, &mut block, VAR_ROOM);
+    let space = write_word(b" ", &mut block, text);
+    let digits = write_digits(u64::from(log), &mut block, space);
+    let start = write_word(b"var ", &mut block, digits);
+    append_from(out, &block, start, VAR_ROOM, VAR_ROOM);
 }
 
 /// Appends the word, a number and a flag, for which there is room.
@@ -427,16 +442,17 @@ fn append_output(out: &mut Vec<u8>, output: Out)
     append_int(out, output.value);
 }
 
-/// Appends the reply's spelling, for which there is room, and leaves room for a line feed. It takes no memory.
-pub fn write_reply(out: &mut Vec<u8>, reply: &Reply)
+/// Appends the spelling of any reply, for which there is room, and leaves room for a line feed.
+#[inline(never)]
+fn append_any(out: &mut Vec<u8>, reply: &Reply)
     requires { vec_len out.old + REPLY_ROOM ≤ vec_capacity out.old }
     ensures items { out.new.items ≡ out.old.items ++ reply_spelling reply.now }
     ensures len { vec_len out.new < vec_len out.old + REPLY_ROOM }
     ensures capacity { vec_capacity out.old ≤ vec_capacity out.new }
 {
     match *reply {
-        Reply::Taken(place) => append_placed(out, TAKEN, place),
-        Reply::Known(place) => append_placed(out, KNOWN, place),
+        Reply::Taken(place) => append_taken(out, place),
+        Reply::Known(place) => append_numbered(out, KNOWN, place),
         Reply::Refused(refusal) => append_numbered(out, REFUSED, refusal.number()),
         Reply::Var { log, value } => append_var(out, log, value),
         Reply::Outputs { log, count } => append_count(out, OUTPUTS, log, count),
@@ -464,6 +480,22 @@ pub fn write_reply(out: &mut Vec<u8>, reply: &Reply)
             append_output(out, output);
         }
         Reply::NoRow => append(out, NONE),
+    }
+}
+
+/// Appends the reply's spelling, for which there is room, and leaves room for a line feed. It takes no memory.
+#[inline(always)]
+pub fn write_reply(out: &mut Vec<u8>, reply: &Reply)
+    requires { vec_len out.old + REPLY_ROOM ≤ vec_capacity out.old }
+    ensures items { out.new.items ≡ out.old.items ++ reply_spelling reply.now }
+    ensures len { vec_len out.new < vec_len out.old + REPLY_ROOM }
+    ensures capacity { vec_capacity out.old ≤ vec_capacity out.new }
+{
+    // The most frequent replies are told apart here, so that they pay nothing for the others.
+    match *reply {
+        Reply::Taken(place) => append_taken(out, place),
+        Reply::Var { log, value } => append_var(out, log, value),
+        other => append_any(out, &other),
     }
 }
 
