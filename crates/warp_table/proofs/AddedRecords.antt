@@ -8,8 +8,8 @@ use Rattle.warp_record.specs.declared.record.Record.{Record}
 use Rattle.warp_record.specs.declared.record.Record.TheVariants.{Event, Withdraw, Announce}
 use Rattle.warp_table.specs.Names.{origin_of}
 use Rattle.warp_table.specs.Records.{set_of}
-use Rattle.warp_table.specs.declared.table.Known.{Known}
-use Rattle.warp_table.specs.declared.table.Name.{Name}
+use Rattle.warp_table.specs.declared.rows.Known.{Known}
+use Rattle.warp_table.specs.declared.names.Name.{Name}
 use Rattle.warp_table.specs.inner.Heard.{Announced, Heard, IsHeard, with_tag}
 use Rattle.warp_table.specs.inner.Kept.{HoldsEvent, IsAdded, Keeps, NotesEvent, entries_of, event_place, is_named, kept_of, known_of, other_place, payload_at, put_known, put_other, with_event_at, with_withdrawal_at, withdrawal_place}
 use Rattle.warp_table.specs.inner.News.{IsNewsOf}

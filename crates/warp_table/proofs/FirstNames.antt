@@ -11,7 +11,7 @@ use Rattle.warp_tag.proofs.Lists.{filter-here, filter-past}
 use Rattle.warp_record.specs.declared.record.Record.{Record}
 use Rattle.warp_record.specs.declared.record.Record.TheVariants.{Event, Withdraw, Announce}
 use Rattle.warp_table.specs.Table.{is_other, names_of}
-use Rattle.warp_table.specs.declared.table.Name.{Name}
+use Rattle.warp_table.specs.declared.names.Name.{Name}
 use Rattle.warp_table.specs.inner.Kept.{is_named}
 use Rattle.warp_table.proofs.Sets.{same_name}
 

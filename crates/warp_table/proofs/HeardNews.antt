@@ -14,7 +14,7 @@ use Rattle.warp_record.specs.declared.record.Record.{Record}
 use Rattle.warp_record.specs.declared.record.Record.TheVariants.{Event, Withdraw, Announce}
 use Rattle.warp_table.specs.Records.{Records, IsIn, set_of}
 use Rattle.warp_table.specs.Names.{HasEvent, Tells, TellsPayload, origin_of}
-use Rattle.warp_table.specs.declared.table.Name.{Name}
+use Rattle.warp_table.specs.declared.names.Name.{Name}
 use Rattle.warp_table.specs.inner.Heard.{Announced, AreHeard, Heard, IsHeard, heard_at, nothing_heard, with_heard_event, with_tag}
 use Rattle.warp_table.specs.inner.Kept.{KeepsNames, is_named, kept_of}
 use Rattle.warp_table.specs.inner.News.{IsNewsOf}

@@ -12,8 +12,8 @@ use Rattle.warp_tag.specs.Table.{fresh, greater, with_event, with_withdrawal}
 use Rattle.warp_tag.specs.declared.entry.Entry.{Entry}
 use Rattle.warp_record.specs.declared.record.Record.{Record}
 use Rattle.warp_record.specs.declared.record.Record.TheVariants.{Event, Withdraw, Announce}
-use Rattle.warp_table.specs.declared.table.Known.{Known}
-use Rattle.warp_table.specs.declared.table.Name.{Name}
+use Rattle.warp_table.specs.declared.rows.Known.{Known}
+use Rattle.warp_table.specs.declared.names.Name.{Name}
 use Rattle.warp_table.specs.inner.Kept.{HoldsEvent, KeepsNames, entries_of, entry_of, is_named, kept_of, known_of, nothing_known, payload_at, payload_of, put, put_known, with_event_at, with_withdrawal_at}
 use Rattle.warp_table.proofs.EventPlaces.{holds_own}
 use Rattle.warp_table.proofs.FirstNames.{named-Decides}

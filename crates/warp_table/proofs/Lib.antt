@@ -13,6 +13,8 @@ pub mod FirstNames
 pub mod ListedNames
 pub mod KeptNames
 pub mod KnownNames
+pub mod OriginRows
+pub mod NamesInOrder
 pub mod AddedRecords
 pub mod Counts
 pub mod Announcements

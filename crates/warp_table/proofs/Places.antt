@@ -16,8 +16,8 @@ use Rattle.warp_record.specs.declared.record.Record.{Record}
 use Rattle.warp_record.specs.declared.record.Record.TheVariants.{Event}
 use Rattle.warp_table.specs.Log.{EachOnce, IsAt}
 use Rattle.warp_table.specs.Records.{same_record}
-use Rattle.warp_table.specs.declared.table.Known.{Known}
-use Rattle.warp_table.specs.declared.table.Name.{Name}
+use Rattle.warp_table.specs.declared.rows.Known.{Known}
+use Rattle.warp_table.specs.declared.names.Name.{Name}
 use Rattle.warp_table.specs.inner.Kept.{HoldsEvent, KeepsPlaces, is_this, place_in, record_at, stands}
 use Rattle.warp_table.proofs.Sets.{same_record-Decides}
 

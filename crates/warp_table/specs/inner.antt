@@ -2,4 +2,5 @@ pub mod Kept
 pub mod Heard
 pub mod Tags
 pub mod Tally
+pub mod NamesByOrigin
 pub mod News

@@ -107,6 +107,7 @@ impl Tagged for Tally {
 }
 
 /// Counts one more name in each of these announcements, and adds them to the verdict.
+#[inline(never)]
 fn count_in(later: &mut [Tally], kind: Kind, mut verdict: Verdict) -> Verdict
     requires { All (λ t. before_of kind t + 1 < 2 ^ 64) later.old }
     ensures tallies { later.new ≡ map (with_name kind) later.old }
@@ -120,17 +121,17 @@ fn count_in(later: &mut [Tally], kind: Kind, mut verdict: Verdict) -> Verdict
 }
 
 /// Counts a new name in the announcements beyond its tag, and judges these anew.
-fn count_name(announced: &mut [Tally], tag: Tag, kind: Kind, verdict: Verdict) -> Verdict
+#[inline(always)]
+fn count_name(announced: &mut [Tally], tag: Tag, kind: Kind, verdict: &mut Verdict)
     requires in_order { AreInOrder announced.old }
     requires room { All (λ t. before_of kind t + 1 < 2 ^ 64) announced.old }
     ensures tallies { announced.new ≡ counted kind tag announced.old }
-    ensures judged { result ≡ fold with_tally verdict (map (with_name kind) (beyond tag announced.old)) }
+    ensures judged { verdict.new ≡ fold with_tally verdict.old (map (with_name kind) (beyond tag announced.old)) }
 {
     let first = place(announced, tag);
-    if first == announced.len() {
-        return verdict;
+    if first < announced.len() {
+        *verdict = count_in(&mut announced[first..], kind, *verdict);
     }
-    count_in(&mut announced[first..], kind, verdict)
 }
 
 /// The earlier one of a tag, if there is one, and another.
@@ -183,13 +184,14 @@ impl Announcer {
     }
 
     /// Notes a new name that has an event. An `Err` changes nothing.
+    #[inline(always)]
     pub(crate) fn note_event(&mut self, tag: Tag) -> Result<(), AllocError>
         requires { ¬ Contains self.old.events tag }
         ensures ok { OnOk result (self.new ≡ record self.old { events = with_tag tag self.old.events }) }
         ensures err { OnErr result (self.new ≡ self.old) }
     {
         self.events.insert(tag)?;
-        self.verdict = count_name(&mut self.announced, tag, Kind::Event, self.verdict);
+        count_name(&mut self.announced, tag, Kind::Event, &mut self.verdict);
         Ok(())
     }
 
@@ -200,7 +202,12 @@ impl Announcer {
         ensures err { OnErr result (self.new ≡ self.old) }
     {
         self.withdrawn.insert(tag)?;
-        self.verdict = count_name(&mut self.announced, tag, Kind::Withdrawal, self.verdict);
+        count_name(
+            &mut self.announced,
+            tag,
+            Kind::Withdrawal,
+            &mut self.verdict,
+        );
         Ok(())
     }
 

@@ -11,6 +11,8 @@ mod announced_tests;
 mod announcer;
 mod honest_law;
 mod law;
+mod names;
+mod rows;
 mod table;
 mod tags;
 #[cfg(test)]

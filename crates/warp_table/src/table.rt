@@ -1,10 +1,10 @@
 //! The records that were taken, in order, what is known of the names that they speak of, and what is heard of each
 //! origin.
 //!
-//! Names are found by hash, and a name keeps the places of its event that counts and of its withdrawal. So a new
-//! record costs one hash; only announcements, and events of a name with a lesser payload, are found by a hash of
-//! their own. What an origin announced is kept by its `Announcer`, so that in order of tags no record costs a pass
-//! over all announcements or names. A horizon costs a look at each origin of the program.
+//! Names are found by origin and tag, and a name keeps the places of its event that counts and of its withdrawal. So a
+//! new record in order of tags costs a look at the last name of its origin; only announcements, and events of a name
+//! with a lesser payload, are found by a hash. What an origin announced is kept by its `Announcer`, so that in order of
+//! tags no record costs a pass over all announcements or names. A horizon costs a look at each origin of the program.
 ghost use Rattle.std.specs.Prelude.{◌≡◌, ◌↔◌, ◌⊎◌, ℕ, ℤ, ◌+◌, ◌<◌, ◌≤◌, List, [], ◌∷◌, ◌++◌, None, Some, true, false, length, slice_get, vec_len, Contains, IsTrue, IfSome, IfNone, IfOk, IsOk, OnOk, OnErr, MatchResult};
 ghost use Rattle.std.specs.Option.{option_copied};
 ghost use Rattle.warp_tag.specs.Limits.{most_origins, most_records};
@@ -21,6 +21,8 @@ ghost use Rattle.warp_table.specs.inner.Heard.{Announced, AreHeard, IsHeard, hea
 ghost use Rattle.warp_table.specs.inner.Kept.{HoldsEvent, IsAdded, Keeps, NotesEvent, counts_less, entry_of, event_place, known_of, other_place, parted_of, payload_at, place_in, put_known, put_other, record_at, stands, with_event_at, with_withdrawal_at, withdrawal_place};
 
 use crate::announcer::Announcer;
+use crate::names::{Name, Names};
+use crate::rows::Known;
 use indexmap::IndexMap;
 use indexmap::map::Entry as Place;
 use std::alloc::Global;
@@ -40,45 +42,6 @@ pub struct Added {
     pub place: u32,
     /// Whether it is new.
     pub is_new: bool,
-}
-
-/// A name: an origin and a tag.
-#[derive(Clone, Copy, PartialEq, Eq, Hash)]
-struct Name {
-    origin: u32,
-    tag: Tag,
-}
-
-/// What is kept of a name beside the name itself: the places, from 1, of the event with the greatest payload and of the
-/// withdrawal; 0 where none came.
-#[derive(Clone, Copy)]
-struct Known {
-    event: u32,
-    withdrawal: u32,
-}
-
-impl Known {
-    ghost use Rattle.warp_table.specs.inner.Kept.{nothing_known, with_event_at, with_withdrawal_at};
-
-    /// With the event at this place, where nothing came before.
-    fn of_event(place: u32) -> Known
-        ensures { result ≡ with_event_at place nothing_known }
-    {
-        Known {
-            event: place,
-            withdrawal: 0,
-        }
-    }
-
-    /// With the withdrawal at this place, where nothing came before.
-    fn of_withdrawal(place: u32) -> Known
-        ensures { result ≡ with_withdrawal_at place nothing_known }
-    {
-        Known {
-            event: 0,
-            withdrawal: place,
-        }
-    }
 }
 
 /// What came of an event: where it stands and whether it is new, and the place of the event that its name keeps.
@@ -102,7 +65,7 @@ struct Parted {
 #[derive(Drop)]
 pub struct Table {
     records: Vec<Record>,
-    names: IndexMap<Name, Known>,
+    names: Names,
     /// Of announcements, and of the events of a name that has one with a greater payload.
     others: IndexMap<Record, u32>,
     announcers: Vec<Announcer>,
@@ -119,7 +82,7 @@ impl Model for Table {
 
     ghost view = { λ t. t.records.items };
 
-    ghost invariant = { λ t. (length t.records.items ≤ most_records) × Keeps t.records.items t.names.entries t.others.entries
+    ghost invariant = { λ t. (length t.records.items ≤ most_records) × Keeps t.records.items t.names t.others.entries
         × AreHeard t.records.items t.announcers.items };
 }
 
@@ -149,7 +112,7 @@ impl Table {
     {
         Table {
             records: Vec::new(alloc),
-            names: IndexMap::new(alloc),
+            names: Names::new(alloc),
             others: IndexMap::new(alloc),
             announcers: Vec::new(alloc),
         }
@@ -218,8 +181,8 @@ impl Table {
         ensures told { IfSome result (λ e. Tells (set_of self.now) e.origin e.tag (Some e)) }
         ensures none { IfNone result (length (names_of self.now) ≤ number) }
     {
-        let (name, known) = self.names.get_index(number as usize)?;
-        Some(entry_of(&self.records, name, known))
+        let (name, known) = self.names.get_index(number)?;
+        Some(entry_of(&self.records, &name, &known))
     }
 
     /// Up to which tag the announcements of all origins of the program are reached: the least, over its origins, of
@@ -306,16 +269,10 @@ fn entry_of(records: &[Record], name: &Name, known: &Known) -> Entry
 }
 
 /// What is known of a name among these; of one that is not there, nothing.
-fn known_of(names: &IndexMap<Name, Known>, name: Name) -> Known
-    ensures { result ≡ known_of name names.now.entries }
+fn known_of(names: &Names, name: Name) -> Known
+    ensures { result ≡ known_of name names.now }
 {
-    match names.get(&name) {
-        Some(known) => *known,
-        None => Known {
-            event: 0,
-            withdrawal: 0,
-        },
-    }
+    names.known(name).unwrap_or(Known::nothing())
 }
 
 /// The place of a record among those that no name keeps.
@@ -342,13 +299,14 @@ fn event_place(
 }
 
 /// The place of a record; `None` where it is not there.
+#[inline(never)]
 fn place_of(
     records: &[Record],
-    names: &IndexMap<Name, Known>,
+    names: &Names,
     others: &IndexMap<Record, u32>,
     record: &Record,
 ) -> Option<u32>
-    ensures { result ≡ place_in records.now names.now.entries others.now.entries «record».now }
+    ensures { result ≡ place_in records.now names.now others.now.entries «record».now }
 {
     match *record {
         Record::Event { origin, tag, .. } => {
@@ -453,7 +411,24 @@ fn note_further_event(
     })
 }
 
-/// Notes the first event of a name, and tells it to its origin. An `Err` changes nothing.
+/// What comes of the first event of a name, which goes behind these records.
+fn noted_first(records: &[Record]) -> Noted
+    requires { length records.now < most_records }
+    ensures { (result.added.place ≡ length records.now + 1) × (result.event ≡ length records.now + 1) × IsTrue result.added.is_new }
+{
+    let place = records.len() as u32 + 1;
+    let added = Added {
+        place,
+        is_new: true,
+    };
+    Noted {
+        added,
+        event: place,
+    }
+}
+
+/// Notes the first event of a name that was withdrawn before, and tells it to its origin. An `Err` changes nothing.
+#[inline(always)]
 fn note_first_event(
     records: &[Record],
     announcer: &mut Announcer,
@@ -466,56 +441,48 @@ fn note_first_event(
     ensures err { OnErr result (announcer.new ≡ announcer.old) }
 {
     announcer.note_event(tag)?;
-    let place = records.len() as u32 + 1;
-    let added = Added {
-        place,
-        is_new: true,
-    };
-    Ok(Noted {
-        added,
-        event: place,
-    })
+    Ok(noted_first(records))
 }
 
 /// Adds an event: known where its name keeps it or the others have it, and else noted and told to its origin. An
 /// `Err` changes nothing.
 fn add_event(
     records: &[Record],
-    names: &mut IndexMap<Name, Known>,
+    names: &mut Names,
     others: &mut IndexMap<Record, u32>,
     announcer: &mut Announcer,
     name: &Name,
     payload: (u32, i64),
 ) -> Result<Noted, OutOfMemory>
     requires room { length records.now < most_records }
-    requires kept { HoldsEvent records.now name.now (known_of name.now names.old.entries).event }
-    requires fresh { (known_of name.now names.old.entries).event ≡ 0 → ¬ Contains announcer.old.events name.now.tag }
+    requires kept { HoldsEvent records.now name.now (known_of name.now names.old).event }
+    requires fresh { (known_of name.now names.old).event ≡ 0 → ¬ Contains announcer.old.events name.now.tag }
     ensures new { IfOk result (λ noted. IsTrue noted.added.is_new → (noted.added.place ≡ length records.now + 1) ×
-        (names.new.entries ≡ put_known names.old.entries name.now (with_event_at noted.event (known_of name.now names.old.entries))) ×
-        NotesEvent records.now name.now payload (known_of name.now names.old.entries).event noted.event others.old.entries others.new.entries announcer.old announcer.new) }
-    ensures known { IfOk result (λ noted. noted.added.is_new ≡ false → (names.new.entries ≡ names.old.entries) ×
+        (names.new ≡ put_known names.old name.now (with_event_at noted.event (known_of name.now names.old))) ×
+        NotesEvent records.now name.now payload (known_of name.now names.old).event noted.event others.old.entries others.new.entries announcer.old announcer.new) }
+    ensures known { IfOk result (λ noted. noted.added.is_new ≡ false → (names.new ≡ names.old) ×
         (others.new.entries ≡ others.old.entries) × (announcer.new ≡ announcer.old) ×
-        (event_place records.now (known_of name.now names.old.entries).event others.old.entries (Record.Event name.now.origin name.now.tag payload.0 payload.1) ≡ Some noted.added.place)) }
-    ensures err { OnErr result ((names.new.entries ≡ names.old.entries) × (others.new.entries ≡ others.old.entries) × (announcer.new ≡ announcer.old)) }
+        (event_place records.now (known_of name.now names.old).event others.old.entries (Record.Event name.now.origin name.now.tag payload.0 payload.1) ≡ Some noted.added.place)) }
+    ensures err { OnErr result ((names.new ≡ names.old) × (others.new.entries ≡ others.old.entries) × (announcer.new ≡ announcer.old)) }
 {
-    match names.entry(*name)? {
-        Place::Vacant(place) => {
-            let noted = note_first_event(records, announcer, name.tag)?;
-            place.insert(Known::of_event(noted.event));
+    match names.known(*name) {
+        Some(known) => {
+            let noted = note_event(records, others, announcer, known.event, name, payload)?;
+            if noted.added.is_new {
+                names.set(*name, known.with_event(noted.event));
+            }
             Ok(noted)
         }
-        Place::Occupied(place) => {
-            let kept = place.get().event;
-            let noted = note_event(records, others, announcer, kept, name, payload)?;
-            if noted.added.is_new {
-                place.into_mut().event = noted.event;
-            }
+        None => {
+            let noted = noted_first(records);
+            names.insert_event(*name, noted.event, announcer)?;
             Ok(noted)
         }
     }
 }
 
 /// Notes an event of a name that keeps the event at the place `kept`, 0 where it has none. An `Err` changes nothing.
+#[inline(never)]
 fn note_event(
     records: &[Record],
     others: &mut IndexMap<Record, u32>,
@@ -542,36 +509,31 @@ fn note_event(
 /// Adds a withdrawal, which goes to `next`: known where its name keeps one, and else noted and told to its origin. An
 /// `Err` changes nothing.
 fn add_withdrawal(
-    names: &mut IndexMap<Name, Known>,
+    names: &mut Names,
     announcer: &mut Announcer,
-    name: Name,
+    name: &Name,
     next: u32,
 ) -> Result<Added, OutOfMemory>
-    requires { (known_of name names.old.entries).withdrawal ≡ 0 → ¬ Contains announcer.old.withdrawn name.tag }
-    ensures new { IfOk result (λ added. IsTrue added.is_new → (added.place ≡ next) × ((known_of name names.old.entries).withdrawal ≡ 0) ×
-        (names.new.entries ≡ put_known names.old.entries name (with_withdrawal_at next (known_of name names.old.entries))) ×
-        (announcer.new ≡ record announcer.old { withdrawn = with_tag name.tag announcer.old.withdrawn })) }
-    ensures known { IfOk result (λ added. added.is_new ≡ false → (names.new.entries ≡ names.old.entries) × (announcer.new ≡ announcer.old) ×
-        (withdrawal_place (known_of name names.old.entries).withdrawal ≡ Some added.place)) }
-    ensures err { OnErr result ((names.new.entries ≡ names.old.entries) × (announcer.new ≡ announcer.old)) }
+    requires { (known_of name.now names.old).withdrawal ≡ 0 → ¬ Contains announcer.old.withdrawn name.now.tag }
+    ensures new { IfOk result (λ added. IsTrue added.is_new → (added.place ≡ next) × ((known_of name.now names.old).withdrawal ≡ 0) ×
+        (names.new ≡ put_known names.old name.now (with_withdrawal_at next (known_of name.now names.old))) ×
+        (announcer.new ≡ record announcer.old { withdrawn = with_tag name.now.tag announcer.old.withdrawn })) }
+    ensures known { IfOk result (λ added. added.is_new ≡ false → (names.new ≡ names.old) × (announcer.new ≡ announcer.old) ×
+        (withdrawal_place (known_of name.now names.old).withdrawal ≡ Some added.place)) }
+    ensures err { OnErr result ((names.new ≡ names.old) × (announcer.new ≡ announcer.old)) }
 {
-    let tag = name.tag;
-    match names.entry(name)? {
-        Place::Occupied(place) => {
-            let kept = place.get().withdrawal;
-            if kept != 0 {
+    match names.known(*name) {
+        Some(known) => {
+            if known.withdrawal != 0 {
                 return Ok(Added {
-                    place: kept,
+                    place: known.withdrawal,
                     is_new: false,
                 });
             }
-            announcer.note_withdrawal(tag)?;
-            place.into_mut().withdrawal = next;
+            announcer.note_withdrawal(name.tag)?;
+            names.set(*name, known.with_withdrawal(next));
         }
-        Place::Vacant(place) => {
-            announcer.note_withdrawal(tag)?;
-            place.insert(Known::of_withdrawal(next));
-        }
+        None => names.insert_withdrawal(*name, next, announcer)?,
     }
     Ok(Added {
         place: next,
@@ -581,6 +543,7 @@ fn add_withdrawal(
 
 /// Adds an announcement, which goes to `next`: known where the others have it, and else noted and told to its origin.
 /// An `Err` changes nothing.
+#[inline(never)]
 fn add_announcement(
     others: &mut IndexMap<Record, u32>,
     announcer: &mut Announcer,
@@ -646,19 +609,19 @@ fn keep_up_to(announcers: &mut Vec<Announcer>, origin: u32) -> Result<(), OutOfM
 /// its origin. An `Err` changes nothing.
 fn note_own(
     records: &[Record],
-    names: &mut IndexMap<Name, Known>,
+    names: &mut Names,
     others: &mut IndexMap<Record, u32>,
     announcer: &mut Announcer,
     record: &Record,
 ) -> Result<Added, OutOfMemory>
     requires room { length records.now < most_records }
-    requires keeps { Keeps records.now names.old.entries others.old.entries }
+    requires keeps { Keeps records.now names.old others.old.entries }
     requires heard { IsHeard (set_of records.now) (origin_of «record».now) announcer.old }
-    ensures new { IfOk result (λ added. IsTrue added.is_new → IsAdded records.now «record».now added.place names.new.entries others.new.entries ×
+    ensures new { IfOk result (λ added. IsTrue added.is_new → IsAdded records.now «record».now added.place names.new others.new.entries ×
         IsHeard (set_of (records.now ++ «record».now ∷ [])) (origin_of «record».now) announcer.new) }
     ensures known { IfOk result (λ added. added.is_new ≡ false → IsAt records.now added.place «record».now ×
-        (names.new.entries ≡ names.old.entries) × (others.new.entries ≡ others.old.entries) × (announcer.new ≡ announcer.old)) }
-    ensures err { OnErr result ((names.new.entries ≡ names.old.entries) × (others.new.entries ≡ others.old.entries) × (announcer.new ≡ announcer.old)) }
+        (names.new ≡ names.old) × (others.new.entries ≡ others.old.entries) × (announcer.new ≡ announcer.old)) }
+    ensures err { OnErr result ((names.new ≡ names.old) × (others.new.entries ≡ others.old.entries) × (announcer.new ≡ announcer.old)) }
 {
     let next = records.len() as u32 + 1;
     match *record {
@@ -673,7 +636,7 @@ fn note_own(
             Ok(noted.added)
         }
         Record::Withdraw { origin, tag } => {
-            add_withdrawal(names, announcer, Name { origin, tag }, next)
+            add_withdrawal(names, announcer, &Name { origin, tag }, next)
         }
         Record::Announce {
             tag,
@@ -691,20 +654,20 @@ fn note_own(
 /// `Err`, and what is heard.
 fn note(
     records: &[Record],
-    names: &mut IndexMap<Name, Known>,
+    names: &mut Names,
     others: &mut IndexMap<Record, u32>,
     announcers: &mut Vec<Announcer>,
     record: &Record,
 ) -> Result<Added, OutOfMemory>
     requires origin { origin_of «record».now < most_origins }
     requires room { length records.now < most_records }
-    requires keeps { Keeps records.now names.old.entries others.old.entries }
+    requires keeps { Keeps records.now names.old others.old.entries }
     requires heard { AreHeard records.now announcers.old.items }
-    ensures new { IfOk result (λ added. IsTrue added.is_new → IsAdded records.now «record».now added.place names.new.entries others.new.entries ×
+    ensures new { IfOk result (λ added. IsTrue added.is_new → IsAdded records.now «record».now added.place names.new others.new.entries ×
         AreHeard (records.now ++ «record».now ∷ []) announcers.new.items) }
     ensures known { IfOk result (λ added. added.is_new ≡ false → IsAt records.now added.place «record».now ×
-        (names.new.entries ≡ names.old.entries) × (others.new.entries ≡ others.old.entries) × AreHeard records.now announcers.new.items) }
-    ensures err { OnErr result ((names.new.entries ≡ names.old.entries) × (others.new.entries ≡ others.old.entries) ×
+        (names.new ≡ names.old) × (others.new.entries ≡ others.old.entries) × AreHeard records.now announcers.new.items) }
+    ensures err { OnErr result ((names.new ≡ names.old) × (others.new.entries ≡ others.old.entries) ×
         AreHeard records.now announcers.new.items) }
 {
     let origin = origin_of(record);

@@ -160,6 +160,7 @@ impl Tags {
     }
 
     /// Puts a tag in its place. An `Err` changes nothing.
+    #[inline(always)]
     pub(crate) fn insert(&mut self, tag: Tag) -> Result<(), AllocError>
         ensures ok { OnOk result (self.new ≡ with_tag tag self.old) }
         ensures err { OnErr result (self.new ≡ self.old) }
@@ -173,6 +174,7 @@ impl Tags {
     }
 
     /// Puts a tag that may be before others in its place. An `Err` changes nothing.
+    #[inline(never)]
     fn insert_among(&mut self, tag: Tag) -> Result<(), AllocError>
         ensures ok { OnOk result (self.new ≡ with_tag tag self.old) }
         ensures err { OnErr result (self.new ≡ self.old) }

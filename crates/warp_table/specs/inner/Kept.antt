@@ -13,8 +13,8 @@ use Rattle.warp_table.specs.Log.{IsAt}
 use Rattle.warp_table.specs.Names.{Tells}
 use Rattle.warp_table.specs.Records.{same_record, set_of}
 use Rattle.warp_table.specs.Table.{names_of}
-use Rattle.warp_table.specs.declared.table.Known.{Known}
-use Rattle.warp_table.specs.declared.table.Name.{Name}
+use Rattle.warp_table.specs.declared.rows.Known.{Known}
+use Rattle.warp_table.specs.declared.names.Name.{Name}
 use Rattle.warp_table.specs.declared.table.Parted.{Parted}
 use Rattle.warp_table.specs.inner.Heard.{Heard, with_heard_event}
 

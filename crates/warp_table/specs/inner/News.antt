@@ -4,7 +4,7 @@ use Rattle.warp_tag.specs.declared.entry.Entry.{Entry}
 use Rattle.warp_record.specs.declared.record.Record.{Record}
 use Rattle.warp_table.specs.Names.{origin_of}
 use Rattle.warp_table.specs.Records.{set_of}
-use Rattle.warp_table.specs.declared.table.Name.{Name}
+use Rattle.warp_table.specs.declared.names.Name.{Name}
 use Rattle.warp_table.specs.inner.Heard.{Heard, IsHeard}
 use Rattle.warp_table.specs.inner.Kept.{KeepsNames}
 

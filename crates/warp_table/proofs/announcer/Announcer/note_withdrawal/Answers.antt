@@ -12,21 +12,21 @@ use Rattle.warp_table.specs.declared.announcer.Verdict.{Verdict}
 use Rattle.warp_table.proofs.Tallies.{announced-counted, kept_withdrawal, length-counted, room_withdrawal}
 use Rattle.warp_table.proofs.announcer.Announcer.note_withdrawal.Goals as goal
 
-pub count_name-self-inside-requires-clause-room : goal.count_name-self-inside-requires-clause-room
-count_name-self-inside-requires-clause-room c =
+pub count_name-requires-clause-room : goal.count_name-requires-clause-room
+count_name-requires-clause-room c =
     let few : length c.self.inside.withdrawn + 1 < 2 ^ 64 = c.in_ok-insert.ensures.room in
     subst (λ (ts : List Tally). All (λ t. before_of Withdrawal t + 1 < 2 ^ 64) ts) (sym c.deref_mut.ensures.value)
     (room_withdrawal c.self.inside.events c.self.inside.withdrawn c.self.inside.doubled c.self.inside.announced.items c.self.inside.verdict c.self.invariant few)
 
 -- the announcements are those of before, counted
-now : (c : goal.After-self-2-1) →
-    (with_items c.self.inside.announced c.count_name-self-inside.new.announced).items ≡ counted Withdrawal c.args.tag c.self.inside.announced.items
+now : (c : goal.After-self-1) →
+    (with_items c.self.inside.announced c.count_name.new.announced).items ≡ counted Withdrawal c.args.tag c.self.inside.announced.items
 now c =
-    let counts : c.count_name-self-inside.new.announced ≡ counted Withdrawal c.args.tag c.self.inside.announced.items =
-    c.count_name-self-inside.ensures.tallies ∙ ap (counted Withdrawal c.args.tag) c.deref_mut.ensures.value in
-    let long : length c.count_name-self-inside.new.announced ≡ c.self.inside.announced.len =
+    let counts : c.count_name.new.announced ≡ counted Withdrawal c.args.tag c.self.inside.announced.items =
+    c.count_name.ensures.tallies ∙ ap (counted Withdrawal c.args.tag) c.deref_mut.ensures.value in
+    let long : length c.count_name.new.announced ≡ c.self.inside.announced.len =
     ap length counts ∙ length-counted Withdrawal c.args.tag c.self.inside.announced.items ∙ sym c.self.inside.announced.ok.0 in
-    with_items_is c.self.inside.announced c.count_name-self-inside.new.announced long ∙ counts
+    with_items_is c.self.inside.announced c.count_name.new.announced long ∙ counts
 
 pub invariant_of-self-2 : goal.invariant_of-self-2
 invariant_of-self-2 c =
@@ -37,10 +37,10 @@ invariant_of-self-2 c =
     let tallies : List Tally = counted Withdrawal c.args.tag old in
     let verdict : Verdict = fold with_tally was.verdict (map (with_name Withdrawal) (beyond c.args.tag old)) in
     let new : Contains was.withdrawn c.args.tag → ⊥ = subst (λ (h : Heard). Contains h.withdrawn c.args.tag → ⊥) (sym c.self.view_is) c.requires in
-    let judged : c.count_name-self-inside.result ≡ verdict =
-    c.count_name-self-inside.ensures.judged ∙ ap (λ ts. fold with_tally was.verdict (map (with_name Withdrawal) (beyond c.args.tag ts))) c.deref_mut.ensures.value in
-    subst (λ (ws : List Moment). AreKept names ws was.doubled (with_items was.announced c.count_name-self-inside.new.announced).items c.count_name-self-inside.result) (sym c.in_ok-insert.ensures.ok)
-    (subst (λ (ts : List Tally). AreKept names gone was.doubled ts c.count_name-self-inside.result) (sym (now c))
+    let judged : c.count_name.new.verdict ≡ verdict =
+    c.count_name.ensures.judged ∙ ap (λ ts. fold with_tally was.verdict (map (with_name Withdrawal) (beyond c.args.tag ts))) c.deref_mut.ensures.value in
+    subst (λ (ws : List Moment). AreKept names ws was.doubled (with_items was.announced c.count_name.new.announced).items c.count_name.new.verdict) (sym c.in_ok-insert.ensures.ok)
+    (subst (λ (ts : List Tally). AreKept names gone was.doubled ts c.count_name.new.verdict) (sym (now c))
     (subst (λ (v : Verdict). AreKept names gone was.doubled tallies v) (sym judged)
     (kept_withdrawal c.args.tag names was.withdrawn was.doubled old was.verdict c.self.invariant new)))
 

@@ -10,9 +10,9 @@ is_told : (c : goal.After-entry_of) → IsTold c.args.self.now c.args.number c.e
 is_told c =
     let found = c.in_ok-name in
     let inside = c.self.inside in
-    subst (λ (e : Entry). IsTold c.args.self.now c.args.number e) (sym (c.entry_of.ensures ∙ ap (λ (rs : List Record). entry_of rs found.name.now found.known.now) c.deref.ensures.value))
-    (subst (λ (records : List Record). IsTold records c.args.number (entry_of inside.records.items found.name.now found.known.now)) c.self.view_is
-    (told_of inside.records.items inside.names.entries c.args.number found.name.now found.known.now c.self.invariant.1.tells found.ensures.entry found.ensures.value))
+    subst (λ (e : Entry). IsTold c.args.self.now c.args.number e) (sym (c.entry_of.ensures ∙ ap (λ (rs : List Record). entry_of rs found.name found.known) c.deref.ensures.value))
+    (subst (λ (records : List Record). IsTold records c.args.number (entry_of inside.records.items found.name found.known)) c.self.view_is
+    (told_of inside.records.items inside.names c.args.number found.name found.known c.self.invariant.1.tells found.ensures.entry found.ensures.value))
 
 pub returns-clause-name : goal.returns-clause-name
 returns-clause-name c = (is_told c).at
