@@ -14,6 +14,7 @@ use Rattle.warp_tag.proofs.Tags.{not_before_self}
 use Rattle.warp_step.specs.Run.{events_until, is_after}
 use Rattle.warp_run.specs.Walk.{AreThrough}
 use Rattle.warp_run.specs.Warp.{latest_with}
+use Rattle.warp_run.proofs.RowsMoved.{events_past}
 
 module _ (q : Moment → Bool) where
   -- the events at tags that pass
@@ -60,6 +61,11 @@ module _ (q : Moment → Bool) where
 pub early_stay : (f : Entry → Entry) → KeepsNames f → (o : ℕ) (t : Moment) (es : List Entry) (end : Moment) → is_before t end ≡ false
     → events_until end (live es) ≡ events_until end (live (changed f o t es))
 early_stay f names o t es end h = sym (passing_stay (λ s. is_before s end) f names o t es h)
+
+-- and so after the name's tag
+pub late_stay : (f : Entry → Entry) → KeepsNames f → (o : ℕ) (t : Moment) (es : List Entry)
+    → events_past t (live es) ≡ events_past t (live (changed f o t es))
+late_stay f names o t es = sym (passing_stay (is_before t) f names o t es (not_before_self t))
 
 -- what a table knows of a name is of its tag
 pub known_tag : (o : ℕ) (t : Moment) (es : List Entry) → (unwrap_or (known o t es) (fresh o t)).tag ≡ t

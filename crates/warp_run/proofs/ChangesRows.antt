@@ -11,7 +11,7 @@ use Rattle.warp_tag.proofs.Tags.{before_trans, not_before_self}
 use Rattle.warp_step.specs.Run.{Row, Run, events_until, rows_until}
 use Rattle.warp_step.proofs.RowsBefore.{early_rows}
 use Rattle.warp_line.specs.Timeline.{Standing, KeepsDone, lesser, rows_before}
-use Rattle.warp_run.specs.Front.{spacing}
+use Rattle.warp_run.specs.History.{spacing}
 
 -- what passes a test is no more than what passes a weaker one
 fewer_pass : (p q : Row → Bool) → ((r : Row) → p r ≡ true → q r ≡ true) → (rows : List Row) → length (filter p rows) ≤ length (filter q rows)

@@ -16,11 +16,12 @@ use Rattle.warp_step.specs.Events.{event_fits}
 use Rattle.warp_arena.specs.Places.{Contents, Reaches, entries_of, entry_of, with_change}
 use Rattle.warp_arena.proofs.Handles.{entry_of-with_change_same}
 use Rattle.warp_line.specs.Timeline.{Standing, NowStands}
-use Rattle.warp_run.specs.Front.{GoesBack, IsAt, spacing}
+use Rattle.warp_run.specs.Front.{GoesBack, IsAt}
+use Rattle.warp_run.specs.History.{spacing}
 use Rattle.warp_run.specs.Walk.{AreThrough, ahead}
 use Rattle.warp_run.specs.Warp.{NamesAt, StandsFor, latest_with}
 use Rattle.warp_run.specs.declared.warp.Warp.{Warp}
-use Rattle.warp_run.proofs.ChangesEvents.{early_stay, known_tag}
+use Rattle.warp_run.proofs.ChangesEvents.{early_stay, known_tag, late_stay}
 use Rattle.warp_run.proofs.ChangesPlaces.{ahead_stays}
 use Rattle.warp_run.proofs.ChangesRows.{keeps_done}
 use Rattle.warp_run.proofs.RowsMoved.{moved}
@@ -78,7 +79,8 @@ module _ (f : Entry → Entry) (names : KeepsNames f) {origin : ℕ} {tag : Mome
             origins = ap (λ a. a.origins) kept ∙ origins_are;
             table = ap (λ a. entries_of a.places) kept ∙ table_is;
             events = fits;
-            front = moved m.program (live m.table) E tag w.front (take goes.left m.done) (early tag (not_before_self tag)) goes.before goes.at;
+            front = moved m.program (live m.table) E tag w.front (take goes.left m.done) (early tag (not_before_self tag))
+                (late_stay f names origin tag m.table) goes.before goes.aside goes.at;
             cursor = cursor cursor_stays;
             latest = subst (λ l. AreThrough l E) (sym (latest ∙ ap (λ v. latest_with tag v.latest) is.others)) through;
             settled = λ yes. let no : true ≡ false = sym yes ∙ unsettled in cc;

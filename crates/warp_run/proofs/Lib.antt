@@ -1,3 +1,6 @@
+pub mod RowsBegun
+pub mod RowsAside
+pub mod RowsRejoined
 pub mod RowsMoved
 pub mod RowsSaved
 pub mod RowsStep
@@ -17,3 +20,4 @@ pub mod TurnsWarp
 pub mod TurnsStep
 pub mod TurnsFirst
 pub mod TurnsGoing
+pub mod TurnsRejoined

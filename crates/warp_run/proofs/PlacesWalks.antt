@@ -89,6 +89,37 @@ gathers_all tag ps cursor at before items g end to is_end to_end later =
           ∙ ap (λ qs. before ++ given_by (through tag qs)) r.left,
     ))
 
+-- where all are after the tag, nothing is given up to it
+pub none_through : (tag : Moment) (ps : List Place) (cursor : Option ℕ) (rest : List Place) → Reaches ps rest cursor
+    → AreLater (Some tag) (left_at cursor ps) → Reaches ps (ahead (Some tag) rest) cursor × (given_by (through tag rest) ≡ [])
+none_through tag ps cursor rest r later =
+    let q : Place → Bool = λ p. is_before tag p.entry.tag in
+    let all : AreLater (Some tag) rest = subst (AreLater (Some tag)) r.left later in (
+      subst (λ qs. Reaches ps qs cursor) (sym (filter_back q [] rest tt all)) r,
+      ap given_by (filter_front q [] rest tt all),
+    )
+
+-- ---- the first place after a tag
+
+-- What is left has the places after the tag that there were at the start.
+pub record Passes (tag : Moment) (ps start : List Place) (at : Option ℕ) : Type 0 where
+  pub reaches : Reaches ps (left_at at ps) at
+  pub past : ahead (Some tag) (left_at at ps) ≡ ahead (Some tag) start
+
+-- what a walk past a tag ends with
+abbrev pub HasPassed : Moment → List Place → Option ℕ → Option ℕ → Type 0
+HasPassed tag ps cursor at = (rest : List Place) → Reaches ps rest cursor → Reaches ps (ahead (Some tag) rest) at
+
+-- it ends where all that is left is after the tag
+pub passes_all : (tag : Moment) (ps : List Place) (cursor at : Option ℕ) → Passes tag ps (left_at cursor ps) at
+    → (end to : Option ℕ) → at ≡ end → to ≡ end → AreLater (Some tag) (left_at end ps) → HasPassed tag ps cursor to
+passes_all tag ps cursor at p end to is_end to_end later =
+    subst (λ o. HasPassed tag ps cursor o) (is_end ∙ sym to_end) (λ rest r.
+    let now : List Place = left_at at ps in
+    let all : AreLater (Some tag) now = subst (λ o. AreLater (Some tag) (left_at o ps)) (sym is_end) later in
+    subst (λ qs. Reaches ps qs at)
+    (sym (filter_back (λ (q : Place). is_before tag q.entry.tag) [] now tt all) ∙ p.past ∙ ap (ahead (Some tag)) r.left) p.reaches)
+
 -- ---- the first live event
 
 -- What is left to seek in has the live events that there were at the start.
@@ -102,24 +133,13 @@ HasFound ps cursor latest result =
     (rest : List Place) → Reaches ps rest cursor → AreThrough latest (live_of rest) → FindsFirst ps rest result
 
 -- where there is no latest tag nothing is found
-pub found_none : (ps : List Place) (cursor : Option ℕ) (latest : Option Moment) → latest ≡ None → HasFound ps cursor latest None
+found_none : (ps : List Place) (cursor : Option ℕ) (latest : Option Moment) → latest ≡ None → HasFound ps cursor latest None
 found_none ps cursor latest is =
     subst (λ l. HasFound ps cursor l None) (sym is) (λ rest r past. by (live_of rest) past)
   where
     by : (E : List Event) → AreThrough None E → E ≡ []
     by [] h = refl
     by (e ∷ E) h = absurd (false≢true h)
-
--- where nothing is found the entry's event does not count
-pub none_found : (node : ℕ) (o : Option Event) (found : Option Live) → found ≡ option_map (event_at node) o → is_some found ≡ false → o ≡ None
-none_found node None found is none = refl
-none_found node (Some v) found is none = let never : true ≡ false = ap is_some (sym is) ∙ none in cc
-
--- a place whose event does not count adds none
-pub none_here : (ps : List Place) (at : Option ℕ) (node : ℕ) (e : Entry) → at ≡ Some node → Heads ps node e → live_event e ≡ None
-    → live_of (left_at at ps) ≡ live_of (places_after node ps)
-none_here ps at node e is head none =
-    ap (λ o. live_of (left_at o ps)) is ∙ ap live_of head ∙ ap (λ o. cons_option o (live_of (places_after node ps))) none
 
 -- where one is found, it is the first
 pub found_here : (ps : List Place) (cursor at : Option ℕ) (latest : Option Moment) (node : ℕ) (e : Entry) (found : Option Live)
@@ -151,7 +171,7 @@ none_later latest (p ∷ ps) later h =
     none (Some v) E rest tags h = absurd (false≢true (rw (tags v refl) at h))
 
 -- behind the latest tag nothing is found
-pub found_past : (ps : List Place) (cursor at : Option ℕ) (latest : Moment) (node : ℕ) (e : Entry)
+found_past : (ps : List Place) (cursor at : Option ℕ) (latest : Moment) (node : ℕ) (e : Entry)
     → IsTable (entries_of ps) → Seeks ps (left_at cursor ps) at → at ≡ Some node → Heads ps node e → is_before latest e.tag ≡ true
     → HasFound ps cursor (Some latest) None
 found_past ps cursor at latest node e t s is head h rest r past =
@@ -159,3 +179,10 @@ found_past ps cursor at latest node e t s is head h rest r past =
     let later : AreLater (Some latest) (left_at at ps) =
     subst (λ o. AreLater (Some latest) (left_at o ps)) (sym is) (later_from (Some latest) ps node e t head h) in
     sym same ∙ none_later latest (left_at at ps) later (subst (AreThrough (Some latest)) (sym same) past)
+
+-- nor where there is none
+pub found_past_latest : (ps : List Place) (cursor at : Option ℕ) (latest : Option Moment) (node : ℕ) (e : Entry)
+    → IsTable (entries_of ps) → Seeks ps (left_at cursor ps) at → at ≡ Some node → Heads ps node e → is_after latest e.tag ≡ true
+    → HasFound ps cursor latest None
+found_past_latest ps cursor at None node e t s is head h = found_none ps cursor None refl
+found_past_latest ps cursor at (Some latest) node e t s is head h = found_past ps cursor at latest node e t s is head h

@@ -1,5 +1,5 @@
 -- Going back to the newest checkpoint before a tag.
-use Rattle.std.proofs.Common.{◌≡◌, ℕ, zero, suc, ◌+◌, ◌*◌, ◌≤◌, true, false, cond, List, [], ◌∷◌, ◌++◌, length, take, drop, filter, ap, sym, subst, ◌∙◌, refl, inl, inr, arith, Option, Some, None, length-take}
+use Rattle.std.proofs.Common.{◌≡◌, ℕ, zero, suc, ◌+◌, ◌≤◌, ◌⊎◌, true, false, cond, List, [], ◌∷◌, ◌++◌, length, take, drop, filter, ap, sym, subst, ◌∙◌, refl, inl, inr, arith, Option, Some, None, length-take}
 use Rattle.std.specs.List.{AllByRecursion}
 use Rattle.std.proofs.lemmas.Bool.{cases_Bool}
 use Rattle.std.proofs.lemmas.Grind.{flat_map-append}
@@ -14,13 +14,16 @@ use Rattle.warp_step.specs.Run.{Row, Run, RunFrom, is_after, state_at_end, outpu
 use Rattle.warp_step.specs.declared.out.Out.{Out}
 use Rattle.warp_step.proofs.PartedLists.{filter_none}
 use Rattle.warp_step.proofs.RowsBefore.{none_early}
-use Rattle.warp_line.specs.Begin.{Begin, BeginFrom, last_after}
+use Rattle.warp_line.specs.Begin.{Begin, last_after}
 use Rattle.warp_line.specs.Timeline.{rows_before}
 use Rattle.warp_line.proofs.Begins.{front_begins}
-use Rattle.warp_run.specs.History.{Saved, Saves, before, newest}
-use Rattle.warp_run.specs.Front.{AreSaved, GoesBack, IsAt, IsReady, spacing}
+use Rattle.warp_run.specs.History.{IsReady, Saved, Saves, before, newest, reach, spacing}
+use Rattle.warp_run.specs.Aside.{KeepsFrom, set_aside}
+use Rattle.warp_run.specs.Front.{AreSaved, GoesBack, IsAt}
 use Rattle.warp_run.specs.declared.front.Front.{Front}
 use Rattle.warp_run.specs.declared.history.Done.{Done}
+use Rattle.warp_run.proofs.RowsAside.{taken_aside}
+use Rattle.warp_run.proofs.RowsBegun.{begin_take}
 use Rattle.warp_run.proofs.RowsSaved.{all_older, saved_on}
 
 -- What is left of checkpoints after a cut: the newest is before the tag, and at most sixteen rows behind it the rows end at a
@@ -36,13 +39,12 @@ record IsCut (P : Program) (done : List Row) (tag : Moment) (saves : List Saved)
   pub late : is_after (last_after None (take count done)) tag ≡ false
 
 -- where so many rows, as many as checkpoints stand for, end at a tag that is not before, one is left, since the oldest is before all rows
-is_cut : (P : Program) (done : List Row) (tag : Moment) (saves : List Saved) (n : ℕ) → AreSaved P done saves → n ≤ spacing * length saves
+is_cut : (P : Program) (done : List Row) (tag : Moment) (saves : List Saved) (n : ℕ) → AreSaved P done saves → n ≤ reach saves
     → is_after (last_after None (take n done)) tag ≡ false → IsCut P done tag saves
 is_cut P done tag [] zero h few late = let never : true ≡ false = late in cc
 is_cut P done tag [] (suc n) h few late = absurd (omega arith)
 is_cut P done tag (c ∷ cs) n h few late = elim (cases_Bool (is_after c.done.last tag)) [
   | inl early ↦
-      let rows = h.1 in
       record {
         newest = c;
         others = cs;
@@ -50,12 +52,11 @@ is_cut P done tag (c ∷ cs) n h few late = elim (cases_Bool (is_after c.done.la
         saved = h;
         early = early;
         count = n;
-        few = omega arith;
+        few = few;
         late = late;
       }
   | inr past ↦
-      let rows = h.1 in
-      let rest = is_cut P done tag cs c.done.rows h.2 (omega arith) (ap (λ (o : Option Moment). is_after o tag) (sym h.0.last) ∙ past) in
+      let rest = is_cut P done tag cs c.done.rows h.3 h.1 (ap (λ (o : Option Moment). is_after o tag) (sym h.0.last) ∙ past) in
       record {
         newest = rest.newest;
         others = rest.others;
@@ -83,13 +84,6 @@ pub always_left : (P : Program) (E : List Event) (tag : Moment) (x : Front) (don
 always_left P E tag x done h late none =
     let left = cut P E tag x done h late in
     let never : Some left.newest.done ≡ None = sym (ap newest left.kept) ∙ none in cc
-
--- the first rows that begin a run begin it
-begin_take : (P : Program) (E : List Event) (last : Option Moment) (s : Snapshot) (n : ℕ) (rows : List Row) → BeginFrom P E last s rows
-    → BeginFrom P E last s (take n rows)
-begin_take P E last s zero rows h = tt
-begin_take P E last s (suc n) [] h = tt
-begin_take P E last s (suc n) (row ∷ rows) h = (h.0, h.1, begin_take P E (Some row.tag) row.state n rows h.2)
 
 -- the rows of a run behind a front of it are a run from there on
 run_behind : (P : Program) (E : List Event) (last : Option Moment) (s : Snapshot) (a b : List Row) → RunFrom P E last s (a ++ b)
@@ -135,11 +129,15 @@ outputs_take n rows =
 -- from one front back to the newest checkpoint before a tag, which stands for so much
 pub record Returns (x y : Front) (tag : Moment) (c : Done) : Type 0 where
   pub history : y.history ≡ record x.history { saves = before tag x.history.saves }
+  pub aside_width : y.aside.history.width ≡ x.aside.history.width
+  pub aside : (y.aside.history.saves ≡ []) ⊎ KeepsFrom (set_aside tag x.history.saves []) x.outputs.items y.aside
   pub newest : newest y.history.saves ≡ Some c
   pub state : (n : Saved) (others : List Saved) → y.history.saves ≡ n ∷ others → y.state ≡ n.state
   pub outputs : y.outputs.items ≡ take c.outputs x.outputs.items
   pub rows : y.rows ≡ c.rows
   pub last : y.last ≡ c.last
+  pub every : y.every ≡ x.every
+  pub due : y.due ≤ c.rows + y.every
   pub scratch : y.scratch ≡ x.scratch
 
 -- then what was executed is cut to a front that ends before the tag
@@ -152,13 +150,16 @@ goes_back P E tag x y c done back h late =
     let one : Some n.done ≡ Some c = sym (ap newest saves) ∙ back.newest in
     let same : c ≡ n.done = cc in
     let saved = left.saved.0 in
-    let counted = left.saved.1 in
     let front = take n.done.rows done in
     let rows : y.rows ≡ n.done.rows = back.rows ∙ ap (λ (d : Done). d.rows) same in
     let last : y.last ≡ n.done.last = back.last ∙ ap (λ (d : Done). d.last) same in
     let state : y.state ≡ n.state = back.state n left.others saves in
     let long : length front ≡ n.done.rows = length-take-le n.done.rows done saved.within in
     let fits : n.done.rows ≤ length front = omega arith in
+    let every : y.every ≤ spacing = subst (λ (k : ℕ). k ≤ spacing) (sym back.every) h.every in
+    let due = back.due in
+    let counted : c.rows ≡ n.done.rows = ap (λ (d : Done). d.rows) same in
+    let taken = taken_aside P E tag done x.history.saves x.outputs.items y.aside h.begin h.outputs h.saved back.aside in
     record {
       left = n.done.rows;
       within = saved.within;
@@ -174,10 +175,15 @@ goes_back P E tag x y c done back h late =
         width = ap (λ (z : Saves). z.width) back.history ∙ h.width;
         saved = subst (AreSaved P front) (sym saves)
             (saved_on P done front n.done.rows (n ∷ left.others) fits (λ k few. sym (take-take k n.done.rows done few))
-            (all_older P done n.done.rows (n ∷ left.others) (omega arith) left.saved) left.saved);
-        near = subst (λ (cs : List Saved). y.rows ≤ spacing * length cs) (sym saves) (omega arith);
+            (all_older P done n left.others left.saved) left.saved);
+        near = subst (λ (cs : List Saved). y.rows ≤ reach cs) (sym saves) (omega arith);
+        every = every;
+        due = subst (λ (cs : List Saved). y.due ≤ reach cs) (sym saves) (omega arith);
+        aside_width = back.aside_width ∙ h.aside_width;
+        aside = taken.0;
         scratch = back.scratch ∙ h.scratch;
       };
       before = ap (λ (o : Option Moment). is_after o tag) last ∙ left.early;
+      aside = taken.1;
       near = inr (λ trace run. let less = few_before P E tag done trace left.count h.begin left.late run in let more = left.few in omega arith);
     }

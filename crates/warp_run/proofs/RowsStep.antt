@@ -1,5 +1,5 @@
 -- One more row is executed.
-use Rattle.std.proofs.Common.{◌≡◌, ◌+◌, ◌*◌, ◌<◌, ◌≤◌, true, false, ◌||◌, nat_lt, IsTrue, List, [], ◌∷◌, ◌++◌, length, map, ap, sym, subst, ◌∙◌, rules, inl, inr, arith, Option, Some, None, length-append}
+use Rattle.std.proofs.Common.{◌≡◌, ℕ, ◌+◌, ◌≤◌, true, false, ◌||◌, nat_lt, IsTrue, List, [], ◌∷◌, ◌++◌, length, map, ap, sym, subst, ◌∙◌, rules, inl, inr, arith, Option, Some, None, length-append}
 use Rattle.std.specs.List.{list_any}
 use Rattle.std.proofs.lemmas.Bool.{cases_Bool}
 use Rattle.std.proofs.lemmas.Bool.Decides.{nat_tests}
@@ -16,7 +16,9 @@ use Rattle.warp_step.specs.declared.out.Out.{Out}
 use Rattle.warp_step.proofs.TagsOfRun.{none_before}
 use Rattle.warp_line.specs.Begin.{BeginFrom, last_after}
 use Rattle.warp_line.proofs.ProgressLemmas.{turned}
-use Rattle.warp_run.specs.Front.{AreSaved, CanGive, IsAt, IsReady, spacing}
+use Rattle.warp_run.specs.Aside.{AreAside}
+use Rattle.warp_run.specs.Front.{AreSaved, CanGive, IsAt}
+use Rattle.warp_run.specs.History.{IsReady, reach, spacing}
 use Rattle.warp_run.specs.declared.front.Front.{Front}
 use Rattle.warp_run.proofs.RowsSaved.{last_more, state_more, saved_more}
 
@@ -67,10 +69,13 @@ pub record Steps (P : Program) (x y : Front) (tag : Moment) (X : List Given) (ou
   pub outputs : y.outputs.items ≡ x.outputs.items ++ outs
   pub rows : y.rows ≡ x.rows + 1
   pub last : y.last ≡ Some tag
+  pub every : y.every ≡ x.every
+  pub due : y.due ≡ x.due
   pub history : y.history ≡ x.history
   pub scratch : y.scratch ≡ x.scratch
   pub ready : IsReady P (Some tag) y.state
-  pub room : x.rows < spacing * length x.history.saves
+  pub aside : y.aside ≡ x.aside
+  pub room : x.rows + 1 ≤ reach x.history.saves
 
 -- then one more row is executed
 pub stepped : (P : Program) (E : List Event) (x y : Front) (done : List Row) (tag : Moment) (X : List Given) (outs : List Out)
@@ -96,13 +101,17 @@ stepped P E x y done tag X outs steps h next is =
             ∙ search (rules, flat_map-append (λ (r : Row). r.outputs) done (row ∷ []));
         ready = subst (λ (o : Option Moment). IsReady P o y.state) (sym steps.last) steps.ready;
         width = ap (λ (z : _). z.width) steps.history ∙ h.width;
-        saved = subst (λ (z : _). AreSaved P (done ++ row ∷ []) z.saves) (sym steps.history) (saved_more P done row x.history.saves h.saved);
-        near = subst (λ (z : _). y.rows ≤ spacing * length z.saves) (sym steps.history) (omega arith);
+        saved = subst (λ (z : _). AreSaved P (done ++ row ∷ []) z.saves) (sym steps.history) (saved_more P done (row ∷ []) x.history.saves h.saved);
+        near = subst (λ (z : _). y.rows ≤ reach z.saves) (sym steps.history) (omega arith);
+        every = subst (λ (n : ℕ). n ≤ spacing) (sym steps.every) h.every;
+        due = subst (λ (z : _). y.due ≤ reach z.saves) (sym steps.history) (subst (λ (n : ℕ). n ≤ reach x.history.saves) (sym steps.due) h.due);
+        aside_width = ap (λ (z : _). z.history.width) steps.aside ∙ h.aside_width;
+        aside = subst (λ (z : _). AreAside P E z.first z.outputs z.history.saves) (sym steps.aside) h.aside;
         scratch = steps.scratch ∙ h.scratch;
       },
     )
 
 -- a checkpoint more leaves the next tag
-pub still_next : (E : List Event) (x z : Front) (tag : Moment) → z ≡ record x { history = z.history } → IsNext E x.last x.state tag
+pub still_next : (E : List Event) (x z : Front) (tag : Moment) → z ≡ record x { due = z.due; history = z.history } → IsNext E x.last x.state tag
     → IsNext E z.last z.state tag
 still_next E x z tag others next = subst (λ (f : Front). IsNext E f.last f.state tag) (sym others) next

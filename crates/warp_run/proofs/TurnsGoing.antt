@@ -1,5 +1,5 @@
 -- Turns one after another, up to the end of the run.
-use Rattle.std.proofs.Common.{◌≡◌, ℕ, ◌+◌, ◌-◌, ◌<◌, true, false, not, ◌++◌, List, [], ◌∷◌, length, ap, subst, ◌∙◌, refl, arith, IsTrue, Option, None, Result, Ok, Err, append_assoc, length-append}
+use Rattle.std.proofs.Common.{◌≡◌, ℕ, ◌+◌, ◌-◌, ◌<◌, ◌≤◌, true, false, not, ◌++◌, List, [], ◌∷◌, length, ap, subst, ◌∙◌, refl, arith, IsTrue, Option, None, Result, Ok, Err, append_assoc, length-append}
 use Rattle.std.specs.Prelude.{IsErr, OnOk}
 use Rattle.std.specs.List.{list_all, list_any}
 use Rattle.std.proofs.lemmas.Bool.Decides.{nat_tests}
@@ -33,7 +33,7 @@ goes_on P a b c i j k g h is = λ m stands same.
 
 -- a row more leaves fewer
 pub fewer_left : (P : Program) (v w : Warp) (m : Standing) (rows : List Row) → StandsFor v m
-    → StandsFor w (record m { done = m.done ++ rows }) → m.program ≡ P → length rows ≡ 1
+    → StandsFor w (record m { done = m.done ++ rows }) → m.program ≡ P → 1 ≤ length rows
     → length (trace_of P (live (entries_of w.arena.places))) - w.front.rows < length (trace_of P (live (entries_of v.arena.places))) - v.front.rows
 fewer_left P v w m rows h k same one =
     let program = ap (λ (Q : Program). length (trace_of Q (live m.table))) same in
@@ -46,7 +46,7 @@ fewer_left P v w m rows h k same one =
     omega arith
 
 -- what settling does: to where it goes there is at most one tick for each row that was not done
-pub settles : (w : Warp) (m : Standing) (rows : List Row) (ticks : ℕ) → StandsFor w (record m { done = m.done ++ rows }) → length rows ≡ ticks
+pub settles : (w : Warp) (m : Standing) (rows : List Row) (ticks : ℕ) → StandsFor w (record m { done = m.done ++ rows }) → ticks ≤ length rows
     → Settles StandsFor w m ticks (m.done ++ rows)
 settles w m rows ticks h is =
     let lengths = length-append m.done rows in

@@ -15,6 +15,7 @@ use Rattle.warp_step.proofs.TraceExists.{exists}
 use Rattle.warp_step.proofs.ValidLemmas.{validity}
 use Rattle.warp_line.specs.Begin.{Begin, BeginFrom, last_after}
 use Rattle.warp_line.proofs.Begins.{front_begins}
+use Rattle.warp_run.specs.Front.{AreFew}
 use Rattle.warp_run.proofs.RowsStep.{begin_more}
 
 -- they are the whole run where nothing waits after them
@@ -44,6 +45,15 @@ trace_of P E = (exists P E).0
 pub begin_within : (P : Program) (E : List Event) (rows : List Row) → Begin P E rows → length rows ≤ length (trace_of P E)
 begin_within P E rows h = begin_length P E rows (exists P E).0 h (exists P E).1
 
+-- and of a valid program no more than there may be names
+pub begin_names : (P : Program) (E : List Event) → IsTrue (is_valid P) → IsTrue (list_all (event_fits P) E) → AreFew P E
+begin_names P E valid fits rows h =
+    let limits = (validity P valid).limits in
+    let top = limits.top in
+    let all : length (trace_of P E) ≤ most_names = few_rows P E (exists P E).0 limits.stop (omega arith) fits (exists P E).1 in
+    let within = begin_within P E rows h in
+    omega arith
+
 -- where one more row waits they are fewer than there are names
 pub begin_few : (P : Program) (E : List Event) (rows : List Row) (t : Moment) → IsTrue (is_valid P) → IsTrue (list_all (event_fits P) E)
     → Begin P E rows
@@ -53,9 +63,6 @@ begin_few P E rows t valid fits h next =
     let X = given_at t E in
     let row : Row = record { tag = t; state = state_after P s t X; outputs = outputs_after P s t X } in
     let more : Begin P E (rows ++ row ∷ []) = begin_more P E None (start_state P) rows row h next (record { state = refl; outputs = refl }) in
-    let few : length (rows ++ row ∷ []) ≤ length (trace_of P E) = begin_within P E (rows ++ row ∷ []) more in
-    let limits = (validity P valid).limits in
-    let top = limits.top in
-    let all : length (trace_of P E) ≤ most_names = few_rows P E (exists P E).0 limits.stop (omega arith) fits (exists P E).1 in
+    let few = begin_names P E valid fits (rows ++ row ∷ []) more in
     let one = length-append rows (row ∷ []) in
     omega arith

@@ -1,8 +1,10 @@
 -- Checkpoints: what they hold, and how they stand in lists that they share.
-use Rattle.std.specs.Prelude.{◌≡◌, ℕ, ℤ, ◌≤◌, List, [], ◌∷◌, length, take, drop, Option, Some, None, if◌then◌else◌}
+use Rattle.std.specs.Prelude.{◌≡◌, ℕ, ℤ, ◌+◌, ◌≤◌, IsTrue, List, [], ◌∷◌, length, take, drop, Option, Some, None, if◌then◌else◌}
+use Rattle.std.specs.List.{list_all}
 use Rattle.warp_tag.specs.Limits.{most_pending}
 use Rattle.warp_tag.specs.Moment.{Moment}
-use Rattle.warp_step.specs.Snapshot.{Snapshot, AreInOrder}
+use Rattle.warp_step.specs.Program.{Program}
+use Rattle.warp_step.specs.Snapshot.{Snapshot, AreInOrder, IsStateOf}
 use Rattle.warp_step.specs.Run.{is_after}
 use Rattle.warp_step.specs.declared.pending.Waiting.{Waiting}
 use Rattle.warp_run.specs.declared.history.Done.{Done}
@@ -18,6 +20,20 @@ pub record Saves : Type 0 where
   pub width : ℕ
   pub saves : List Saved
 
+-- after how many rows a checkpoint stands
+abbrev pub spacing : ℕ
+spacing = 16
+
+-- a step can be made from the state: it is of this program, and all that is pending is after the last row
+pub record IsReady (P : Program) (last : Option Moment) (s : Snapshot) : Type 0 where
+  pub of_program : IsStateOf P s
+  pub later : IsTrue (list_all (λ w. is_after last w.tag) s.pending)
+
+-- how many rows may be done with these checkpoints, the newest first: sixteen more than at the newest
+abbrev pub reach : List Saved → ℕ
+reach [] = 0
+reach (c ∷ cs) = c.done.rows + spacing
+
 -- the checkpoint of a state that is reached
 abbrev pub saved_at : Done → Snapshot → Saved
 saved_at done state = record { done = done; state = state }
@@ -26,6 +42,11 @@ saved_at done state = record { done = done; state = state }
 abbrev pub newest : List Saved → Option Done
 newest [] = None
 newest (c ∷ cs) = Some c.done
+
+-- the newest is of this state
+abbrev pub IsOfState : List Saved → Snapshot → Type 0
+IsOfState [] s = ⊥
+IsOfState (c ∷ cs) s = s ≡ c.state
 
 -- from the newest on that is before the tag
 abbrev pub before : Moment → List Saved → List Saved

@@ -25,6 +25,16 @@ live_of places = live (entries_of places)
 abbrev pub given_by : List Place → List Given
 given_by places = map given_of (live_of places)
 
+-- the places after the event's, where there is one, or else these
+abbrev pub behind : List Place → List Place → Option Live → List Place
+behind places rest None = rest
+behind places rest (Some l) = places_after l.node places
+
+-- what the event gives, where there is one
+abbrev pub first_given : Option Live → List Given
+first_given None = []
+first_given (Some l) = l.given ∷ []
+
 -- the tag of the first event, if there is one
 abbrev pub first_tag : List Event → Option Moment
 first_tag [] = None

@@ -1,5 +1,5 @@
 -- What a `Warp` stands for.
-use Rattle.std.specs.Prelude.{◌≡◌, ℕ, ◌<◌, ◌++◌, IsTrue, List, length, Option, Some, unwrap_or, if◌then◌else◌}
+use Rattle.std.specs.Prelude.{◌≡◌, ℕ, ◌<◌, ◌≤◌, ◌++◌, IsTrue, List, length, Option, Some, unwrap_or, if◌then◌else◌}
 use Rattle.std.specs.List.{list_all}
 use Rattle.warp_tag.specs.Moment.{Moment}
 use Rattle.warp_tag.specs.Table.{fresh, known, changed, live}
@@ -26,11 +26,11 @@ pub record StandsFor (w : Warp) (m : Standing) : Type 0 where
   pub latest : AreThrough w.latest (live m.table)
   pub settled : IsTrue w.settled → IsDone m
 
--- from what a timeline of this program stands for, so many more rows are executed
+-- from what a timeline of this program stands for, at least so many more rows are done
 abbrev pub Goes : Program → Warp → Warp → ℕ → Type 0
 Goes P old new count =
     (m : Standing) → StandsFor old m → m.program ≡ P
-    → (rows : List Row) × StandsFor new (record m { done = m.done ++ rows }) × (length rows ≡ count)
+    → (rows : List Row) × StandsFor new (record m { done = m.done ++ rows }) × (count ≤ length rows)
 
 -- The handle names what the table knows of a name, where nothing is known the name that came in; a change there is the
 -- table's change of the name, and the cursor stays at the first place after the last row.

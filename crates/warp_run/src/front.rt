@@ -1,18 +1,66 @@
 //! The front of a run that is executed: its state, its outputs, and the checkpoints to which it can go back.
-ghost use Rattle.std.specs.Prelude.{◌≡◌, ◌+◌, ◌<◌, ◌*◌, ◌++◌, ◌∷◌, false, IsTrue, List, [], Some, length, IfOk, OnOk, OnErr};
+ghost use Rattle.std.specs.Prelude.{◌≡◌, ◌+◌, ◌<◌, ◌≤◌, ◌↔◌, ◌++◌, ◌∷◌, false, true, IsTrue, List, [], Some, length, IfOk, OnOk, OnErr, vec_len, vec_capacity};
 ghost use Rattle.warp_tag.specs.Limits.{most_names};
 ghost use Rattle.warp_tag.specs.Table.{Event};
 ghost use Rattle.warp_step.specs.Program.{Program};
 ghost use Rattle.warp_step.specs.Run.{Row, IsNext, given_at, is_after};
-ghost use Rattle.warp_run.specs.Front.{CanGive, IsAt, GoesBack, spacing};
+ghost use Rattle.warp_run.specs.Aside.{IsMet};
+ghost use Rattle.warp_run.specs.Front.{AreFew, CanGive, GoesBack, GoesOn, IsAt};
+ghost use Rattle.warp_run.specs.History.{reach, spacing};
 
+use crate::aside::Aside;
 use crate::history::{Done, History};
 use std::alloc::Global;
 use warp_step::{Given, Meter, Out, Program, Scratch, State, step};
 use warp_tag::{OutOfMemory, Tag};
 
-/// After how many rows a checkpoint stands.
+/// After how many rows at most a checkpoint stands.
 const SPACING: usize = 16;
+
+/// After how many rows a checkpoint stands where rows of the program are executed: four where it has at most four
+/// variables, eight where it has at most eight, and else sixteen. So a checkpoint costs a row about as much in a small
+/// program as in a large one, and a small one goes back over fewer rows.
+fn spacing_of(program: &Program) -> usize
+    ensures { result ≤ spacing }
+{
+    match program.variables().len() {
+        0..=4 => 4,
+        5..=8 => 8,
+        _ => SPACING,
+    }
+}
+
+/// Makes room for so many outputs more. Where this takes memory, it makes as much room for setting all aside.
+#[inline(always)]
+fn reserve_outputs(
+    outputs: &mut Vec<Out>,
+    aside: &mut Aside,
+    more: usize,
+) -> Result<(), OutOfMemory>
+    ensures items { outputs.new.items ≡ outputs.old.items }
+    ensures aside { aside.new ≡ aside.old }
+    ensures room { OnOk result (vec_len outputs.new + more ≤ vec_capacity outputs.new) }
+{
+    if more <= outputs.capacity() - outputs.len() {
+        return Ok(());
+    }
+    take_room_for_outputs(outputs, aside, more)
+}
+
+/// Takes memory for so many outputs more, and as much for setting all aside.
+#[inline(never)]
+fn take_room_for_outputs(
+    outputs: &mut Vec<Out>,
+    aside: &mut Aside,
+    more: usize,
+) -> Result<(), OutOfMemory>
+    ensures items { outputs.new.items ≡ outputs.old.items }
+    ensures aside { aside.new ≡ aside.old }
+    ensures room { OnOk result (vec_len outputs.new + more ≤ vec_capacity outputs.new) }
+{
+    outputs.try_reserve(more)?;
+    aside.reserve_outputs(outputs.capacity())
+}
 
 /// The rows of a run that are executed.
 #[derive(Drop)]
@@ -23,7 +71,12 @@ pub(crate) struct Front {
     rows: usize,
     /// The tag of the last row.
     last: Option<Tag>,
+    /// After how many rows a checkpoint stands.
+    every: usize,
+    /// With so many rows the next checkpoint is made before one more.
+    due: usize,
     history: History,
+    aside: Aside,
     scratch: Scratch,
 }
 
@@ -38,7 +91,10 @@ impl Front {
             outputs: Vec::new(alloc),
             rows: 0,
             last: None,
+            every: spacing_of(program),
+            due: 0,
             history: History::new(alloc, program.variables().len()),
+            aside: Aside::new(alloc, program.variables().len()),
             scratch: Scratch::new(alloc, program)?,
         })
     }
@@ -64,8 +120,8 @@ impl Front {
         &self.outputs
     }
 
-    /// Executes one more row, at the next tag that waits, with what is given there. Where no checkpoint stands at
-    /// sixteen times the number of all, it makes one first. An `Err` leaves what is executed as it was.
+    /// Executes one more row, at the next tag that waits, with what is given there. Where the newest checkpoint is
+    /// as far back as they stand apart, it makes one first. An `Err` leaves what is executed as it was.
     pub fn step<M: Meter>(
         &mut self,
         program: &Program,
@@ -85,8 +141,8 @@ impl Front {
         ensures kept { OnErr result ((E : List Event) (done : List Row) → IsAt program.now E self.old done → IsAt program.now E self.new done) }
         ensures stays { OnErr result ((self.new.last ≡ self.old.last) × (M.ticks meter.new ≡ M.ticks meter.old)) }
     {
-        self.save()?;
-        self.outputs.try_reserve(program.outputs().len())?;
+        self.save_if_due()?;
+        reserve_outputs(&mut self.outputs, &mut self.aside, program.outputs().len())?;
         step(
             program,
             &mut self.state,
@@ -101,37 +157,175 @@ impl Front {
         Ok(())
     }
 
-    /// Makes a checkpoint, where none stands and one is to stand.
-    fn save(&mut self) -> Result<(), OutOfMemory>
+    /// Makes a checkpoint, where one more row is not to be executed without.
+    #[inline(always)]
+    fn save_if_due(&mut self) -> Result<(), OutOfMemory>
         requires { (P : Program) × (E : List Event) × (done : List Row) × IsAt P E self.old done }
-        ensures others { self.new ≡ record self.old { history = self.new.history } }
+        ensures others { self.new ≡ record self.old { due = self.new.due; history = self.new.history } }
         ensures kept { (P : Program) (E : List Event) (done : List Row) → IsAt P E self.old done → IsAt P E self.new done }
-        ensures room { OnOk result (self.new.rows < spacing * length self.new.history.saves) }
+        ensures room { OnOk result (self.new.rows + 1 ≤ reach self.new.history.saves) }
     {
-        if self.rows / SPACING >= self.history.len() {
-            let done = Done {
-                rows: self.rows,
-                outputs: self.outputs.len(),
-                last: self.last,
-            };
-            self.history.save(done, &self.state)?;
+        if self.rows < self.due {
+            return Ok(());
+        }
+        self.add_checkpoint()
+    }
+
+    /// Makes a checkpoint, where none stands or so many rows more are more than `SPACING` after the newest.
+    fn save_for(&mut self, more: usize) -> Result<(), OutOfMemory>
+        requires at { (P : Program) × (E : List Event) × (done : List Row) × IsAt P E self.old done }
+        requires few { more ≤ spacing }
+        ensures others { self.new ≡ record self.old { due = self.new.due; history = self.new.history } }
+        ensures kept { (P : Program) (E : List Event) (done : List Row) → IsAt P E self.old done → IsAt P E self.new done }
+        ensures room { OnOk result (self.new.rows + more ≤ reach self.new.history.saves) }
+    {
+        if self.is_near(more) {
+            return Ok(());
+        }
+        self.add_checkpoint()
+    }
+
+    /// Makes a checkpoint.
+    #[inline(never)]
+    fn add_checkpoint(&mut self) -> Result<(), OutOfMemory>
+        requires { (P : Program) × (E : List Event) × (done : List Row) × IsAt P E self.old done }
+        ensures others { self.new ≡ record self.old { due = self.new.due; history = self.new.history } }
+        ensures kept { (P : Program) (E : List Event) (done : List Row) → IsAt P E self.old done → IsAt P E self.new done }
+        ensures room { OnOk result (self.new.rows + spacing ≤ reach self.new.history.saves) }
+    {
+        if self.add_in_room() {
+            return Ok(());
+        }
+        self.add_with_room()
+    }
+
+    /// Makes room for a checkpoint and for setting all aside, and makes the checkpoint.
+    #[inline(never)]
+    fn add_with_room(&mut self) -> Result<(), OutOfMemory>
+        requires { (P : Program) × (E : List Event) × (done : List Row) × IsAt P E self.old done }
+        ensures others { self.new ≡ record self.old { due = self.new.due; history = self.new.history } }
+        ensures kept { (P : Program) (E : List Event) (done : List Row) → IsAt P E self.old done → IsAt P E self.new done }
+        ensures room { OnOk result (self.new.rows + spacing ≤ reach self.new.history.saves) }
+    {
+        self.history.reserve(&self.state)?;
+        self.aside.reserve_for(&self.history)?;
+        if !self.add_in_room() {
+            return Err(OutOfMemory);
         }
         Ok(())
     }
 
-    /// Goes back to the newest checkpoint before a tag that is not after the last row, and drops those after it. It
-    /// takes no memory.
+    /// Makes a checkpoint, if there is room for it, and answers whether there is. It takes no memory.
+    #[inline(always)]
+    fn add_in_room(&mut self) -> bool
+        requires { (P : Program) × (E : List Event) × (done : List Row) × IsAt P E self.old done }
+        ensures others { self.new ≡ record self.old { due = self.new.due; history = self.new.history } }
+        ensures kept { (P : Program) (E : List Event) (done : List Row) → IsAt P E self.old done → IsAt P E self.new done }
+        ensures room { IsTrue result → self.new.rows + spacing ≤ reach self.new.history.saves }
+    {
+        let done = Done {
+            rows: self.rows,
+            outputs: self.outputs.len(),
+            last: self.last,
+        };
+        let is_room = self.history.save(done, &self.state);
+        if is_room {
+            self.due = self.rows.saturating_add(self.every);
+        }
+        is_room
+    }
+
+    /// Whether so many rows more are at most `SPACING` after the newest checkpoint.
+    fn is_near(&self, more: usize) -> bool
+        requires at { (P : Program) × (E : List Event) × (done : List Row) × IsAt P E self.now done }
+        requires few { more ≤ spacing }
+        ensures { IsTrue result → self.now.rows + more ≤ reach self.now.history.saves }
+    {
+        match self.history.newest() {
+            Some(newest) => self.rows - newest.rows + more <= SPACING,
+            None => false,
+        }
+    }
+
+    /// Goes back to the newest checkpoint before a tag that is not after the last row, and sets those after it aside.
+    /// It takes no memory.
+    #[inline(never)]
     pub fn go_back(&mut self, tag: Tag)
         requires at { (P : Program) × (E : List Event) × (done : List Row) × IsAt P E self.old done }
         requires late { is_after self.old.last tag ≡ false }
         ensures { (P : Program) (E : List Event) (done : List Row) → IsAt P E self.old done → GoesBack P E tag done self.new }
     {
-        self.history.drop_from(tag);
+        self.aside.take_from(tag, &mut self.history, &self.outputs);
         if let Some(done) = self.history.newest() {
             self.history.restore(&mut self.state);
             self.outputs.truncate(done.outputs);
             self.rows = done.rows;
             self.last = done.last;
+            self.due = done.rows.saturating_add(self.every);
         }
+    }
+
+    /// Lets go of what is aside and before a tag after the last row.
+    pub fn let_go_before(&mut self, tag: Tag)
+        requires { is_after self.old.last tag ≡ true }
+        ensures others { self.new ≡ record self.old { aside = self.new.aside } }
+        ensures kept { (P : Program) (E : List Event) (done : List Row) → IsAt P E self.old done → GoesBack P E tag done self.new }
+    {
+        self.aside.let_go_before(tag);
+    }
+
+    /// Whether the run has come to the earliest checkpoint that is aside.
+    #[inline(always)]
+    pub fn comes_to_aside(&self) -> bool
+        ensures { IsTrue result → 0 < length self.now.aside.history.saves }
+    {
+        match (self.aside.earliest(), self.last) {
+            (Some(earliest), Some(last)) => !earliest.is_after(last),
+            _ => false,
+        }
+    }
+
+    /// Goes on over what is aside, where the run is at the earliest checkpoint of it, in the same state. What is before
+    /// the last row is let go. An `Err` comes behind the rows that are gone over.
+    #[inline(never)]
+    pub fn rejoin(&mut self) -> Result<(), OutOfMemory>
+        requires at { (P : Program) × (E : List Event) × (done : List Row) × IsAt P E self.old done × AreFew P E }
+        ensures { GoesOn self.old self.new }
+    {
+        let Some(last) = self.last else {
+            return Ok(());
+        };
+        if self.aside.meets(last, &self.state) {
+            while self.jump()? {}
+        }
+        Ok(())
+    }
+
+    /// Goes on from the earliest checkpoint that is aside to the next one, if there is one.
+    fn jump(&mut self) -> Result<bool, OutOfMemory>
+        requires at { (P : Program) × (E : List Event) × (done : List Row) × IsAt P E self.old done × AreFew P E }
+        requires met { IsMet self.old.last self.old.state self.old.aside.history.saves }
+        ensures on { GoesOn self.old self.new }
+        ensures met { IfOk result (λ more. IsTrue more → IsMet self.new.last self.new.state self.new.aside.history.saves) }
+        ensures fewer { IfOk result (λ more. IsTrue more →
+            length self.new.aside.history.saves < length self.old.aside.history.saves) }
+    {
+        let Some(here) = self.aside.earliest() else {
+            return Ok(false);
+        };
+        self.aside.let_go_earliest();
+        let Some(next) = self.aside.earliest() else {
+            return Ok(false);
+        };
+        let rows = next.rows - here.rows;
+        self.save_for(rows)?;
+        let outputs = next.outputs - here.outputs;
+        reserve_outputs(&mut self.outputs, &mut self.aside, outputs)?;
+        self.aside
+            .append_outputs(here.outputs, next.outputs, &mut self.outputs)?;
+        self.aside.restore(&mut self.state);
+        self.rows += rows;
+        self.last = next.last;
+        Ok(true)
     }
 }

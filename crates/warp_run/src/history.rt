@@ -1,8 +1,10 @@
 //! The checkpoints of a run, in lists that they share, so that each costs what is in use, and going back cuts the
 //! lists.
-ghost use Rattle.std.specs.Prelude.{◌≡◌, ◌<◌, ◌-◌, ℕ, List, [], ◌∷◌, length, drop, IfOk, OnOk, OnErr};
-ghost use Rattle.warp_step.specs.Snapshot.{Snapshot};
-ghost use Rattle.warp_run.specs.History.{Saved, before, newest, saved_at};
+ghost use Rattle.std.specs.Prelude.{◌≡◌, ◌+◌, ◌<◌, ◌≤◌, ◌-◌, ◌↔◌, List, [], ◌∷◌, ◌++◌, length, take, drop, IsTrue, if◌then◌else◌, vec_len, vec_capacity};
+ghost use Rattle.warp_tag.specs.Limits.{most_pending};
+ghost use Rattle.warp_step.specs.Snapshot.{AreInOrder, Snapshot};
+ghost use Rattle.warp_run.specs.Aside.{set_aside, since};
+ghost use Rattle.warp_run.specs.History.{IsOfState, Saved, before, newest, saved_at};
 
 use std::alloc::Global;
 use std::marker::Model;
@@ -21,6 +23,8 @@ pub(crate) struct Done {
 }
 
 impl Done {
+    ghost use Rattle.std.specs.Prelude.{◌↔◌, IsSomeAnd, IsTrue};
+    ghost use Rattle.warp_tag.specs.Moment.{is_before};
     ghost use Rattle.warp_step.specs.Run.{is_after};
 
     /// Whether the tag is after the last row.
@@ -32,6 +36,16 @@ impl Done {
             None => true,
         }
     }
+
+    /// Whether the tag is before the last row.
+    pub fn is_after(&self, tag: Tag) -> bool
+        ensures { IsTrue result ↔ IsSomeAnd self.now.last (λ last. IsTrue (is_before tag last)) }
+    {
+        match self.last {
+            Some(last) => tag.is_before(last),
+            None => false,
+        }
+    }
 }
 
 /// One checkpoint: how far the run was, and of its state the loss and how many entries were pending.
@@ -40,6 +54,40 @@ struct Mark {
     done: Done,
     pending: usize,
     lost: u64,
+}
+
+/// Appends values, often one, to a list that has room for them.
+#[inline(always)]
+fn append_values(list: &mut Vec<i64>, values: &[i64])
+    requires { vec_len list.old + length values.now ≤ vec_capacity list.old }
+    ensures { list.new.items ≡ list.old.items ++ values.now }
+{
+    if let [value] = values {
+        list.push_reserved(*value);
+    } else {
+        append(list, values);
+    }
+}
+
+/// Appends entries, often none, to a list that has room for them.
+#[inline(always)]
+fn append_entries(list: &mut Vec<Waiting>, entries: &[Waiting])
+    requires { vec_len list.old + length entries.now ≤ vec_capacity list.old }
+    ensures { list.new.items ≡ list.old.items ++ entries.now }
+{
+    if !entries.is_empty() {
+        append(list, entries);
+    }
+}
+
+/// Appends items to a list that has room for them, apart from where mostly none are copied.
+#[inline(never)]
+fn append<T: Copy>(list: &mut Vec<T>, items: &[T])
+    requires { vec_len list.old + length items.now ≤ vec_capacity list.old }
+    ensures { list.new.items ≡ list.old.items ++ items.now }
+{
+    // There is room, so nothing can be refused.
+    let _ = list.extend_from_slice(items);
 }
 
 /// The checkpoints of one run. Contracts see them as a list, the newest first.
@@ -78,29 +126,25 @@ impl History {
         }
     }
 
-    /// How many checkpoints there are.
-    pub fn len(&self) -> usize
-        ensures { result ≡ length self.now.saves }
-    {
-        self.marks.len()
-    }
-
-    /// Makes a checkpoint of the state that is reached so far. An `Err` changes nothing.
-    pub fn save(&mut self, done: Done, state: &State) -> Result<(), OutOfMemory>
+    /// Makes a checkpoint of the state that is reached so far, if there is room for it, and answers whether there is.
+    /// It takes no memory.
+    #[inline(always)]
+    pub fn save(&mut self, done: Done, state: &State) -> bool
         requires { length state.now.vars ≡ self.old.width }
-        ensures ok { OnOk result (self.new ≡ record self.old { saves = saved_at done state.now ∷ self.old.saves }) }
-        ensures err { OnErr result (self.new ≡ self.old) }
+        ensures { self.new ≡ (if result then record self.old { saves = saved_at done state.now ∷ self.old.saves } else self.old) }
     {
         state.valid();
-        let pending = state.pending().len();
-        self.values.try_reserve(self.width)?;
-        self.entries.try_reserve(pending)?;
-        self.marks.push(Mark {
-            done,
-            pending,
-            lost: state.lost(),
-        })?;
-        state.append_to(&mut self.values, &mut self.entries);
+        let lost = state.lost();
+        self.add(done, state.vars(), state.pending(), lost)
+    }
+
+    /// Makes room for one more checkpoint, of this state.
+    pub fn reserve(&mut self, state: &State) -> Result<(), OutOfMemory>
+        ensures { self.new ≡ self.old }
+    {
+        self.marks.try_reserve(1)?;
+        self.values.try_reserve(state.vars().len())?;
+        self.entries.try_reserve(state.pending().len())?;
         Ok(())
     }
 
@@ -110,6 +154,123 @@ impl History {
     {
         let mark = self.marks.last()?;
         Some(mark.done)
+    }
+
+    /// Whether the newest checkpoint is of this state.
+    pub fn is_of(&self, state: &State) -> bool
+        ensures { IsTrue result ↔ IsOfState self.now.saves state.now }
+    {
+        let Some(mark) = self.marks.last() else {
+            return false;
+        };
+        let values = &self.values[self.values.len() - self.width..];
+        let entries = &self.entries[self.entries.len() - mark.pending..];
+        state.is_same_as(values, entries, mark.lost)
+    }
+
+    /// Makes room for as much as another history has room for.
+    pub fn reserve_for(&mut self, other: &History) -> Result<(), OutOfMemory>
+        ensures { self.new ≡ self.old }
+    {
+        let marks = other.marks.capacity().saturating_sub(self.marks.len());
+        let values = other.values.capacity().saturating_sub(self.values.len());
+        let entries = other.entries.capacity().saturating_sub(self.entries.len());
+        self.marks.try_reserve(marks)?;
+        self.values.try_reserve(values)?;
+        self.entries.try_reserve(entries)?;
+        Ok(())
+    }
+
+    /// Drops all checkpoints, and keeps the room for them.
+    pub fn clear(&mut self)
+        ensures { self.new ≡ record self.old { saves = [] } }
+    {
+        self.marks.clear();
+        self.values.clear();
+        self.entries.clear();
+    }
+
+    /// Moves the checkpoints whose last row is not before the tag, the newest first, to another history in the place of
+    /// those there. Where that has no room it is left with none. It takes no memory, and answers whether there was
+    /// room.
+    pub fn set_aside(&mut self, tag: Tag, aside: &mut History) -> bool
+        requires { aside.old.width ≡ self.old.width }
+        ensures left { self.new ≡ record self.old { saves = before tag self.old.saves } }
+        ensures aside { aside.new ≡ record aside.old { saves = if result then set_aside tag self.old.saves [] else [] } }
+    {
+        aside.clear();
+        while let Some(newest) = self.newest()
+            && !newest.is_before(tag)
+        {
+            if !self.move_newest(aside) {
+                aside.clear();
+                self.drop_from(tag);
+                return false;
+            }
+        }
+        true
+    }
+
+    /// Moves the newest checkpoint in front of those of another history, if that has room for it, and answers whether
+    /// it has. It takes no memory.
+    fn move_newest(&mut self, other: &mut History) -> bool
+        requires width { other.old.width ≡ self.old.width }
+        requires some { 0 < length self.old.saves }
+        ensures left { self.new ≡ (if result then record self.old { saves = drop 1 self.old.saves } else self.old) }
+        ensures other { other.new ≡ (if result then record other.old { saves = take 1 self.old.saves ++ other.old.saves } else other.old) }
+    {
+        let Some(mark) = self.marks.last() else {
+            return false;
+        };
+        let values = &self.values[self.values.len() - self.width..];
+        let entries = &self.entries[self.entries.len() - mark.pending..];
+        if !other.add(mark.done, values, entries, mark.lost) {
+            return false;
+        }
+        self.drop_newest();
+        true
+    }
+
+    /// Adds a checkpoint with these values and entries and this loss, if there is room for it, and answers whether
+    /// there is. It takes no memory.
+    #[inline(always)]
+    fn add(&mut self, done: Done, values: &[i64], entries: &[Waiting], lost: u64) -> bool
+        requires values { length values.now ≡ self.old.width }
+        requires entries { (length entries.now ≤ most_pending) × AreInOrder entries.now }
+        ensures { self.new ≡ (if result
+            then record self.old {
+              saves = saved_at done (record { vars = values.now; pending = entries.now; lost = lost }) ∷ self.old.saves;
+            } else self.old) }
+    {
+        if self.marks.len() == self.marks.capacity() {
+            return false;
+        }
+        if values.len() > self.values.capacity() - self.values.len() {
+            return false;
+        }
+        if entries.len() > self.entries.capacity() - self.entries.len() {
+            return false;
+        }
+        let mark = Mark {
+            done,
+            pending: entries.len(),
+            lost,
+        };
+        self.marks.push_reserved(mark);
+        append_values(&mut self.values, values);
+        append_entries(&mut self.entries, entries);
+        true
+    }
+
+    /// Drops the newest checkpoints up to one whose last row is not before the tag.
+    pub fn drop_before(&mut self, tag: Tag)
+        ensures { self.new ≡ record self.old { saves = since tag self.old.saves } }
+    {
+        while let Some(done) = self.newest()
+            && done.is_before(tag)
+        {
+            self.drop_newest();
+        }
     }
 
     /// Drops the checkpoints whose last row is not before the tag.
@@ -124,7 +285,7 @@ impl History {
     }
 
     /// Drops the newest checkpoint.
-    fn drop_newest(&mut self)
+    pub fn drop_newest(&mut self)
         requires { 0 < length self.old.saves }
         ensures { self.new ≡ record self.old { saves = drop 1 self.old.saves } }
     {

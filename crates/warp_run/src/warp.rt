@@ -11,7 +11,9 @@ ghost use Rattle.warp_run.specs.Front.{GoesBack, IsAt};
 ghost use Rattle.warp_run.specs.Warp.{Goes, HasRoom, NamesAt, StandsFor, latest_with};
 
 use crate::front::Front;
-use crate::walk::{Next, first_after, gather, is_after, next_event};
+use crate::walk::{
+    Next, first_after, first_from, gather, given_by_first, given_to, is_after, next_event,
+};
 use std::alloc::Global;
 use warp_arena::law::{changes_found, changes_new, finds_known};
 use warp_arena::{Arena, NodeId};
@@ -20,7 +22,8 @@ use warp_step::{Given, Meter, Out, Program, State};
 use warp_tag::{OutOfMemory, Tag};
 
 /// The timeline that executes at once what it has, and after a change at a tag that is executed already goes back to
-/// the newest checkpoint before that tag.
+/// the newest checkpoint before that tag. Where the run is then again in a state that it was in, what was executed
+/// behind that stands.
 #[derive(Drop)]
 pub struct Warp {
     arena: Arena,
@@ -29,7 +32,7 @@ pub struct Warp {
     /// A tag after which no live event is.
     latest: Option<Tag>,
     front: Front,
-    /// Room for what is given to a step.
+    /// Room for what is given to a step where it is not one event's.
     given: Vec<Given>,
     settled: bool,
 }
@@ -50,7 +53,7 @@ impl Timeline for Warp {
 
     ghost done_is_front = { λ w m h trace run. front_begins m.program (live m.table) m.done trace h.front.begin run };
 
-    /// A checkpoint stands before each sixteenth row.
+    /// A checkpoint stands at most sixteen rows behind the one before it.
     const SLACK: u64 = 16;
 
     fn start(alloc: Global, program: &Program) -> Result<Warp, OutOfMemory> {
@@ -131,8 +134,26 @@ impl Warp {
     {
         while let Some(next) = self.next_row() {
             self.turn(program, &next, meter)?;
+            if self.front.comes_to_aside() {
+                self.rejoin()?;
+            }
         }
         Ok(())
+    }
+
+    /// Goes on over the rows that a rollback set aside, where the run is there again in the same state.
+    #[inline(never)]
+    fn rejoin(&mut self) -> Result<(), OutOfMemory>
+        requires stands { (m : Standing) × StandsFor self.old m }
+        requires unsettled { self.old.settled ≡ false }
+        ensures goes { (P : Program) → Goes P self.old self.new 0 }
+        ensures unsettled { self.new.settled ≡ false }
+    {
+        let rejoined = self.front.rejoin();
+        if let Some(last) = self.front.last() {
+            self.cursor = first_from(&self.arena, self.cursor, last);
+        }
+        rejoined
     }
 
     /// The next row: at the next tag that waits, of a live event or a pending entry.
@@ -141,25 +162,31 @@ impl Warp {
         requires { (m : Standing) × StandsFor self.now m }
         ensures none { result ≡ None → (m : Standing) → StandsFor self.now m → IsDone m }
         ensures some { IfSome result (λ r. (m : Standing) → StandsFor self.now m → IsNext (live m.table) self.now.front.last self.now.front.state r.tag) }
+        ensures first { IfSome result (λ r. IfSome r.event (λ live. r.first ≡ live.given)) }
         ensures event { IfSome result (λ r. IfSome r.event (IsAhead self.now.arena.places (ahead self.now.front.last self.now.arena.places) r.tag)) }
     {
         self.arena.ordered();
         let event = next_event(&self.arena, self.cursor, self.latest);
+        // Here, since it costs nothing where an event was just found.
+        let first = given_by_first(&event);
         let Some(pending) = self.front.state().next() else {
             let live = event?;
             return Some(Next {
                 tag: live.tag,
                 event: Some(live),
+                first,
             });
         };
         match event {
             Some(live) if live.tag.is_before(pending) => Some(Next {
                 tag: live.tag,
                 event: Some(live),
+                first,
             }),
             _ => Some(Next {
                 tag: pending,
                 event: None,
+                first,
             }),
         }
     }
@@ -175,6 +202,7 @@ impl Warp {
         requires next { (m : Standing) × StandsFor self.old m × (m.program ≡ program.now)
             × IsNext (live m.table) self.old.front.last self.old.front.state next.now.tag }
         requires event { IfSome next.now.event (IsAhead self.old.arena.places (ahead self.old.front.last self.old.arena.places) next.now.tag) }
+        requires first { IfSome next.now.event (λ live. next.now.first ≡ live.given) }
         requires unsettled { self.old.settled ≡ false }
         ensures goes { Goes program.now self.old self.new (M.ticks meter.new - M.ticks meter.old) }
         ensures ticked { OnOk result (M.ticks meter.new ≡ M.ticks meter.old + 1) }
@@ -182,9 +210,11 @@ impl Warp {
         ensures unsettled { self.new.settled ≡ false }
     {
         self.arena.ordered();
-        let cursor = gather(&self.arena, self.cursor, next, &mut self.given)?;
-        self.front.step(program, next.tag, &self.given, meter)?;
-        self.cursor = cursor;
+        let gathered = gather(&self.arena, self.cursor, next, &mut self.given)?;
+        let one = next.first;
+        let given = given_to(gathered.is_listed, &next.event, &one, &self.given);
+        self.front.step(program, next.tag, given, meter)?;
+        self.cursor = gathered.cursor;
         Ok(())
     }
 
@@ -221,7 +251,7 @@ impl Warp {
         ensures unsettled { self.new.settled ≡ false }
         ensures given { self.new.given ≡ self.old.given }
         // A change after the last row leaves what is executed.
-        ensures ahead { is_after self.old.front.last tag ≡ true → self.new.front ≡ self.old.front }
+        ensures ahead { is_after self.old.front.last tag ≡ true → self.new.front ≡ record self.old.front { aside = self.new.front.aside } }
         ensures front { (P : Program) (E : List Event) (done : List Row) → IsAt P E self.old.front done → GoesBack P E tag done self.new.front }
         ensures cursor { Reaches self.old.arena.places (ahead self.old.front.last self.old.arena.places) self.old.cursor →
             Reaches self.new.arena.places (ahead self.new.front.last self.new.arena.places) self.new.cursor }
@@ -233,6 +263,8 @@ impl Warp {
         if !is_after(self.front.last(), tag) {
             self.front.go_back(tag);
             self.cursor = first_after(&self.arena, node, self.front.last());
+        } else {
+            self.front.let_go_before(tag);
         }
     }
 }

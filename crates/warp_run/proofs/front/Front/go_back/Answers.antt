@@ -1,4 +1,6 @@
-use Rattle.std.proofs.Common.{refl, sym, ◌∙◌, ap}
+use Rattle.std.proofs.Common.{◌≡◌, ◌⊎◌, List, [], refl, sym, subst, ◌∙◌, ap, rules}
+use Rattle.warp_step.specs.declared.out.Out.{Out}
+use Rattle.warp_run.specs.Aside.{KeepsFrom, set_aside}
 use Rattle.warp_run.specs.History.{Saves, newest}
 use Rattle.warp_run.proofs.RowsBack.{always_left, goes_back}
 use Rattle.warp_run.proofs.front.Front.go_back.Goals as goal
@@ -7,12 +9,18 @@ pub returns-in-Some : goal.returns-in-Some
 returns-in-Some c = λ P E done at.
     goes_back P E c.args.tag c.args.self.now _ c.in-Some.done done
     (record {
-      history = c.drop_from.ensures;
+      history = c.take_from.ensures.left;
+      aside_width = c.take_from.ensures.width;
+      aside = subst
+          (λ (os : List Out). (c.take_from.new.self.history.saves ≡ []) ⊎ KeepsFrom (set_aside c.args.tag c.args.self.now.history.saves []) os c.take_from.new.self)
+          c.deref.ensures.value c.take_from.ensures.aside;
       newest = sym c.in-Some.ensures;
       state = c.restore.ensures;
       outputs = c.truncate.ensures.items;
       rows = refl;
       last = refl;
+      every = refl;
+      due = search rules;
       scratch = refl;
     })
     at c.requires.late
@@ -20,4 +28,4 @@ returns-in-Some c = λ P E done at.
 pub returns-in_default : goal.returns-in_default
 returns-in_default c = λ P E done at.
     absurd (always_left P E c.args.tag c.args.self.now done at c.requires.late
-    (ap (λ (h : Saves). newest h.saves) (sym c.drop_from.ensures) ∙ sym c.in_default.ensures))
+    (ap (λ (h : Saves). newest h.saves) (sym c.take_from.ensures.left) ∙ sym c.in_default.ensures))

@@ -1,4 +1,4 @@
-use Rattle.std.proofs.Common.{List, [], ◌∷◌, IsTrue, None, refl, arith, rules}
+use Rattle.std.proofs.Common.{List, [], ◌∷◌, IsTrue, None, refl, rules}
 use Rattle.std.specs.List.{list_all}
 use Rattle.warp_step.specs.Run.{is_after}
 use Rattle.warp_step.specs.declared.pending.Waiting.{Waiting}
@@ -18,6 +18,10 @@ returns c = λ E. record {
   ready = record { of_program = c.in_ok-start.ensures.of_program; later = all_after_none c.in_ok-start.field-0.pending };
   width = search rules;
   saved = search rules;
-  near = omega arith;
+  near = search rules;
+  every = search rules;
+  due = search rules;
+  aside_width = search rules;
+  aside = search rules;
   scratch = c.in_ok-new.ensures;
 }
