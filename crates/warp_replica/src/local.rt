@@ -81,6 +81,7 @@ impl<T: Timeline> Desk for Local<T> {
     /// Takes a record, and settles where it is new; or settles and answers a query. `refused 8` says that no memory
     /// was to be had for it, and leaves the records as they were. Where there was none to settle a record that came
     /// in, the next line settles again.
+    #[inline(always)]
     fn ask(&mut self, line: Line) -> Reply {
         match line {
             Line::Put(record) => {

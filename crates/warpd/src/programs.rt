@@ -57,3 +57,11 @@ pub(crate) const CASCADE: &str = r#"{"version":1,"stop":60,"origins":2,"reactors
 {"on":["c"],"writes":["c","y"],"body":[
 ["set","k",["+",["*",5,"k"],"c"]],["put","y","k"],["if",["<",0,"c"],[["schedule","c",0,["-","c",2]]],[]]]}]}],
 "inputs":[[0,"d.a"],[1,"d.b"]],"outputs":["d.y"]}"#;
+
+/// Two origins, and an action with a delay; the variable is the last that came.
+pub(crate) const LATEST: &str = r#"{"version":1,"stop":10000,"origins":2,"reactors":[
+{"name":"l","vars":[["v",0]],"inputs":["a","b"],"outputs":["y"],"actions":[["c",4]],"reactions":[
+{"on":["a","b"],"writes":["y","c"],"body":[
+["set","v",["-","a","b"]],["schedule","c",0,"a"],["put","y","v"]]},
+{"on":["c"],"writes":["y"],"body":[["put","y","c"]]}]}],
+"inputs":[[0,"l.a"],[1,"l.b"]],"outputs":["l.y"]}"#;

@@ -43,23 +43,13 @@ pub enum SessionEnd {
 }
 
 /// The reply to a whole line, without its line feed.
+#[inline(always)]
 fn reply_to_text<D: Desk>(desk: &mut D, text: &[u8]) -> Reply
     ensures { GivesPiece D.gives (D.state desk.old) (Whole text.now) result (D.state desk.new) }
 {
     match read_line(text) {
         Some(line) => desk.ask(line),
         None => Reply::Refused(Refusal::Syntax),
-    }
-}
-
-/// The reply to a line that was cut from the stream.
-fn reply_to<D: Desk>(desk: &mut D, fed: Fed) -> Reply
-    ensures { GivesPiece D.gives (D.state desk.old) (piece_of fed) result (D.state desk.new) }
-{
-    match fed {
-        Fed::Text(bytes) => reply_to_text(desk, &bytes),
-        Fed::TooLong => Reply::Refused(Refusal::TooLong),
-        Fed::Torn => Reply::Refused(Refusal::Syntax),
     }
 }
 
@@ -107,6 +97,7 @@ impl Transcriber {
     }
 
     /// Gathers a reply behind the others, which are written where it has no room.
+    #[inline(always)]
     fn gather<W: Sink>(&mut self, sink: &mut W, reply: &Reply) -> Result<(), Failed>
         ensures gathered { OnOk result ((sent : List ℕ) × Appends (W.written sink.old) (W.written sink.new) sent
             × (sent ++ self.new.gathered ≡ self.old.gathered ++ reply_line «reply».now)) }
@@ -122,7 +113,26 @@ impl Transcriber {
         Ok(())
     }
 
-    /// Answers a line, if there is one, and gathers the reply.
+    /// Answers a whole line, without its line feed, and gathers the reply.
+    #[inline(never)]
+    fn answer_text<D: Desk, W: Sink>(
+        &mut self,
+        desk: &mut D,
+        sink: &mut W,
+        text: &[u8],
+    ) -> Result<(), Failed>
+        ensures answered { OnOk result (Answered D.gives (Whole text.now ∷ [])
+            (at (D.state desk.old) self.old (W.written sink.old) (W.failures sink.old))
+            (at (D.state desk.new) self.new (W.written sink.new) (W.failures sink.new))) }
+        ensures kept { self.new.kept ≡ self.old.kept }
+        ensures failures { Counts (W.failures sink.old) (W.failures sink.new) result }
+    {
+        let reply = reply_to_text(desk, text);
+        self.gather(sink, &reply)?;
+        Ok(())
+    }
+
+    /// Answers a line that was cut from the stream, if there is one, and gathers the reply.
     fn answer<D: Desk, W: Sink>(
         &mut self,
         desk: &mut D,
@@ -134,12 +144,18 @@ impl Transcriber {
             (at (D.state desk.new) self.new (W.written sink.new) (W.failures sink.new)) result }
         ensures kept { self.new.kept ≡ self.old.kept }
     {
-        let Some(fed) = fed else {
-            return Ok(());
-        };
-        let reply = reply_to(desk, fed);
-        self.gather(sink, &reply)?;
-        Ok(())
+        match fed {
+            None => Ok(()),
+            Some(Fed::Text(bytes)) => self.answer_text(desk, sink, &bytes),
+            Some(Fed::TooLong) => {
+                self.gather(sink, &Reply::Refused(Refusal::TooLong))?;
+                Ok(())
+            }
+            Some(Fed::Torn) => {
+                self.gather(sink, &Reply::Refused(Refusal::Syntax))?;
+                Ok(())
+            }
+        }
     }
 
     /// Takes bytes up to and with the first line feed, or all where there is none, and answers the line that it ends.
@@ -158,8 +174,7 @@ impl Transcriber {
     {
         // A line of which nothing came before is read where it stands.
         if let Some(text) = self.feed.whole(bytes) {
-            let reply = reply_to_text(desk, text);
-            self.gather(sink, &reply)?;
+            self.answer_text(desk, sink, text)?;
             return Ok(text.len() + 1);
         }
         let (count, fed) = self.feed.push(bytes);

@@ -4,7 +4,7 @@ ghost use Rattle.std.specs.Prelude.{◌≡◌, IsTrue};
 ghost use Rattle.warp_step.specs.Counter.{IsUnused};
 
 use crate::dice::Dice;
-use crate::programs::{CASCADE, ECHO, MIXED};
+use crate::programs::{CASCADE, ECHO, LATEST, MIXED};
 use std::alloc::Global;
 use std::marker::Brand;
 use std::process::Abort;
@@ -202,7 +202,7 @@ fn settle_both<T: Timeline, U: Timeline>(
 #[test]
 fn answers_after_each_record(rt: HostRuntime) {
     let alloc = rt.alloc();
-    for (seed, text) in [(1, MIXED), (2, CASCADE), (3, ECHO)] {
+    for (seed, text) in [(1, MIXED), (2, CASCADE), (3, ECHO), (5, LATEST)] {
         let mut dice = Dice { state: seed };
         let program = program(&rt, alloc, text);
         let copy = program.copy(alloc).expect(&rt, "memory");
@@ -318,9 +318,38 @@ fn rework_is_bounded(rt: HostRuntime) {
     for time in 1..=40 {
         takes_rows(&rt, alloc, &mut replica, &event(&rt, 0, time, 1), 1);
     }
-    takes_rows(&rt, alloc, &mut replica, &event(&rt, 1, 32, 1), 24);
+    // The newest checkpoint before time 32 stands after row 28.
+    takes_rows(&rt, alloc, &mut replica, &event(&rt, 1, 32, 1), 12);
     is_total(&rt, &replica, 41, 1_099_511_627_519);
     takes_rows(&rt, alloc, &mut replica, &event(&rt, 1, 32, 1), 0);
     takes_rows(&rt, alloc, &mut replica, &withdrawal(&rt, 0, 41), 0);
     takes_rows(&rt, alloc, &mut replica, &event(&rt, 0, 40, 0), 0);
+}
+
+/// After four hundred events of a program that keeps the last value alone, a tardy one costs few rows, and so do its
+/// withdrawal and another value: where the state is again what it was, what was executed stands.
+#[test]
+fn what_is_forgotten_costs_little(rt: HostRuntime) {
+    let alloc = rt.alloc();
+    let mut warp = Replica::<Warp>::new(alloc, program(&rt, alloc, LATEST)).expect(&rt, "memory");
+    let mut plain = Replica::<Plain>::new(alloc, program(&rt, alloc, LATEST)).expect(&rt, "memory");
+    for time in 1..=400 {
+        let record = event(&rt, 0, 10 * time, time as i64);
+        take(&rt, alloc, &mut warp, &mut plain, &record);
+        settle(&rt, alloc, &mut warp);
+    }
+    let tardy = [
+        event(&rt, 0, 15, 7),
+        event(&rt, 1, 2_000, 8),
+        withdrawal(&rt, 0, 15),
+        event(&rt, 0, 20, 9),
+        withdrawal(&rt, 0, 2_560),
+    ];
+    for record in &tardy {
+        take(&rt, alloc, &mut warp, &mut plain, record);
+        let rows = settle(&rt, alloc, &mut warp);
+        assert!(rt; rows <= 50, "{rows} rows after {record:?}");
+        settle(&rt, alloc, &mut plain);
+        agree_in_all(&rt, &warp, &plain);
+    }
 }

@@ -2,7 +2,7 @@ use Rattle.std.proofs.Common.{◌≡◌, ℕ, ◌+◌, ap, sym, subst, ◌∙◌
 use Rattle.warp_record.specs.Lines.{first_end}
 use Rattle.warp_record.specs.Lines.Piece.{Whole}
 use Rattle.warpd.specs.inner.Turns.{Held, Takes, at}
-use Rattle.warpd.proofs.TurnsLemmas.{Answered-gathered, Takes-line, Takes-pushed}
+use Rattle.warpd.proofs.TurnsLemmas.{Takes-line, Takes-pushed}
 use Rattle.warpd.proofs.session.Transcriber.take_line.Goals as goal
 
 -- the line stands whole among the bytes, and nothing of it came before
@@ -13,14 +13,14 @@ returns-in-Some-clause-turn g c =
     let found = c.in-Some.ensures.found in
     let view : c.self.inside.feed ≡ c.args.self.now.kept = ap (λ (h : Held). h.kept) c.self.view_is in
     let a = at (g.D.Desk.state c.args.desk.now) c.args.self.now (g.W.Sink.written c.args.sink.now) (g.W.Sink.failures c.args.sink.now) in
-    let b = at (g.D.Desk.state c.reply_to_text-reply.new.desk) c.gather.new.self (g.W.Sink.written c.gather.new.sink) (g.W.Sink.failures c.gather.new.sink) in
-    let answered = Answered-gathered g.D.Desk.gives (Whole text) c.reply_to_text-reply.result a b c.reply_to_text-reply.ensures c.in_ok-gather.ensures.gathered in
+    let b = at (g.D.Desk.state c.answer_text.new.desk) c.answer_text.new.self (g.W.Sink.written c.answer_text.new.sink) (g.W.Sink.failures c.answer_text.new.sink) in
+    let answered = c.in_ok-answer_text.ensures.answered in
     let takes : Takes g.D.Desk.gives (take (first_end bytes + 1) bytes) a b =
     Takes-line g.D.Desk.gives a b bytes (Whole text) found.2
-    (λ line is. c.in-Some.ensures.line line (view ∙ is)) (c.gather.ensures.kept ∙ sym view ∙ c.in-Some.ensures.fresh) answered in
+    (λ line is. c.in-Some.ensures.line line (view ∙ is)) (c.answer_text.ensures.kept ∙ sym view ∙ c.in-Some.ensures.fresh) answered in
     record {
       does = subst (λ (n : ℕ). Takes g.D.Desk.gives (take (n + 1) bytes) a b) (sym found.1) takes;
-      failures = c.in_ok-gather.ensures.failures;
+      failures = c.in_ok-answer_text.ensures.failures;
     }
 
 pub returns-clause-turn : goal.returns-clause-turn
