@@ -16,6 +16,7 @@ pub mod Sameness
 pub mod SkipLemmas
 pub mod SourceLemmas
 pub mod StepLemmas
+pub mod SureLemmas
 pub mod TagsOfBox
 pub mod TagsOfRun
 pub mod TagsOfStep

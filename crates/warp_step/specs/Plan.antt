@@ -50,6 +50,11 @@ with_watchers {X} triggers first sources places n [] word = word
 with_watchers {X} triggers first sources places n (x ∷ xs) word =
     with_watchers triggers first sources places (n + 1) xs (if heeds_any sources (triggers n x) places then with_mark (first + n) word else word)
 
+-- the number of the first reaction that heeds the place, where they count from this one on; where none does, the one behind them
+abbrev pub first_heeding : List ℕ → Target → ℕ → List Rule → ℕ
+first_heeding sources place n [] = n
+first_heeding sources place n (rule ∷ rules) = if heeds sources rule.triggers place then n else first_heeding sources place (n + 1) rules
+
 -- the ports among targets: what a body writes there is present at the same tag
 abbrev pub is_port : Target → Bool
 is_port to.Startup = false
@@ -77,9 +82,10 @@ unfoldable pub place_numbers : List ℕ
 place_numbers = range_with_len 0 most_places
 
 -- Whom each place concerns, by the place's number, and whom what a reaction writes concerns, by the reaction's number: as marks.
--- And the marks of all links, and of all timers.
+-- The number of the first reaction that each place triggers, by the place's number. And the marks of all links, and of all timers.
 pub record Plan : Type 0 where
   pub places : List ℕ
+  pub firsts : List ℕ
   pub after : List ℕ
   pub links : ℕ
   pub timers : ℕ

@@ -12,7 +12,7 @@ use Rattle.warp_body.specs.declared.place.Target.TheVariants as to
 use Rattle.warp_body.specs.declared.stmt.Wish.{Wish}
 use Rattle.warp_step.specs.Program.{Rule, Program, delay_of}
 use Rattle.warp_step.specs.Marks.{first_link, first_output, first_reaction, first_timer, marks_from, no_marks}
-use Rattle.warp_step.specs.Plan.{Plan, is_port, link_heeds, numbered_place, output_heeds, place_numbers, reaction_heeds, timer_heeds, with_watchers}
+use Rattle.warp_step.specs.Plan.{Plan, first_heeding, is_port, link_heeds, numbered_place, output_heeds, place_numbers, reaction_heeds, timer_heeds, with_watchers}
 use Rattle.warp_step.specs.Valid.{is_distinct, program_places}
 use Rattle.warp_step.specs.Snapshot.{Snapshot, IsStateOf, landed}
 use Rattle.warp_step.specs.declared.parts.Link.{Link}
@@ -191,10 +191,12 @@ marks_of P places =
     (with_watchers link_heeds (first_link P) sources places 0 P.links
     (with_watchers reaction_heeds first_reaction sources places 0 P.reactions no_marks)))
 
--- whom each place of the program concerns, and whom what each reaction writes does, and all its links and timers
+-- whom each place of the program concerns, which reaction first, and whom what each reaction writes does, and all its links and
+-- timers
 abbrev pub plan_of : Program → Plan
 plan_of P = record {
   places = map (λ n. marks_of P (numbered_place n ∷ [])) place_numbers;
+  firsts = map (λ n. first_heeding (sources_of P) (numbered_place n) 0 P.reactions) place_numbers;
   after = map (λ rule. marks_of P (filter is_port rule.writes)) P.reactions;
   links = marks_from (first_link P) (length P.links);
   timers = marks_from (first_timer P) (length P.timers);

@@ -2,3 +2,4 @@
 pub mod Front
 pub mod Flagged
 pub mod Due
+pub mod Sure

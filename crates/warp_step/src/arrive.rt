@@ -8,6 +8,7 @@ ghost use Rattle.warp_step.specs.Snapshot.{IsStateOf};
 ghost use Rattle.warp_step.specs.Step.{AreInputs, arrived, arrived_entries, plan_of, sources_of, without_entries};
 ghost use Rattle.warp_step.specs.inner.Due.{AreDue};
 ghost use Rattle.warp_step.specs.inner.Front.{HasOtherHead};
+ghost use Rattle.warp_step.specs.inner.Sure.{IsSure};
 
 use crate::marks::Marks;
 use crate::out::Given;
@@ -19,13 +20,15 @@ use warp_body::{Present, Target};
 use warp_tag::Tag;
 
 impl State {
-    /// Makes the targets of the entries at the tag present, and takes these entries out. Whom they concern is due.
+    /// Makes the targets of the entries at the tag present, and takes these entries out. Whom they concern is due, and
+    /// the first reaction that the last one triggers is sure.
     #[inline(always)]
     pub(crate) fn take_entries(
         &mut self,
         program: &Program,
         plan: &Plan,
         due: &mut Marks,
+        sure: &mut usize,
         tag: Tag,
         present: &mut Present,
     )
@@ -39,19 +42,30 @@ impl State {
         ensures places { places_of present.new ≡ places_of present.old }
         ensures sources { present.new.sources ≡ present.old.sources }
         ensures due { AreDue program.now present.old due.old.word → AreDue program.now present.new due.new.word }
+        ensures sure { IsSure program.now present.old sure.old → IsSure program.now present.new sure.new }
     {
-        let count = arrive_entries(self.pending.as_slice(), program, plan, due, tag, present);
+        let count = arrive_entries(
+            self.pending.as_slice(),
+            program,
+            plan,
+            due,
+            sure,
+            tag,
+            present,
+        );
         self.pending.drop_front(count);
     }
 }
 
-/// Makes the targets of the first entries with this tag present, and says how many have it. Whom they concern is due.
+/// Makes the targets of the first entries with this tag present, and says how many have it. Whom they concern is due,
+/// and the first reaction that the last one triggers is sure.
 #[inline(always)]
 fn arrive_entries(
     entries: &[Waiting],
     program: &Program,
     plan: &Plan,
     due: &mut Marks,
+    sure: &mut usize,
     tag: Tag,
     present: &mut Present,
 ) -> usize
@@ -66,22 +80,24 @@ fn arrive_entries(
     ensures places { places_of present.new ≡ places_of present.old }
     ensures sources { present.new.sources ≡ present.old.sources }
     ensures due { AreDue program.now present.old due.old.word → AreDue program.now present.new due.new.word }
+    ensures sure { IsSure program.now present.old sure.old → IsSure program.now present.new sure.new }
 {
     for (count, entry) in entries.iter().enumerate() {
         if !entry.tag.is_same(tag) {
             return count;
         }
-        put(program, plan, due, present, entry.target, entry.value);
+        put(program, plan, due, sure, present, entry.target, entry.value);
     }
     entries.len()
 }
 
-/// Makes a target present with a value. Whom it concerns is due.
+/// Makes a target present with a value. Whom it concerns is due, and the first reaction that it triggers is sure.
 #[inline(always)]
 fn put(
     program: &Program,
     plan: &Plan,
     due: &mut Marks,
+    sure: &mut usize,
     present: &mut Present,
     target: Target,
     value: i64,
@@ -94,18 +110,23 @@ fn put(
     ensures places { places_of present.new ≡ places_of present.old }
     ensures sources { present.new.sources ≡ present.old.sources }
     ensures due { AreDue program.now present.old due.old.word → AreDue program.now present.new due.new.word }
+    ensures sure { IsSure program.now present.new sure.new }
 {
     program.valid();
     present.put(target, value);
-    due.add_all(plan.concerned(target));
+    let concerned = plan.concerned(target);
+    due.add_all(concerned.marks);
+    *sure = concerned.first;
 }
 
-/// Makes the ports of the given inputs present. Whom they concern is due.
+/// Makes the ports of the given inputs present. Whom they concern is due, and the first reaction that the last one
+/// triggers is sure.
 #[inline(always)]
 pub(crate) fn arrive(
     program: &Program,
     plan: &Plan,
     due: &mut Marks,
+    sure: &mut usize,
     given: &[Given],
     present: &mut Present,
 )
@@ -117,9 +138,10 @@ pub(crate) fn arrive(
     ensures places { places_of present.new ≡ places_of present.old }
     ensures sources { present.new.sources ≡ present.old.sources }
     ensures due { AreDue program.now present.old due.old.word → AreDue program.now present.new due.new.word }
+    ensures sure { IsSure program.now present.old sure.old → IsSure program.now present.new sure.new }
 {
     for g in given {
         let port = Target::Port(program.port(g.input));
-        put(program, plan, due, present, port, g.value);
+        put(program, plan, due, sure, present, port, g.value);
     }
 }

@@ -177,9 +177,11 @@ fn advance(
 {
     program.valid();
     present.clear();
-    state.take_entries(program, plan, due, tag, present);
-    arrive(program, plan, due, given, present);
+    // No reaction has this number.
+    let mut sure = usize::MAX;
+    state.take_entries(program, plan, due, &mut sure, tag, present);
+    arrive(program, plan, due, &mut sure, given, present);
     state.repeat_timers(program, plan, tag, *due, present);
-    let wished = run_reactions(program, plan, due, &mut state.vars, present, wishes);
+    let wished = run_reactions(program, plan, due, sure, &mut state.vars, present, wishes);
     state.enter_later(program, plan, tag, *due, present, wishes, wished);
 }

@@ -5,7 +5,7 @@ ghost use Rattle.warp_tag.specs.Limits.{most_reactions};
 ghost use Rattle.warp_body.specs.declared.place.Target.{Target};
 ghost use Rattle.warp_body.specs.declared.place.Target.TheVariants as to;
 ghost use Rattle.warp_step.specs.Marks.{first_link, first_reaction, first_timer, marks_from, most_marks, with_mark};
-ghost use Rattle.warp_step.specs.Plan.{heeds, heeds_any, is_port, link_heeds, most_places, numbered_place, output_heeds, place_number, place_numbers, place_of, reaction_heeds, timer_heeds, with_watchers};
+ghost use Rattle.warp_step.specs.Plan.{first_heeding, heeds, heeds_any, is_port, link_heeds, most_places, numbered_place, output_heeds, place_number, place_numbers, place_of, reaction_heeds, timer_heeds, with_watchers};
 ghost use Rattle.warp_step.specs.Program.{rule_of};
 ghost use Rattle.warp_step.specs.Step.{marks_of, plan_of, sources_of};
 
@@ -186,14 +186,53 @@ fn place_number(place: Target) -> usize
     }
 }
 
+/// Whom the presence of a place concerns: their marks, and the number of the first reaction that it triggers, which is
+/// the number of reactions where it triggers none.
+#[derive(Clone, Copy)]
+pub(crate) struct Concerned {
+    pub(crate) marks: Marks,
+    pub(crate) first: usize,
+}
+
+/// The number of the first reaction that the place may trigger, else the number of reactions.
+fn first_heeding(reactions: &[Reaction], sources: &[u32], place: Target) -> usize
+    ensures { result ≡ first_heeding sources.now place 0 (map rule_of reactions.now) }
+{
+    for (number, reaction) in reactions.iter().enumerate() {
+        if heeds(&reaction.triggers, sources, place) {
+            return number;
+        }
+    }
+    reactions.len()
+}
+
+/// Whom the place with this number concerns.
+fn of_place(program: &Program, sources: &[u32], number: usize) -> Concerned
+    requires place { number < most_places }
+    requires sources { sources.now ≡ sources_of program.now }
+    ensures marks { result.marks.word ≡ marks_of program.now (numbered_place number ∷ []) }
+    ensures first { result.first ≡ first_heeding (sources_of program.now) (numbered_place number) 0 program.now.reactions }
+{
+    Concerned {
+        marks: marks_of(program, sources, &[numbered_place(number)]),
+        first: first_heeding(program.reactions(), sources, numbered_place(number)),
+    }
+}
+
 /// Whom each place concerns, by its number.
-fn of_places(alloc: Global, program: &Program, sources: &[u32]) -> Result<Vec<Marks>, OutOfMemory>
+fn of_places(
+    alloc: Global,
+    program: &Program,
+    sources: &[u32],
+) -> Result<Vec<Concerned>, OutOfMemory>
     requires { sources.now ≡ sources_of program.now }
-    ensures { IfOk result (λ all. map (λ marks. marks.word) all.items ≡ map (λ n. marks_of program.now (numbered_place n ∷ [])) place_numbers) }
+    ensures marks { IfOk result (λ all. map (λ one. one.marks.word) all.items ≡ map (λ n. marks_of program.now (numbered_place n ∷ [])) place_numbers) }
+    ensures firsts { IfOk result (λ all. map (λ one. one.first) all.items
+        ≡ map (λ n. first_heeding (sources_of program.now) (numbered_place n) 0 program.now.reactions) place_numbers) }
 {
     let mut all = Vec::with_capacity(alloc, PLACES)?;
     for number in 0..PLACES {
-        all.push(marks_of(program, sources, &[numbered_place(number)]))?;
+        all.push(of_place(program, sources, number))?;
     }
     Ok(all)
 }
@@ -228,11 +267,11 @@ fn after_reactions(
     Ok(all)
 }
 
-/// Whom each place of a program concerns, by the place's number, and whom what each reaction writes does; and the marks
-/// of all links and of all timers.
+/// Whom each place of a program concerns, by the place's number, and the marks of those whom what each reaction writes
+/// does; and the marks of all links and of all timers.
 #[derive(Drop)]
 pub(crate) struct Plan {
-    places: Vec<Marks>,
+    places: Vec<Concerned>,
     after: Vec<Marks>,
     links: Marks,
     timers: Marks,
@@ -245,7 +284,8 @@ impl Model for Plan {
     ghost Value = { specs.Plan };
 
     ghost view = { λ p. record {
-      places = map (λ marks. marks.word) p.places.items;
+      places = map (λ one. one.marks.word) p.places.items;
+      firsts = map (λ one. one.first) p.places.items;
       after = map (λ marks. marks.word) p.after.items;
       links = p.links.word;
       timers = p.timers.word;
@@ -268,11 +308,12 @@ impl Plan {
         })
     }
 
-    /// The marks of those whom a place concerns.
+    /// Those whom a place concerns.
     #[inline(always)]
-    pub fn concerned(&self, place: Target) -> Marks
+    pub fn concerned(&self, place: Target) -> Concerned
         requires { place_number place < length self.now.places }
-        ensures { result.word ≡ slice_index_or self.now.places (place_number place) 0 }
+        ensures marks { result.marks.word ≡ slice_index_or self.now.places (place_number place) 0 }
+        ensures first { result.first ≡ slice_index_or self.now.firsts (place_number place) 0 }
     {
         self.places[place_number(place)]
     }

@@ -1,5 +1,5 @@
 //! The reactions of a step, and the outputs that it puts.
-ghost use Rattle.std.specs.Prelude.{◌≡◌, ℕ, ◌+◌, ◌≤◌, ◌<◌, ◌++◌, IsTrue, is_some, false, List, [], map, filter, replicate, length, slice_index_or, vec_len, vec_capacity};
+ghost use Rattle.std.specs.Prelude.{◌≡◌, ℕ, ◌+◌, ◌≤◌, ◌<◌, ◌++◌, IsTrue, is_some, false, true, List, [], map, filter, replicate, length, slice_index_or, vec_len, vec_capacity};
 ghost use Rattle.std.specs.List.{list_all, list_any};
 ghost use Rattle.warp_tag.specs.Limits.{most_wishes};
 ghost use Rattle.warp_body.specs.Presence.{Presence, places_of, present_at, target_fits};
@@ -11,6 +11,7 @@ ghost use Rattle.warp_step.specs.Valid.{is_valid, program_places, program_sizes,
 ghost use Rattle.warp_step.specs.Plan.{is_port};
 ghost use Rattle.warp_step.specs.inner.Due.{AreDue};
 ghost use Rattle.warp_step.specs.inner.Flagged.{HasNone};
+ghost use Rattle.warp_step.specs.inner.Sure.{IsSure};
 ghost use Rattle.warp_step.specs.Step.{Reacting, after_reactions, is_triggered, lists_of, marks_of, no_wishes, order_of, outputs_from, plan_of, react, sources_of, with_output};
 
 use crate::marks::{Marks, first_output};
@@ -21,12 +22,16 @@ use crate::reaction::Reaction;
 use warp_body::{Present, Target, Vars, Wishes, run_body};
 use warp_tag::Tag;
 
-/// Whether one of the reaction's triggers is present.
+/// Whether one of the reaction's triggers is present. Where that is sure they are not looked at.
 #[inline(always)]
-fn triggered(reaction: &Reaction, present: &Present) -> bool
-    requires { IsTrue (list_all (target_fits (places_of present.now)) (rule_of reaction.now).triggers) }
+fn triggered(is_sure: bool, reaction: &Reaction, present: &Present) -> bool
+    requires sure { is_sure ≡ true → is_triggered (rule_of reaction.now) present.now ≡ true }
+    requires triggers { IsTrue (list_all (target_fits (places_of present.now)) (rule_of reaction.now).triggers) }
     ensures { result ≡ is_triggered (rule_of reaction.now) present.now }
 {
+    if is_sure {
+        return true;
+    }
     // Nearly always there is one, and a loop would cost more than it.
     match reaction.triggers.as_slice() {
         [] => false,
@@ -70,10 +75,11 @@ fn is_one_present(targets: &[Target], present: &Present) -> bool
     false
 }
 
-/// Runs the reaction with this number if it is triggered, and says whether it has wishes then. Whom what it writes
-/// concerns is due then: those are the marks after it.
+/// Runs the reaction with this number if it is triggered, and says whether it has wishes then. Whether it is may be sure
+/// before. Whom what it writes concerns is due then: those are the marks after it.
 #[inline(always)]
 fn run_reaction(
+    is_sure: bool,
     number: usize,
     reaction: &Reaction,
     after: Marks,
@@ -83,6 +89,7 @@ fn run_reaction(
     wishes: &mut [Wishes],
 ) -> bool
     requires number { number < length wishes.old }
+    requires sure { is_sure ≡ true → is_triggered (rule_of reaction.now) present.old ≡ true }
     requires triggers { IsTrue (list_all (target_fits (places_of present.old)) (rule_of reaction.now).triggers) }
     requires body { IsTrue (body_fits (sizes_of vars.old present.old) (rule_of reaction.now).body) }
     requires room { schedules_of (rule_of reaction.now).body ≤ most_wishes }
@@ -99,7 +106,7 @@ fn run_reaction(
         → after.word ≡ marks_of P (filter is_port (rule_of reaction.now).writes)
         → AreDue P present.old due.old.word → AreDue P present.new due.new.word }
 {
-    if triggered(reaction, present) {
+    if triggered(is_sure, reaction, present) {
         due.add_all(after);
         run_body(&reaction.body, vars, present, &mut wishes[number]);
         return !wishes[number].is_empty();
@@ -108,12 +115,13 @@ fn run_reaction(
 }
 
 /// Runs the reactions that are triggered, in their order, and says whether one has wishes then. It looks at those
-/// that are due, which all are that something present triggers.
+/// that are due, which all are that something present triggers, and tests them but the first one where that is sure.
 #[inline(always)]
 pub(crate) fn run_reactions(
     program: &Program,
     plan: &Plan,
     due: &mut Marks,
+    sure: usize,
     vars: &mut Vars,
     present: &mut Present,
     wishes: &mut [Wishes],
@@ -124,6 +132,7 @@ pub(crate) fn run_reactions(
     requires plan { plan.now ≡ plan_of program.now }
     requires own { present.old.sources ≡ sources_of program.now }
     requires due { AreDue program.now present.old due.old.word }
+    requires sure { IsSure program.now present.old sure }
     ensures effect { record { vars = vars.new; present = present.new; wishes = lists_of wishes.new }
         ≡ after_reactions program.now (order_of program.now) (record { vars = vars.old; present = present.old; wishes = no_wishes program.now }) }
     ensures vars { length vars.new ≡ length vars.old }
@@ -139,9 +148,11 @@ pub(crate) fn run_reactions(
     let count = reactions.len();
     let mut wished = false;
     let mut number = due.next(0, count);
+    let mut is_sure = number == sure;
     while number < count {
         let after = plan.after(number);
         wished |= run_reaction(
+            is_sure,
             number,
             &reactions[number],
             after,
@@ -150,6 +161,7 @@ pub(crate) fn run_reactions(
             present,
             wishes,
         );
+        is_sure = false;
         number = due.after(number, count);
     }
     wished

@@ -1,9 +1,11 @@
--- what is left arrives on what came so far as all does on the start, and whom it concerns is due
+-- what is left arrives on what came so far as all does on the start, whom it concerns is due, and a
+-- reaction is sure
 use Rattle.std.proofs.Common.{◌≡◌, drop, length, nat_lt, IsTrue}
 use Rattle.std.specs.List.{list_all}
 use Rattle.warp_body.specs.Presence.{places_of}
 use Rattle.warp_step.specs.Step.{arrived}
 use Rattle.warp_step.specs.inner.Due.{AreDue}
+use Rattle.warp_step.specs.inner.Sure.{IsSure}
 use Rattle.warp_step.proofs.arrive.arrive.Given as goal
 
 abbrev pub invariant-loop-g : goal.invariant-loop-g
@@ -13,4 +15,5 @@ invariant-loop-g l = record {
   sources : l.present.sources ≡ l.fn.present.sources;
   known : IsTrue (list_all (λ g. nat_lt g.input (length l.program.inputs)) (drop l.g-index l.given));
   due : AreDue l.program l.fn.present l.fn.due.word → AreDue l.program l.present l.due.word;
+  sure : IsSure l.program l.fn.present l.fn.sure → IsSure l.program l.present l.sure;
 }

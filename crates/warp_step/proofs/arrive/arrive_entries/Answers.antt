@@ -25,4 +25,5 @@ loop-count-preserved c =
       sources = c.put.ensures.sources ∙ c.loop-count.invariant.sources;
       targets = grind (arith, common_steps);
       due = λ were. c.put.ensures.due (c.loop-count.invariant.due were);
+      sure = λ was. c.put.ensures.sure;
     }

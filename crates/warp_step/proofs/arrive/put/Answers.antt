@@ -1,4 +1,4 @@
--- whom the target concerns is marked
+-- whom the target concerns is marked, and the first reaction that it triggers is sure
 use Rattle.std.proofs.Common.{◌≡◌, [], ◌∷◌, ℕ, ℤ, bit_or, length, IsTrue, sym, ap, ◌∙◌, subst, arith}
 use Rattle.std.specs.Prelude.{slice_index_or}
 use Rattle.std.proofs.lemmas.List.FromFn.{length-map-range_with_len}
@@ -12,11 +12,12 @@ use Rattle.warp_step.specs.Valid.{program_places}
 use Rattle.warp_step.specs.inner.Due.{AreDue}
 use Rattle.warp_step.proofs.DueLemmas.{due_after, follows_value}
 use Rattle.warp_step.proofs.PlaceLemmas.{concerned_fits, place_within}
+use Rattle.warp_step.proofs.SureLemmas.{first_fits, sure_after}
 use Rattle.warp_step.proofs.arrive.put.Goals as goal
 
-pub concerned-requires : goal.concerned-requires
+pub concerned-concerned-requires : goal.concerned-concerned-requires
 unfolding place_numbers
-concerned-requires c =
+concerned-concerned-requires c =
     let P = c.args.program.now in
     let target = c.args.target in
     let fits : IsTrue (target_fits (program_places P) target) =
@@ -37,6 +38,15 @@ returns-clause-due c = λ were.
     let target = c.args.target in
     let fits : IsTrue (target_fits (program_places P) target) =
     subst (λ (places : Places). IsTrue (target_fits places target)) c.requires.places c.requires.target in
-    let called = c.concerned.ensures ∙ ap (λ (plan : Plan). slice_index_or plan.places (place_number target) 0) c.requires.plan ∙ concerned_fits P target c.valid.ensures fits in
-    put_due P target _ c.args.present.now c.put.new.self c.args.due.now.word c.concerned.result.word c.add_all.new.self.word
+    let called = c.concerned-concerned.ensures.marks ∙ ap (λ (plan : Plan). slice_index_or plan.places (place_number target) 0) c.requires.plan ∙ concerned_fits P target c.valid.ensures fits in
+    put_due P target _ c.args.present.now c.put.new.self c.args.due.now.word c.concerned-concerned.result.marks.word c.add_all.new.self.word
     c.requires.own c.put.ensures.value called c.add_all.ensures were
+
+pub returns-clause-sure : goal.returns-clause-sure
+returns-clause-sure c =
+    let P = c.args.program.now in
+    let target = c.args.target in
+    let fits : IsTrue (target_fits (program_places P) target) =
+    subst (λ (places : Places). IsTrue (target_fits places target)) c.requires.places c.requires.target in
+    let first = c.concerned-concerned.ensures.first ∙ ap (λ (plan : Plan). slice_index_or plan.firsts (place_number target) 0) c.requires.plan ∙ first_fits P target c.valid.ensures fits in
+    sure_after P target _ c.args.present.now c.put.new.self c.concerned-concerned.result.first c.requires.own c.requires.target c.put.ensures.value first

@@ -1,5 +1,5 @@
 -- the parts make the step
-use Rattle.std.proofs.Common.{◌≡◌, List, ℕ, length, ap, ◌∙◌, filter, subst, sym}
+use Rattle.std.proofs.Common.{◌≡◌, List, ℕ, length, ap, ◌∙◌, filter, subst, sym, arith}
 use Rattle.warp_tag.specs.Moment.{is_same}
 use Rattle.warp_body.specs.Presence.{Presence, nothing_present, places_of}
 use Rattle.warp_body.specs.declared.place.Places.{Places}
@@ -8,6 +8,7 @@ use Rattle.warp_step.specs.Snapshot.{Snapshot}
 use Rattle.warp_step.specs.Step.{Reacting, absent, lists_of, with_repeats, with_all_wishes, with_links, after_reactions, order_of, no_wishes, arrived, arrived_entries}
 use Rattle.warp_step.specs.inner.Due.{AreDue}
 use Rattle.warp_step.proofs.DueLemmas.{none_due}
+use Rattle.warp_step.proofs.SureLemmas.{none_sure}
 use Rattle.warp_step.proofs.StepLemmas.{cleared, repeats_vars, Made, reacts_are, state_is, made_later, made_of}
 use Rattle.warp_step.proofs.one_step.advance.Goals as goal
 
@@ -33,6 +34,10 @@ pub run_reactions-wished-requires-clause-due : goal.run_reactions-wished-require
 run_reactions-wished-requires-clause-due c =
     c.arrive.ensures.due (c.take_entries.ensures.due
     (none_is_due c.args.program.now (places_of c.args.present.now) c.args.present.now.sources c.clear.new.self c.args.due.now.word c.clear.ensures))
+
+pub run_reactions-wished-requires-clause-sure : goal.run_reactions-wished-requires-clause-sure
+run_reactions-wished-requires-clause-sure c =
+    c.arrive.ensures.sure (c.take_entries.ensures.sure (none_sure c.args.program.now c.clear.new.self _ c.valid.ensures (omega arith)))
 
 -- what the reactions make
 abbrev reacting : goal.After-wishes-2-1 → Reacting

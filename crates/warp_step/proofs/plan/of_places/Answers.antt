@@ -1,30 +1,41 @@
--- the marks of one place more, until there are those of all
-use Rattle.std.proofs.Common.{◌≡◌, ◌≤◌, ℕ, [], ◌∷◌, ◌++◌, map, ap, sym, ◌∙◌, arith}
+-- the marks of one place more, and the first reaction that it triggers, until there are those of all
+use Rattle.std.proofs.Common.{◌≡◌, ◌≤◌, ℕ, ◌+◌, List, [], ◌∷◌, ◌++◌, map, ap, sym, ◌∙◌, arith}
 use Rattle.std.specs.List.{range_with_len}
 use Rattle.std.proofs.lemmas.List.{map-append}
 use Rattle.std.proofs.lemmas.List.FromFn.{map-range_with_len_more}
-use Rattle.warp_body.specs.declared.place.Target.{Target}
-use Rattle.warp_step.specs.declared.marks.Marks.{Marks}
-use Rattle.warp_step.specs.Plan.{numbered_place, place_numbers}
-use Rattle.warp_step.specs.Step.{marks_of}
+use Rattle.warp_step.specs.declared.plan.Concerned.{Concerned}
+use Rattle.warp_step.specs.Plan.{first_heeding, numbered_place, place_numbers}
+use Rattle.warp_step.specs.Step.{marks_of, sources_of}
 use Rattle.warp_step.proofs.plan.of_places.Goals as goal
+
+-- one more at the end of a table
+one_more : (view : Concerned → ℕ) (f : ℕ → ℕ) (n : ℕ) (all after : List Concerned) (one : Concerned) → after ≡ all ++ one ∷ []
+    → map view all ≡ map f (range_with_len 0 n) → view one ≡ f n → map view after ≡ map f (range_with_len 0 (n + 1))
+one_more view f n all after one pushed so_far own =
+    ap (map view) pushed ∙ map-append view all (one ∷ []) ∙ (λ i. so_far i ++ own i ∷ []) ∙ sym (map-range_with_len_more f 0 n n (omega arith))
 
 pub loop-number-preserved : goal.loop-number-preserved
 loop-number-preserved c =
     let P = c.args.program.now in
     let n = c.loop-number.number in
-    let view = λ (marks : Marks). marks.word in
-    let f = λ (k : ℕ). marks_of P (numbered_place k ∷ []) in
-    let own = c.marks_of.ensures ∙ ap (λ (place : Target). marks_of P (place ∷ [])) c.numbered_place.ensures in
-    ap (map view) c.in_ok-push.ensures.items
-    ∙ map-append view c.loop-number.all.items (c.marks_of.result ∷ [])
-    ∙ (λ i. c.loop-number.invariant i ++ own i ∷ [])
-    ∙ sym (map-range_with_len_more f 0 n n (omega arith))
+    record {
+      marks = one_more (λ (one : Concerned). one.marks.word) (λ (k : ℕ). marks_of P (numbered_place k ∷ [])) n
+          c.loop-number.all.items _ c.of_place.result c.in_ok-push.ensures.items c.loop-number.invariant.marks c.of_place.ensures.marks;
+      firsts = one_more (λ (one : Concerned). one.first) (λ (k : ℕ). first_heeding (sources_of P) (numbered_place k) 0 P.reactions) n
+          c.loop-number.all.items _ c.of_place.result c.in_ok-push.ensures.items c.loop-number.invariant.firsts c.of_place.ensures.first;
+    }
+
+-- the table of as many as there are
+all_filled : (table : List ℕ) (f : ℕ → ℕ) (n : ℕ) → n ≡ 337 → table ≡ map f (range_with_len 0 n) → table ≡ map f place_numbers
+unfolding place_numbers
+all_filled table f n all so_far = so_far ∙ ap (λ (k : ℕ). map f (range_with_len 0 k)) all
 
 pub returns : goal.returns
-unfolding place_numbers
 returns c =
     let P = c.args.program.now in
     let most : c.loop-number.number ≤ 337 = c.loop-number.auto.number-end in
     let all : c.loop-number.number ≡ 337 = omega (arith, most, c.loop-number-test.false) in
-    c.loop-number.invariant ∙ ap (λ (k : ℕ). map (λ n. marks_of P (numbered_place n ∷ [])) (range_with_len 0 k)) all
+    record {
+      marks = all_filled _ (λ n. marks_of P (numbered_place n ∷ [])) c.loop-number.number all c.loop-number.invariant.marks;
+      firsts = all_filled _ (λ n. first_heeding (sources_of P) (numbered_place n) 0 P.reactions) c.loop-number.number all c.loop-number.invariant.firsts;
+    }

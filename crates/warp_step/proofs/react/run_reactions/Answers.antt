@@ -1,10 +1,11 @@
 -- each reaction fits, since the program is valid; its own list of wishes is empty before, and those after it stay so; those that
 -- are not marked are not triggered
-use Rattle.std.proofs.Common.{◌≡◌, ℕ, replicate, ◌+◌, ◌≤◌, ◌<◌, ◌≢◌, List, [], drop, map, IsTrue, filter, ap, sym, ◌∙◌, subst, get_or, length, refl, arith}
+use Rattle.std.proofs.Common.{◌≡◌, ℕ, replicate, ◌+◌, ◌≤◌, ◌<◌, ◌≢◌, List, [], drop, map, IsTrue, filter, ap, sym, ◌∙◌, subst, get_or, length, refl, Some, true, false, arith}
 use Rattle.std.specs.Prelude.{slice_index_or}
 use Rattle.std.specs.List.{list_all}
-use Rattle.std.proofs.lemmas.Bool.{or_parts}
+use Rattle.std.proofs.lemmas.Bool.{eqb-true, or_parts}
 use Rattle.std.proofs.lemmas.List.{get_or-map, length-map, length-replicate}
+use Rattle.std.proofs.lemmas.Option.{slice_get-get_or}
 use Rattle.arrayvec.specs.ArrayVec.{ArrayVec}
 use Rattle.warp_tag.specs.Limits.{most_reactions}
 use Rattle.warp_body.specs.Effect.{body_fits, wish_fits}
@@ -16,6 +17,7 @@ use Rattle.warp_body.specs.declared.stmt.Wish.{Wish}
 use Rattle.warp_step.specs.Plan.{Plan, is_port}
 use Rattle.warp_step.specs.Program.{Program, Rule, rule_of}
 use Rattle.warp_step.specs.Valid.{is_valid, program_places, program_sizes, rule_fits}
+use Rattle.warp_step.specs.inner.Sure.{IsSure}
 use Rattle.warp_step.specs.Step.{Reacting, after_reactions, lists_of, marks_of, numbers, order_of, plan_of}
 use Rattle.warp_step.specs.declared.reaction.Reaction.{Reaction}
 use Rattle.warp_step.proofs.ReactLemmas.{after_one_more, empty_at, empty_pass, react_other, rule_at}
@@ -73,6 +75,7 @@ loop-number-init c =
           (sym c.requires.wishes) (empty_pass (wish_fits (program_sizes P)) (length P.reactions));
       unwished = λ h. c.requires.wishes ∙ ap (λ (k : ℕ). replicate k []) (sym (ap length c.requires.wishes ∙ length-replicate (length P.reactions) []));
       due = c.requires.due;
+      sure = λ h. subst (λ (k : ℕ). IsSure P c.args.present.now k) (sym (eqb-true c.next-number.result c.args.sure h)) c.requires.sure;
     }
 
 pub run_reaction-wished-requires : goal.run_reaction-wished-requires
@@ -93,6 +96,7 @@ run_reaction-wished-requires c =
     let below = at.0 in
     record {
       number = omega arith;
+      sure = λ h. c.loop-number.invariant.sure h rule (slice_get-get_or P.reactions n rule at.0 ∙ ap (λ (r : Rule). Some r) (sym at.1));
       triggers = subst (λ (p : Places). IsTrue (list_all (target_fits p) rule.triggers)) places fits.triggers;
       body = subst (λ (s : Sizes). IsTrue (body_fits s rule.body)) sizes fits.body;
       room = fits.room;
@@ -139,4 +143,5 @@ loop-number-preserved c =
           let both = or_parts c.loop-number.wished ran.result h in
           subst (λ (wss : List (List Wish)). wss ≡ replicate (length wss) []) (sym (ran.ensures.none both.1)) (c.loop-number.invariant.unwished both.0);
       due = due;
+      sure = λ h. let no : false ≡ true = h in cc;
     }

@@ -1,5 +1,6 @@
--- the reactions that are left go on from here as all do from the start, have no wishes yet, and are due where triggered
-use Rattle.std.proofs.Common.{◌≡◌, ℕ, ◌-◌, ◌≤◌, [], drop, get_or, length, IsTrue}
+-- the reactions that are left go on from here as all do from the start, have no wishes yet, and are due where triggered; the
+-- next one is triggered where that is sure
+use Rattle.std.proofs.Common.{◌≡◌, ℕ, ◌-◌, ◌≤◌, [], drop, get_or, length, IsTrue, true}
 use Rattle.std.specs.List.{list_all}
 use Rattle.warp_body.specs.Effect.{wish_fits}
 use Rattle.warp_body.specs.Presence.{places_of}
@@ -7,6 +8,7 @@ use Rattle.warp_step.specs.Valid.{program_sizes}
 use Rattle.warp_step.specs.Step.{after_reactions, lists_of, no_wishes, numbers, order_of}
 use Rattle.warp_step.specs.inner.Due.{AreDue}
 use Rattle.warp_step.specs.inner.Flagged.{HasNone}
+use Rattle.warp_step.specs.inner.Sure.{IsSure}
 use Rattle.warp_step.proofs.react.run_reactions.Given as goal
 
 abbrev pub invariant-loop-number : goal.invariant-loop-number
@@ -23,6 +25,7 @@ invariant-loop-number l = record {
   wishes : IsTrue (list_all (list_all (wish_fits (program_sizes l.program))) (lists_of l.wishes));
   unwished : HasNone l.wished (lists_of l.wishes);
   due : AreDue l.program l.present l.due.word;
+  sure : l.is_sure ≡ true → IsSure l.program l.present l.number;
 }
 
 abbrev pub decreases-loop-number : goal.decreases-loop-number

@@ -1,0 +1,9 @@
+-- A reaction that need not be tested.
+use Rattle.std.specs.Prelude.{◌≡◌, ℕ, true, Some, slice_get}
+use Rattle.warp_body.specs.Presence.{Presence}
+use Rattle.warp_step.specs.Program.{Rule, Program}
+use Rattle.warp_step.specs.Step.{is_triggered}
+
+-- the reaction with this number, if there is one, is triggered
+abbrev pub IsSure : Program → Presence → ℕ → Type 0
+IsSure P present sure = (rule : Rule) → slice_get P.reactions sure ≡ Some rule → is_triggered rule present ≡ true
