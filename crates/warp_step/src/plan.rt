@@ -4,7 +4,7 @@ ghost use Rattle.std.specs.List.{list_any};
 ghost use Rattle.warp_tag.specs.Limits.{most_reactions};
 ghost use Rattle.warp_body.specs.declared.place.Target.{Target};
 ghost use Rattle.warp_body.specs.declared.place.Target.TheVariants as to;
-ghost use Rattle.warp_step.specs.Marks.{first_link, first_reaction, first_timer, marks_from, most_marks, with_mark};
+ghost use Rattle.warp_step.specs.Marks.{first_link, first_reaction, marks_from, most_marks, with_mark};
 ghost use Rattle.warp_step.specs.Plan.{heeds, heeds_any, is_port, link_heeds, most_places, numbered_place, output_heeds, place_number, place_numbers, place_of, reaction_heeds, timer_heeds, with_watchers};
 ghost use Rattle.warp_step.specs.Program.{rule_of};
 ghost use Rattle.warp_step.specs.Step.{marks_of, plan_of, sources_of};
@@ -229,13 +229,12 @@ fn after_reactions(
 }
 
 /// Whom each place of a program concerns, by the place's number, and whom what each reaction writes does; and the marks
-/// of all links and of all timers.
+/// of all links.
 #[derive(Drop)]
 pub(crate) struct Plan {
     places: Vec<Marks>,
     after: Vec<Marks>,
     links: Marks,
-    timers: Marks,
 }
 
 impl Model for Plan {
@@ -248,7 +247,6 @@ impl Model for Plan {
       places = map (λ marks. marks.word) p.places.items;
       after = map (λ marks. marks.word) p.after.items;
       links = p.links.word;
-      timers = p.timers.word;
     } };
 }
 
@@ -264,7 +262,6 @@ impl Plan {
             places,
             after,
             links: all_links(program),
-            timers: all_timers(program),
         })
     }
 
@@ -293,14 +290,6 @@ impl Plan {
     {
         self.links
     }
-
-    /// The marks of all timers.
-    #[inline(always)]
-    pub fn timers(&self) -> Marks
-        ensures { result.word ≡ self.now.timers }
-    {
-        self.timers
-    }
 }
 
 /// The marks of all links of a program.
@@ -308,11 +297,4 @@ fn all_links(program: &Program) -> Marks
     ensures { result.word ≡ marks_from (first_link program.now) (length program.now.links) }
 {
     Marks::range(first_link(program), program.links().len())
-}
-
-/// The marks of all timers of a program.
-fn all_timers(program: &Program) -> Marks
-    ensures { result.word ≡ marks_from (first_timer program.now) (length program.now.timers) }
-{
-    Marks::range(first_timer(program), program.timers().len())
 }

@@ -2,4 +2,4 @@
 use Rattle.warp_step.proofs.plan.Plan.new.Goals as goal
 
 pub returns : goal.returns
-returns c = λ i. record { places = c.in_ok-places.ensures i; after = c.in_ok-after.ensures i; links = c.all_links.ensures i; timers = c.all_timers.ensures i }
+returns c = λ i. record { places = c.in_ok-places.ensures i; after = c.in_ok-after.ensures i; links = c.all_links.ensures i }
