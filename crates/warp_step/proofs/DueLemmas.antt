@@ -165,7 +165,7 @@ due_after P places before after old called new own follows is joined were =
     })
 
 -- a list of absent values has none
-none_at : (n k : ℕ) → get_or {A = Option ℤ} (replicate n None) k None ≡ None
+pub none_at : (n k : ℕ) → get_or {A = Option ℤ} (replicate n None) k None ≡ None
 none_at zero k = refl
 none_at (suc n) zero = refl
 none_at (suc n) (suc k) = none_at n k
@@ -203,9 +203,9 @@ unmarked {X} triggers first xs present word due n x at idle = elim (cases_Bool (
 ]
 
 -- What is the same at an element that is not marked and at the next one is the same at two between which none is marked.
-pub skip : {A : Type 0} (f : ℕ → A) (word : ℕ) (first len : ℕ) → ((n : ℕ) → n < len → mark_at word (first + n) ≡ 0 → f n ≡ f (n + 1))
-    → (count from to : ℕ) → from + count ≡ to → to ≤ len → ((m : ℕ) → first + from ≤ m → m < first + to → mark_at word m ≡ 0) → f from ≡ f to
-skip {A} f word first len same zero from to sum within none = let here : from ≡ to = omega (arith, sum) in ap f here
-skip {A} f word first len same (suc count) from to sum within none =
-    same from (omega (arith, sum, within)) (none (first + from) (omega arith) (omega (arith, sum)))
-    ∙ skip f word first len same count (from + 1) to (omega (arith, sum)) within (λ m l below. none m (omega (arith, l)) below)
+pub skip : {A : Type 0} (f : ℕ → A) (word : ℕ) (first : ℕ) → ((n : ℕ) → mark_at word (first + n) ≡ 0 → f n ≡ f (n + 1))
+    → (count from to : ℕ) → from + count ≡ to → ((m : ℕ) → first + from ≤ m → m < first + to → mark_at word m ≡ 0) → f from ≡ f to
+skip {A} f word first same zero from to sum none = let here : from ≡ to = omega (arith, sum) in ap f here
+skip {A} f word first same (suc count) from to sum none =
+    same from (none (first + from) (omega arith) (omega (arith, sum)))
+    ∙ skip f word first same count (from + 1) to (omega (arith, sum)) (λ m l below. none m (omega (arith, l)) below)

@@ -1,7 +1,9 @@
 -- The entries at the tag of a step are a front of what is pending; and what their arrival makes present.
-use Rattle.std.proofs.Common.{◌≡◌, ℕ, ℤ, zero, suc, ◌+◌, ◌<◌, true, false, not, List, [], ◌∷◌, get_or, length, take, drop, filter, IsTrue, refl, sym, ap, ◌∙◌, arith}
+use Rattle.std.proofs.Common.{◌≡◌, ℕ, ℤ, zero, suc, ◌+◌, ◌<◌, Bool, true, false, not, List, [], ◌∷◌, get_or, length, take, drop, filter, IsTrue, refl, sym, ap, ◌∙◌, arith}
+use Rattle.std.specs.Prelude.{slice_get}
 use Rattle.std.specs.List.{list_all}
-use Rattle.std.proofs.lemmas.Bool.{and_parts}
+use Rattle.std.specs.Option.{option_map_or}
+use Rattle.std.proofs.lemmas.Bool.{and_from, and_parts}
 use Rattle.std.proofs.lemmas.Bool.Decides.{nat_tests}
 use Rattle.warp_tag.specs.Moment.{Moment, is_before, is_same}
 use Rattle.warp_body.specs.Presence.{Presence, with_value}
@@ -85,3 +87,19 @@ taken t old ws left n before after same ordered early here other dropped arrives
       rest = dropped ∙ sym front.1 ∙ ap (filter (λ w. not (is_same w.tag t))) same;
       present = arrives ∙ ap (λ (xs : List Waiting). arrived_entries xs before) (sym front.0 ∙ ap (filter (λ w. is_same w.tag t)) same);
     }
+
+-- whether the entry at an index is there and at the tag
+abbrev pub stands_at : Moment → List Waiting → ℕ → Bool
+stands_at t ws i = option_map_or (λ w. is_same w.tag t) (slice_get ws i) false
+
+-- where none is, the entries from there on begin with another
+pub other_head : (t : Moment) (ws : List Waiting) (i : ℕ) → stands_at t ws i ≡ false → HasOtherHead t (drop i ws)
+other_head t [] zero h = tt
+other_head t [] (suc i) h = tt
+other_head t (w ∷ ws) zero h = h
+other_head t (w ∷ ws) (suc i) h = other_head t ws i h
+
+-- where the first is, there is one, and the front of one entry is at the tag
+pub first_here : (t : Moment) (ws : List Waiting) → stands_at t ws 0 ≡ true → (0 < length ws) × IsTrue (list_all (λ w. is_same w.tag t) (take 1 ws))
+first_here t [] h = let no : false ≡ true = h in cc
+first_here t (w ∷ ws) h = (omega arith, and_from (is_same w.tag t) true h refl)

@@ -10,6 +10,7 @@ pub mod PendingLemmas
 pub mod PlaceLemmas
 pub mod PlanLemmas
 pub mod ReactLemmas
+pub mod RepeatLemmas
 pub mod RowsBefore
 pub mod SameStates
 pub mod Sameness

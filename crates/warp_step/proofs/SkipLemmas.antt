@@ -1,11 +1,10 @@
 -- What is not marked may be left out: reactions, timers, links and program outputs that stand between two numbers, none of them
 -- marked, change nothing.
-use Rattle.std.proofs.Common.{◌≡◌, ℕ, ℤ, zero, suc, ◌+◌, ◌-◌, ◌<◌, ◌≤◌, nat_lt, true, false, ◌&&◌, ◌||◌, List, [], ◌∷◌, length, drop, get_or, Option, None, Some, is_some, if◌then◌else◌, refl, sym, ap, ◌∙◌, arith}
+use Rattle.std.proofs.Common.{◌≡◌, inl, inr, ℕ, ℤ, zero, suc, ◌+◌, ◌-◌, ◌<◌, ◌≤◌, nat_lt, true, false, ◌&&◌, ◌||◌, List, [], ◌∷◌, length, drop, get_or, Option, None, Some, is_some, if◌then◌else◌, refl, sym, ap, ◌∙◌, arith}
 use Rattle.std.specs.Prelude.{slice_get, pos}
 use Rattle.std.specs.List.{list_any}
-use Rattle.std.proofs.Math.Seq.{drop-length}
-use Rattle.std.proofs.lemmas.Bool.{cond-false}
-use Rattle.std.proofs.lemmas.List.{drop_more}
+use Rattle.std.proofs.lemmas.Bool.{cases_lt, cond-false}
+use Rattle.std.proofs.lemmas.List.{at_drop_all, drop_more}
 use Rattle.std.proofs.lemmas.Option.{slice_get-get_or}
 use Rattle.warp_tag.specs.Moment.{Moment}
 use Rattle.warp_body.specs.Effect.{Done}
@@ -17,6 +16,7 @@ use Rattle.warp_step.specs.Program.{Program, Rule}
 use Rattle.warp_step.specs.Snapshot.{Snapshot, landed}
 use Rattle.warp_step.specs.Step.{Reacting, after_reactions, delivered, is_triggered, numbers, outputs_from, repeats, with_links, with_output, with_repeats}
 use Rattle.warp_step.specs.declared.parts.Link.{Link}
+use Rattle.warp_step.specs.declared.out.Out.{Out}
 use Rattle.warp_step.specs.declared.parts.Timer.{Timer}
 use Rattle.warp_step.specs.inner.Due.{AreMarked}
 use Rattle.warp_step.proofs.DueLemmas.{skip, unmarked}
@@ -39,10 +39,22 @@ get_or_same {X} [] n d e lt = absurd (omega (arith, lt))
 get_or_same {X} (x ∷ xs) zero d e lt = refl
 get_or_same {X} (x ∷ xs) (suc n) d e lt = get_or_same xs n d e (omega (arith, lt))
 
+-- what is the same at an element that is not marked and at the next one, and the same past the last, is the same at a number that
+-- is not marked and at the next one
+idle_or_past : {A : Type 0} (f : ℕ → A) (end : A) (word first len : ℕ) → ((n : ℕ) → n < len → mark_at word (first + n) ≡ 0 → f n ≡ f (n + 1))
+    → ((n : ℕ) → len ≤ n → f n ≡ end) → (n : ℕ) → mark_at word (first + n) ≡ 0 → f n ≡ f (n + 1)
+idle_or_past {A} f end word first len idle over n none = elim (cases_lt n len) [
+  | inl within ↦ idle n within none
+  | inr past ↦ over n past ∙ sym (over (n + 1) (omega (arith, past)))
+]
+
 -- the reactions
 module _ (P : Program) (now : Reacting) (word : ℕ) (due : AreMarked reaction_heeds first_reaction P.reactions now.present word) where
-  idle_reaction : (n : ℕ) → n < length P.reactions → mark_at word (first_reaction + n) ≡ 0
-      → after_reactions P (numbers n (drop n P.reactions)) now ≡ after_reactions P (numbers (n + 1) (drop (n + 1) P.reactions)) now
+  -- the reactions from a number on
+  abbrev from_reaction : ℕ → Reacting
+  from_reaction n = after_reactions P (numbers n (drop n P.reactions)) now
+
+  idle_reaction : (n : ℕ) → n < length P.reactions → mark_at word (first_reaction + n) ≡ 0 → from_reaction n ≡ from_reaction (n + 1)
   idle_reaction n lt idle =
       let some : Rule = record { reactor = 0; triggers = []; reads = []; writes = []; body = Done } in
       let rule = get_or P.reactions n some in
@@ -52,11 +64,13 @@ module _ (P : Program) (now : Reacting) (word : ℕ) (due : AreMarked reaction_h
       after_one_more P n rule now lt same
       ∙ ap (λ (r : Reacting). after_reactions P (numbers (n + 1) (drop (n + 1) P.reactions)) r) (cond-false (is_triggered rule now.present) _ now none)
 
-  pub skip_reactions : (from to : ℕ) → from ≤ to → to ≤ length P.reactions → NoneMarked word from to
-      → after_reactions P (numbers from (drop from P.reactions)) now ≡ after_reactions P (numbers to (drop to P.reactions)) now
-  skip_reactions from to order within none =
-      skip (λ (n : ℕ). after_reactions P (numbers n (drop n P.reactions)) now) word first_reaction (length P.reactions) idle_reaction (to - from) from to
-      (omega (arith, order)) within (λ m l below. none m (omega (arith, l)) (omega (arith, below)))
+  no_reaction : (n : ℕ) → length P.reactions ≤ n → from_reaction n ≡ now
+  no_reaction n past = at_drop_all (λ (left : List Rule). after_reactions P (numbers n left) now) P.reactions n past
+
+  pub skip_reactions : (from to : ℕ) → from ≤ to → NoneMarked word from to → from_reaction from ≡ from_reaction to
+  skip_reactions from to order none =
+      skip from_reaction word first_reaction (idle_or_past from_reaction now word first_reaction (length P.reactions) idle_reaction no_reaction) (to - from) from to
+      (omega (arith, order)) (λ m l below. none m (omega (arith, l)) (omega (arith, below)))
 
 -- where one of one trigger is not present, it is absent
 absent : (o : Option ℤ) → (is_some o || false) ≡ false → o ≡ None
@@ -65,8 +79,11 @@ absent (Some v) h = let no : true ≡ false = h in cc
 
 -- the timers
 module _ (P : Program) (t : Moment) (present : Presence) (s : Snapshot) (word : ℕ) (first : ℕ) (due : AreMarked timer_heeds first P.timers present word) where
-  idle_timer : (n : ℕ) → n < length P.timers → mark_at word (first + n) ≡ 0
-      → with_repeats P t present n (drop n P.timers) s ≡ with_repeats P t present (n + 1) (drop (n + 1) P.timers) s
+  -- the timers from a number on
+  abbrev from_timer : ℕ → Snapshot
+  from_timer n = with_repeats P t present n (drop n P.timers) s
+
+  idle_timer : (n : ℕ) → n < length P.timers → mark_at word (first + n) ≡ 0 → from_timer n ≡ from_timer (n + 1)
   idle_timer n lt idle =
       let some : Timer = record { reactor = 0; offset = 0; period = 0 } in
       let timer = get_or P.timers n some in
@@ -77,17 +94,13 @@ module _ (P : Program) (t : Moment) (present : Presence) (s : Snapshot) (word : 
       ∙ ap (λ (u : Snapshot). with_repeats P t present (n + 1) (drop (n + 1) P.timers) u)
       (cond-false (repeats present n timer) (landed P t timer.period (to.Timer n) (pos 0) s) s rests)
 
-  pub skip_timers : (from to : ℕ) → first ≤ from → from ≤ to → to ≤ first + length P.timers → NoneMarked word from to
-      → with_repeats P t present (from - first) (drop (from - first) P.timers) s ≡ with_repeats P t present (to - first) (drop (to - first) P.timers) s
-  skip_timers from to starts order within none =
-      skip (λ (n : ℕ). with_repeats P t present n (drop n P.timers) s) word first (length P.timers) idle_timer (to - from) (from - first) (to - first)
-      (omega (arith, starts, order)) (omega (arith, within)) (λ m l below. none m (omega (arith, l)) (omega (arith, below, starts, order)))
+  no_timer : (n : ℕ) → length P.timers ≤ n → from_timer n ≡ s
+  no_timer n past = at_drop_all (λ (left : List Timer). with_repeats P t present n left s) P.timers n past
 
-  pub timers_rest : NoneMarked word first (first + length P.timers) → with_repeats P t present 0 P.timers s ≡ s
-  timers_rest none =
-      skip (λ (n : ℕ). with_repeats P t present n (drop n P.timers) s) word first (length P.timers) idle_timer (length P.timers) 0 (length P.timers)
-      (omega arith) (omega arith) (λ m l below. none m (omega (arith, l)) below)
-      ∙ ap (λ (left : List Timer). with_repeats P t present (length P.timers) left s) (drop-length P.timers)
+  pub skip_timers : (from to : ℕ) → first ≤ from → from ≤ to → NoneMarked word from to → from_timer (from - first) ≡ from_timer (to - first)
+  skip_timers from to starts order none =
+      skip from_timer word first (idle_or_past from_timer s word first (length P.timers) idle_timer no_timer) (to - from) (from - first) (to - first)
+      (omega (arith, starts, order)) (λ m l below. none m (omega (arith, l)) (omega (arith, below, starts, order)))
 
 -- the timers from a number on are the one with it, and those from the next one on
 pub timers_one_more : (P : Program) (t : Moment) (present : Presence) (n : ℕ) (timer : Timer) (s : Snapshot) → n < length P.timers → timer ≡ get_or P.timers n timer
@@ -96,29 +109,6 @@ pub timers_one_more : (P : Program) (t : Moment) (present : Presence) (n : ℕ) 
 timers_one_more P t present n timer s lt is =
     ap (λ (left : List Timer). with_repeats P t present n left s) (drop_more P.timers n timer lt)
     ∙ ap (λ (own : Timer). with_repeats P t present (n + 1) (drop (n + 1) P.timers) (if repeats present n own then landed P t own.period (to.Timer n) (pos 0) s else s)) (sym is)
-
--- where one timer alone is marked, at most that one repeats
-pub only_timer : (P : Program) (t : Moment) (present : Presence) (s : Snapshot) (word first : ℕ) → AreMarked timer_heeds first P.timers present word
-    → (mark : ℕ) (timer : Timer) → first ≤ mark → mark < first + length P.timers → timer ≡ get_or P.timers (mark - first) timer
-    → NoneMarked word first mark → NoneMarked word (mark + 1) (first + length P.timers)
-    → (if repeats present (mark - first) timer then landed P t timer.period (to.Timer (mark - first)) (pos 0) s else s) ≡ with_repeats P t present 0 P.timers s
-only_timer P t present s word first due mark timer starts within is before behind =
-    let n = mark - first in
-    let new = if repeats present n timer then landed P t timer.period (to.Timer n) (pos 0) s else s in
-    let none : first - first ≡ 0 = omega arith in
-    let next : mark + 1 - first ≡ n + 1 = omega (arith, starts) in
-    let all : first + length P.timers - first ≡ length P.timers = omega arith in
-    let up_to = skip_timers P t present s word first due first mark (omega arith) starts (omega (arith, within)) before in
-    let from = skip_timers P t present new word first due (mark + 1) (first + length P.timers) (omega (arith, starts)) (omega (arith, within)) (omega arith) behind in
-    let end : with_repeats P t present (length P.timers) (drop (length P.timers) P.timers) new ≡ new =
-    ap (λ (left : List Timer). with_repeats P t present (length P.timers) left new) (drop-length P.timers) in
-    sym end
-    ∙ ap (λ (k : ℕ). with_repeats P t present k (drop k P.timers) new) (sym all)
-    ∙ sym from
-    ∙ ap (λ (k : ℕ). with_repeats P t present k (drop k P.timers) new) next
-    ∙ sym (timers_one_more P t present n timer s (omega (arith, starts, within)) is)
-    ∙ sym up_to
-    ∙ ap (λ (k : ℕ). with_repeats P t present k (drop k P.timers) s) none
 
 -- the links
 undelivered : (P : Program) (t : Moment) (present : Presence) (target source : ℕ) (o : Option ℤ) (delay : Option ℕ) (s : Snapshot) → o ≡ present_at present (to.Port source)
@@ -130,8 +120,11 @@ undelivered P t present target source (Some v) (Some d) s is h =
     cc
 
 module _ (P : Program) (t : Moment) (present : Presence) (s : Snapshot) (word : ℕ) (first : ℕ) (due : AreMarked link_heeds first P.links present word) where
-  idle_link : (n : ℕ) → n < length P.links → mark_at word (first + n) ≡ 0
-      → with_links P t present (drop n P.links) s ≡ with_links P t present (drop (n + 1) P.links) s
+  -- the links from a number on
+  abbrev from_link : ℕ → Snapshot
+  from_link n = with_links P t present (drop n P.links) s
+
+  idle_link : (n : ℕ) → n < length P.links → mark_at word (first + n) ≡ 0 → from_link n ≡ from_link (n + 1)
   idle_link n lt idle =
       let some : Link = record { source = 0; target = 0; delay = None } in
       let link = get_or P.links n some in
@@ -141,17 +134,19 @@ module _ (P : Program) (t : Moment) (present : Presence) (s : Snapshot) (word : 
       ∙ ap (λ (u : Snapshot). with_links P t present (drop (n + 1) P.links) u)
       (undelivered P t present link.target link.source (present_at present (to.Port link.source)) link.delay s refl none)
 
-  pub skip_links : (from to : ℕ) → first ≤ from → from ≤ to → to ≤ first + length P.links → NoneMarked word from to
-      → with_links P t present (drop (from - first) P.links) s ≡ with_links P t present (drop (to - first) P.links) s
-  skip_links from to starts order within none =
-      skip (λ (n : ℕ). with_links P t present (drop n P.links) s) word first (length P.links) idle_link (to - from) (from - first) (to - first)
-      (omega (arith, starts, order)) (omega (arith, within)) (λ m l below. none m (omega (arith, l)) (omega (arith, below, starts, order)))
+  no_link : (n : ℕ) → length P.links ≤ n → from_link n ≡ s
+  no_link n past = at_drop_all (λ (left : List Link). with_links P t present left s) P.links n past
+
+  pub skip_links : (from to : ℕ) → first ≤ from → from ≤ to → NoneMarked word from to → from_link (from - first) ≡ from_link (to - first)
+  skip_links from to starts order none =
+      skip from_link word first (idle_or_past from_link s word first (length P.links) idle_link no_link) (to - from) (from - first) (to - first)
+      (omega (arith, starts, order)) (λ m l below. none m (omega (arith, l)) (omega (arith, below, starts, order)))
 
   pub links_rest : NoneMarked word first (first + length P.links) → with_links P t present P.links s ≡ s
   links_rest none =
-      skip (λ (n : ℕ). with_links P t present (drop n P.links) s) word first (length P.links) idle_link (length P.links) 0 (length P.links)
-      (omega arith) (omega arith) (λ m l below. none m (omega (arith, l)) below)
-      ∙ ap (λ (left : List Link). with_links P t present left s) (drop-length P.links)
+      skip from_link word first (idle_or_past from_link s word first (length P.links) idle_link no_link) (length P.links) 0 (length P.links)
+      (omega arith) (λ m l below. none m (omega (arith, l)) below)
+      ∙ no_link (length P.links) (omega arith)
 
 -- the links from a number on are the one with it, and those from the next one on
 pub links_one_more : (P : Program) (t : Moment) (present : Presence) (n : ℕ) (link : Link) (s : Snapshot) → n < length P.links → link ≡ get_or P.links n link
@@ -163,8 +158,11 @@ links_one_more P t present n link s lt is =
 
 -- the program outputs
 module _ (P : Program) (t : Moment) (present : Presence) (word : ℕ) (first : ℕ) (due : AreMarked output_heeds first P.outputs present word) where
-  idle_output : (n : ℕ) → n < length P.outputs → mark_at word (first + n) ≡ 0
-      → outputs_from n t present (drop n P.outputs) ≡ outputs_from (n + 1) t present (drop (n + 1) P.outputs)
+  -- the outputs from a number on
+  abbrev from_output : ℕ → List Out
+  from_output n = outputs_from n t present (drop n P.outputs)
+
+  idle_output : (n : ℕ) → n < length P.outputs → mark_at word (first + n) ≡ 0 → from_output n ≡ from_output (n + 1)
   idle_output n lt idle =
       let port = get_or P.outputs n 0 in
       let at : slice_get P.outputs n ≡ Some port = slice_get-get_or P.outputs n 0 lt in
@@ -172,8 +170,10 @@ module _ (P : Program) (t : Moment) (present : Presence) (word : ℕ) (first : �
       ap (λ (left : List ℕ). outputs_from n t present left) (drop_more P.outputs n 0 lt)
       ∙ ap (λ (o : Option ℤ). with_output n t o (outputs_from (n + 1) t present (drop (n + 1) P.outputs))) none
 
-  pub skip_outputs : (from to : ℕ) → first ≤ from → from ≤ to → to ≤ first + length P.outputs → NoneMarked word from to
-      → outputs_from (from - first) t present (drop (from - first) P.outputs) ≡ outputs_from (to - first) t present (drop (to - first) P.outputs)
-  skip_outputs from to starts order within none =
-      skip (λ (n : ℕ). outputs_from n t present (drop n P.outputs)) word first (length P.outputs) idle_output (to - from) (from - first) (to - first)
-      (omega (arith, starts, order)) (omega (arith, within)) (λ m l below. none m (omega (arith, l)) (omega (arith, below, starts, order)))
+  no_output : (n : ℕ) → length P.outputs ≤ n → from_output n ≡ []
+  no_output n past = at_drop_all (λ (left : List ℕ). outputs_from n t present left) P.outputs n past
+
+  pub skip_outputs : (from to : ℕ) → first ≤ from → from ≤ to → NoneMarked word from to → from_output (from - first) ≡ from_output (to - first)
+  skip_outputs from to starts order none =
+      skip from_output word first (idle_or_past from_output [] word first (length P.outputs) idle_output no_output) (to - from) (from - first) (to - first)
+      (omega (arith, starts, order)) (λ m l below. none m (omega (arith, l)) (omega (arith, below, starts, order)))

@@ -6,6 +6,7 @@ use Rattle.std.proofs.lemmas.Bool.{cases_Bool, cond-true, cond-false, ltb-true, 
 use Rattle.std.proofs.lemmas.List.{get_or-set_same}
 use Rattle.std.proofs.lemmas.List.FromFn.{get_or-map-range_with_len}
 use Rattle.std.proofs.lemmas.Option.{slice_get_past}
+use Rattle.warp_tag.specs.Limits.{most_reactions}
 use Rattle.warp_body.specs.Presence.{Presence, is_target, places_of, present_at, target_fits, with_value}
 use Rattle.warp_body.specs.declared.place.Target.{Target}
 use Rattle.warp_body.specs.declared.place.Target.TheVariants as to
@@ -97,9 +98,9 @@ sure_after P target v before after sure own fits arrives is = λ rule at.
     ap (λ (p : Presence). list_any (λ trigger. is_some (present_at p trigger)) rule.triggers) arrives ∙ here
 
 -- A number that no reaction has is sure in vain.
-pub none_sure : (P : Program) (present : Presence) (sure : ℕ) → IsTrue (is_valid P) → 640 ≤ sure → IsSure P present sure
+pub none_sure : (P : Program) (present : Presence) (sure : ℕ) → IsTrue (is_valid P) → most_reactions ≤ sure → IsSure P present sure
 none_sure P present sure valid beyond = λ rule at.
-    let few = (validity P valid).limits.reactions in
+    let few : length P.reactions ≤ most_reactions = (validity P valid).limits.reactions in
     let none = slice_get_past P.reactions sure (omega (arith, few, beyond)) in
     let no : None ≡ Some rule = sym none ∙ at in
     cc

@@ -82,10 +82,9 @@ unfoldable pub place_numbers : List ℕ
 place_numbers = range_with_len 0 most_places
 
 -- Whom each place concerns, by the place's number, and whom what a reaction writes concerns, by the reaction's number: as marks.
--- The number of the first reaction that each place triggers, by the place's number. And the marks of all links, and of all timers.
+-- The number of the first reaction that each place triggers, by the place's number. And the marks of all links.
 pub record Plan : Type 0 where
   pub places : List ℕ
   pub firsts : List ℕ
   pub after : List ℕ
   pub links : ℕ
-  pub timers : ℕ

@@ -191,15 +191,13 @@ marks_of P places =
     (with_watchers link_heeds (first_link P) sources places 0 P.links
     (with_watchers reaction_heeds first_reaction sources places 0 P.reactions no_marks)))
 
--- whom each place of the program concerns, which reaction first, and whom what each reaction writes does, and all its links and
--- timers
+-- whom each place of the program concerns, which reaction first, and whom what each reaction writes does, and all its links
 abbrev pub plan_of : Program → Plan
 plan_of P = record {
   places = map (λ n. marks_of P (numbered_place n ∷ [])) place_numbers;
   firsts = map (λ n. first_heeding (sources_of P) (numbered_place n) 0 P.reactions) place_numbers;
   after = map (λ rule. marks_of P (filter is_port rule.writes)) P.reactions;
   links = marks_from (first_link P) (length P.links);
-  timers = marks_from (first_timer P) (length P.timers);
 }
 
 -- the room that steps of the program work in: its places, the sources of its ports, how many bodies it has, and whom each

@@ -1,11 +1,12 @@
 //! What is present at a tag before the reactions run: the entries that are pending there, and what is given.
-ghost use Rattle.std.specs.Prelude.{◌≡◌, ◌≤◌, IsTrue, not, length, take, drop, filter, List};
+ghost use Rattle.std.specs.Prelude.{◌≡◌, ◌<◌, ◌≤◌, IsTrue, false, not, length, take, drop, filter, slice_get, List};
+ghost use Rattle.std.specs.Option.{option_map_or};
 ghost use Rattle.std.specs.List.{list_all};
 ghost use Rattle.warp_tag.specs.Moment.{is_before, is_same};
 ghost use Rattle.warp_body.specs.Presence.{places_of, target_fits, with_value};
 ghost use Rattle.warp_step.specs.Valid.{program_places};
 ghost use Rattle.warp_step.specs.Snapshot.{IsStateOf};
-ghost use Rattle.warp_step.specs.Step.{AreInputs, arrived, arrived_entries, plan_of, sources_of, without_entries};
+ghost use Rattle.warp_step.specs.Step.{AreInputs, absent, arrived, arrived_entries, plan_of, sources_of, with_repeats, without_entries};
 ghost use Rattle.warp_step.specs.inner.Due.{AreDue};
 ghost use Rattle.warp_step.specs.inner.Front.{HasOtherHead};
 ghost use Rattle.warp_step.specs.inner.Sure.{IsSure};
@@ -13,17 +14,148 @@ ghost use Rattle.warp_step.specs.inner.Sure.{IsSure};
 use crate::marks::Marks;
 use crate::out::Given;
 use crate::pending::Waiting;
-use crate::plan::Plan;
+use crate::plan::{Concerned, NO_REACTION, Plan};
 use crate::program::Program;
 use crate::state::State;
 use warp_body::{Present, Target};
 use warp_tag::Tag;
 
 impl State {
+    /// Makes the targets of the entries at the tag present, takes these entries out, and makes the timers among them
+    /// that have a period pending again. Answers whom they concern. Mostly there is one entry at the tag or none.
+    #[inline(always)]
+    pub(crate) fn take_entries(
+        &mut self,
+        program: &Program,
+        plan: &Plan,
+        tag: Tag,
+        present: &mut Present,
+    ) -> Concerned
+        requires state { IsStateOf program.now self.old }
+        requires time { tag.time ≤ program.now.stop }
+        requires none_before { IsTrue (list_all (λ w. not (is_before w.tag tag)) self.old.pending) }
+        requires plan { plan.now ≡ plan_of program.now }
+        requires absent { present.old ≡ absent program.now }
+        ensures state { self.new ≡ with_repeats program.now tag present.new 0 program.now.timers (without_entries tag self.old) }
+        ensures present { present.new ≡ arrived_entries (filter (λ w. is_same w.tag tag) self.old.pending) (absent program.now) }
+        ensures places { places_of present.new ≡ places_of present.old }
+        ensures sources { present.new.sources ≡ present.old.sources }
+        ensures due { AreDue program.now present.new result.marks.word }
+        ensures sure { IsSure program.now present.new result.first }
+    {
+        program.valid();
+        if !is_at(self.pending.as_slice(), 0, tag) {
+            return Concerned::none();
+        }
+        if is_at(self.pending.as_slice(), 1, tag) {
+            return self.take_several(program, plan, tag, present);
+        }
+        self.take_one(program, plan, tag, present)
+    }
+
+    /// Makes the target of the first entry present, which alone is at the tag, takes the entry out, and makes its
+    /// target pending again if it is a timer with a period. Answers whom it concerns.
+    #[inline(always)]
+    fn take_one(
+        &mut self,
+        program: &Program,
+        plan: &Plan,
+        tag: Tag,
+        present: &mut Present,
+    ) -> Concerned
+        requires state { IsStateOf program.now self.old }
+        requires time { tag.time ≤ program.now.stop }
+        requires some { 0 < length self.old.pending }
+        requires plan { plan.now ≡ plan_of program.now }
+        requires absent { present.old ≡ absent program.now }
+        ensures state { self.new ≡ with_repeats program.now tag present.new 0 program.now.timers (record self.old { pending = drop 1 self.old.pending }) }
+        ensures present { present.new ≡ arrived_entries (take 1 self.old.pending) (absent program.now) }
+        ensures places { places_of present.new ≡ places_of present.old }
+        ensures sources { present.new.sources ≡ present.old.sources }
+        ensures due { AreDue program.now present.new result.marks.word }
+        ensures sure { IsSure program.now present.new result.first }
+    {
+        let first = self.pending.as_slice()[0];
+        self.pending.drop_front(1);
+        self.arrive_alone(program, plan, tag, present, first.target, first.value)
+    }
+
+    /// Makes a target alone present, and pending again if it is a timer with a period. Answers whom it concerns.
+    #[inline(always)]
+    fn arrive_alone(
+        &mut self,
+        program: &Program,
+        plan: &Plan,
+        tag: Tag,
+        present: &mut Present,
+        target: Target,
+        value: i64,
+    ) -> Concerned
+        requires time { tag.time ≤ program.now.stop }
+        requires target { IsTrue (target_fits (program_places program.now) target) }
+        requires plan { plan.now ≡ plan_of program.now }
+        requires absent { present.old ≡ absent program.now }
+        ensures state { self.new ≡ with_repeats program.now tag present.new 0 program.now.timers self.old }
+        ensures present { present.new ≡ with_value target value (absent program.now) }
+        ensures places { places_of present.new ≡ places_of present.old }
+        ensures sources { present.new.sources ≡ present.old.sources }
+        ensures due { AreDue program.now present.new result.marks.word }
+        ensures sure { IsSure program.now present.new result.first }
+    {
+        program.valid();
+        let mut due = Marks::none();
+        let mut sure = NO_REACTION;
+        // A timer is what is mostly pending: where its kind is known, nothing asks for it again.
+        match target {
+            Target::Timer(n) => {
+                put(program, plan, &mut due, &mut sure, present, Target::Timer(n), value);
+                self.repeat_timer(program, tag, n, &program.timers()[n as usize]);
+            }
+            _ => put(program, plan, &mut due, &mut sure, present, target, value),
+        }
+        Concerned {
+            marks: due,
+            first: sure,
+        }
+    }
+
+    /// Makes the targets of the entries at the tag present, takes these entries out, and makes the timers among them
+    /// that have a period pending again. Answers whom they concern.
+    #[inline(never)]
+    fn take_several(
+        &mut self,
+        program: &Program,
+        plan: &Plan,
+        tag: Tag,
+        present: &mut Present,
+    ) -> Concerned
+        requires state { IsStateOf program.now self.old }
+        requires time { tag.time ≤ program.now.stop }
+        requires none_before { IsTrue (list_all (λ w. not (is_before w.tag tag)) self.old.pending) }
+        requires plan { plan.now ≡ plan_of program.now }
+        requires absent { present.old ≡ absent program.now }
+        ensures state { self.new ≡ with_repeats program.now tag present.new 0 program.now.timers (without_entries tag self.old) }
+        ensures present { present.new ≡ arrived_entries (filter (λ w. is_same w.tag tag) self.old.pending) (absent program.now) }
+        ensures places { places_of present.new ≡ places_of present.old }
+        ensures sources { present.new.sources ≡ present.old.sources }
+        ensures due { AreDue program.now present.new result.marks.word }
+        ensures sure { IsSure program.now present.new result.first }
+    {
+        program.valid();
+        let mut due = Marks::none();
+        let mut sure = NO_REACTION;
+        self.take_each(program, plan, &mut due, &mut sure, tag, present);
+        self.repeat_each(program, tag, due, present);
+        Concerned {
+            marks: due,
+            first: sure,
+        }
+    }
+
     /// Makes the targets of the entries at the tag present, and takes these entries out. Whom they concern is due, and
     /// the first reaction that the last one triggers is sure.
     #[inline(always)]
-    pub(crate) fn take_entries(
+    fn take_each(
         &mut self,
         program: &Program,
         plan: &Plan,
@@ -54,6 +186,17 @@ impl State {
             present,
         );
         self.pending.drop_front(count);
+    }
+}
+
+/// Whether the entry at an index is there and at the tag.
+#[inline(always)]
+fn is_at(entries: &[Waiting], index: usize, tag: Tag) -> bool
+    ensures { result ≡ option_map_or (λ w. is_same w.tag tag) (slice_get entries.now index) false }
+{
+    match entries.get(index) {
+        Some(entry) => entry.tag.is_same(tag),
+        None => false,
     }
 }
 

@@ -1,5 +1,5 @@
 //! What a step enters into the pending entries: timers that repeat, wishes, and what links with a delay deliver.
-ghost use Rattle.std.specs.Prelude.{◌≡◌, ◌<◌, ◌≤◌, IsTrue, length, map, pos, replicate, List, [], if◌then◌else◌};
+ghost use Rattle.std.specs.Prelude.{◌≡◌, ◌<◌, ◌≤◌, IsTrue, length, map, nat_lt, pos, replicate, List, [], if◌then◌else◌};
 ghost use Rattle.std.specs.List.{list_all};
 ghost use Rattle.warp_tag.specs.Limits.{longest_period};
 ghost use Rattle.warp_body.specs.Presence.{places_of, present_at};
@@ -21,51 +21,8 @@ use warp_body::{Present, Target, Wish, Wishes};
 use warp_tag::Tag;
 
 impl State {
-    /// Makes each timer that is present and has a period pending again. Where none is due it is one test.
-    #[inline(always)]
-    pub(crate) fn repeat_timers(
-        &mut self,
-        program: &Program,
-        plan: &Plan,
-        tag: Tag,
-        due: Marks,
-        present: &Present,
-    )
-        requires time { tag.time ≤ program.now.stop }
-        requires places { places_of present.now ≡ program_places program.now }
-        requires plan { plan.now ≡ plan_of program.now }
-        requires due { AreDue program.now present.now due.word }
-        ensures { self.new ≡ with_repeats program.now tag present.now 0 program.now.timers self.old }
-    {
-        if due.meets(plan.timers()) {
-            self.repeat_due(program, tag, due, present);
-        }
-    }
-
-    /// Makes the timers that are due pending again. Nearly always it is one, and then nothing comes after it.
-    #[inline(never)]
-    fn repeat_due(&mut self, program: &Program, tag: Tag, due: Marks, present: &Present)
-        requires time { tag.time ≤ program.now.stop }
-        requires places { places_of present.now ≡ program_places program.now }
-        requires due { AreDue program.now present.now due.word }
-        ensures { self.new ≡ with_repeats program.now tag present.now 0 program.now.timers self.old }
-    {
-        program.valid();
-        let timers = program.timers();
-        let start = first_timer(program);
-        let limit = start + timers.len();
-        let mark = due.next(start, limit);
-        if mark == limit || due.after(mark, limit) < limit {
-            self.repeat_each(program, tag, due, present);
-            return;
-        }
-        let number = mark - start;
-        self.repeat_timer(program, tag, present, number as u32, &timers[number]);
-    }
-
     /// Looks at the timers that are due, and makes each that is present and has a period pending again.
-    #[inline(never)]
-    fn repeat_each(&mut self, program: &Program, tag: Tag, due: Marks, present: &Present)
+    pub(crate) fn repeat_each(&mut self, program: &Program, tag: Tag, due: Marks, present: &Present)
         requires time { tag.time ≤ program.now.stop }
         requires places { places_of present.now ≡ program_places program.now }
         requires due { AreDue program.now present.now due.word }
@@ -75,17 +32,17 @@ impl State {
         let timers = program.timers();
         let first = first_timer(program);
         let end = first + timers.len();
-        let mut mark = due.next(first, end);
+        let mut mark = due.next(first);
         while mark < end {
             let number = mark - first;
-            self.repeat_timer(program, tag, present, number as u32, &timers[number]);
-            mark = due.after(mark, end);
+            self.repeat_if_present(program, tag, present, number as u32, &timers[number]);
+            mark = due.after(mark);
         }
     }
 
     /// Makes the timer with this number pending again if it is present and has a period.
     #[inline(always)]
-    fn repeat_timer(
+    fn repeat_if_present(
         &mut self,
         program: &Program,
         tag: Tag,
@@ -100,9 +57,22 @@ impl State {
             then landed program.now tag timer.now.period (to.Timer number) (pos 0) self.old
             else self.old) }
     {
-        let target = Target::Timer(number);
-        if timer.period > 0 && present.get(target).is_some() {
-            self.land(program, tag, timer.period, target, 0);
+        if present.get(Target::Timer(number)).is_some() {
+            self.repeat_timer(program, tag, number, timer);
+        }
+    }
+
+    /// Makes the timer with this number, which is present, pending again if it has a period.
+    #[inline(always)]
+    pub(crate) fn repeat_timer(&mut self, program: &Program, tag: Tag, number: u32, timer: &Timer)
+        requires time { tag.time ≤ program.now.stop }
+        requires period { timer.now.period ≤ longest_period }
+        ensures { self.new ≡ (if nat_lt 0 timer.now.period
+            then landed program.now tag timer.now.period (to.Timer number) (pos 0) self.old
+            else self.old) }
+    {
+        if timer.period > 0 {
+            self.land(program, tag, timer.period, Target::Timer(number), 0);
         }
     }
 
@@ -197,10 +167,10 @@ impl State {
         let links = program.links();
         let first = first_link(program);
         let end = first + links.len();
-        let mut mark = due.next(first, end);
+        let mut mark = due.next(first);
         while mark < end {
             self.deliver_link(program, tag, present, &links[mark - first]);
-            mark = due.after(mark, end);
+            mark = due.after(mark);
         }
     }
 

@@ -86,29 +86,25 @@ impl Marks {
         self.word & other.word != 0
     }
 
-    /// The least number that may be in the set from one on, else a limit: no number before it is in the set.
+    /// The least number that may be in the set from one on: no number before it is in the set. It may be past all.
     #[inline(always)]
-    pub fn next(&self, from: usize, limit: usize) -> usize
-        requires order { from ≤ limit }
-        requires limit { limit ≤ most_marks }
+    pub fn next(&self, from: usize) -> usize
+        requires { from ≤ most_marks }
         ensures from { from ≤ result }
-        ensures limit { result ≤ limit }
         ensures between { (m : ℕ) → from ≤ m → m < result → mark_at self.now.word m ≡ 0 }
     {
         let ahead = self.word.rotate_right((from % 64) as u32);
-        (from + ahead.trailing_zeros() as usize).min(limit)
+        from + ahead.trailing_zeros() as usize
     }
 
-    /// The least number that may be in the set after one, else a limit: no number between them is in the set.
+    /// The least number that may be in the set after one: no number between them is in the set. It may be past all.
     #[inline(always)]
-    pub fn after(&self, number: usize, limit: usize) -> usize
-        requires order { number < limit }
-        requires limit { limit ≤ most_marks }
+    pub fn after(&self, number: usize) -> usize
+        requires { number < most_marks }
         ensures from { number + 1 ≤ result }
-        ensures limit { result ≤ limit }
         ensures between { (m : ℕ) → number + 1 ≤ m → m < result → mark_at self.now.word m ≡ 0 }
     {
         let ahead = self.word.rotate_right((number % 64) as u32) & !1;
-        (number + ahead.trailing_zeros() as usize).min(limit)
+        number + ahead.trailing_zeros() as usize
     }
 }

@@ -132,12 +132,10 @@ pub fn step<M: Meter>(
     ensures ticks { M.ticks meter.new ≡ M.ticks meter.old + 1 }
 {
     meter.tick();
-    let mut due = Marks::none();
-    advance(
+    let due = advance(
         program,
         state,
         &scratch.plan,
-        &mut due,
         &mut scratch.present,
         &mut scratch.wishes,
         tag,
@@ -146,19 +144,18 @@ pub fn step<M: Meter>(
     put_outputs(program, tag, due, &scratch.present, out);
 }
 
-/// Takes the state through the step, and leaves what is present after the reactions and whom that concerns.
-/// There are no wishes before, and none after.
+/// Takes the state through the step, leaves what is present after the reactions, and answers whom that concerns. There
+/// are no wishes before, and none after.
 #[inline(always)]
 fn advance(
     program: &Program,
     state: &mut State,
     plan: &Plan,
-    due: &mut Marks,
     present: &mut Present,
     wishes: &mut [Wishes],
     tag: Tag,
     given: &[Given],
-)
+) -> Marks
     requires plan { plan.now ≡ plan_of program.now }
     requires can { CanStep program.now state.old tag given.now }
     requires places { places_of present.old ≡ program_places program.now }
@@ -173,15 +170,23 @@ fn advance(
     ensures sources { present.new.sources ≡ present.old.sources }
     ensures bodies { length wishes.new ≡ length wishes.old }
     ensures none { lists_of wishes.new ≡ replicate (length wishes.new) [] }
-    ensures due { AreDue program.now present.new due.new.word }
+    ensures due { AreDue program.now present.new result.word }
 {
     program.valid();
     present.clear();
-    // No reaction has this number.
-    let mut sure = usize::MAX;
-    state.take_entries(program, plan, due, &mut sure, tag, present);
-    arrive(program, plan, due, &mut sure, given, present);
-    state.repeat_timers(program, plan, tag, *due, present);
-    let wished = run_reactions(program, plan, due, sure, &mut state.vars, present, wishes);
-    state.enter_later(program, plan, tag, *due, present, wishes, wished);
+    let taken = state.take_entries(program, plan, tag, present);
+    let mut due = taken.marks;
+    let mut sure = taken.first;
+    arrive(program, plan, &mut due, &mut sure, given, present);
+    let wished = run_reactions(
+        program,
+        plan,
+        &mut due,
+        sure,
+        &mut state.vars,
+        present,
+        wishes,
+    );
+    state.enter_later(program, plan, tag, due, present, wishes, wished);
+    due
 }

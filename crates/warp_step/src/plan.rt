@@ -4,7 +4,7 @@ ghost use Rattle.std.specs.List.{list_any};
 ghost use Rattle.warp_tag.specs.Limits.{most_reactions};
 ghost use Rattle.warp_body.specs.declared.place.Target.{Target};
 ghost use Rattle.warp_body.specs.declared.place.Target.TheVariants as to;
-ghost use Rattle.warp_step.specs.Marks.{first_link, first_reaction, first_timer, marks_from, most_marks, with_mark};
+ghost use Rattle.warp_step.specs.Marks.{first_link, first_reaction, marks_from, most_marks, no_marks, with_mark};
 ghost use Rattle.warp_step.specs.Plan.{first_heeding, heeds, heeds_any, is_port, link_heeds, most_places, numbered_place, output_heeds, place_number, place_numbers, place_of, reaction_heeds, timer_heeds, with_watchers};
 ghost use Rattle.warp_step.specs.Program.{rule_of};
 ghost use Rattle.warp_step.specs.Step.{marks_of, plan_of, sources_of};
@@ -186,12 +186,29 @@ fn place_number(place: Target) -> usize
     }
 }
 
-/// Whom the presence of a place concerns: their marks, and the number of the first reaction that it triggers, which is
-/// the number of reactions where it triggers none.
+/// Whom the presence of places concerns: their marks, and the number of the first reaction that one of them triggers.
+/// Where it triggers none, no reaction has this number.
 #[derive(Clone, Copy)]
 pub(crate) struct Concerned {
     pub(crate) marks: Marks,
     pub(crate) first: usize,
+}
+
+/// A number that no reaction has.
+pub(crate) const NO_REACTION: usize = usize::MAX;
+
+impl Concerned {
+    /// Nobody.
+    #[inline(always)]
+    pub fn none() -> Concerned
+        ensures marks { result.marks.word ≡ no_marks }
+        ensures first { most_reactions ≤ result.first }
+    {
+        Concerned {
+            marks: Marks::none(),
+            first: NO_REACTION,
+        }
+    }
 }
 
 /// The number of the first reaction that the place may trigger, else the number of reactions.
@@ -268,13 +285,12 @@ fn after_reactions(
 }
 
 /// Whom each place of a program concerns, by the place's number, and the marks of those whom what each reaction writes
-/// does; and the marks of all links and of all timers.
+/// does; and the marks of all links.
 #[derive(Drop)]
 pub(crate) struct Plan {
     places: Vec<Concerned>,
     after: Vec<Marks>,
     links: Marks,
-    timers: Marks,
 }
 
 impl Model for Plan {
@@ -288,7 +304,6 @@ impl Model for Plan {
       firsts = map (λ one. one.first) p.places.items;
       after = map (λ marks. marks.word) p.after.items;
       links = p.links.word;
-      timers = p.timers.word;
     } };
 }
 
@@ -304,7 +319,6 @@ impl Plan {
             places,
             after,
             links: all_links(program),
-            timers: all_timers(program),
         })
     }
 
@@ -334,14 +348,6 @@ impl Plan {
     {
         self.links
     }
-
-    /// The marks of all timers.
-    #[inline(always)]
-    pub fn timers(&self) -> Marks
-        ensures { result.word ≡ self.now.timers }
-    {
-        self.timers
-    }
 }
 
 /// The marks of all links of a program.
@@ -349,11 +355,4 @@ fn all_links(program: &Program) -> Marks
     ensures { result.word ≡ marks_from (first_link program.now) (length program.now.links) }
 {
     Marks::range(first_link(program), program.links().len())
-}
-
-/// The marks of all timers of a program.
-fn all_timers(program: &Program) -> Marks
-    ensures { result.word ≡ marks_from (first_timer program.now) (length program.now.timers) }
-{
-    Marks::range(first_timer(program), program.timers().len())
 }

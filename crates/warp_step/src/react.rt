@@ -147,7 +147,7 @@ pub(crate) fn run_reactions(
     let reactions = program.reactions();
     let count = reactions.len();
     let mut wished = false;
-    let mut number = due.next(0, count);
+    let mut number = due.next(0);
     let mut is_sure = number == sure;
     while number < count {
         let after = plan.after(number);
@@ -162,7 +162,7 @@ pub(crate) fn run_reactions(
             wishes,
         );
         is_sure = false;
-        number = due.after(number, count);
+        number = due.after(number);
     }
     wished
 }
@@ -226,11 +226,11 @@ fn put_due_outputs(program: &Program, tag: Tag, due: Marks, present: &Present, o
     let ports = program.outputs();
     let first = first_output(program);
     let end = first + ports.len();
-    let mut mark = due.next(first, end);
+    let mut mark = due.next(first);
     while mark < end {
         let number = mark - first;
         put_output(number as u32, ports[number], tag, present, out);
-        mark = due.after(mark, end);
+        mark = due.after(mark);
     }
 }
 

@@ -3,5 +3,5 @@ use Rattle.std.proofs.Common.{ap, ◌∙◌}
 use Rattle.warp_step.specs.Step.{Room}
 use Rattle.warp_step.proofs.one_step.step.Goals as goal
 
-pub advance-requires-clause-plan : goal.advance-requires-clause-plan
-advance-requires-clause-plan g c = ap (λ (r : Room). r.plan) (c.scratch.view_is ∙ c.requires.scratch)
+pub advance-due-requires-clause-plan : goal.advance-due-requires-clause-plan
+advance-due-requires-clause-plan g c = ap (λ (r : Room). r.plan) (c.scratch.view_is ∙ c.requires.scratch)

@@ -20,12 +20,6 @@ overflow_cast-number c =
     let same = ap length c.outputs-ports.ensures in
     omega (arith, few, same, c.loop-mark-test.true)
 
-pub after-mark-requires-clause-limit : goal.after-mark-requires-clause-limit
-after-mark-requires-clause-limit c =
-    let few : length c.args.program.now.outputs ≤ most_outputs = (validity c.args.program.now c.valid.ensures).limits.outputs in
-    let same = ap length c.outputs-ports.ensures in
-    omega (arith, few, same)
-
 pub put_output-requires : goal.put_output-requires
 put_output-requires c =
     let P = c.args.program.now in
@@ -48,12 +42,11 @@ loop-mark-init c =
     let due = subst (λ (at : ℕ). AreMarked output_heeds at P.outputs c.args.present.now c.args.due.word) (sym c.first_output-first.ensures.first) c.requires.due.outputs in
     let len : length c.outputs-ports.result.now ≡ length P.outputs = ap length c.outputs-ports.ensures in
     let skipped = skip_outputs P c.args.tag c.args.present.now c.args.due.word first due first c.next-mark.result (omega arith)
-    c.next-mark.ensures.from (omega (arith, len, c.next-mark.ensures.limit)) c.next-mark.ensures.between in
+    c.next-mark.ensures.from c.next-mark.ensures.between in
     let none : first - first ≡ 0 = omega arith in
     let outs = λ (k : ℕ). outputs_from k c.args.tag c.args.present.now (drop k P.outputs) in
     record {
       first = c.next-mark.ensures.from;
-      within = c.next-mark.ensures.limit;
       rest = ap (λ (more : List Out). c.args.out.now.items ++ more) (sym skipped ∙ ap outs none);
       room = omega (arith, c.requires.room);
       capacity = omega arith;
@@ -73,7 +66,7 @@ loop-mark-preserved c =
     let lt : n < length P.outputs = omega (arith, len, starts, c.loop-mark-test.true) in
     let next = c.after-mark in
     let skipped = skip_outputs P t present c.args.due.word first due (c.loop-mark.mark + 1) next.result (omega (arith, starts))
-    next.ensures.from (omega (arith, len, next.ensures.limit)) next.ensures.between in
+    next.ensures.from next.ensures.between in
     let after : c.loop-mark.mark + 1 - c.first_output-first.result ≡ n + 1 = omega (arith, starts) in
     let put = c.put_output.ensures.outputs in
     let room = c.loop-mark.invariant.room in
@@ -83,7 +76,6 @@ loop-mark-preserved c =
     let further = next.ensures.from in
     record {
       first = omega (arith, starts, further);
-      within = next.ensures.limit;
       rest = ap (λ (outs : List Out). c.put_output.new.out.items ++ outs) (sym skipped)
           ∙ ap (λ (k : ℕ). c.put_output.new.out.items ++ outputs_from k t present (drop k P.outputs)) after
           ∙ ap (λ (outs : List Out). outs ++ outputs_from (n + 1) t present (drop (n + 1) P.outputs)) put

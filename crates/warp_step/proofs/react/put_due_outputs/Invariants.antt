@@ -6,7 +6,6 @@ use Rattle.warp_step.proofs.react.put_due_outputs.Given as goal
 abbrev pub invariant-loop-mark : goal.invariant-loop-mark
 invariant-loop-mark l = record {
   first : l.first ≤ l.mark;
-  within : l.mark ≤ l.end;
   rest : l.out.items ++ outputs_from (l.mark - l.first) l.tag l.present (drop (l.mark - l.first) l.program.outputs)
       ≡ l.fn.out.items ++ outputs_from 0 l.tag l.present l.program.outputs;
   room : vec_len l.out + length l.program.outputs ≤ vec_capacity l.out + (l.mark - l.first);

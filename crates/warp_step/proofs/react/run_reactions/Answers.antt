@@ -42,12 +42,6 @@ after_in_plan P plan n rule is lt at =
     ∙ get_or-map (λ (r : Rule). marks_of P (filter is_port r.writes)) P.reactions n rule 0 lt
     ∙ ap (λ (r : Rule). marks_of P (filter is_port r.writes)) (sym at)
 
-pub next-number-requires-clause-limit : goal.next-number-requires-clause-limit
-next-number-requires-clause-limit c = few c.args.program.now c.reactions-reactions.result.now c.valid.ensures c.reactions-reactions.ensures
-
-pub after-number-requires-clause-limit : goal.after-number-requires-clause-limit
-after-number-requires-clause-limit c = few c.args.program.now c.reactions-reactions.result.now c.valid.ensures c.reactions-reactions.ensures
-
 pub after-after-requires : goal.after-after-requires
 after-after-requires c =
     let P = c.args.program.now in
@@ -63,9 +57,8 @@ loop-number-init c =
     let start = λ (wss : List (List Wish)). after_reactions P (order_of P) (record { vars = c.args.vars.now; present = c.args.present.now; wishes = wss }) in
     let now : Reacting = record { vars = c.args.vars.now; present = c.args.present.now; wishes = lists_of c.args.wishes.now } in
     let skipped = skip_reactions P now c.args.due.now.word c.requires.due.reactions 0 c.next-number.result c.next-number.ensures.from
-    (omega (arith, count, c.next-number.ensures.limit)) c.next-number.ensures.between in
+    c.next-number.ensures.between in
     record {
-      within = c.next-number.ensures.limit;
       rest = sym skipped ∙ ap start c.requires.wishes;
       vars = refl;
       places = refl;
@@ -122,10 +115,8 @@ loop-number-preserved c =
     let now : Reacting = record { vars = c.loop-number.vars; present = c.loop-number.present; wishes = lists_of c.loop-number.wishes } in
     let due = ran.ensures.due P c.valid.ensures may own (c.after-after.ensures ∙ after_in_plan P c.args.plan.now n rule c.requires.plan at.0 at.1) c.loop-number.invariant.due in
     let next = c.after-number in
-    let skipped = skip_reactions P after ran.new.due.word due.reactions (n + 1) next.result next.ensures.from
-    (omega (arith, count, next.ensures.limit)) next.ensures.between in
+    let skipped = skip_reactions P after ran.new.due.word due.reactions (n + 1) next.result next.ensures.from next.ensures.between in
     record {
-      within = next.ensures.limit;
       rest = sym skipped ∙ ap (λ (r : Reacting). after_reactions P (numbers (n + 1) (drop (n + 1) P.reactions)) r) ran.ensures.effect
           ∙ sym (after_one_more P n rule now at.0 at.1) ∙ c.loop-number.invariant.rest;
       vars = ran.ensures.vars ∙ c.loop-number.invariant.vars;

@@ -13,7 +13,6 @@ use Rattle.warp_step.proofs.react.run_reactions.Given as goal
 
 abbrev pub invariant-loop-number : goal.invariant-loop-number
 invariant-loop-number l = record {
-  within : l.number ≤ l.count;
   rest : after_reactions l.program (numbers l.number (drop l.number l.program.reactions))
       (record { vars = l.vars; present = l.present; wishes = lists_of l.wishes })
       ≡ after_reactions l.program (order_of l.program)

@@ -6,7 +6,7 @@ use Rattle.warp_step.proofs.MarkLemmas.{others_stay, past_lowest, turned, zeros_
 use Rattle.warp_step.proofs.marks.Marks.after.Goals as goal
 
 pub returns-clause-from : goal.returns-clause-from
-returns-clause-from c = omega (arith, c.requires.order, c.min.ensures, past_lowest c.rotate_right.result)
+returns-clause-from c = omega (arith, past_lowest c.rotate_right.result)
 
 pub returns-clause-between : goal.returns-clause-between
 returns-clause-between c = λ m from l.
@@ -14,7 +14,7 @@ returns-clause-between c = λ m from l.
     let turn = c.rotate_right.result in
     let ahead = bit_and turn 18446744073709551614 in
     let i = m - c.args.number in
-    let run : i < trailing_zeros w64 ahead = omega (arith, from, l, c.min.ensures) in
+    let run : i < trailing_zeros w64 ahead = omega (arith, from, l) in
     let short : i < 64 = omega (arith, run, trailing_le 64 ahead) in
     let fits : ahead < 2 ^ 64 = omega (arith, and_le_r turn 18446744073709551614) in
     let zero : bit_at (rotate_right w64 word (c.args.number % 64)) i ≡ 0 =

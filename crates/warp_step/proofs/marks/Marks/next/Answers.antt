@@ -10,7 +10,7 @@ returns-clause-between c = λ m from l.
     let word = c.args.self.now.word in
     let ahead = c.rotate_right-ahead.result in
     let i = m - c.args.from in
-    let run : i < trailing_zeros w64 ahead = omega (arith, from, l, c.min.ensures) in
+    let run : i < trailing_zeros w64 ahead = omega (arith, from, l) in
     let short : i < 64 = omega (arith, run, trailing_le 64 ahead) in
     let zero : bit_at (rotate_right w64 word (c.args.from % 64)) i ≡ 0 =
     ap (λ (w : ℕ). bit_at w i) (sym c.rotate_right-ahead.ensures) ∙ zeros_below ahead i c.rotate_right-ahead.type_inv run in

@@ -7,5 +7,4 @@ returns c = λ i. record {
   firsts = c.in_ok-places.ensures.firsts i;
   after = c.in_ok-after.ensures i;
   links = c.all_links.ensures i;
-  timers = c.all_timers.ensures i;
 }

@@ -29,9 +29,8 @@ loop-mark-init c =
     let none : first - first ≡ 0 = omega arith in
     record {
       first = c.next-mark.ensures.from;
-      within = c.next-mark.ensures.limit;
       rest = sym (skip_links P c.args.tag c.args.present.now c.args.self.now c.args.due.word first due first c.next-mark.result (omega arith)
-          c.next-mark.ensures.from (omega (arith, len, c.next-mark.ensures.limit)) c.next-mark.ensures.between)
+          c.next-mark.ensures.from c.next-mark.ensures.between)
           ∙ ap (λ (k : ℕ). with_links P c.args.tag c.args.present.now (drop k P.links) c.args.self.now) none;
     }
 
@@ -52,11 +51,10 @@ loop-mark-preserved c =
     let next = c.after-mark in
     let new = c.deliver_link.new.self in
     let skipped = skip_links P t present new c.args.due.word first due (c.loop-mark.mark + 1) next.result (omega (arith, starts))
-    next.ensures.from (omega (arith, len, next.ensures.limit)) next.ensures.between in
+    next.ensures.from next.ensures.between in
     let after : c.loop-mark.mark + 1 - c.first_link-first.result ≡ n + 1 = omega (arith, starts) in
     record {
       first = omega (arith, starts, next.ensures.from);
-      within = next.ensures.limit;
       rest = sym skipped
           ∙ ap (λ (k : ℕ). with_links P t present (drop k P.links) new) after
           ∙ ap (λ (s : Snapshot). with_links P t present (drop (n + 1) P.links) s) c.deliver_link.ensures

@@ -6,7 +6,6 @@ use Rattle.warp_step.proofs.state.State.deliver_due.Given as goal
 abbrev pub invariant-loop-mark : goal.invariant-loop-mark
 invariant-loop-mark l = record {
   first : l.first ≤ l.mark;
-  within : l.mark ≤ l.end;
   rest : with_links l.program l.tag l.present (drop (l.mark - l.first) l.program.links) l.self
       ≡ with_links l.program l.tag l.present l.program.links l.fn.self;
 }

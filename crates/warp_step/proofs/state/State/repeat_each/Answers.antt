@@ -1,23 +1,16 @@
 -- a timer's period is a delay that lands; timers that are not marked do not repeat
-use Rattle.std.proofs.Common.{◌≡◌, ℕ, ◌+◌, ◌-◌, ◌<◌, ◌≤◌, List, length, drop, get_or, ap, sym, ◌∙◌, subst, arith}
-use Rattle.warp_tag.specs.Limits.{most_timers}
+use Rattle.std.proofs.Common.{◌≡◌, ℕ, ◌+◌, ◌-◌, ◌<◌, List, length, drop, get_or, ap, sym, ◌∙◌, subst, arith}
 use Rattle.warp_step.specs.Plan.{timer_heeds}
 use Rattle.warp_step.specs.Step.{with_repeats}
 use Rattle.warp_step.specs.Snapshot.{Snapshot}
 use Rattle.warp_step.specs.declared.parts.Timer.{Timer}
 use Rattle.warp_step.specs.inner.Due.{AreMarked}
 use Rattle.warp_step.proofs.SkipLemmas.{get_or_same, skip_timers, timers_one_more}
-use Rattle.warp_step.proofs.ValidLemmas.{timer_period, validity}
+use Rattle.warp_step.proofs.ValidLemmas.{timer_period}
 use Rattle.warp_step.proofs.state.State.repeat_each.Goals as goal
 
-pub after-mark-requires-clause-limit : goal.after-mark-requires-clause-limit
-after-mark-requires-clause-limit c =
-    let few : length c.args.program.now.timers ≤ most_timers = (validity c.args.program.now c.valid.ensures).limits.timers in
-    let same = ap length c.timers-timers.ensures in
-    omega (arith, few, same)
-
-pub repeat_timer-requires-clause-period : goal.repeat_timer-requires-clause-period
-repeat_timer-requires-clause-period c =
+pub repeat_if_present-requires-clause-period : goal.repeat_if_present-requires-clause-period
+repeat_if_present-requires-clause-period c =
     let P = c.args.program.now in
     let n = c.loop-mark.mark - c.first_timer-first.result in
     let some : Timer = record { reactor = 0; offset = 0; period = 0 } in
@@ -36,9 +29,8 @@ loop-mark-init c =
     let none : first - first ≡ 0 = omega arith in
     record {
       first = c.next-mark.ensures.from;
-      within = c.next-mark.ensures.limit;
       rest = sym (skip_timers P c.args.tag c.args.present.now c.args.self.now c.args.due.word first due first c.next-mark.result (omega arith)
-          c.next-mark.ensures.from (omega (arith, len, c.next-mark.ensures.limit)) c.next-mark.ensures.between)
+          c.next-mark.ensures.from c.next-mark.ensures.between)
           ∙ ap (λ (k : ℕ). with_repeats P c.args.tag c.args.present.now k (drop k P.timers) c.args.self.now) none;
     }
 
@@ -57,16 +49,15 @@ loop-mark-preserved c =
     let lt : n < length P.timers = omega (arith, len, starts, c.loop-mark-test.true) in
     let is : timer ≡ get_or P.timers n timer = ap (λ (ts : List Timer). get_or ts n some) c.timers-timers.ensures ∙ get_or_same P.timers n some timer lt in
     let next = c.after-mark in
-    let new = c.repeat_timer.new.self in
+    let new = c.repeat_if_present.new.self in
     let skipped = skip_timers P t present new c.args.due.word first due (c.loop-mark.mark + 1) next.result (omega (arith, starts))
-    next.ensures.from (omega (arith, len, next.ensures.limit)) next.ensures.between in
+    next.ensures.from next.ensures.between in
     let after : c.loop-mark.mark + 1 - c.first_timer-first.result ≡ n + 1 = omega (arith, starts) in
     record {
       first = omega (arith, starts, next.ensures.from);
-      within = next.ensures.limit;
       rest = sym skipped
           ∙ ap (λ (k : ℕ). with_repeats P t present k (drop k P.timers) new) after
-          ∙ ap (λ (s : Snapshot). with_repeats P t present (n + 1) (drop (n + 1) P.timers) s) c.repeat_timer.ensures
+          ∙ ap (λ (s : Snapshot). with_repeats P t present (n + 1) (drop (n + 1) P.timers) s) c.repeat_if_present.ensures
           ∙ sym (timers_one_more P t present n timer c.loop-mark.self lt is)
           ∙ c.loop-mark.invariant.rest;
     }

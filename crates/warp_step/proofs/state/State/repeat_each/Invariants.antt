@@ -6,7 +6,6 @@ use Rattle.warp_step.proofs.state.State.repeat_each.Given as goal
 abbrev pub invariant-loop-mark : goal.invariant-loop-mark
 invariant-loop-mark l = record {
   first : l.first ≤ l.mark;
-  within : l.mark ≤ l.end;
   rest : with_repeats l.program l.tag l.present (l.mark - l.first) (drop (l.mark - l.first) l.program.timers) l.self
       ≡ with_repeats l.program l.tag l.present 0 l.program.timers l.fn.self;
 }
