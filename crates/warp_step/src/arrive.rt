@@ -108,7 +108,15 @@ impl State {
         // A timer is what is mostly pending: where its kind is known, nothing asks for it again.
         match target {
             Target::Timer(n) => {
-                put(program, plan, &mut due, &mut sure, present, Target::Timer(n), value);
+                put(
+                    program,
+                    plan,
+                    &mut due,
+                    &mut sure,
+                    present,
+                    Target::Timer(n),
+                    value,
+                );
                 self.repeat_timer(program, tag, n, &program.timers()[n as usize]);
             }
             _ => put(program, plan, &mut due, &mut sure, present, target, value),
