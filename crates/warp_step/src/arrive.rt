@@ -53,13 +53,7 @@ impl State {
     /// Makes the target of the first entry present, which alone is at the tag, takes the entry out, and makes its
     /// target pending again if it is a timer with a period. Answers whom it concerns.
     #[inline(always)]
-    fn take_one(
-        &mut self,
-        program: &Program,
-        plan: &Plan,
-        tag: Tag,
-        present: &mut Present,
-    ) -> Marks
+    fn take_one(&mut self, program: &Program, plan: &Plan, tag: Tag, present: &mut Present) -> Marks
         requires state { IsStateOf program.now self.old }
         requires time { tag.time ≤ program.now.stop }
         requires some { 0 < length self.old.pending }

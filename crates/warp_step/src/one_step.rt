@@ -176,14 +176,7 @@ fn advance(
     present.clear();
     let mut due = state.take_entries(program, plan, tag, present);
     arrive(program, plan, &mut due, given, present);
-    let wished = run_reactions(
-        program,
-        plan,
-        &mut due,
-        &mut state.vars,
-        present,
-        wishes,
-    );
+    let wished = run_reactions(program, plan, &mut due, &mut state.vars, present, wishes);
     state.enter_later(program, plan, tag, due, present, wishes, wished);
     due
 }
