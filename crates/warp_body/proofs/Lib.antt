@@ -1,3 +1,4 @@
 pub mod Bodies
 pub mod SlotLemmas
+pub mod SumLemmas
 pub mod Terms

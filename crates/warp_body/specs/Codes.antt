@@ -232,3 +232,12 @@ term_code =
 abbrev pub body_code : Coded Body
 body_code =
     code_by (List Mark) marks_code (λ b. spelled_body b []) (λ ms. newest_body (read ms nothing_read)) (λ b. ap newest_body (read-spelled_body b [] nothing_read))
+
+-- the first statement of a body, in an empty one a set of variable 0 to 0
+abbrev pub first_statement : Body → Statement
+first_statement Done = SetVariable 0 (Constant (pos 0))
+first_statement (Then s rest) = s
+
+-- a statement is stored as the body of it alone
+abbrev pub statement_code : Coded Statement
+statement_code = code_by Body body_code (λ s. Then s Done) first_statement (λ s. refl)

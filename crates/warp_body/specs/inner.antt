@@ -1,2 +1,3 @@
 -- What the code keeps inside and no public contract cites.
 pub mod Slots
+pub mod Sums

@@ -5,14 +5,17 @@
 //! Arithmetic wraps in 64 bits. Nothing here takes memory but `Present::new` and the copies.
 #![tactic(auto)]
 
+mod code;
 mod expr;
 mod operator;
 mod place;
 mod slots;
 mod stmt;
+mod sum;
 #[cfg(test)]
 mod tests;
 
+pub use code::Code;
 pub use expr::{Expr, eval};
 pub use operator::{BinaryOperator, UnaryOperator};
 pub use place::{Places, Present, Sizes, Target, Vars};

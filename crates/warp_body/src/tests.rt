@@ -1,10 +1,11 @@
 //! What no clause says: that the calls succeed, and worked values at concrete types.
 ghost use Rattle.std.specs.Prelude.{◌≡◌};
 ghost use Rattle.warp_body.specs.Term.{sizes_of};
+ghost use Rattle.warp_body.specs.Effect.{statements_of};
 
 use crate::{
-    BinaryOperator, Expr, Places, Present, Sizes, Stmt, Target, UnaryOperator, Vars, Wish, Wishes,
-    copy_body, eval, fits, run_body, same_body,
+    BinaryOperator, Code, Expr, Places, Present, Sizes, Stmt, Target, UnaryOperator, Vars, Wish,
+    Wishes, copy_body, eval, fits, run_body, same_body,
 };
 use std::alloc::Global;
 use std::process::Abort;
@@ -305,6 +306,219 @@ fn effect_of_a_nested_choice(rt: HostRuntime) -> Result<(), Fail> {
     ];
     assert_eq!(rt; wishes.as_slice(), wanted.as_slice());
     Ok(())
+}
+
+/// Runs a body that is ready, and fits.
+fn run_ready(
+    rt: &impl Abort,
+    code: &Code,
+    body: &[Stmt],
+    vars: &mut Vars,
+    present: &mut Present,
+    wishes: &mut Wishes,
+)
+    requires { code.now ≡ statements_of body.now }
+{
+    assert!(rt;
+        fits(body, sizes(vars, present), wishes.remaining_capacity()),
+        "{body:?}"
+    );
+    code.run(vars, present, wishes);
+}
+
+/// What a target that is there is present with.
+fn found(rt: &impl Abort, present: &Present, target: Target) -> Option<i64> {
+    assert!(rt; target.fits(present.places()), "{target:?}");
+    present.get(target)
+}
+
+/// Port 1 with 9 and action 0 with 7: present, or at the tag before.
+fn places_after(rt: &impl Abort, alloc: Global, are_present: bool) -> Present {
+    let mut present = places(alloc).expect(rt, "memory");
+    put(rt, &mut present, Target::Port(1), 9);
+    put(rt, &mut present, Target::Action(0), 7);
+    if !are_present {
+        present.clear();
+    }
+    present
+}
+
+/// Three variables: 5, -3 and the greatest number.
+fn three(rt: &impl Abort, alloc: Global) -> Vars {
+    Vars::from_vec(Vec::from_array(alloc, [5, -3, GREATEST]).expect(rt, "memory"))
+}
+
+/// Runs a body as it is and made ready, which leaves the same, and answers the variables.
+fn both_ways(rt: &impl Abort, alloc: Global, body: &[Stmt], are_present: bool) -> Vars {
+    let code = Code::new(alloc, body).expect(rt, "memory");
+    let mut vars = three(rt, alloc);
+    let mut present = places_after(rt, alloc, are_present);
+    let mut wishes = Wishes::new();
+    run_ready(rt, &code, body, &mut vars, &mut present, &mut wishes);
+    let mut plain_vars = three(rt, alloc);
+    let mut plain_present = places_after(rt, alloc, are_present);
+    let mut plain_wishes = Wishes::new();
+    run(
+        rt,
+        body,
+        &mut plain_vars,
+        &mut plain_present,
+        &mut plain_wishes,
+    );
+    assert_eq!(rt; vars.as_slice(), plain_vars.as_slice(), "{body:?}");
+    assert_eq!(rt; wishes.as_slice(), plain_wishes.as_slice(), "{body:?}");
+    for target in [
+        Target::Port(0),
+        Target::Port(1),
+        Target::Port(2),
+        Target::Action(0),
+        Target::Action(1),
+    ] {
+        assert_eq!(rt;
+            found(rt, &present, target),
+            found(rt, &plain_present, target),
+            "{body:?} at {target:?}"
+        );
+    }
+    vars
+}
+
+/// So many times a value.
+fn times(rt: &impl Abort, alloc: Global, number: i64, expr: Expr) -> Expr {
+    binary(
+        rt,
+        alloc,
+        BinaryOperator::Multiply,
+        Expr::Number(number),
+        expr,
+    )
+}
+
+fn plus(rt: &impl Abort, alloc: Global, a: Expr, b: Expr) -> Expr {
+    binary(rt, alloc, BinaryOperator::Add, a, b)
+}
+
+fn minus(rt: &impl Abort, alloc: Global, a: Expr, b: Expr) -> Expr {
+    binary(rt, alloc, BinaryOperator::Subtract, a, b)
+}
+
+/// Sets variable 0 to the value, and puts it at port 0; with port 1 and action 0 absent, and then present.
+fn sum_is(rt: &impl Abort, alloc: Global, expr: Expr, absent: i64, present: i64) {
+    let body = body(
+        rt,
+        alloc,
+        [Stmt::Set(0, expr), Stmt::Put(0, Expr::Variable(0))],
+    );
+    for (are_present, want) in [(false, absent), (true, present)] {
+        let vars = both_ways(rt, alloc, &body, are_present);
+        assert_eq!(rt;
+            vars.as_slice(),
+            [want, -3, GREATEST].as_slice(),
+            "{body:?}"
+        );
+    }
+}
+
+/// One operand, and a number and a variable.
+#[test]
+fn sums_of_one_variable(rt: HostRuntime) {
+    let alloc = rt.alloc();
+    let v = Expr::Variable;
+    let n = Expr::Number;
+    sum_is(&rt, alloc, v(1), -3, -3);
+    sum_is(&rt, alloc, n(-4), -4, -4);
+    sum_is(&rt, alloc, times(&rt, alloc, 3, v(1)), -9, -9);
+    sum_is(&rt, alloc, times(&rt, alloc, LEAST, v(2)), LEAST, LEAST);
+    sum_is(&rt, alloc, plus(&rt, alloc, v(0), n(1)), 6, 6);
+    sum_is(&rt, alloc, plus(&rt, alloc, n(1), v(1)), -2, -2);
+    sum_is(&rt, alloc, minus(&rt, alloc, v(0), n(7)), -2, -2);
+    sum_is(&rt, alloc, minus(&rt, alloc, n(7), v(0)), 2, 2);
+    sum_is(&rt, alloc, plus(&rt, alloc, v(2), n(1)), LEAST, LEAST);
+    sum_is(&rt, alloc, minus(&rt, alloc, n(LEAST), v(2)), 1, 1);
+    let want = LEAST + 5;
+    sum_is(&rt, alloc, minus(&rt, alloc, v(0), n(LEAST)), want, want);
+}
+
+/// Two variables; what is not a sum beside them.
+#[test]
+fn sums_of_two_variables(rt: HostRuntime) {
+    let alloc = rt.alloc();
+    let v = Expr::Variable;
+    let twice = times(&rt, alloc, 2, v(0));
+    sum_is(&rt, alloc, plus(&rt, alloc, twice, v(1)), 7, 7);
+    let twice = times(&rt, alloc, 2, v(1));
+    sum_is(&rt, alloc, plus(&rt, alloc, v(0), twice), -1, -1);
+    sum_is(&rt, alloc, minus(&rt, alloc, v(0), v(1)), 8, 8);
+    sum_is(&rt, alloc, minus(&rt, alloc, v(1), v(0)), -8, -8);
+    let twice = binary(&rt, alloc, BinaryOperator::Multiply, v(2), Expr::Number(2));
+    sum_is(&rt, alloc, plus(&rt, alloc, twice, v(0)), 3, 3);
+    let wrapped = times(&rt, alloc, LEAST, v(0));
+    let want = GREATEST - 2;
+    sum_is(&rt, alloc, minus(&rt, alloc, v(1), wrapped), want, want);
+    let product = binary(&rt, alloc, BinaryOperator::Multiply, v(0), v(1));
+    sum_is(&rt, alloc, product, -15, -15);
+    sum_is(&rt, alloc, is_less(&rt, alloc, 0, 7), 1, 1);
+}
+
+/// A variable and a port or an action, absent and present; both are no sum.
+#[test]
+fn sums_with_places(rt: HostRuntime) {
+    let alloc = rt.alloc();
+    let v = Expr::Variable;
+    let port = Expr::Value(Target::Port(2));
+    sum_is(&rt, alloc, port, 0, 9);
+    let port = Expr::Value(Target::Port(1));
+    sum_is(&rt, alloc, plus(&rt, alloc, v(0), port), 5, 14);
+    let twice = times(&rt, alloc, 2, Expr::Value(Target::Port(2)));
+    sum_is(&rt, alloc, minus(&rt, alloc, v(1), twice), -3, -21);
+    let action = Expr::Value(Target::Action(0));
+    sum_is(&rt, alloc, minus(&rt, alloc, action, v(0)), -5, 2);
+    let twice = times(&rt, alloc, 2, Expr::Value(Target::Action(0)));
+    sum_is(&rt, alloc, plus(&rt, alloc, v(0), twice), 5, 19);
+    let port = Expr::Value(Target::Port(1));
+    let action = Expr::Value(Target::Action(0));
+    sum_is(&rt, alloc, plus(&rt, alloc, port, action), 0, 16);
+}
+
+/// Sums before and behind a scheduling and a choice, whose branches have sums too.
+fn mixed(rt: &impl Abort, alloc: Global) -> Vec<Stmt> {
+    let v = Expr::Variable;
+    let yes = body(
+        rt,
+        alloc,
+        [Stmt::Set(2, plus(rt, alloc, v(2), Expr::Number(1)))],
+    );
+    let no = body(rt, alloc, [Stmt::Put(0, v(1))]);
+    body(
+        rt,
+        alloc,
+        [
+            Stmt::Set(0, plus(rt, alloc, times(rt, alloc, 2, v(0)), v(1))),
+            Stmt::Schedule(1, 3, v(0)),
+            Stmt::Set(1, minus(rt, alloc, v(1), v(0))),
+            Stmt::If(is_less(rt, alloc, 0, 100), yes, no),
+            Stmt::Put(0, v(1)),
+        ],
+    )
+}
+
+#[test]
+fn bodies_that_are_ready(rt: HostRuntime) {
+    let alloc = rt.alloc();
+    let mixed = mixed(&rt, alloc);
+    let nested = nested(&rt, alloc);
+    let schedulings = schedulings(&rt, alloc, 16);
+    for are_present in [false, true] {
+        let vars = both_ways(&rt, alloc, &mixed, are_present);
+        assert_eq!(rt; vars.as_slice(), [7, -10, LEAST].as_slice());
+        let vars = both_ways(&rt, alloc, &nested, are_present);
+        let want = if are_present { 5 } else { 100 };
+        assert_eq!(rt; vars.as_slice(), [1, want, GREATEST].as_slice());
+        let vars = both_ways(&rt, alloc, &schedulings, are_present);
+        assert_eq!(rt; vars.as_slice(), [5, -3, GREATEST].as_slice());
+        let vars = both_ways(&rt, alloc, &[], are_present);
+        assert_eq!(rt; vars.as_slice(), [5, -3, GREATEST].as_slice());
+    }
 }
 
 /// So many schedulings of action 1, with delays and values in order.
