@@ -2,6 +2,7 @@
 -- outputs whose port it is, and the timer that it is. Each has its triggers.
 use Rattle.std.specs.Prelude.{ℕ, ◌+◌, ◌-◌, Bool, true, false, nat_lt, nat_eq, List, [], ◌∷◌, Option, None, Some, slice_index_or, if◌then◌else◌}
 use Rattle.std.specs.List.{list_any, range_with_len}
+use Rattle.warp_body.specs.Effect.{Body}
 use Rattle.warp_body.specs.Presence.{is_target}
 use Rattle.warp_body.specs.declared.place.Target.{Target}
 use Rattle.warp_body.specs.declared.place.Target.TheVariants as to
@@ -82,9 +83,11 @@ unfoldable pub place_numbers : List ℕ
 place_numbers = range_with_len 0 most_places
 
 -- Whom each place concerns, by the place's number, and whom what a reaction writes concerns, by the reaction's number: as marks.
--- The number of the first reaction that each place triggers, by the place's number. And the marks of all links.
+-- The number of the first reaction that each place triggers, by the place's number. The bodies of the reactions, by their numbers.
+-- And the marks of all links.
 pub record Plan : Type 0 where
   pub places : List ℕ
   pub firsts : List ℕ
+  pub bodies : List Body
   pub after : List ℕ
   pub links : ℕ

@@ -191,11 +191,13 @@ marks_of P places =
     (with_watchers link_heeds (first_link P) sources places 0 P.links
     (with_watchers reaction_heeds first_reaction sources places 0 P.reactions no_marks)))
 
--- whom each place of the program concerns, which reaction first, and whom what each reaction writes does, and all its links
+-- whom each place of the program concerns, which reaction first, the bodies of its reactions, whom what each writes concerns, and
+-- all its links
 abbrev pub plan_of : Program → Plan
 plan_of P = record {
   places = map (λ n. marks_of P (numbered_place n ∷ [])) place_numbers;
   firsts = map (λ n. first_heeding (sources_of P) (numbered_place n) 0 P.reactions) place_numbers;
+  bodies = map (λ rule. rule.body) P.reactions;
   after = map (λ rule. marks_of P (filter is_port rule.writes)) P.reactions;
   links = marks_from (first_link P) (length P.links);
 }

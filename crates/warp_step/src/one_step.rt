@@ -36,8 +36,11 @@ impl Model for Scratch {
     ghost use Rattle.std.specs.Prelude.{length};
     ghost use Rattle.warp_body.specs.Presence.{places_of};
     ghost use Rattle.warp_step.specs.Step.{Room};
+    ghost use Rattle.warp_step.specs.Codes.{room_code};
 
     ghost Value = { Room };
+
+    ghost coded = { room_code };
 
     ghost view = { λ s. record { places = places_of s.present; sources = s.present.sources; bodies = length s.wishes.items; plan = s.plan } };
 

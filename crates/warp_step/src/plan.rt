@@ -15,7 +15,7 @@ use crate::program::Program;
 use crate::reaction::Reaction;
 use std::alloc::Global;
 use std::marker::Model;
-use warp_body::Target;
+use warp_body::{Code, Target};
 use warp_tag::OutOfMemory;
 
 /// How many numbers places have.
@@ -267,42 +267,56 @@ fn ports_among(alloc: Global, targets: &[Target]) -> Result<Vec<Target>, OutOfMe
     Ok(ports)
 }
 
-/// Whom the ports that each reaction writes concern, by the number of the reaction.
-fn after_reactions(
+/// A reaction's body, ready to run, and the marks of those whom what the reaction writes concerns.
+#[derive(Drop)]
+pub(crate) struct Ready {
+    pub(crate) code: Code,
+    pub(crate) after: Marks,
+}
+
+/// The bodies of all reactions, ready to run, by the number of the reaction, and whom the ports that each writes concern.
+fn of_reactions(
     alloc: Global,
     program: &Program,
     sources: &[u32],
-) -> Result<Vec<Marks>, OutOfMemory>
+) -> Result<Vec<Ready>, OutOfMemory>
     requires { sources.now ≡ sources_of program.now }
-    ensures { IfOk result (λ all. map (λ marks. marks.word) all.items ≡ map (λ rule. marks_of program.now (filter is_port rule.writes)) program.now.reactions) }
+    ensures bodies { IfOk result (λ all. map (λ one. one.code) all.items ≡ map (λ rule. rule.body) program.now.reactions) }
+    ensures after { IfOk result (λ all. map (λ one. one.after.word) all.items ≡ map (λ rule. marks_of program.now (filter is_port rule.writes)) program.now.reactions) }
 {
     let mut all = Vec::with_capacity(alloc, program.reactions().len())?;
     for reaction in program.reactions() {
+        let code = Code::new(alloc, &reaction.body)?;
         let ports = ports_among(alloc, &reaction.writes)?;
-        all.push(marks_of(program, sources, &ports))?;
+        let after = marks_of(program, sources, &ports);
+        all.push(Ready { code, after })?;
     }
     Ok(all)
 }
 
-/// Whom each place of a program concerns, by the place's number, and the marks of those whom what each reaction writes
-/// does; and the marks of all links.
+/// Whom each place of a program concerns, by the place's number; the body of each reaction, ready to run, and the marks
+/// of those whom what it writes concerns; and the marks of all links.
 #[derive(Drop)]
 pub(crate) struct Plan {
     places: Vec<Concerned>,
-    after: Vec<Marks>,
+    reactions: Vec<Ready>,
     links: Marks,
 }
 
 impl Model for Plan {
     ghost use Rattle.std.specs.Prelude.{map};
     ghost use Rattle.warp_step.specs.Plan as specs;
+    ghost use Rattle.warp_step.specs.Codes.{plan_code};
 
     ghost Value = { specs.Plan };
+
+    ghost coded = { plan_code };
 
     ghost view = { λ p. record {
       places = map (λ one. one.marks.word) p.places.items;
       firsts = map (λ one. one.first) p.places.items;
-      after = map (λ marks. marks.word) p.after.items;
+      bodies = map (λ one. one.code) p.reactions.items;
+      after = map (λ one. one.after.word) p.reactions.items;
       links = p.links.word;
     } };
 }
@@ -314,10 +328,10 @@ impl Plan {
         ensures { IfOk result (λ plan. plan ≡ plan_of program.now) }
     {
         let places = of_places(alloc, program, sources)?;
-        let after = after_reactions(alloc, program, sources)?;
+        let reactions = of_reactions(alloc, program, sources)?;
         Ok(Plan {
             places,
-            after,
+            reactions,
             links: all_links(program),
         })
     }
@@ -332,13 +346,14 @@ impl Plan {
         self.places[place_number(place)]
     }
 
-    /// The marks of those whom what the reaction with this number writes concerns.
+    /// The body of the reaction with this number, and the marks of those whom what it writes concerns.
     #[inline(always)]
-    pub fn after(&self, number: usize) -> Marks
+    pub fn reaction(&self, number: usize) -> &Ready
         requires { number < length self.now.after }
-        ensures { result.word ≡ slice_index_or self.now.after number 0 }
+        ensures body { result.now.code ≡ slice_index_or self.now.bodies number result.now.code }
+        ensures after { result.now.after.word ≡ slice_index_or self.now.after number 0 }
     {
-        self.after[number]
+        &self.reactions[number]
     }
 
     /// The marks of all links.

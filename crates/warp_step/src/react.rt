@@ -16,10 +16,10 @@ ghost use Rattle.warp_step.specs.Step.{Reacting, after_reactions, is_triggered, 
 
 use crate::marks::{Marks, first_output};
 use crate::out::Out;
-use crate::plan::Plan;
+use crate::plan::{Plan, Ready};
 use crate::program::Program;
 use crate::reaction::Reaction;
-use warp_body::{Present, Target, Vars, Wishes, run_body};
+use warp_body::{Present, Target, Vars, Wishes};
 use warp_tag::Tag;
 
 /// Whether one of the reaction's triggers is present. Where that is sure they are not looked at.
@@ -76,13 +76,13 @@ fn is_one_present(targets: &[Target], present: &Present) -> bool
 }
 
 /// Runs the reaction with this number if it is triggered, and says whether it has wishes then. Whether it is may be sure
-/// before. Whom what it writes concerns is due then: those are the marks after it.
+/// before. Whom what it writes concerns is due then.
 #[inline(always)]
 fn run_reaction(
     is_sure: bool,
     number: usize,
     reaction: &Reaction,
-    after: Marks,
+    ready: &Ready,
     due: &mut Marks,
     vars: &mut Vars,
     present: &mut Present,
@@ -93,6 +93,7 @@ fn run_reaction(
     requires triggers { IsTrue (list_all (target_fits (places_of present.old)) (rule_of reaction.now).triggers) }
     requires body { IsTrue (body_fits (sizes_of vars.old present.old) (rule_of reaction.now).body) }
     requires room { schedules_of (rule_of reaction.now).body ≤ most_wishes }
+    requires code { ready.now.code ≡ (rule_of reaction.now).body }
     requires none { slice_index_or (lists_of wishes.old) number [] ≡ [] }
     ensures effect { record { vars = vars.new; present = present.new; wishes = lists_of wishes.new }
         ≡ react number (rule_of reaction.now) (record { vars = vars.old; present = present.old; wishes = lists_of wishes.old }) }
@@ -103,12 +104,12 @@ fn run_reaction(
         IsTrue (list_all (list_all (wish_fits (sizes_of vars.old present.old))) (lists_of wishes.new)) }
     ensures none { result ≡ false → lists_of wishes.new ≡ lists_of wishes.old }
     ensures due { (P : Program) → IsTrue (is_valid P) → IsTrue (rule_fits P (rule_of reaction.now)) → present.old.sources ≡ sources_of P
-        → after.word ≡ marks_of P (filter is_port (rule_of reaction.now).writes)
+        → ready.now.after.word ≡ marks_of P (filter is_port (rule_of reaction.now).writes)
         → AreDue P present.old due.old.word → AreDue P present.new due.new.word }
 {
     if triggered(is_sure, reaction, present) {
-        due.add_all(after);
-        run_body(&reaction.body, vars, present, &mut wishes[number]);
+        due.add_all(ready.after);
+        ready.code.run(vars, present, &mut wishes[number]);
         return !wishes[number].is_empty();
     }
     false
@@ -150,12 +151,12 @@ pub(crate) fn run_reactions(
     let mut number = due.next(0);
     let mut is_sure = number == sure;
     while number < count {
-        let after = plan.after(number);
+        let ready = plan.reaction(number);
         wished |= run_reaction(
             is_sure,
             number,
             &reactions[number],
-            after,
+            ready,
             due,
             vars,
             present,

@@ -5,7 +5,7 @@ use Rattle.std.specs.Prelude.{slice_set}
 use Rattle.std.proofs.lemmas.Bool.{cond-true}
 use Rattle.std.proofs.lemmas.List.{get_or-map, map-set}
 use Rattle.arrayvec.specs.ArrayVec.{ArrayVec}
-use Rattle.warp_body.specs.Effect.{Effect, effect_of, statements_of, wish_fits}
+use Rattle.warp_body.specs.Effect.{Body, Effect, effect_of, wish_fits}
 use Rattle.warp_body.specs.Term.{sizes_of}
 use Rattle.warp_body.specs.declared.stmt.Wish.{Wish}
 use Rattle.warp_step.specs.Program.{rule_of}
@@ -30,11 +30,11 @@ returns-then-triggered-clause-effect c =
     let none : (get_or W n room).items ≡ [] =
     sym (get_or-map (λ (w : ArrayVec Wish). w.items) W n room [] c.requires.number) ∙ c.requires.none in
     let effect =
-    c.run_body.ensures.effect
-    ∙ ap (λ ss. effect_of (statements_of ss) (record { vars = vars; present = present; wishes = (get_or W n room).items })) c.deref.ensures.value
+    c.run.ensures.effect
+    ∙ ap (λ (b : Body). effect_of b (record { vars = vars; present = present; wishes = (get_or W n room).items })) c.requires.code
     ∙ ap (λ (ws : List Wish). effect_of rule.body (record { vars = vars; present = present; wishes = ws })) none in
-    let lists : lists_of (slice_set W n c.run_body.new.wishes) ≡ slice_set (lists_of W) n (effect_in rule now).wishes =
-    map-set (λ (w : ArrayVec Wish). w.items) W n c.run_body.new.wishes
+    let lists : lists_of (slice_set W n c.run.new.wishes) ≡ slice_set (lists_of W) n (effect_in rule now).wishes =
+    map-set (λ (w : ArrayVec Wish). w.items) W n c.run.new.wishes
     ∙ ap (λ (e : Effect). slice_set (lists_of W) n e.wishes) effect in
     let ran = cond-true (is_triggered rule present) (record {
       vars = (effect_in rule now).vars;
@@ -51,11 +51,11 @@ returns-then-triggered-clause-wishes c = λ all.
     let fits = wish_fits (sizes_of c.args.vars.now c.args.present.now) in
     let none : [] ≡ (get_or W n room).items =
     sym (sym (get_or-map (λ (w : ArrayVec Wish). w.items) W n room [] c.requires.number) ∙ c.requires.none) in
-    let own : IsTrue (list_all fits c.run_body.new.wishes.items) =
-    c.run_body.ensures.wishes (subst (λ (ws : List Wish). IsTrue (list_all fits ws)) none refl) in
+    let own : IsTrue (list_all fits c.run.new.wishes.items) =
+    c.run.ensures.wishes (subst (λ (ws : List Wish). IsTrue (list_all fits ws)) none refl) in
     subst (λ (wss : List (List Wish)). IsTrue (list_all (list_all fits) wss))
-    (sym (map-set (λ (w : ArrayVec Wish). w.items) W n c.run_body.new.wishes))
-    (list_all_set (list_all fits) (lists_of W) n c.run_body.new.wishes.items all own)
+    (sym (map-set (λ (w : ArrayVec Wish). w.items) W n c.run.new.wishes))
+    (list_all_set (list_all fits) (lists_of W) n c.run.new.wishes.items all own)
 
 pub returns-then-triggered-clause-due : goal.returns-then-triggered-clause-due
 returns-then-triggered-clause-due c = λ P valid fits own after_is were.
@@ -64,7 +64,7 @@ returns-then-triggered-clause-due c = λ P valid fits own after_is were.
     let room = c.index-wishes-number.result in
     let now : Effect = record { vars = c.args.vars.now; present = c.args.present.now; wishes = (get_or W c.args.number room).items } in
     let effect =
-    c.run_body.ensures.effect ∙ ap (λ ss. effect_of (statements_of ss) now) c.deref.ensures.value in
+    c.run.ensures.effect ∙ ap (λ (b : Body). effect_of b now) c.requires.code in
     subst (λ (p : Presence). AreDue P p c.add_all.new.self.word) (sym (ap (λ (e : Effect). e.present) effect))
-    (due_after P (filter is_port rule.writes) c.args.present.now (effect_of rule.body now).present c.args.due.now.word c.args.after.word c.add_all.new.self.word
+    (due_after P (filter is_port rule.writes) c.args.present.now (effect_of rule.body now).present c.args.due.now.word c.args.ready.now.after.word c.add_all.new.self.word
     own (follows_body P rule fits now) after_is c.add_all.ensures were)

@@ -8,7 +8,7 @@ use Rattle.std.proofs.lemmas.List.{get_or-map, length-map, length-replicate}
 use Rattle.std.proofs.lemmas.Option.{slice_get-get_or}
 use Rattle.arrayvec.specs.ArrayVec.{ArrayVec}
 use Rattle.warp_tag.specs.Limits.{most_reactions}
-use Rattle.warp_body.specs.Effect.{body_fits, wish_fits}
+use Rattle.warp_body.specs.Effect.{Body, body_fits, wish_fits}
 use Rattle.warp_body.specs.Presence.{places_of, target_fits}
 use Rattle.warp_body.specs.Term.{sizes_of}
 use Rattle.warp_body.specs.declared.place.Places.{Places}
@@ -42,8 +42,16 @@ after_in_plan P plan n rule is lt at =
     ∙ get_or-map (λ (r : Rule). marks_of P (filter is_port r.writes)) P.reactions n rule 0 lt
     ∙ ap (λ (r : Rule). marks_of P (filter is_port r.writes)) (sym at)
 
-pub after-after-requires : goal.after-after-requires
-after-after-requires c =
+-- and its body
+body_in_plan : (P : Program) (plan : Plan) (n : ℕ) (rule : Rule) (body : Body) → plan ≡ plan_of P → n < length P.reactions → rule ≡ get_or P.reactions n rule
+    → slice_index_or plan.bodies n body ≡ rule.body
+body_in_plan P plan n rule body is lt at =
+    ap (λ (p : Plan). slice_index_or p.bodies n body) is
+    ∙ get_or-map (λ (r : Rule). r.body) P.reactions n rule body lt
+    ∙ ap (λ (r : Rule). r.body) (sym at)
+
+pub reaction-ready-requires : goal.reaction-ready-requires
+reaction-ready-requires c =
     let P = c.args.program.now in
     let count = count_is P c.reactions-reactions.result.now c.reactions-reactions.ensures in
     let len : length c.args.plan.now.after ≡ length P.reactions =
@@ -93,6 +101,7 @@ run_reaction-wished-requires c =
       triggers = subst (λ (p : Places). IsTrue (list_all (target_fits p) rule.triggers)) places fits.triggers;
       body = subst (λ (s : Sizes). IsTrue (body_fits s rule.body)) sizes fits.body;
       room = fits.room;
+      code = c.reaction-ready.ensures.body ∙ body_in_plan P c.args.plan.now n rule _ c.requires.plan at.0 at.1;
       none = c.loop-number.invariant.none n (omega arith);
     }
 
@@ -113,7 +122,7 @@ loop-number-preserved c =
     let ran = c.run_reaction-wished in
     let after : Reacting = record { vars = ran.new.vars; present = ran.new.present; wishes = lists_of ran.new.wishes } in
     let now : Reacting = record { vars = c.loop-number.vars; present = c.loop-number.present; wishes = lists_of c.loop-number.wishes } in
-    let due = ran.ensures.due P c.valid.ensures may own (c.after-after.ensures ∙ after_in_plan P c.args.plan.now n rule c.requires.plan at.0 at.1) c.loop-number.invariant.due in
+    let due = ran.ensures.due P c.valid.ensures may own (c.reaction-ready.ensures.after ∙ after_in_plan P c.args.plan.now n rule c.requires.plan at.0 at.1) c.loop-number.invariant.due in
     let next = c.after-number in
     let skipped = skip_reactions P after ran.new.due.word due.reactions (n + 1) next.result next.ensures.from next.ensures.between in
     record {

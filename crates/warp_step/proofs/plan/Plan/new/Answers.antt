@@ -5,6 +5,7 @@ pub returns : goal.returns
 returns c = λ i. record {
   places = c.in_ok-places.ensures.marks i;
   firsts = c.in_ok-places.ensures.firsts i;
-  after = c.in_ok-after.ensures i;
+  bodies = c.in_ok-reactions.ensures.bodies i;
+  after = c.in_ok-reactions.ensures.after i;
   links = c.all_links.ensures i;
 }
