@@ -59,11 +59,13 @@ impl Links {
     };
 }
 
-/// Where a node comes in: the places behind which it stands in the tag list and in its origin's list.
+/// Where a node comes in: the places between which it stands in the tag list and in its origin's list.
 #[derive(Clone, Copy)]
 pub(crate) struct Gap {
     pub before: u32,
+    pub after: u32,
     pub own_before: u32,
+    pub own_after: u32,
 }
 
 /// What the arena keeps of an origin: the ends of its list, and the node of it that was touched last, or `NO_NODE`.
@@ -108,6 +110,7 @@ impl Node {
     ghost use Rattle.warp_arena.specs.Shape.{no_node};
 
     /// A node that no list holds.
+    #[inline(always)]
     pub fn unused() -> Node
         ensures { result ≡ no_node }
     {
