@@ -152,6 +152,25 @@ impl Arena {
         if let Some(gap) = self.gap_at_end(origin, tag) {
             return self.insert_into(origin, tag, &gap);
         }
+        self.enter_among(origin, tag)
+    }
+
+    /// `enter` where the name may stand among others.
+    #[inline(never)]
+    fn enter_among(&mut self, origin: u32, tag: Tag) -> NodeId
+        requires origin { origin < self.old.origins }
+        requires reserved { 0 < self.old.free }
+        ensures known { (node : ℕ) → node_of origin tag self.old.places ≡ Some node → (result ≡ node) × (self.new ≡ self.old) }
+        ensures places { node_of origin tag self.old.places ≡ None → self.new ≡ record self.old {
+          places = with_place (record { node = result; entry = fresh origin tag }) self.old.places;
+          free = self.old.free - 1;
+        } }
+        ensures new_handle { node_of origin tag self.old.places ≡ None → entry_of result self.old.places ≡ None }
+        ensures entry { node_of origin tag self.old.places ≡ None → entry_of result self.new.places ≡ Some (fresh origin tag) }
+        ensures others { node_of origin tag self.old.places ≡ None
+            → (node : ℕ) → node ≢ result → entry_of node self.new.places ≡ entry_of node self.old.places }
+        ensures named { IsSomeAnd (entry_of result self.new.places) (λ e. IsTrue (has_name origin tag e)) }
+    {
         let own_before = self.last_of_origin_through(origin, tag);
         if let Some(node) = self.named_at(origin, tag, own_before) {
             return node;
@@ -180,7 +199,6 @@ impl Arena {
     }
 
     /// Takes in this name behind the last of the origin's nodes that are not after it.
-    #[inline(never)]
     fn insert_behind(&mut self, origin: u32, tag: Tag, own_before: u32) -> NodeId
         requires origin { origin < self.old.origins }
         requires reserved { 0 < self.old.free }
@@ -230,20 +248,17 @@ impl Arena {
     {
         let at = self.free;
         self.free = self.nodes[at as usize].by_tag.next;
-        let mut own_ends = self.by_origin[origin as usize].ends;
+        let own = &mut self.by_origin[origin as usize];
         let entry = Packed::fresh(origin, tag);
         thread_node(
             &mut self.nodes,
             &mut self.ends,
-            &mut own_ends,
+            &mut own.ends,
             gap,
             at,
             entry,
         );
-        self.by_origin[origin as usize] = Origin {
-            ends: own_ends,
-            touched: at,
-        };
+        own.touched = at;
         self.used += 1;
         NodeId::new(at)
     }
