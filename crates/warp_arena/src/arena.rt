@@ -1,5 +1,7 @@
 //! The arena: entries of names, in order, each at a handle.
-use crate::links::{add_node, handle, is_passed, next_by_tag, next_of_origin, thread_node, unthread_node};
+use crate::links::{
+    add_node, handle, is_passed, next_by_tag, next_of_origin, thread_node, unthread_node,
+};
 use crate::node::{Gap, Links, MAX_USED, NO_NODE, Node, NodeId, Origin};
 use crate::packed::Packed;
 use std::alloc::Global;

@@ -154,7 +154,13 @@ pub(crate) fn thread_by_tag(nodes: &mut [Node], ends: &mut Links, before: u32, a
 }
 
 /// Puts the node into its origin's list, between these places.
-pub(crate) fn thread_of_origin(nodes: &mut [Node], ends: &mut Links, before: u32, after: u32, at: u32)
+pub(crate) fn thread_of_origin(
+    nodes: &mut [Node],
+    ends: &mut Links,
+    before: u32,
+    after: u32,
+    at: u32,
+)
     requires place { CanThread (length nodes.old) (next_in ends.old (of_origin nodes.old)) before at }
     requires after { after ≡ next_in ends.old (of_origin nodes.old) before }
     ensures keeps { KeepsButOwn nodes.old nodes.new }

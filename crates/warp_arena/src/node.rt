@@ -114,6 +114,7 @@ impl Node {
     pub fn unused() -> Node
         ensures { result ≡ no_node }
     {
+        // Inlined, so that a node that is pushed is written at its place and not on the stack first.
         Node {
             entry: Packed::fresh(0, Tag::new(0, 0).unwrap()),
             by_tag: Links::EMPTY,
