@@ -1,17 +1,22 @@
--- A name that comes behind the last entries of both lists.
-use Rattle.std.proofs.Common.{◌≡◌, ℕ, ◌<◌, cond, not, length, refl, sym, ap, ◌∙◌, inl, inr, Some, None}
+-- A name that comes behind the last entry of all, and so behind the last one of its origin.
+use Rattle.std.proofs.Common.{◌≡◌, ◌≢◌, ℕ, ◌<◌, true, cond, not, eqb, List, [], ◌∷◌, length, map, refl, sym, ap, ◌∙◌, subst, inl, inr, Some, None}
+use Rattle.std.specs.List.{AllByRecursion}
 use Rattle.std.specs.Vec.{vec_capacity}
 use Rattle.std.proofs.lemmas.Bool.{cases_eq}
+use Rattle.std.proofs.lemmas.List.{map-append}
 use Rattle.warp_tag.specs.Moment.{Moment}
-use Rattle.warp_tag.specs.Table.{name_before}
-use Rattle.warp_tag.proofs.Names.{ahead_not_before, ahead_not_named}
+use Rattle.warp_tag.specs.Table.{name_before, fresh, IsTable}
+use Rattle.warp_tag.specs.declared.entry.Entry.{Entry}
+use Rattle.warp_tag.proofs.Lists.{All-weaker, All-append, All-right, All-filter}
+use Rattle.warp_tag.proofs.Names.{ahead_not_before, ahead_not_named, name_before_trans}
 use Rattle.warp_arena.specs.declared.arena.Arena.TheInside.{Inside}
 use Rattle.warp_arena.specs.declared.node.TheConstants.{NO_NODE}
 use Rattle.warp_arena.specs.Changes.{IsPassed, IsPlace}
 use Rattle.warp_arena.specs.Places.{Contents, node_of, places_of}
-use Rattle.warp_arena.specs.Shape.{IsWhole, contents_of, entry_at, last_not_after}
-use Rattle.warp_arena.proofs.Tables.{places_of-members, last_of_places}
-use Rattle.warp_arena.proofs.Walks.{Stands, threads, used, owned, Listed-tags, Listed-origin, walk_start, walk_below, stops}
+use Rattle.warp_arena.specs.Shape.{IsWhole, contents_of, entry_at, last_or, last_not_after}
+use Rattle.warp_arena.proofs.Rings.{IsOff, by_last, last_holds, last_or-push}
+use Rattle.warp_arena.proofs.Tables.{Precedes, IsTable-before, All-unmap, places_of-members, last_of_places}
+use Rattle.warp_arena.proofs.Walks.{Stands, threads, used, owned, Listed-last, Listed-tags, Listed-origin, walk_start, walk_below, stops}
 use Rattle.warp_arena.proofs.Finding.{node_of-none, node_of-at}
 use Rattle.warp_arena.proofs.Beside.{last_is}
 
@@ -21,6 +26,38 @@ module _ (a : Inside) (w : IsWhole (threads a) a.used) (o : ℕ) (g : Moment) wh
 
   pub end_below : IsPlace (length a.nodes.items) a.ends.prev
   end_below = walk_below a.nodes.items (λ n. n.by_tag) a.ends (used a) (Listed-tags a w) (name_before o g) a.ends.prev at_end
+
+  module _ (p : IsPassed o g a.nodes.items a.ends.prev) where
+    abbrev entry : ℕ → Entry
+    entry = (threads a).entry
+
+    all_passed : AllByRecursion (IsPassed o g a.nodes.items) (used a)
+    all_passed =
+        let P : ℕ → Type 0 = IsPassed o g a.nodes.items in
+        elim (by_last (used a)) [
+          | inl none ↦ subst (AllByRecursion P) (sym none) tt
+          | inr some ↦
+              let fs : List ℕ = some.0 in
+              let k : ℕ = some.1 in
+              let l = Listed-tags a w in
+              let here : a.ends.prev ≡ k =
+              Listed-last (length a.nodes.items) a.ends (threads a).links (used a) l ∙ ap (last_or NO_NODE) some.2 ∙ last_or-push NO_NODE fs k in
+              let node : k ≢ NO_NODE = (All-right (λ i. i ≢ NO_NODE) fs (k ∷ []) (subst (IsOff NO_NODE) some.2 l.none)).0 in
+              let last : name_before (entry k).origin (entry k).tag (fresh o g) ≡ true = subst P here p node in
+              let before : AllByRecursion (λ i. Precedes (entry i) (entry k)) fs =
+              All-unmap (λ e. Precedes e (entry k)) entry fs (IsTable-before (map entry fs) [] (entry k)
+              (subst IsTable (ap (map entry) some.2 ∙ map-append entry fs (k ∷ [])) w.shape.sorted)) in
+              subst (AllByRecursion P) (sym some.2) (All-append P fs (k ∷ [])
+              (All-weaker (λ i. Precedes (entry i) (entry k)) P (λ i q _. name_before_trans (entry i).origin (entry i).tag (entry k) (fresh o g) q last) fs before)
+              ((λ _. last), tt))
+        ]
+
+    -- the last one of the origin is passed too
+    pub own_passed : o < length a.by_origin.items → (at : ℕ) → at ≡ ((threads a).own_ends o).prev → IsPassed o g a.nodes.items at
+    own_passed declared at e =
+        let P : ℕ → Type 0 = IsPassed o g a.nodes.items in
+        subst P (sym (e ∙ Listed-last (length a.nodes.items) ((threads a).own_ends o) (threads a).own_links (owned a o) (Listed-origin a w o declared)))
+        (last_holds P NO_NODE (owned a o) (λ n. absurd (n refl)) (All-filter P (λ i. eqb (entry i).origin o) (used a) all_passed))
 
   module _ (v : Contents) (is : contents_of (threads a) a.used (vec_capacity a.nodes) ≡ v) where
     pub end_last : IsPassed o g a.nodes.items a.ends.prev → a.ends.prev ≡ last_not_after o g v.places

@@ -19,3 +19,4 @@ pub mod Handles
 pub mod ByName
 pub mod Beside
 pub mod Ends
+pub mod Gaps

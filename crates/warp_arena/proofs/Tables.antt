@@ -10,7 +10,7 @@ use Rattle.warp_tag.specs.declared.entry.Entry.{Entry}
 use Rattle.warp_tag.proofs.Lists.{All-weaker, All-append, All-left, All-right, filter-here, filter-past, All-filter}
 use Rattle.warp_tag.proofs.Names.{name_before_trans}
 use Rattle.warp_arena.specs.Places.{Place, places_of}
-use Rattle.warp_arena.specs.Shape.{members, place_at, last_or, last_not_after}
+use Rattle.warp_arena.specs.Shape.{members, place_at, first_or, last_or, last_not_after, first_after}
 use Rattle.warp_arena.specs.declared.node.TheConstants.{NO_NODE}
 use Rattle.warp_arena.proofs.Rings.{IsOff, by_last, last_or-push}
 
@@ -165,3 +165,8 @@ pub last_of_places : (o : ℕ) (g : Moment) (entry : ℕ → Entry) (is : List �
 last_of_places o g entry is =
     ap (last_or NO_NODE) (sym (ap (map (λ (p : Place). p.node)) (filter-map_at (λ (p : Place). not (name_before o g p.entry)) (place_at entry) is)
     ∙ nodes_of-places entry (filter (λ i. not (name_before o g (entry i))) is)))
+
+pub first_of_places : (o : ℕ) (g : Moment) (entry : ℕ → Entry) (is : List ℕ) → first_or (filter (λ i. name_before o g (entry i)) is) NO_NODE ≡ first_after o g (map (place_at entry) is)
+first_of_places o g entry is =
+    ap (λ js. first_or js NO_NODE) (sym (ap (map (λ (p : Place). p.node)) (filter-map_at (λ (p : Place). name_before o g p.entry) (place_at entry) is)
+    ∙ nodes_of-places entry (filter (λ i. name_before o g (entry i)) is)))

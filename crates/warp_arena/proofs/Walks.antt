@@ -40,6 +40,12 @@ module _ (size : ℕ) (ends : Links) (links : ℕ → Links) (is : List ℕ) (l 
       (IsChain-split (next_in ends links) (prev_in ends links) NO_NODE is [] NO_NODE
       (subst (Spells ends links) (sym (append-nil is)) l.chain)).1
 
+  pub Listed-past : next_in ends links ends.prev ≡ NO_NODE
+  Listed-past =
+      ap (next_in ends links) Listed-last
+      ∙ (IsChain-split (next_in ends links) (prev_in ends links) NO_NODE is [] NO_NODE
+      (subst (Spells ends links) (sym (append-nil is)) l.chain)).0
+
   pub Listed-first : ends.next ≡ first_or is NO_NODE
   Listed-first = (IsChain-split (next_in ends links) (prev_in ends links) NO_NODE [] is NO_NODE l.chain).0
 

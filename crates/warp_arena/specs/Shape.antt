@@ -5,11 +5,12 @@ use Rattle.warp_tag.specs.Moment.{Moment}
 use Rattle.warp_tag.specs.Limits.{most_names}
 use Rattle.warp_tag.specs.Table.{IsTable, fresh, name_before}
 use Rattle.warp_tag.specs.declared.entry.Entry.{Entry}
+use Rattle.warp_arena.specs.declared.node.Gap.{Gap}
 use Rattle.warp_arena.specs.declared.node.Links.{Links}
 use Rattle.warp_arena.specs.declared.node.Node.{Node}
 use Rattle.warp_arena.specs.declared.node.Origin.{Origin}
 use Rattle.warp_arena.specs.declared.node.TheConstants.{NO_NODE}
-use Rattle.warp_arena.specs.Places.{Place, Contents, entry_of}
+use Rattle.warp_arena.specs.Places.{Place, Contents, entry_of, places_of}
 
 -- the links of a list without a node
 abbrev pub no_links : Links
@@ -167,6 +168,18 @@ pub record IsWhole (t : Threads) (count : ℕ) : Type 0 where
 abbrev pub last_not_after : ℕ → Moment → List Place → ℕ
 last_not_after origin tag places =
     last_or NO_NODE (map (λ p. p.node) (filter (λ p. not (name_before origin tag p.entry)) places))
+
+-- the handle of the first of these places whose name is after this one, or NO_NODE where none is
+abbrev pub first_after : ℕ → Moment → List Place → ℕ
+first_after origin tag places =
+    first_or (map (λ p. p.node) (filter (λ p. name_before origin tag p.entry) places)) NO_NODE
+
+-- the name belongs between these of all places, and between these of its origin's
+pub record IsGap (origin : ℕ) (tag : Moment) (places : List Place) (gap : Gap) : Type 0 where
+  pub before : gap.before ≡ last_not_after origin tag places
+  pub after : gap.after ≡ first_after origin tag places
+  pub own_before : gap.own_before ≡ last_not_after origin tag (places_of origin places)
+  pub own_after : gap.own_after ≡ first_after origin tag (places_of origin places)
 
 -- the handle is of an entry of this origin, whose name is after this one
 abbrev pub IsAfter : ℕ → Moment → ℕ → List Place → Type 0

@@ -1,5 +1,7 @@
 //! The arena: entries of names, in order, each at a handle.
-use crate::links::{add_node, handle, is_passed, next_of_origin, thread_node, unthread_node};
+use crate::links::{
+    add_node, handle, is_passed, next_by_tag, next_of_origin, thread_node, unthread_node,
+};
 use crate::node::{Gap, Links, MAX_USED, NO_NODE, Node, NodeId, Origin};
 use crate::packed::Packed;
 use std::alloc::Global;
@@ -48,7 +50,7 @@ impl Arena {
     ghost use Rattle.warp_tag.specs.Table.{name_before, has_name, fresh, with_event, with_withdrawal};
     ghost use Rattle.warp_tag.specs.declared.entry.Entry.{Entry};
     ghost use Rattle.warp_arena.specs.Places.{places_of, node_of, entry_of, first_node, last_node, Reaches, places_from, places_after, places_before, with_place, with_change, with_free, places_past, places_through, IsOrdered, origin_of};
-    ghost use Rattle.warp_arena.specs.Shape.{last_not_after, IsAfter};
+    ghost use Rattle.warp_arena.specs.Shape.{IsGap, last_not_after, IsAfter};
 
     /// An arena without entries, for origins below this number. The only error is want of memory.
     pub fn start(alloc: Global, origins: u32) -> Result<Arena, OutOfMemory>
@@ -150,8 +152,27 @@ impl Arena {
         ensures named { IsSomeAnd (entry_of result self.new.places) (λ e. IsTrue (has_name origin tag e)) }
     {
         if let Some(gap) = self.gap_at_end(origin, tag) {
-            return self.insert_into(origin, tag, gap.before, gap.own_before);
+            return self.insert_into(origin, tag, &gap);
         }
+        self.enter_among(origin, tag)
+    }
+
+    /// `enter` where the name may stand among others.
+    #[inline(never)]
+    fn enter_among(&mut self, origin: u32, tag: Tag) -> NodeId
+        requires origin { origin < self.old.origins }
+        requires reserved { 0 < self.old.free }
+        ensures known { (node : ℕ) → node_of origin tag self.old.places ≡ Some node → (result ≡ node) × (self.new ≡ self.old) }
+        ensures places { node_of origin tag self.old.places ≡ None → self.new ≡ record self.old {
+          places = with_place (record { node = result; entry = fresh origin tag }) self.old.places;
+          free = self.old.free - 1;
+        } }
+        ensures new_handle { node_of origin tag self.old.places ≡ None → entry_of result self.old.places ≡ None }
+        ensures entry { node_of origin tag self.old.places ≡ None → entry_of result self.new.places ≡ Some (fresh origin tag) }
+        ensures others { node_of origin tag self.old.places ≡ None
+            → (node : ℕ) → node ≢ result → entry_of node self.new.places ≡ entry_of node self.old.places }
+        ensures named { IsSomeAnd (entry_of result self.new.places) (λ e. IsTrue (has_name origin tag e)) }
+    {
         let own_before = self.last_of_origin_through(origin, tag);
         if let Some(node) = self.named_at(origin, tag, own_before) {
             return node;
@@ -159,26 +180,27 @@ impl Arena {
         self.insert_behind(origin, tag, own_before)
     }
 
-    /// Where this name comes in, where it comes behind both the last entry of all and the last one of its origin.
+    /// Where this name comes in, where it comes behind the last entry of all, and so behind the last one of its origin.
     fn gap_at_end(&self, origin: u32, tag: Tag) -> Option<Gap>
         requires { origin < self.now.origins }
-        ensures before { IfSome result (λ gap. gap.before ≡ last_not_after origin tag self.now.places) }
-        ensures own { IfSome result (λ gap. gap.own_before ≡ last_not_after origin tag (places_of origin self.now.places)) }
+        ensures gap { IfSome result (λ gap. IsGap origin tag self.now.places gap) }
         ensures absent { IfSome result (λ gap. node_of origin tag self.now.places ≡ None) }
     {
         let before = self.ends.prev;
-        let own_before = self.by_origin[origin as usize].ends.prev;
-        if is_passed(&self.nodes, before, origin, tag)
-            && is_passed(&self.nodes, own_before, origin, tag)
-        {
-            Some(Gap { before, own_before })
+        if is_passed(&self.nodes, before, origin, tag) {
+            let own_before = self.by_origin[origin as usize].ends.prev;
+            Some(Gap {
+                before,
+                after: NO_NODE,
+                own_before,
+                own_after: NO_NODE,
+            })
         } else {
             None
         }
     }
 
     /// Takes in this name behind the last of the origin's nodes that are not after it.
-    #[inline(never)]
     fn insert_behind(&mut self, origin: u32, tag: Tag, own_before: u32) -> NodeId
         requires origin { origin < self.old.origins }
         requires reserved { 0 < self.old.free }
@@ -192,17 +214,32 @@ impl Arena {
         ensures entry { entry_of result self.new.places ≡ Some (fresh origin tag) }
         ensures others { (node : ℕ) → node ≢ result → entry_of node self.new.places ≡ entry_of node self.old.places }
     {
-        let before = self.last_through(origin, tag, own_before);
-        self.insert_into(origin, tag, before, own_before)
+        let gap = self.gap_behind(origin, tag, own_before);
+        self.insert_into(origin, tag, &gap)
     }
 
-    /// Takes in this name behind the last of all nodes, and the last of the origin's nodes, that are not after it.
-    fn insert_into(&mut self, origin: u32, tag: Tag, before: u32, own_before: u32) -> NodeId
+    /// Where this name comes in, where it is known which of the origin's nodes is the last that is not after it.
+    fn gap_behind(&self, origin: u32, tag: Tag, own_before: u32) -> Gap
+        requires origin { origin < self.now.origins }
+        requires own_before { own_before ≡ last_not_after origin tag (places_of origin self.now.places) }
+        ensures { IsGap origin tag self.now.places result }
+    {
+        let before = self.last_through(origin, tag, own_before);
+        let own_ends = self.by_origin[origin as usize].ends;
+        Gap {
+            before,
+            after: next_by_tag(&self.nodes, &self.ends, before),
+            own_before,
+            own_after: next_of_origin(&self.nodes, &own_ends, own_before),
+        }
+    }
+
+    /// Takes in this name at this gap.
+    fn insert_into(&mut self, origin: u32, tag: Tag, gap: &Gap) -> NodeId
         requires origin { origin < self.old.origins }
         requires reserved { 0 < self.old.free }
         requires absent { node_of origin tag self.old.places ≡ None }
-        requires before { before ≡ last_not_after origin tag self.old.places }
-        requires own_before { own_before ≡ last_not_after origin tag (places_of origin self.old.places) }
+        requires gap { IsGap origin tag self.old.places gap.now }
         ensures places { self.new ≡ record self.old {
           places = with_place (record { node = result; entry = fresh origin tag }) self.old.places;
           free = self.old.free - 1;
@@ -213,21 +250,17 @@ impl Arena {
     {
         let at = self.free;
         self.free = self.nodes[at as usize].by_tag.next;
-        let mut own_ends = self.by_origin[origin as usize].ends;
+        let own = &mut self.by_origin[origin as usize];
         let entry = Packed::fresh(origin, tag);
         thread_node(
             &mut self.nodes,
             &mut self.ends,
-            &mut own_ends,
-            before,
-            own_before,
+            &mut own.ends,
+            gap,
             at,
             entry,
         );
-        self.by_origin[origin as usize] = Origin {
-            ends: own_ends,
-            touched: at,
-        };
+        own.touched = at;
         self.used += 1;
         NodeId::new(at)
     }

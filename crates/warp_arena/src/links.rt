@@ -1,11 +1,11 @@
 //! The links of an arena's nodes: how a node comes into its two lists and goes from them.
-ghost use Rattle.std.specs.Prelude.{◌≡◌, ℕ, ◌<◌, [], ◌∷◌, ◌++◌, length, None, Some, if◌then◌else◌, ◌==◌, is_ok, IsOk, IsTrue, OnOk, OnErr};
+ghost use Rattle.std.specs.Prelude.{◌≡◌, ℕ, ◌<◌, [], ◌∷◌, ◌++◌, ◌+◌, max, length, None, Some, if◌then◌else◌, ◌==◌, is_ok, IsOk, IsTrue, OnOk, OnErr};
 ghost use Rattle.std.specs.Vec.{vec_capacity};
 ghost use Rattle.warp_arena.specs.Places.{room_after};
 ghost use Rattle.warp_arena.specs.Shape.{by_tag, of_origin, next_in, prev_in, no_node};
 ghost use Rattle.warp_arena.specs.Changes.{IsPassed, IsPlace, CanThread, CanUnthread, SetsNext, SetsPrev, KeepsButTags, KeepsButOwn, Inserts, Skips, Threaded, Unthreaded};
 
-use crate::node::{Links, NO_NODE, Node, NodeId};
+use crate::node::{Gap, Links, NO_NODE, Node, NodeId};
 use crate::packed::Packed;
 use warp_tag::{OutOfMemory, Tag};
 
@@ -29,10 +29,25 @@ pub(crate) fn add_node(nodes: &mut Vec<Node>) -> Result<(), OutOfMemory>
         ≡ (if is_ok result then room_after (length nodes.old.items) (vec_capacity nodes.old) else vec_capacity nodes.old) }
     ensures spare { length nodes.old.items < vec_capacity nodes.old → IsOk result }
 {
-    let count = nodes.len();
-    if count == nodes.capacity() {
-        nodes.reserve_exact(count.max(4))?;
+    if nodes.len() < nodes.capacity() {
+        nodes.push_reserved(Node::unused());
+        return Ok(());
     }
+    add_with_room(nodes)
+}
+
+/// Adds an unused node at the end, where there is no room for it, and takes memory first: for twice as many nodes, and
+/// for four at least. The only error is want of memory; then all is as before.
+#[inline(never)]
+fn add_with_room(nodes: &mut Vec<Node>) -> Result<(), OutOfMemory>
+    requires { vec_capacity nodes.old ≡ length nodes.old.items }
+    ensures ok { OnOk result (nodes.new.items ≡ nodes.old.items ++ no_node ∷ []) }
+    ensures err { OnErr result (nodes.new.items ≡ nodes.old.items) }
+    ensures room { vec_capacity nodes.new
+        ≡ (if is_ok result then length nodes.old.items + max 4 (length nodes.old.items) else length nodes.old.items) }
+{
+    let count = nodes.len();
+    nodes.reserve_exact(count.max(4))?;
     nodes.push_reserved(Node::unused());
     Ok(())
 }
@@ -121,15 +136,15 @@ pub(crate) fn next_of_origin(nodes: &[Node], ends: &Links, at: u32) -> u32
     }
 }
 
-/// Puts the node into the tag list, after this place.
-pub(crate) fn thread_by_tag(nodes: &mut [Node], ends: &mut Links, before: u32, at: u32)
-    requires { CanThread (length nodes.old) (next_in ends.old (by_tag nodes.old)) before at }
+/// Puts the node into the tag list, between these places.
+pub(crate) fn thread_by_tag(nodes: &mut [Node], ends: &mut Links, before: u32, after: u32, at: u32)
+    requires place { CanThread (length nodes.old) (next_in ends.old (by_tag nodes.old)) before at }
+    requires after { after ≡ next_in ends.old (by_tag nodes.old) before }
     ensures keeps { KeepsButTags nodes.old nodes.new }
     ensures inserts { Inserts (next_in ends.old (by_tag nodes.old)) (prev_in ends.old (by_tag nodes.old))
         (next_in ends.new (by_tag nodes.new)) (prev_in ends.new (by_tag nodes.new))
         before at (next_in ends.old (by_tag nodes.old) before) }
 {
-    let after = next_by_tag(nodes, ends, before);
     set_next_by_tag(nodes, ends, before, at);
     set_prev_by_tag(nodes, ends, after, at);
     nodes[at as usize].by_tag = Links {
@@ -138,15 +153,21 @@ pub(crate) fn thread_by_tag(nodes: &mut [Node], ends: &mut Links, before: u32, a
     };
 }
 
-/// Puts the node into its origin's list, after this place.
-pub(crate) fn thread_of_origin(nodes: &mut [Node], ends: &mut Links, before: u32, at: u32)
-    requires { CanThread (length nodes.old) (next_in ends.old (of_origin nodes.old)) before at }
+/// Puts the node into its origin's list, between these places.
+pub(crate) fn thread_of_origin(
+    nodes: &mut [Node],
+    ends: &mut Links,
+    before: u32,
+    after: u32,
+    at: u32,
+)
+    requires place { CanThread (length nodes.old) (next_in ends.old (of_origin nodes.old)) before at }
+    requires after { after ≡ next_in ends.old (of_origin nodes.old) before }
     ensures keeps { KeepsButOwn nodes.old nodes.new }
     ensures inserts { Inserts (next_in ends.old (of_origin nodes.old)) (prev_in ends.old (of_origin nodes.old))
         (next_in ends.new (of_origin nodes.new)) (prev_in ends.new (of_origin nodes.new))
         before at (next_in ends.old (of_origin nodes.old) before) }
 {
-    let after = next_of_origin(nodes, ends, before);
     set_next_of_origin(nodes, ends, before, at);
     set_prev_of_origin(nodes, ends, after, at);
     nodes[at as usize].of_origin = Links {
@@ -155,22 +176,23 @@ pub(crate) fn thread_of_origin(nodes: &mut [Node], ends: &mut Links, before: u32
     };
 }
 
-/// Gives the node this entry, and puts it after these places into the tag list and into its origin's list.
+/// Gives the node this entry, and puts it into this gap of the tag list and of its origin's list.
 pub(crate) fn thread_node(
     nodes: &mut [Node],
     ends: &mut Links,
     own_ends: &mut Links,
-    before: u32,
-    own_before: u32,
+    gap: &Gap,
     at: u32,
     entry: Packed,
 )
-    requires tags { CanThread (length nodes.old) (next_in ends.old (by_tag nodes.old)) before at }
-    requires owns { CanThread (length nodes.old) (next_in own_ends.old (of_origin nodes.old)) own_before at }
-    ensures { Threaded nodes.old nodes.new ends.old ends.new own_ends.old own_ends.new before own_before at entry }
+    requires tags { CanThread (length nodes.old) (next_in ends.old (by_tag nodes.old)) gap.now.before at }
+    requires owns { CanThread (length nodes.old) (next_in own_ends.old (of_origin nodes.old)) gap.now.own_before at }
+    requires after { gap.now.after ≡ next_in ends.old (by_tag nodes.old) gap.now.before }
+    requires own_after { gap.now.own_after ≡ next_in own_ends.old (of_origin nodes.old) gap.now.own_before }
+    ensures { Threaded nodes.old nodes.new ends.old ends.new own_ends.old own_ends.new gap.now.before gap.now.own_before at entry }
 {
-    thread_by_tag(nodes, ends, before, at);
-    thread_of_origin(nodes, own_ends, own_before, at);
+    thread_by_tag(nodes, ends, gap.before, gap.after, at);
+    thread_of_origin(nodes, own_ends, gap.own_before, gap.own_after, at);
     nodes[at as usize].entry = entry;
 }
 

@@ -59,11 +59,13 @@ impl Links {
     };
 }
 
-/// Where a node comes in: the places behind which it stands in the tag list and in its origin's list.
+/// Where a node comes in: the places between which it stands in the tag list and in its origin's list.
 #[derive(Clone, Copy)]
 pub(crate) struct Gap {
     pub before: u32,
+    pub after: u32,
     pub own_before: u32,
+    pub own_after: u32,
 }
 
 /// What the arena keeps of an origin: the ends of its list, and the node of it that was touched last, or `NO_NODE`.
@@ -108,9 +110,11 @@ impl Node {
     ghost use Rattle.warp_arena.specs.Shape.{no_node};
 
     /// A node that no list holds.
+    #[inline(always)]
     pub fn unused() -> Node
         ensures { result ≡ no_node }
     {
+        // Inlined, so that a node that is pushed is written at its place and not on the stack first.
         Node {
             entry: Packed::fresh(0, Tag::new(0, 0).unwrap()),
             by_tag: Links::EMPTY,
