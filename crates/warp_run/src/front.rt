@@ -122,6 +122,7 @@ impl Front {
 
     /// Executes one more row, at the next tag that waits, with what is given there. Where the newest checkpoint is
     /// as far back as they stand apart, it makes one first. An `Err` leaves what is executed as it was.
+    #[inline(always)]
     pub fn step<M: Meter>(
         &mut self,
         program: &Program,
