@@ -223,9 +223,10 @@ impl Warp {
         if !is_past(&self.arena, &behind, first.tag) {
             return self.turn_at(program, first.tag, meter);
         }
-        let alone = slice::from_ref(&first.given);
-        self.front.step(program, first.tag, alone, meter)?;
+        self.front.get_ready(program)?;
         self.cursor = behind;
+        let alone = slice::from_ref(&first.given);
+        self.front.step(program, first.tag, alone, meter);
         Ok(())
     }
 
@@ -249,7 +250,8 @@ impl Warp {
         if !is_past(&self.arena, &self.cursor, tag) {
             return self.turn_at(program, tag, meter);
         }
-        self.front.step(program, tag, &[], meter)?;
+        self.front.get_ready(program)?;
+        self.front.step(program, tag, &[], meter);
         Ok(())
     }
 
@@ -272,8 +274,9 @@ impl Warp {
         self.arena.ordered();
         self.given.clear();
         let cursor = gather_from(&self.arena, self.cursor, tag, &mut self.given)?;
-        self.front.step(program, tag, &self.given, meter)?;
+        self.front.get_ready(program)?;
         self.cursor = cursor;
+        self.front.step(program, tag, &self.given, meter);
         Ok(())
     }
 
