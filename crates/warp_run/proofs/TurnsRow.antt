@@ -1,5 +1,5 @@
 -- The row at the next tag: with what the places up to it give the step may be made, and then one more row is done.
-use Rattle.std.proofs.Common.{◌≡◌, ℕ, ◌≤◌, ◌<◌, true, false, List, [], ◌∷◌, ◌++◌, ap, subst, sym, ◌∙◌, refl, arith, IsTrue, Option, Some}
+use Rattle.std.proofs.Common.{◌≡◌, ℕ, ◌≤◌, ◌<◌, true, false, List, [], ◌∷◌, ◌++◌, ap, subst, sym, ◌∙◌, refl, arith, Option, Some}
 use Rattle.warp_tag.specs.Limits.{most_names}
 use Rattle.warp_tag.specs.Moment.{Moment}
 use Rattle.warp_tag.specs.Table.{Event, live}
@@ -67,7 +67,7 @@ module _ (P : Program) (w : Warp) (t : Moment) (n : NextAt P w t) where
       → v.arena ≡ w.arena → v.latest ≡ w.latest → v.settled ≡ w.settled → v.front.last ≡ Some t
       → Reaches w.arena.places (ahead (Some t) (ahead w.front.last w.arena.places)) v.cursor
       → ((E : List Event) (done : List Row) → IsAt P E x done → IsNext E x.last x.state t → X ≡ given_at t E
-          → (row : Row) × IsAt P E v.front (done ++ row ∷ []))
+      → (row : Row) × IsAt P E v.front (done ++ row ∷ []))
       → count ≤ 1 → Goes P w v count
   row_done v x X count alike is waits arena latest settled last cursor stepped most = λ m h same.
       let next = same_next w n.0 m t n.1 h n.3 in

@@ -134,13 +134,7 @@ impl Front {
 
     /// Executes one more row, at the next tag that waits, with what is given there.
     #[inline(always)]
-    pub fn step<M: Meter>(
-        &mut self,
-        program: &Program,
-        tag: Tag,
-        given: &[Given],
-        meter: &mut M,
-    )
+    pub fn step<M: Meter>(&mut self, program: &Program, tag: Tag, given: &[Given], meter: &mut M)
         requires at { (E : List Event) × (done : List Row) × IsAt program.now E self.old done
             × IsNext E self.old.last self.old.state tag × (given.now ≡ given_at tag E) }
         requires given { CanGive program.now tag given.now }

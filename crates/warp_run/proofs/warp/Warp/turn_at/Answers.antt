@@ -1,5 +1,5 @@
 -- the row at the next tag is done, with what all events at it give, and the cursor goes behind it
-use Rattle.std.proofs.Common.{◌≡◌, ◌++◌, ap, ◌∙◌, refl, arith}
+use Rattle.std.proofs.Common.{◌++◌, ap, ◌∙◌, refl, arith}
 use Rattle.warp_run.specs.Walk.{ahead}
 use Rattle.warp_run.proofs.TurnsRow.{are_few, given_through, is_at, may_give, may_step, row_done, row_failed, same_front}
 use Rattle.warp_run.proofs.warp.Warp.turn_at.Goals as goal

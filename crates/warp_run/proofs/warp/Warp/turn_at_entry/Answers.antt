@@ -1,5 +1,5 @@
 -- the row at the next tag is done with nothing given, and the cursor stays
-use Rattle.std.proofs.Common.{◌≡◌, ◌∙◌, refl, sym, arith}
+use Rattle.std.proofs.Common.{refl, sym, arith}
 use Rattle.warp_run.specs.Walk.{ahead}
 use Rattle.warp_run.proofs.TurnsRow.{are_few, is_at, may_give, may_step, row_done, row_failed}
 use Rattle.warp_run.proofs.warp.Warp.turn_at_entry.Goals as goal

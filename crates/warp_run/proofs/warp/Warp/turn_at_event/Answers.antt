@@ -1,5 +1,5 @@
 -- the row at the next tag is done with what the event there gives, and the cursor goes behind it
-use Rattle.std.proofs.Common.{◌≡◌, ◌∙◌, refl, sym, arith}
+use Rattle.std.proofs.Common.{◌∙◌, refl, arith}
 use Rattle.warp_arena.specs.Places.{places_after}
 use Rattle.warp_run.proofs.TurnsRow.{alone_given, are_few, cursor_behind, is_at, may_give, may_step, row_done, row_failed}
 use Rattle.warp_run.proofs.warp.Warp.turn_at_event.Goals as goal
