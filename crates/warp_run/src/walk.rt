@@ -92,6 +92,9 @@ fn seek_event(arena: &Arena, cursor: Option<NodeId>, latest: &Option<Tag>) -> Op
     ensures { (rest : List Place) → Reaches arena.now.places rest cursor → AreThrough latest.now (live_of rest) → FindsFirst arena.now.places rest result }
 {
     arena.ordered();
+    let Some(latest) = *latest else {
+        return None;
+    };
     let mut at = cursor;
     while let Some(node) = at {
         let entry = arena.entry(node);
@@ -99,7 +102,7 @@ fn seek_event(arena: &Arena, cursor: Option<NodeId>, latest: &Option<Tag>) -> Op
         if live.is_some() {
             return live;
         }
-        if is_after(*latest, entry.tag) {
+        if latest.is_before(entry.tag) {
             return None;
         }
         at = arena.next(node);
