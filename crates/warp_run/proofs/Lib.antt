@@ -21,3 +21,4 @@ pub mod TurnsStep
 pub mod TurnsFirst
 pub mod TurnsGoing
 pub mod TurnsRejoined
+pub mod TurnsRow

@@ -133,7 +133,7 @@ HasFound ps cursor latest result =
     (rest : List Place) → Reaches ps rest cursor → AreThrough latest (live_of rest) → FindsFirst ps rest result
 
 -- where there is no latest tag nothing is found
-found_none : (ps : List Place) (cursor : Option ℕ) (latest : Option Moment) → latest ≡ None → HasFound ps cursor latest None
+pub found_none : (ps : List Place) (cursor : Option ℕ) (latest : Option Moment) → latest ≡ None → HasFound ps cursor latest None
 found_none ps cursor latest is =
     subst (λ l. HasFound ps cursor l None) (sym is) (λ rest r past. by (live_of rest) past)
   where

@@ -110,8 +110,3 @@ stepped P E x y done tag X outs steps h next is =
         scratch = steps.scratch ∙ h.scratch;
       },
     )
-
--- a checkpoint more leaves the next tag
-pub still_next : (E : List Event) (x z : Front) (tag : Moment) → z ≡ record x { due = z.due; history = z.history } → IsNext E x.last x.state tag
-    → IsNext E z.last z.state tag
-still_next E x z tag others next = subst (λ (f : Front). IsNext E f.last f.state tag) (sym others) next

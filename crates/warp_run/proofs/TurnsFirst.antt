@@ -52,7 +52,7 @@ first_found ps rest l f =
 
 -- at the tag of the first live event its own is given, and what the places behind it give
 pub is_ahead : (ps : List Place) (last : Option Moment) (l : Live) → IsTable (entries_of ps) → is_after last l.tag ≡ true
-    → IsFound ps (ahead last ps) l → IsAhead ps (ahead last ps) l.tag l
+    → IsFound ps (ahead last ps) l → IsAhead ps (ahead last ps) l
 is_ahead ps last l table after f =
     let q : Moment → Bool = λ u. not (is_before l.tag u) in
     let back : List Place = places_after l.node ps in
@@ -97,5 +97,5 @@ module _ (w : Warp) (m : Standing) (h : StandsFor w m) (o : Option Live) (has : 
       (sym (ap first_tag (subst (FindsFirst w.arena.places (ahead w.front.last w.arena.places)) none found))) refl
 
   -- its event is given first at its tag
-  pub live_ahead : (l : Live) → IsOrdered w.arena → o ≡ Some l → IsAhead w.arena.places (ahead w.front.last w.arena.places) l.tag l
+  pub live_ahead : (l : Live) → IsOrdered w.arena → o ≡ Some l → IsAhead w.arena.places (ahead w.front.last w.arena.places) l
   live_ahead l ordered is = is_ahead w.arena.places w.front.last l ordered.table (first_live l ordered is).after (found_at l is)

@@ -1,5 +1,5 @@
 -- The front of a run that is executed.
-use Rattle.std.specs.Prelude.{◌≡◌, ℕ, ◌+◌, ◌≤◌, ◌⊎◌, true, List, [], ◌∷◌, ◌++◌, length, take, None}
+use Rattle.std.specs.Prelude.{◌≡◌, ℕ, ◌+◌, ◌≤◌, ◌⊎◌, true, List, [], ◌∷◌, ◌++◌, length, take, None, vec_len, vec_capacity}
 use Rattle.std.specs.List.{AllByRecursion}
 use Rattle.warp_tag.specs.Limits.{most_names}
 use Rattle.warp_tag.specs.Moment.{Moment}
@@ -72,3 +72,15 @@ pub record GoesBack (P : Program) (E : List Event) (tag : Moment) (done : List R
   pub before : is_after x.last tag ≡ true
   pub aside : IsFrom tag x.aside.history.saves
   pub near : (left ≡ length done) ⊎ ((trace : List Row) → Run P E trace → rows_before tag trace ≤ left + spacing)
+
+-- The same is executed: other checkpoints may stand, and there may be more room.
+pub record IsSame (x y : Front) : Type 0 where
+  pub last : y.last ≡ x.last
+  pub state : y.state ≡ x.state
+  pub rows : y.rows ≡ x.rows
+  pub kept : (P : Program) (E : List Event) (done : List Row) → IsAt P E x done → IsAt P E y done
+
+-- there is room for one more row: a checkpoint is near enough, and the row's outputs need no memory
+pub record IsRoom (P : Program) (x : Front) : Type 0 where
+  pub near : x.rows + 1 ≤ reach x.history.saves
+  pub outputs : vec_len x.outputs + length P.outputs ≤ vec_capacity x.outputs

@@ -8,6 +8,8 @@ use Rattle.warp_step.specs.Run.{is_after, given_of}
 use Rattle.warp_step.specs.declared.out.Given.{Given}
 use Rattle.warp_arena.specs.Places.{Place, entries_of, entry_of, places_from, places_after}
 use Rattle.warp_run.specs.declared.walk.Live.{Live}
+use Rattle.warp_run.specs.declared.walk.Next.{Next}
+use Rattle.warp_run.specs.declared.walk.Next.TheVariants.{AtEvent, AtEntry}
 
 -- the places after the last row
 abbrev pub ahead : Option Moment → List Place → List Place
@@ -24,16 +26,6 @@ live_of places = live (entries_of places)
 -- what the live events of these places give
 abbrev pub given_by : List Place → List Given
 given_by places = map given_of (live_of places)
-
--- the places after the event's, where there is one, or else these
-abbrev pub behind : List Place → List Place → Option Live → List Place
-behind places rest None = rest
-behind places rest (Some l) = places_after l.node places
-
--- what the event gives, where there is one
-abbrev pub first_given : Option Live → List Given
-first_given None = []
-first_given (Some l) = l.given ∷ []
 
 -- the tag of the first event, if there is one
 abbrev pub first_tag : List Event → Option Moment
@@ -61,8 +53,18 @@ pub record IsFound (places rest : List Place) (l : Live) : Type 0 where
 abbrev pub FindsFirst : List Place → List Place → Option Live → Type 0
 FindsFirst places rest found = MatchOption found (live_of rest ≡ []) (IsFound places rest)
 
--- what these places give at a tag is what the event gives, and then what the places after its own give
-pub record IsAhead (places rest : List Place) (tag : Moment) (l : Live) : Type 0 where
+-- what these places give at the event's tag is what it gives, and then what the places after its own give
+pub record IsAhead (places rest : List Place) (l : Live) : Type 0 where
   pub used : IsSome (entry_of l.node places)
-  pub given : given_by (through tag rest) ≡ l.given ∷ given_by (through tag (places_after l.node places))
-  pub past : ahead (Some tag) rest ≡ ahead (Some tag) (places_after l.node places)
+  pub given : given_by (through l.tag rest) ≡ l.given ∷ given_by (through l.tag (places_after l.node places))
+  pub past : ahead (Some l.tag) rest ≡ ahead (Some l.tag) (places_after l.node places)
+
+-- the tag of a row that is next
+abbrev pub tag_of_next : Next → Moment
+tag_of_next (AtEvent l) = l.tag
+tag_of_next (AtEntry tag) = tag
+
+-- where the row is of an event, it is the first of these places
+abbrev pub IsAtFirst : List Place → List Place → Next → Type 0
+IsAtFirst places rest (AtEvent l) = IsAhead places rest l
+IsAtFirst places rest (AtEntry tag) = Unit {0}

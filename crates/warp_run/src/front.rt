@@ -5,7 +5,7 @@ ghost use Rattle.warp_tag.specs.Table.{Event};
 ghost use Rattle.warp_step.specs.Program.{Program};
 ghost use Rattle.warp_step.specs.Run.{Row, IsNext, given_at, is_after};
 ghost use Rattle.warp_run.specs.Aside.{IsMet};
-ghost use Rattle.warp_run.specs.Front.{AreFew, CanGive, GoesBack, GoesOn, IsAt};
+ghost use Rattle.warp_run.specs.Front.{AreFew, CanGive, GoesBack, GoesOn, IsAt, IsRoom, IsSame};
 ghost use Rattle.warp_run.specs.History.{reach, spacing};
 
 use crate::aside::Aside;
@@ -120,29 +120,32 @@ impl Front {
         &self.outputs
     }
 
-    /// Executes one more row, at the next tag that waits, with what is given there. Where the newest checkpoint is
-    /// as far back as they stand apart, it makes one first. An `Err` leaves what is executed as it was.
-    pub fn step<M: Meter>(
-        &mut self,
-        program: &Program,
-        tag: Tag,
-        given: &[Given],
-        meter: &mut M,
-    ) -> Result<(), OutOfMemory>
+    /// Makes room for one more row: where the newest checkpoint is as far back as they stand apart, it makes one, and it
+    /// takes memory for the row's outputs where they need it. What is executed stays as it was, also at an `Err`.
+    #[inline(always)]
+    pub fn get_ready(&mut self, program: &Program) -> Result<(), OutOfMemory>
+        requires { (E : List Event) × (done : List Row) × IsAt program.now E self.old done }
+        ensures same { IsSame self.old self.new }
+        ensures room { OnOk result (IsRoom program.now self.new) }
+    {
+        self.save_if_due()?;
+        reserve_outputs(&mut self.outputs, &mut self.aside, program.outputs().len())
+    }
+
+    /// Executes one more row, at the next tag that waits, with what is given there.
+    #[inline(always)]
+    pub fn step<M: Meter>(&mut self, program: &Program, tag: Tag, given: &[Given], meter: &mut M)
         requires at { (E : List Event) × (done : List Row) × IsAt program.now E self.old done
             × IsNext E self.old.last self.old.state tag × (given.now ≡ given_at tag E) }
         requires given { CanGive program.now tag given.now }
         requires few { self.old.rows < most_names }
-        ensures stepped { OnOk result ((E : List Event) (done : List Row) → IsAt program.now E self.old done →
+        requires room { IsRoom program.now self.old }
+        ensures stepped { (E : List Event) (done : List Row) → IsAt program.now E self.old done →
             IsNext E self.old.last self.old.state tag → given.now ≡ given_at tag E →
-            (row : Row) × IsAt program.now E self.new (done ++ row ∷ [])) }
-        ensures last { OnOk result (self.new.last ≡ Some tag) }
-        ensures ticked { OnOk result (M.ticks meter.new ≡ M.ticks meter.old + 1) }
-        ensures kept { OnErr result ((E : List Event) (done : List Row) → IsAt program.now E self.old done → IsAt program.now E self.new done) }
-        ensures stays { OnErr result ((self.new.last ≡ self.old.last) × (M.ticks meter.new ≡ M.ticks meter.old)) }
+            (row : Row) × IsAt program.now E self.new (done ++ row ∷ []) }
+        ensures last { self.new.last ≡ Some tag }
+        ensures ticked { M.ticks meter.new ≡ M.ticks meter.old + 1 }
     {
-        self.save_if_due()?;
-        reserve_outputs(&mut self.outputs, &mut self.aside, program.outputs().len())?;
         step(
             program,
             &mut self.state,
@@ -154,7 +157,6 @@ impl Front {
         );
         self.rows += 1;
         self.last = Some(tag);
-        Ok(())
     }
 
     /// Makes a checkpoint, where one more row is not to be executed without.

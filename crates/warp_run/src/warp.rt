@@ -6,15 +6,16 @@ ghost use Rattle.warp_step.specs.Events.{IsNameOf};
 ghost use Rattle.warp_step.specs.Run.{Row, IsNext, is_after};
 ghost use Rattle.warp_arena.specs.Places.{Reaches, entry_of};
 ghost use Rattle.warp_line.specs.Timeline.{Standing, IsDone};
-ghost use Rattle.warp_run.specs.Walk.{IsAhead, ahead};
+ghost use Rattle.warp_run.specs.Walk.{IsAhead, IsAtFirst, ahead, tag_of_next};
 ghost use Rattle.warp_run.specs.Front.{GoesBack, IsAt};
 ghost use Rattle.warp_run.specs.Warp.{Goes, HasRoom, NamesAt, StandsFor, latest_with};
 
 use crate::front::Front;
 use crate::walk::{
-    Next, first_after, first_from, gather, given_by_first, given_to, is_after, next_event,
+    Live, Next, first_after, first_from, gather_from, is_after, is_past, next_event,
 };
 use std::alloc::Global;
+use std::slice;
 use warp_arena::law::{changes_found, changes_new, finds_known};
 use warp_arena::{Arena, NodeId};
 use warp_line::Timeline;
@@ -32,7 +33,7 @@ pub struct Warp {
     /// A tag after which no live event is.
     latest: Option<Tag>,
     front: Front,
-    /// Room for what is given to a step where it is not one event's.
+    /// Room for what is given to a step, where it is gathered.
     given: Vec<Given>,
     settled: bool,
 }
@@ -161,33 +162,18 @@ impl Warp {
     fn next_row(&self) -> Option<Next>
         requires { (m : Standing) × StandsFor self.now m }
         ensures none { result ≡ None → (m : Standing) → StandsFor self.now m → IsDone m }
-        ensures some { IfSome result (λ r. (m : Standing) → StandsFor self.now m → IsNext (live m.table) self.now.front.last self.now.front.state r.tag) }
-        ensures first { IfSome result (λ r. IfSome r.event (λ live. r.first ≡ live.given)) }
-        ensures event { IfSome result (λ r. IfSome r.event (IsAhead self.now.arena.places (ahead self.now.front.last self.now.arena.places) r.tag)) }
+        ensures some { IfSome result (λ r. (m : Standing) → StandsFor self.now m → IsNext (live m.table) self.now.front.last self.now.front.state (tag_of_next r)) }
+        ensures event { IfSome result (IsAtFirst self.now.arena.places (ahead self.now.front.last self.now.arena.places)) }
     {
         self.arena.ordered();
-        let event = next_event(&self.arena, self.cursor, self.latest);
-        // Here, since it costs nothing where an event was just found.
-        let first = given_by_first(&event);
+        let event = next_event(&self.arena, self.cursor, &self.latest);
         let Some(pending) = self.front.state().next() else {
             let live = event?;
-            return Some(Next {
-                tag: live.tag,
-                event: Some(live),
-                first,
-            });
+            return Some(Next::AtEvent(live));
         };
         match event {
-            Some(live) if live.tag.is_before(pending) => Some(Next {
-                tag: live.tag,
-                event: Some(live),
-                first,
-            }),
-            _ => Some(Next {
-                tag: pending,
-                event: None,
-                first,
-            }),
+            Some(live) if live.tag.is_before(pending) => Some(Next::AtEvent(live)),
+            _ => Some(Next::AtEntry(pending)),
         }
     }
 
@@ -200,9 +186,32 @@ impl Warp {
         meter: &mut M,
     ) -> Result<(), OutOfMemory>
         requires next { (m : Standing) × StandsFor self.old m × (m.program ≡ program.now)
-            × IsNext (live m.table) self.old.front.last self.old.front.state next.now.tag }
-        requires event { IfSome next.now.event (IsAhead self.old.arena.places (ahead self.old.front.last self.old.arena.places) next.now.tag) }
-        requires first { IfSome next.now.event (λ live. next.now.first ≡ live.given) }
+            × IsNext (live m.table) self.old.front.last self.old.front.state (tag_of_next next.now) }
+        requires event { IsAtFirst self.old.arena.places (ahead self.old.front.last self.old.arena.places) next.now }
+        requires unsettled { self.old.settled ≡ false }
+        ensures goes { Goes program.now self.old self.new (M.ticks meter.new - M.ticks meter.old) }
+        ensures ticked { OnOk result (M.ticks meter.new ≡ M.ticks meter.old + 1) }
+        ensures stays { OnErr result (M.ticks meter.new ≡ M.ticks meter.old) }
+        ensures unsettled { self.new.settled ≡ false }
+    {
+        match *next {
+            Next::AtEvent(live) => self.turn_at_event(program, &live, meter),
+            Next::AtEntry(tag) => self.turn_at_entry(program, tag, meter),
+        }
+    }
+
+    /// Executes the next row, at the tag of the first live event after the last row. Mostly no other is at it: then
+    /// just what that event gives is given.
+    #[inline(always)]
+    fn turn_at_event<M: Meter>(
+        &mut self,
+        program: &Program,
+        first: &Live,
+        meter: &mut M,
+    ) -> Result<(), OutOfMemory>
+        requires next { (m : Standing) × StandsFor self.old m × (m.program ≡ program.now)
+            × IsNext (live m.table) self.old.front.last self.old.front.state first.now.tag }
+        requires event { IsAhead self.old.arena.places (ahead self.old.front.last self.old.arena.places) first.now }
         requires unsettled { self.old.settled ≡ false }
         ensures goes { Goes program.now self.old self.new (M.ticks meter.new - M.ticks meter.old) }
         ensures ticked { OnOk result (M.ticks meter.new ≡ M.ticks meter.old + 1) }
@@ -210,11 +219,64 @@ impl Warp {
         ensures unsettled { self.new.settled ≡ false }
     {
         self.arena.ordered();
-        let gathered = gather(&self.arena, self.cursor, next, &mut self.given)?;
-        let one = next.first;
-        let given = given_to(gathered.is_listed, &next.event, &one, &self.given);
-        self.front.step(program, next.tag, given, meter)?;
-        self.cursor = gathered.cursor;
+        let behind = self.arena.next(first.node);
+        if !is_past(&self.arena, &behind, first.tag) {
+            return self.turn_at(program, first.tag, meter);
+        }
+        self.front.get_ready(program)?;
+        self.cursor = behind;
+        let alone = slice::from_ref(&first.given);
+        self.front.step(program, first.tag, alone, meter);
+        Ok(())
+    }
+
+    /// Executes the next row, at the tag of a pending entry. Mostly no event is at it: then nothing is given.
+    #[inline(always)]
+    fn turn_at_entry<M: Meter>(
+        &mut self,
+        program: &Program,
+        tag: Tag,
+        meter: &mut M,
+    ) -> Result<(), OutOfMemory>
+        requires next { (m : Standing) × StandsFor self.old m × (m.program ≡ program.now)
+            × IsNext (live m.table) self.old.front.last self.old.front.state tag }
+        requires unsettled { self.old.settled ≡ false }
+        ensures goes { Goes program.now self.old self.new (M.ticks meter.new - M.ticks meter.old) }
+        ensures ticked { OnOk result (M.ticks meter.new ≡ M.ticks meter.old + 1) }
+        ensures stays { OnErr result (M.ticks meter.new ≡ M.ticks meter.old) }
+        ensures unsettled { self.new.settled ≡ false }
+    {
+        self.arena.ordered();
+        if !is_past(&self.arena, &self.cursor, tag) {
+            return self.turn_at(program, tag, meter);
+        }
+        self.front.get_ready(program)?;
+        self.front.step(program, tag, &[], meter);
+        Ok(())
+    }
+
+    /// Executes the next row, at a tag, with what all live events at it give.
+    #[inline(never)]
+    fn turn_at<M: Meter>(
+        &mut self,
+        program: &Program,
+        tag: Tag,
+        meter: &mut M,
+    ) -> Result<(), OutOfMemory>
+        requires next { (m : Standing) × StandsFor self.old m × (m.program ≡ program.now)
+            × IsNext (live m.table) self.old.front.last self.old.front.state tag }
+        requires unsettled { self.old.settled ≡ false }
+        ensures goes { Goes program.now self.old self.new (M.ticks meter.new - M.ticks meter.old) }
+        ensures ticked { OnOk result (M.ticks meter.new ≡ M.ticks meter.old + 1) }
+        ensures stays { OnErr result (M.ticks meter.new ≡ M.ticks meter.old) }
+        ensures unsettled { self.new.settled ≡ false }
+    {
+        self.arena.ordered();
+        self.given.clear();
+        let cursor = gather_from(&self.arena, self.cursor, tag, &mut self.given)?;
+        self.front.get_ready(program)?;
+        self.cursor = cursor;
+        self.front.step(program, tag, &self.given, meter);
         Ok(())
     }
 

@@ -1,7 +1,7 @@
 use Rattle.std.proofs.Common.{length}
 use Rattle.warp_arena.specs.Places.{left_at}
 use Rattle.warp_run.proofs.PlacesWalks.{Seeks}
-use Rattle.warp_run.proofs.walk.next_event.Given as goal
+use Rattle.warp_run.proofs.walk.seek_event.Given as goal
 
 abbrev pub invariant-loop-at : goal.invariant-loop-at
 invariant-loop-at l = Seeks l.arena.places (left_at l.fn.cursor l.arena.places) l.at
