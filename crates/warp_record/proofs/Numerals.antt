@@ -101,3 +101,14 @@ block_left old word block more n k m is_n is_k le is =
     ap (λ (i : ℕ). take (i + k) (old ++ take m block)) is_n
     ∙ take-append-add old (take m block) k
     ∙ ap (λ (l : List ℕ). old ++ l) (take-take k m block le ∙ ap (take k) is ∙ ap (λ (i : ℕ). take i (word ++ more)) is_k ∙ take-append_seam word more)
+
+-- a word that begins with no minus is the text of a number that is not below 0 alone
+pub plain_text : (word : List ℕ) (z : ℤ) → FitsSigned w64 z → (get_or word 0 0 ≡ 45 → ⊥) → word ≡ signed_decimal z
+    → (m : ℕ) × (m < 2 ^ 63) × (word ≡ decimal m)
+plain_text word (pos n) fits plain is = (n, omega (arith, fits.sfits), is)
+plain_text word (negsuc n) fits plain is = absurd (plain (ap (λ (l : List ℕ). get_or l 0 0) is))
+
+-- the text of a signed number is not empty
+pub signed_not_empty : (word : List ℕ) (z : ℤ) → FitsSigned w64 z → word ≡ signed_decimal z → 0 < length word
+signed_not_empty word (pos n) fits is = text_not_empty word n (omega (arith, fits.sfits)) is
+signed_not_empty word (negsuc n) fits is = omega (arith, ap length is)

@@ -1,5 +1,5 @@
 //! Words that are numbers, read and written. Each number has one spelling: no leading zero, no `+`, no `-0`.
-ghost use Rattle.std.specs.Prelude.{◌≡◌, ℕ, ℤ, List, ◌+◌, ◌-◌, ◌*◌, ◌<◌, ◌≤◌, ◌^◌, ◌∷◌, ◌++◌, take, drop, IfSome, IfNone, SomeIff, IsTrue, ◌↔◌, length, slice_index, FitsSigned, decimal, vec_len, vec_capacity};
+ghost use Rattle.std.specs.Prelude.{◌≡◌, ℕ, ℤ, List, ◌+◌, ◌-◌, ◌*◌, ◌<◌, ◌≤◌, ◌^◌, ◌∷◌, ◌++◌, take, drop, IfSome, IfNone, SomeIff, IsTrue, ◌↔◌, length, slice_index, FitsSigned, decimal, vec_len, vec_capacity, true, if◌then◌else◌};
 ghost use Rattle.std.specs.Char.{digit_value};
 ghost use Rattle.std.specs.Fmt.{signed_decimal};
 ghost use Rattle.std.specs.Int.{w64};
@@ -113,19 +113,36 @@ pub fn read_u32(word: &[u8], max: u32) -> Option<u32>
     Some(read_number(word, u64::from(max))? as u32)
 }
 
+/// The number of this size, below 0 where `minus` says so. It has no branch, since nothing foretells a sign.
+#[inline(always)]
+fn with_sign(size: u64, minus: bool) -> i64
+    requires sign { minus ≡ true → 0 < size }
+    requires fits { size < 2 ^ 63 + (if minus then 1 else 0) }
+    ensures { signed_decimal result ≡ (if minus then 45 ∷ decimal size else decimal size) }
+{
+    if minus {
+        -((size - 1) as i64) - 1
+    } else {
+        size as i64
+    }
+}
+
 /// The signed number that the word spells.
 #[inline(always)]
 pub fn read_int(word: &[u8]) -> Option<i64>
     ensures found { IfSome result (λ number. word.now ≡ signed_decimal number) }
     ensures none { IfNone result ((number : ℤ) → FitsSigned w64 number → word.now ≡ signed_decimal number → ⊥) }
 {
-    match word {
-        [b'-', size @ ..] => match read_number(size, 1 << 63)? {
-            0 => None,
-            size => Some(-((size - 1) as i64) - 1),
-        },
-        _ => Some(read_number(word, i64::MAX as u64)? as i64),
+    if word.is_empty() {
+        return None;
     }
+    let minus = word[0] == b'-';
+    let start = usize::from(minus);
+    let size = read_number(&word[start..], i64::MAX as u64 + u64::from(minus))?;
+    if size == 0 {
+        return if minus { None } else { Some(0) };
+    }
+    Some(with_sign(size, minus))
 }
 
 /// Appends the text, for which there is room.
