@@ -112,6 +112,7 @@ impl<T: Timeline> Replica<T> {
 
     /// Takes a record. `Err` says the first reason against it: one of the program's, a full log, or no memory; it
     /// changes neither the records nor what is done, nor does a record that was there before.
+    #[inline(always)]
     pub fn take(&mut self, alloc: Global, record: &Record) -> Result<Took, Refusal>
         ensures takes { Takes self.old.program self.old.records «record».now result self.new.records }
         ensures program { self.new.program ≡ self.old.program }
