@@ -127,18 +127,52 @@ fn with_sign(size: u64, minus: bool) -> i64
     }
 }
 
+/// The number that the word spells, which has few bytes.
+#[inline(always)]
+fn read_few(word: &[u8]) -> Option<u64>
+    requires { length word.now ≤ FEW_DIGITS }
+    ensures found { IfSome result (λ number. (number < 10 ^ FEW_DIGITS) × (word.now ≡ decimal number)) }
+    ensures none { IfNone result ((number : ℕ) → number < 2 ^ 64 → word.now ≡ decimal number → ⊥) }
+{
+    if word.is_empty() {
+        return None;
+    }
+    if is_padded(word) {
+        return None;
+    }
+    let number = few_digits(word)?;
+    Some(number)
+}
+
+/// The signed number that the word spells, however long.
+#[inline(never)]
+fn read_long_int(word: &[u8]) -> Option<i64>
+    ensures found { IfSome result (λ number. word.now ≡ signed_decimal number) }
+    ensures none { IfNone result ((number : ℤ) → FitsSigned w64 number → word.now ≡ signed_decimal number → ⊥) }
+{
+    match word {
+        [b'-', size @ ..] => match read_number(size, 1 << 63)? {
+            0 => None,
+            size => Some(-((size - 1) as i64) - 1),
+        },
+        _ => Some(read_number(word, i64::MAX as u64)? as i64),
+    }
+}
+
 /// The signed number that the word spells.
 #[inline(always)]
 pub fn read_int(word: &[u8]) -> Option<i64>
     ensures found { IfSome result (λ number. word.now ≡ signed_decimal number) }
     ensures none { IfNone result ((number : ℤ) → FitsSigned w64 number → word.now ≡ signed_decimal number → ⊥) }
 {
+    if word.len() > FEW_DIGITS {
+        return read_long_int(word);
+    }
     if word.is_empty() {
         return None;
     }
     let minus = word[0] == b'-';
-    let start = usize::from(minus);
-    let size = read_number(&word[start..], i64::MAX as u64 + u64::from(minus))?;
+    let size = read_few(&word[usize::from(minus)..])?;
     if size == 0 {
         return if minus { None } else { Some(0) };
     }
