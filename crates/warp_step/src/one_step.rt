@@ -115,6 +115,7 @@ fn empty_wishes(alloc: Global, count: usize) -> Result<Vec<Wishes>, OutOfMemory>
 /// The state and the scratch are of this program, and `out` has room for each program output. What is pending at the
 /// tag and what is given is present; timers repeat; the triggered reactions run; their wishes, and what links with a
 /// delay deliver, are entered; and each program output that is present is appended.
+#[inline(always)]
 pub fn step<M: Meter>(
     program: &Program,
     state: &mut State,
