@@ -45,10 +45,9 @@ fn is_present(target: Target, present: &Present) -> bool
     requires { IsTrue (target_fits (places_of present.now) target) }
     ensures { result ≡ is_some (present_at present.now target) }
 {
-    // Two kinds are a test each; with a third here it would be a jump by table.
+    // What is not sure is mostly a port that another reaction of the row put. One kind is a test, all are a jump by table.
     match target {
         Target::Port(n) => present.get(Target::Port(n)).is_some(),
-        Target::Timer(n) => present.get(Target::Timer(n)).is_some(),
         _ => is_seldom_present(target, present),
     }
 }
@@ -63,6 +62,7 @@ fn is_seldom_present(target: Target, present: &Present) -> bool
 }
 
 /// Whether one of the targets is present.
+#[inline(never)]
 fn is_one_present(targets: &[Target], present: &Present) -> bool
     requires { IsTrue (list_all (target_fits (places_of present.now)) targets.now) }
     ensures { result ≡ list_any (λ target. is_some (present_at present.now target)) targets.now }
