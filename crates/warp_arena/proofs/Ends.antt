@@ -71,9 +71,6 @@ module _ (a : Inside) (w : IsWhole (threads a) a.used) (o : ℕ) (g : Moment) wh
     at_own_end : Stands (λ i. name_before o g (entry_at a.nodes.items i)) (owned a o) at
     at_own_end = walk_start a.nodes.items (λ n. n.of_origin) ((threads a).own_ends o) (owned a o) (Listed-origin a w o declared) (name_before o g) at at_is
 
-    pub own_end_below : IsPlace (length a.nodes.items) at
-    own_end_below = walk_below a.nodes.items (λ n. n.of_origin) ((threads a).own_ends o) (owned a o) (Listed-origin a w o declared) (name_before o g) at at_own_end
-
     module _ (v : Contents) (is : contents_of (threads a) a.used (vec_capacity a.nodes) ≡ v) (p : IsPassed o g a.nodes.items at) where
       pub own_end_last : at ≡ last_not_after o g (places_of o v.places)
       own_end_last =

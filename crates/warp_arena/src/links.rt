@@ -21,7 +21,7 @@ pub(crate) fn handle(index: u32) -> Option<NodeId>
 }
 
 /// Adds an unused node at the end, and takes memory only where there is no room for it: for twice as many nodes as
-/// there are. The only error is want of memory; then all is as before.
+/// there are, and for four at least. The only error is want of memory; then all is as before.
 pub(crate) fn add_node(nodes: &mut Vec<Node>) -> Result<(), OutOfMemory>
     ensures ok { OnOk result (nodes.new.items ≡ nodes.old.items ++ no_node ∷ []) }
     ensures err { OnErr result (nodes.new.items ≡ nodes.old.items) }

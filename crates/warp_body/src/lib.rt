@@ -2,7 +2,8 @@
 //!
 //! An expression has a value over variables and what is present; a statement list has an effect on them, and asks for
 //! schedulings of actions.
-//! Arithmetic wraps in 64 bits. Nothing here takes memory but `Present::new` and the copies.
+//! Arithmetic wraps in 64 bits. Nothing here takes memory but `Present::new`, `Code::new` and the
+//! copies.
 #![tactic(auto)]
 
 mod code;

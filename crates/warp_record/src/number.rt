@@ -113,7 +113,8 @@ pub fn read_u32(word: &[u8], max: u32) -> Option<u32>
     Some(read_number(word, u64::from(max))? as u32)
 }
 
-/// The number of this size, below 0 where `minus` says so. It has no branch, since nothing foretells a sign.
+/// The number of this size, below 0 where `minus` says so. It is compiled to a choice of two values without a branch,
+/// since nothing foretells a sign.
 #[inline(always)]
 fn with_sign(size: u64, minus: bool) -> i64
     requires sign { minus ≡ true → 0 < size }

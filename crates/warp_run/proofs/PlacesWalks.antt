@@ -1,7 +1,6 @@
 -- Walks on along an arena's places.
-use Rattle.std.proofs.Common.{◌≡◌, ℕ, Bool, true, false, List, [], ◌∷◌, ◌++◌, refl, sym, ap, ◌∙◌, subst, inl, inr, Option, Some, None}
+use Rattle.std.proofs.Common.{◌≡◌, ℕ, Bool, true, List, [], ◌∷◌, ◌++◌, refl, sym, ap, ◌∙◌, subst, inl, inr, Option, Some, None}
 use Rattle.std.specs.List.{AllByRecursion, cons_option}
-use Rattle.std.specs.Option.{is_some, option_map}
 use Rattle.std.proofs.lemmas.Bool.{cases_eq, eq-eqb, ne_eqb, false≢true}
 use Rattle.std.proofs.lemmas.List.{append-nil}
 use Rattle.warp_tag.specs.Moment.{Moment, is_before}
@@ -11,10 +10,10 @@ use Rattle.warp_tag.proofs.Lists.{All-weaker}
 use Rattle.warp_tag.proofs.Names.{before_tag}
 use Rattle.warp_step.specs.Run.{is_after}
 use Rattle.warp_step.specs.declared.out.Given.{Given}
-use Rattle.warp_arena.specs.Places.{Place, Reaches, entries_of, entry_of, left_at, places_from, places_after}
+use Rattle.warp_arena.specs.Places.{Place, Reaches, entries_of, left_at, places_from, places_after}
 use Rattle.warp_arena.proofs.Tables.{Precedes, All-unmap, filter_front, filter_back}
 use Rattle.warp_line.proofs.ReplayLemmas.{live_name}
-use Rattle.warp_run.specs.Walk.{AreThrough, FindsFirst, ahead, event_at, given_by, live_of, through}
+use Rattle.warp_run.specs.Walk.{AreThrough, FindsFirst, ahead, given_by, live_of, through}
 use Rattle.warp_run.specs.declared.walk.Live.{Live}
 
 -- the place of an entry at a handle
@@ -140,24 +139,6 @@ found_none ps cursor latest is =
     by : (E : List Event) → AreThrough None E → E ≡ []
     by [] h = refl
     by (e ∷ E) h = absurd (false≢true h)
-
--- where one is found, it is the first
-pub found_here : (ps : List Place) (cursor at : Option ℕ) (latest : Option Moment) (node : ℕ) (e : Entry) (found : Option Live)
-    → Seeks ps (left_at cursor ps) at → at ≡ Some node → entry_of node ps ≡ Some e → found ≡ option_map (event_at node) (live_event e)
-    → is_some found ≡ true → HasFound ps cursor latest found
-found_here ps cursor at latest node e found s is named found_is some rest r past =
-    by (live_event e) found refl found_is some
-  where
-    by : (o : Option Event) (f : Option Live) → live_event e ≡ o → f ≡ option_map (event_at node) o → is_some f ≡ true → FindsFirst ps rest f
-    by None f counts f_is some = let never : false ≡ true = ap is_some (sym f_is) ∙ some in cc
-    by (Some v) f counts f_is some = subst (FindsFirst ps rest) (sym f_is) (record {
-      entry = e;
-      event = v;
-      there = named;
-      counts = counts;
-      is = refl;
-      events = ap (λ o. live_of (left_at o ps)) (sym is) ∙ s.events ∙ ap live_of r.left;
-    })
 
 -- of places after the latest tag none has an event that counts
 none_later : (latest : Moment) (ps : List Place) → AreLater (Some latest) ps → AreThrough (Some latest) (live_of ps) → live_of ps ≡ []

@@ -29,7 +29,7 @@ still_next E t x y same next =
 
 -- what is executed is the same as itself
 pub same_front : (x : Front) → IsSame x x
-same_front x = record { last = refl; state = refl; rows = refl; kept = λ P E done h. h }
+same_front x = record { last = refl; state = refl; rows = refl; outputs = refl; aside = refl; kept = λ P E done h. h }
 
 -- what the places up to the tag give
 abbrev pub given_through : Warp → Moment → List Given

@@ -1,5 +1,5 @@
 -- What a `Warp` stands for, and the next tag that waits.
-use Rattle.std.proofs.Common.{◌≡◌, false, not, ap, sym, subst, ◌∙◌, refl, filter, IsTrue, IfSome, Option, Some, None}
+use Rattle.std.proofs.Common.{◌≡◌, false, not, ap, sym, subst, ◌∙◌, filter, IsTrue, Option, Some, None}
 use Rattle.warp_tag.specs.Moment.{Moment}
 use Rattle.warp_tag.specs.Table.{Event, live}
 use Rattle.warp_step.specs.Snapshot.{least_pending, start_state}
@@ -57,8 +57,3 @@ module _ (w : Warp) (m : Standing) (h : StandsFor w m) where
   -- so it is where no event is left and nothing is pending
   pub all_done_there : IsTrue (past w.front.last (live m.table)) → least_pending w.front.state.pending ≡ None → IsDone m
   all_done_there gone none = all_done (none_waits w.front.last w.front.state (live m.table) gone (none_pending w.front.state.pending none))
-
--- a fact of what is there, by cases
-pub by_some : {X : Type 0} (Q : X → Type 0) (o : Option X) → ((x : X) → o ≡ Some x → Q x) → IfSome o Q
-by_some Q None h = tt
-by_some Q (Some x) h = h x refl

@@ -73,11 +73,13 @@ pub record GoesBack (P : Program) (E : List Event) (tag : Moment) (done : List R
   pub aside : IsFrom tag x.aside.history.saves
   pub near : (left ≡ length done) ⊎ ((trace : List Row) → Run P E trace → rows_before tag trace ≤ left + spacing)
 
--- The same is executed: other checkpoints may stand, and there may be more room.
+-- The same is executed, and the same is aside: one checkpoint more may stand, and there may be more room.
 pub record IsSame (x y : Front) : Type 0 where
   pub last : y.last ≡ x.last
   pub state : y.state ≡ x.state
   pub rows : y.rows ≡ x.rows
+  pub outputs : y.outputs.items ≡ x.outputs.items
+  pub aside : y.aside ≡ x.aside
   pub kept : (P : Program) (E : List Event) (done : List Row) → IsAt P E x done → IsAt P E y done
 
 -- there is room for one more row: a checkpoint is near enough, and the row's outputs need no memory

@@ -64,7 +64,7 @@ abbrev pub tag_of_next : Next → Moment
 tag_of_next (AtEvent l) = l.tag
 tag_of_next (AtEntry tag) = tag
 
--- where the row is of an event, it is the first of these places
+-- where the row is of an event, it is the first live event of these places
 abbrev pub IsAtFirst : List Place → List Place → Next → Type 0
 IsAtFirst places rest (AtEvent l) = IsAhead places rest l
 IsAtFirst places rest (AtEntry tag) = Unit {0}

@@ -83,8 +83,8 @@ impl Aside {
         }
     }
 
-    /// Sets the checkpoints aside whose last row is not before the tag, if there is room, apart from where they are only
-    /// dropped.
+    /// Sets the checkpoints aside whose last row is not before the tag, if there is room, apart from where they are
+    /// only dropped.
     #[inline(never)]
     fn take_with_room(&mut self, tag: Tag, history: &mut History, outputs: &[Out])
         requires { self.old.history.width ≡ history.old.width }

@@ -120,8 +120,9 @@ impl Front {
         &self.outputs
     }
 
-    /// Makes room for one more row: where the newest checkpoint is as far back as they stand apart, it makes one, and it
-    /// takes memory for the row's outputs where they need it. What is executed stays as it was, also at an `Err`.
+    /// Makes room for one more row: where the newest checkpoint is as far back as they stand apart, it makes one, and
+    /// it takes memory for the row's outputs where they need it. What is executed and what is aside stay as they were,
+    /// also at an `Err`.
     #[inline(always)]
     pub fn get_ready(&mut self, program: &Program) -> Result<(), OutOfMemory>
         requires { (E : List Event) × (done : List Row) × IsAt program.now E self.old done }

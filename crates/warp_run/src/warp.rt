@@ -177,7 +177,7 @@ impl Warp {
         }
     }
 
-    /// Executes the next row. An `Err` leaves what is executed as it was.
+    /// Executes the next row. At an `Err` it is not executed.
     #[inline(always)]
     fn turn<M: Meter>(
         &mut self,

@@ -202,8 +202,8 @@ plan_of P = record {
   links = marks_from (first_link P) (length P.links);
 }
 
--- the room that steps of the program work in: its places, the sources of its ports, how many bodies it has, and whom each
--- place concerns
+-- the room that steps of the program work in: its places, the sources of its ports, for how many bodies it keeps wishes,
+-- and its plan
 pub record Room : Type 0 where
   pub places : Places
   pub sources : List ℕ

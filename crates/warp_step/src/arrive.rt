@@ -1,4 +1,5 @@
-//! What is present at a tag before the reactions run: the entries that are pending there, and what is given.
+//! What is present at a tag before the reactions run: the entries that are pending there, and what is given. The timers
+//! among the entries are made pending again.
 ghost use Rattle.std.specs.Prelude.{◌≡◌, ◌<◌, ◌≤◌, IsTrue, false, not, length, take, drop, filter, slice_get, List};
 ghost use Rattle.std.specs.Option.{option_map_or};
 ghost use Rattle.std.specs.List.{list_all};

@@ -86,7 +86,8 @@ impl Marks {
         self.word & other.word != 0
     }
 
-    /// The least number that may be in the set from one on: no number before it is in the set. It may be past all.
+    /// The least number that may be in the set from one on: none from there to before it is in the set. It may be past
+    /// all.
     #[inline(always)]
     pub fn next(&self, from: usize) -> usize
         requires { from ≤ most_marks }

@@ -23,7 +23,7 @@ use warp_body::{Places, Present, Wishes};
 use warp_tag::{OutOfMemory, Tag};
 
 /// Room that the steps of one program share. Contracts see of which program it is: its places, the sources of its
-/// ports, how many bodies it has, and whom each place concerns.
+/// ports, for how many bodies it keeps wishes, and its plan: whom each place concerns, and the bodies, ready to run.
 #[derive(Drop)]
 pub struct Scratch {
     present: Present,

@@ -1,4 +1,4 @@
-//! Whom the presence of a place concerns: a step looks only at those.
+//! Whom the presence of a place concerns: a step looks only at those. And the bodies of reactions, ready to run.
 ghost use Rattle.std.specs.Prelude.{◌≡◌, ◌+◌, ◌<◌, ◌≤◌, [], ◌∷◌, map, filter, length, IfOk, slice_index_or, if◌then◌else◌};
 ghost use Rattle.std.specs.List.{list_any};
 ghost use Rattle.warp_tag.specs.Limits.{most_reactions};
@@ -186,8 +186,8 @@ fn place_number(place: Target) -> usize
     }
 }
 
-/// Whom the presence of places concerns: their marks, and the number of the first reaction that one of them triggers.
-/// Where it triggers none, no reaction has this number.
+/// Whom the presence of places concerns: their marks, and the number of the first reaction that the place put last
+/// triggers. Where it triggers none, no reaction has this number: it is `NO_REACTION`, or how many reactions there are.
 #[derive(Clone, Copy)]
 pub(crate) struct Concerned {
     pub(crate) marks: Marks,
@@ -211,7 +211,7 @@ impl Concerned {
     }
 }
 
-/// The number of the first reaction that the place may trigger, else the number of reactions.
+/// The number of the first reaction that the place triggers where it is present, else how many reactions there are.
 fn first_heeding(reactions: &[Reaction], sources: &[u32], place: Target) -> usize
     ensures { result ≡ first_heeding sources.now place 0 (map rule_of reactions.now) }
 {
@@ -274,7 +274,8 @@ pub(crate) struct Ready {
     pub(crate) after: Marks,
 }
 
-/// The bodies of all reactions, ready to run, by the number of the reaction, and whom the ports that each writes concern.
+/// The bodies of all reactions, ready to run, by the number of the reaction, and whom the ports that each writes
+/// concern.
 fn of_reactions(
     alloc: Global,
     program: &Program,

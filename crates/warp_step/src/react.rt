@@ -45,7 +45,8 @@ fn is_present(target: Target, present: &Present) -> bool
     requires { IsTrue (target_fits (places_of present.now) target) }
     ensures { result ≡ is_some (present_at present.now target) }
 {
-    // What is not sure is mostly a port that another reaction of the row put. One kind is a test, all are a jump by table.
+    // What is not sure is mostly a port that another reaction of the row put. One kind is a test, all are a jump by
+    // table.
     match target {
         Target::Port(n) => present.get(Target::Port(n)).is_some(),
         _ => is_seldom_present(target, present),
@@ -75,8 +76,8 @@ fn is_one_present(targets: &[Target], present: &Present) -> bool
     false
 }
 
-/// Runs the reaction with this number if it is triggered, and says whether it has wishes then. Whether it is may be sure
-/// before. Whom what it writes concerns is due then.
+/// Runs the reaction with this number if it is triggered, and says whether it has wishes then. Whether it is may be
+/// sure before. Whom what it writes concerns is due then.
 #[inline(always)]
 fn run_reaction(
     is_sure: bool,
