@@ -37,19 +37,24 @@ impl Model for Arena {
     ghost use Rattle.std.specs.Vec.{vec_capacity};
     ghost use Rattle.warp_arena.specs.Shape.{threads_of, contents_of, IsWhole};
 
-    ghost view = { λ a. contents_of (threads_of a.nodes.items a.by_origin.items a.ends a.free) a.used (vec_capacity a.nodes) };
+    ghost view = { λ a.
+        contents_of (threads_of a.nodes.items a.by_origin.items a.ends a.free) a.used (vec_capacity a.nodes) };
 
     ghost invariant = { λ a. IsWhole (threads_of a.nodes.items a.by_origin.items a.ends a.free) a.used };
 }
 
 impl Arena {
-    ghost use Rattle.std.specs.Prelude.{◌≡◌, ◌≢◌, ℕ, true, ◌↔◌, ◌<◌, ◌≤◌, ◌+◌, ◌-◌, [], ◌∷◌, IsTrue, IsOk, IsSome, MatchOption, IfSome, IsSomeAnd, IfOk, OnOk, OnErr, None, Some, length, map, drop, ◌==◌, filter};
+    ghost use Rattle.std.specs.Prelude.{◌≡◌, ◌≢◌, ℕ, true, ◌↔◌, ◌<◌, ◌≤◌, ◌+◌, ◌-◌, [], ◌∷◌, IsTrue, IsOk, IsSome};
+    ghost use Rattle.std.specs.Prelude.{MatchOption, IfSome, IsSomeAnd, IfOk, OnOk, OnErr, None, Some, length, map};
+    ghost use Rattle.std.specs.Prelude.{drop, ◌==◌, filter};
     ghost use Rattle.std.specs.Option.{option_map};
     ghost use Rattle.warp_tag.specs.Limits.{most_names};
     ghost use Rattle.warp_tag.specs.Moment.{is_before};
     ghost use Rattle.warp_tag.specs.Table.{name_before, has_name, fresh, with_event, with_withdrawal};
     ghost use Rattle.warp_tag.specs.declared.entry.Entry.{Entry};
-    ghost use Rattle.warp_arena.specs.Places.{places_of, node_of, entry_of, first_node, last_node, Reaches, places_from, places_after, places_before, with_place, with_change, with_free, places_past, places_through, IsOrdered, origin_of};
+    ghost use Rattle.warp_arena.specs.Places.{places_of, node_of, entry_of, first_node, last_node, Reaches};
+    ghost use Rattle.warp_arena.specs.Places.{places_from, places_after, places_before, with_place, with_change};
+    ghost use Rattle.warp_arena.specs.Places.{with_free, places_past, places_through, IsOrdered, origin_of};
     ghost use Rattle.warp_arena.specs.Shape.{IsGap, last_not_after, IsAfter};
 
     /// An arena without entries, for origins below this number. The only error is want of memory.
@@ -140,13 +145,15 @@ impl Arena {
     pub fn enter(&mut self, origin: u32, tag: Tag) -> NodeId
         requires origin { origin < self.old.origins }
         requires reserved { 0 < self.old.free }
-        ensures known { (node : ℕ) → node_of origin tag self.old.places ≡ Some node → (result ≡ node) × (self.new ≡ self.old) }
+        ensures known { (node : ℕ) → node_of origin tag self.old.places ≡ Some node → (result ≡ node) ×
+            (self.new ≡ self.old) }
         ensures places { node_of origin tag self.old.places ≡ None → self.new ≡ record self.old {
           places = with_place (record { node = result; entry = fresh origin tag }) self.old.places;
           free = self.old.free - 1;
         } }
         ensures new_handle { node_of origin tag self.old.places ≡ None → entry_of result self.old.places ≡ None }
-        ensures entry { node_of origin tag self.old.places ≡ None → entry_of result self.new.places ≡ Some (fresh origin tag) }
+        ensures entry { node_of origin tag self.old.places ≡ None →
+            entry_of result self.new.places ≡ Some (fresh origin tag) }
         ensures others { node_of origin tag self.old.places ≡ None
             → (node : ℕ) → node ≢ result → entry_of node self.new.places ≡ entry_of node self.old.places }
         ensures named { IsSomeAnd (entry_of result self.new.places) (λ e. IsTrue (has_name origin tag e)) }
@@ -162,13 +169,15 @@ impl Arena {
     fn enter_among(&mut self, origin: u32, tag: Tag) -> NodeId
         requires origin { origin < self.old.origins }
         requires reserved { 0 < self.old.free }
-        ensures known { (node : ℕ) → node_of origin tag self.old.places ≡ Some node → (result ≡ node) × (self.new ≡ self.old) }
+        ensures known { (node : ℕ) → node_of origin tag self.old.places ≡ Some node → (result ≡ node) ×
+            (self.new ≡ self.old) }
         ensures places { node_of origin tag self.old.places ≡ None → self.new ≡ record self.old {
           places = with_place (record { node = result; entry = fresh origin tag }) self.old.places;
           free = self.old.free - 1;
         } }
         ensures new_handle { node_of origin tag self.old.places ≡ None → entry_of result self.old.places ≡ None }
-        ensures entry { node_of origin tag self.old.places ≡ None → entry_of result self.new.places ≡ Some (fresh origin tag) }
+        ensures entry { node_of origin tag self.old.places ≡ None →
+            entry_of result self.new.places ≡ Some (fresh origin tag) }
         ensures others { node_of origin tag self.old.places ≡ None
             → (node : ℕ) → node ≢ result → entry_of node self.new.places ≡ entry_of node self.old.places }
         ensures named { IsSomeAnd (entry_of result self.new.places) (λ e. IsTrue (has_name origin tag e)) }
@@ -268,8 +277,10 @@ impl Arena {
     /// Records an event of the handle's name: of several payloads the greatest counts, by input, then by value.
     pub fn set_event(&mut self, node: NodeId, input: u32, value: i64)
         requires { IsSome (entry_of node self.old.places) }
-        ensures places { self.new ≡ record self.old { places = with_change (with_event input value) node self.old.places } }
-        ensures entry { entry_of node self.new.places ≡ option_map (with_event input value) (entry_of node self.old.places) }
+        ensures places { self.new ≡
+            record self.old { places = with_change (with_event input value) node self.old.places } }
+        ensures entry { entry_of node self.new.places ≡
+            option_map (with_event input value) (entry_of node self.old.places) }
         ensures others { (other : ℕ) → other ≢ node → entry_of other self.new.places ≡ entry_of other self.old.places }
     {
         self.touch(node);
@@ -329,7 +340,8 @@ impl Arena {
     /// The handle of the next entry of the same origin, or none at its last one.
     pub fn next_of_origin(&self, node: NodeId) -> Option<NodeId>
         requires { IsSome (entry_of node self.now.places) }
-        ensures handle { result ≡ first_node (places_of (origin_of node self.now.places) (places_after node self.now.places)) }
+        ensures handle { result ≡
+            first_node (places_of (origin_of node self.now.places) (places_after node self.now.places)) }
         ensures used { IfSome result (λ at. IsSome (entry_of at self.now.places)) }
     {
         handle(self.nodes[node.index() as usize].of_origin.next)

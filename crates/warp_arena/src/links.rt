@@ -1,9 +1,11 @@
 //! The links of an arena's nodes: how a node comes into its two lists and goes from them.
-ghost use Rattle.std.specs.Prelude.{◌≡◌, ℕ, ◌<◌, [], ◌∷◌, ◌++◌, ◌+◌, max, length, None, Some, if◌then◌else◌, ◌==◌, is_ok, IsOk, IsTrue, OnOk, OnErr};
+ghost use Rattle.std.specs.Prelude.{◌≡◌, ℕ, ◌<◌, [], ◌∷◌, ◌++◌, ◌+◌, max, length, None, Some, if◌then◌else◌, ◌==◌};
+ghost use Rattle.std.specs.Prelude.{is_ok, IsOk, IsTrue, OnOk, OnErr};
 ghost use Rattle.std.specs.Vec.{vec_capacity};
 ghost use Rattle.warp_arena.specs.Places.{room_after};
 ghost use Rattle.warp_arena.specs.Shape.{by_tag, of_origin, next_in, prev_in, no_node};
-ghost use Rattle.warp_arena.specs.Changes.{IsPassed, IsPlace, CanThread, CanUnthread, SetsNext, SetsPrev, KeepsButTags, KeepsButOwn, Inserts, Skips, Threaded, Unthreaded};
+ghost use Rattle.warp_arena.specs.Changes.{IsPassed, IsPlace, CanThread, CanUnthread, SetsNext, SetsPrev, KeepsButTags};
+ghost use Rattle.warp_arena.specs.Changes.{KeepsButOwn, Inserts, Skips, Threaded, Unthreaded};
 
 use crate::node::{Gap, Links, NO_NODE, Node, NodeId};
 use crate::packed::Packed;
@@ -26,7 +28,8 @@ pub(crate) fn add_node(nodes: &mut Vec<Node>) -> Result<(), OutOfMemory>
     ensures ok { OnOk result (nodes.new.items ≡ nodes.old.items ++ no_node ∷ []) }
     ensures err { OnErr result (nodes.new.items ≡ nodes.old.items) }
     ensures room { vec_capacity nodes.new
-        ≡ (if is_ok result then room_after (length nodes.old.items) (vec_capacity nodes.old) else vec_capacity nodes.old) }
+        ≡ (if is_ok result then room_after (length nodes.old.items) (vec_capacity nodes.old)
+        else vec_capacity nodes.old) }
     ensures spare { length nodes.old.items < vec_capacity nodes.old → IsOk result }
 {
     if nodes.len() < nodes.capacity() {
@@ -189,7 +192,8 @@ pub(crate) fn thread_node(
     requires owns { CanThread (length nodes.old) (next_in own_ends.old (of_origin nodes.old)) gap.now.own_before at }
     requires after { gap.now.after ≡ next_in ends.old (by_tag nodes.old) gap.now.before }
     requires own_after { gap.now.own_after ≡ next_in own_ends.old (of_origin nodes.old) gap.now.own_before }
-    ensures { Threaded nodes.old nodes.new ends.old ends.new own_ends.old own_ends.new gap.now.before gap.now.own_before at entry }
+    ensures { Threaded nodes.old nodes.new ends.old ends.new own_ends.old own_ends.new
+        gap.now.before gap.now.own_before at entry }
 {
     thread_by_tag(nodes, ends, gap.before, gap.after, at);
     thread_of_origin(nodes, own_ends, gap.own_before, gap.own_after, at);

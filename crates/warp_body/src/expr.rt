@@ -1,6 +1,7 @@
 //! Expressions: their values, copies and comparison.
 ghost use Rattle.std.specs.Prelude.{◌≡◌, ℕ, length, IsTrue, IfOk, IfSome, ◌↔◌};
-ghost use Rattle.warp_body.specs.Term.{Term, Choice, term_of, value_of, result_of_one, result_of_two, term_fits, sizes_of};
+ghost use Rattle.warp_body.specs.Term.{Term, Choice, term_of, value_of, result_of_one, result_of_two, term_fits};
+ghost use Rattle.warp_body.specs.Term.{sizes_of};
 
 use crate::operator::{BinaryOperator, UnaryOperator, as_number, is_true};
 use crate::place::{Present, Sizes, Target, Vars};
@@ -90,7 +91,9 @@ fn unary(operator: UnaryOperator, a: &Expr, vars: &[i64], present: &Present) -> 
 fn binary(operator: BinaryOperator, a: &Expr, b: &Expr, vars: &[i64], present: &Present) -> i64
     requires first { IsTrue (term_fits (sizes_of vars.now present.now) (term_of a.now)) }
     requires second { IsTrue (term_fits (sizes_of vars.now present.now) (term_of b.now)) }
-    ensures { result ≡ result_of_two operator (value_of (term_of a.now) vars.now present.now) (value_of (term_of b.now) vars.now present.now) }
+    ensures { result ≡
+        result_of_two operator (value_of (term_of a.now) vars.now present.now)
+        (value_of (term_of b.now) vars.now present.now) }
 {
     let left = evaluate(a, vars, present);
     let right = match leaf(b, vars, present) {

@@ -1,7 +1,9 @@
 //! What a body reads and writes: the variables, and what is present.
-ghost use Rattle.std.specs.Prelude.{◌≡◌, ℕ, ℤ, ◌<◌, List, length, slice_index_or, slice_set, Option, Some, None, pos, IfOk, ◌==◌, IsTrue, nat_lt};
+ghost use Rattle.std.specs.Prelude.{◌≡◌, ℕ, ℤ, ◌<◌, List, length, slice_index_or, slice_set, Option, Some, None, pos};
+ghost use Rattle.std.specs.Prelude.{IfOk, ◌==◌, IsTrue, nat_lt};
 ghost use Rattle.std.specs.List.{list_all};
-ghost use Rattle.warp_body.specs.Presence.{Presence, places_of, target_fits, nothing_present, present_at, with_value, kind_of, number_of, target_before, is_target};
+ghost use Rattle.warp_body.specs.Presence.{Presence, places_of, target_fits, nothing_present, present_at, with_value};
+ghost use Rattle.warp_body.specs.Presence.{kind_of, number_of, target_before, is_target};
 
 use crate::slots::{Slot, Slots};
 use std::alloc::Global;

@@ -71,7 +71,8 @@ impl Puller {
     /// line, to take the record that came.
     pub fn on_reply<D: Desk>(&mut self, reply: Option<Reply>, desk: &mut D) -> Pulled
         requires { IfSome reply IsReply }
-        ensures { Pulls D.gives (D.state desk.old) self.old reply (record { pulled = result; next = self.new }) (D.state desk.new) }
+        ensures { Pulls D.gives (D.state desk.old) self.old reply (record { pulled = result; next = self.new })
+            (D.state desk.new) }
     {
         match reply {
             Some(Reply::Log { log, record }) if log >= self.next => self.put(record, desk),

@@ -1,5 +1,6 @@
 //! A run from the start, over a sorted table.
-ghost use Rattle.std.specs.Prelude.{◌≡◌, ◌+◌, ◌≤◌, ◌++◌, ◌∷◌, IsTrue, List, [], length, map, take, drop, IfOk, OnOk, OnErr};
+ghost use Rattle.std.specs.Prelude.{◌≡◌, ◌+◌, ◌≤◌, ◌++◌, ◌∷◌, IsTrue, List, [], length, map, take, drop, IfOk, OnOk};
+ghost use Rattle.std.specs.Prelude.{OnErr};
 ghost use Rattle.std.specs.List.{list_all, list_any};
 ghost use Rattle.warp_tag.specs.Moment.{is_before, is_same};
 ghost use Rattle.warp_tag.specs.Table.{IsTable, live};
@@ -114,7 +115,8 @@ pub(crate) fn replay<M: Meter>(
     requires events { IsTrue (list_all (event_fits program.now) (live entries.now)) }
     ensures ok { IfOk result (λ r. (done : List Row) × Run program.now (live entries.now) done
         × (r.0 ≡ state_at_end (start_state program.now) done) × (r.1.items ≡ outputs_of done)) }
-    ensures bound { (trace : List Row) → Run program.now (live entries.now) trace → M.ticks meter.new ≤ M.ticks meter.old + length trace }
+    ensures bound { (trace : List Row) → Run program.now (live entries.now) trace →
+        M.ticks meter.new ≤ M.ticks meter.old + length trace }
     ensures ticked { M.ticks meter.old ≤ M.ticks meter.new }
 {
     let mut state = State::start(alloc, program)?;

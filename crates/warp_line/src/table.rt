@@ -1,5 +1,6 @@
 //! A sorted table of names in a `Vec`.
-ghost use Rattle.std.specs.Prelude.{◌≡◌, ◌<◌, ◌≤◌, false, IsTrue, length, slice_get, slice_set, unwrap_or, vec_len, vec_capacity};
+ghost use Rattle.std.specs.Prelude.{◌≡◌, ◌<◌, ◌≤◌, false, IsTrue, length, slice_get, slice_set, unwrap_or, vec_len};
+ghost use Rattle.std.specs.Prelude.{vec_capacity};
 ghost use Rattle.std.specs.List.{prefix_len};
 ghost use Rattle.warp_tag.specs.declared.entry.Entry.{Entry};
 ghost use Rattle.warp_tag.specs.Table.{IsTable, name_before, fresh, known, changed, with_event, with_withdrawal, live};
@@ -24,9 +25,12 @@ fn enter(entries: &mut Vec<Entry>, origin: u32, tag: Tag) -> usize
     requires room { vec_len entries.old < vec_capacity entries.old }
     requires table { IsTable entries.old.items }
     ensures within { result < vec_len entries.new }
-    ensures entry { slice_get entries.new.items result ≡ Some (unwrap_or (known origin tag entries.old.items) (fresh origin tag)) }
+    ensures entry { slice_get entries.new.items result ≡
+        Some (unwrap_or (known origin tag entries.old.items) (fresh origin tag)) }
     ensures change { (change : Entry → Entry) →
-        slice_set entries.new.items result (change (unwrap_or (known origin tag entries.old.items) (fresh origin tag))) ≡ changed change origin tag entries.old.items }
+        slice_set entries.new.items result
+        (change (unwrap_or (known origin tag entries.old.items) (fresh origin tag))) ≡
+        changed change origin tag entries.old.items }
 {
     let at = place(entries, origin, tag);
     if at == entries.len() || !entries[at].is_of(origin, tag) {

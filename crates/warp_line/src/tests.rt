@@ -91,7 +91,8 @@ fn enter<T: Timeline, R: Abort>(rt: &R, program: &Program, timeline: &mut T, cha
     requires prepared { T.is_prepared timeline.old }
     requires stands { (m : Standing) × T.stands_for timeline.old m × (m.program ≡ program.now) }
     ensures { (m : Standing) → T.stands_for timeline.old m → m.program ≡ program.now →
-        (n : Standing) × T.stands_for timeline.new n × (n.program ≡ program.now) × (length n.table ≤ length m.table + 1) }
+        (n : Standing) × T.stands_for timeline.new n × (n.program ≡ program.now) ×
+        (length n.table ≤ length m.table + 1) }
 {
     let origin = change.origin;
     let tag = Tag::new(change.time, 0).expect(rt, "a tag");
@@ -118,7 +119,8 @@ fn take<T: Timeline, M: Meter, R: Abort>(
 ) -> Result<i64, Fail>
     requires { (m : Standing) × T.stands_for timeline.old m × (m.program ≡ program.now) × (length m.table < 1000) }
     ensures stands { OnOk result ((m : Standing) → T.stands_for timeline.old m → m.program ≡ program.now →
-        (n : Standing) × T.stands_for timeline.new n × (n.program ≡ program.now) × (length n.table ≤ length m.table + 1)) }
+        (n : Standing) × T.stands_for timeline.new n × (n.program ≡ program.now) ×
+        (length n.table ≤ length m.table + 1)) }
     ensures settled { OnOk result (IsTrue (T.settled timeline.new)) }
 {
     timeline.prepare(alloc)?;
@@ -291,7 +293,8 @@ fn count_one(alloc: Global) -> Result<Reaction, OutOfMemory>
       triggers = to.Startup ∷ to.Timer 0 ∷ to.Port 0 ∷ [];
       reads = [];
       writes = to.Port 1 ∷ [];
-      body = Then (SetVariable 0 (OfTwo Add (VariableAt 0) (Constant (pos 1)))) (Then (PutOutput 1 (VariableAt 0)) Done);
+      body = Then (SetVariable 0 (OfTwo Add (VariableAt 0) (Constant (pos 1))))
+          (Then (PutOutput 1 (VariableAt 0)) Done);
     }) }
 {
     let count = Box::new(alloc, Expr::Variable(0))?;

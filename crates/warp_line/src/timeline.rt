@@ -8,7 +8,8 @@ use warp_tag::{OutOfMemory, Tag};
 /// A value stands for a program, a table of names (with payload and withdrawn mark) and so many rows of the
 /// run as are done (`Standing`): that is a relation, since a value need not keep what it stands for.
 pub trait Timeline: Sized {
-    ghost use Rattle.std.specs.Prelude.{◌≡◌, ◌<◌, ◌≤◌, ◌+◌, ◌-◌, ℕ, ℤ, Bool, false, IsTrue, List, [], length, IfOk, OnOk, OnErr, IsOk};
+    ghost use Rattle.std.specs.Prelude.{◌≡◌, ◌<◌, ◌≤◌, ◌+◌, ◌-◌, ℕ, ℤ, Bool, false, IsTrue, List, [], length, IfOk};
+    ghost use Rattle.std.specs.Prelude.{OnOk, OnErr, IsOk};
     ghost use Rattle.warp_tag.specs.Limits.{most_names};
     ghost use Rattle.warp_tag.specs.Table.{changed, with_event, with_withdrawal, live};
     ghost use Rattle.warp_step.specs.Run.{Row, state_at_end, outputs_of};
@@ -68,11 +69,13 @@ pub trait Timeline: Sized {
     ) -> Result<(), OutOfMemory>
         requires { (m : Standing) × stands_for self.old m × (m.program ≡ program.now) }
         ensures stands { (m : Standing) → stands_for self.old m → m.program ≡ program.now →
-            (done : List Row) × Settles stands_for self.new m (M.ticks meter.new - M.ticks meter.old) done × OnOk result (IsDone (record m { done = done })) }
+            (done : List Row) × Settles stands_for self.new m (M.ticks meter.new - M.ticks meter.old) done ×
+            OnOk result (IsDone (record m { done = done })) }
         ensures ticked { M.ticks meter.old ≤ M.ticks meter.new }
         ensures settled { OnOk result (IsTrue (settled self.new)) }
         ensures unsettled { OnErr result (settled self.new ≡ false) }
-        ensures idle { IsTrue (settled self.old) → IsOk result × (self.new ≡ self.old) × (M.ticks meter.new ≡ M.ticks meter.old) };
+        ensures idle { IsTrue (settled self.old) → IsOk result × (self.new ≡ self.old) ×
+            (M.ticks meter.new ≡ M.ticks meter.old) };
 
     /// Whether all rows are done.
     fn is_settled(&self) -> bool
@@ -82,7 +85,8 @@ pub trait Timeline: Sized {
     /// The state after the last row: the start state if there is none.
     fn state(&self) -> &State
         requires { IsTrue (settled self.now) }
-        ensures { (m : Standing) → stands_for self.now m → IsDone m × (result.now ≡ state_at_end (start_state m.program) m.done) };
+        ensures { (m : Standing) → stands_for self.now m → IsDone m ×
+            (result.now ≡ state_at_end (start_state m.program) m.done) };
 
     /// The outputs of all rows, in order.
     fn outputs(&self) -> &[Out]

@@ -2,7 +2,9 @@
 ghost use Rattle.std.specs.Prelude.{◌≡◌, ◌≤◌, ◌-◌, ℕ, map, nat_lt, SomeIff};
 ghost use Rattle.std.specs.List.{list_any};
 ghost use Rattle.warp_tag.specs.Limits.{most_variables, most_ports, most_actions, most_timers, most_reactions};
-ghost use Rattle.warp_prog.specs.Limits.{is_outside, period_exceeds, origin_exceeds, numbers_exceed, lists_exceed, total, totals_exceed, action_exceeds, timer_exceeds, link_exceeds, reaction_exceeds, reactor_exceeds, parts_exceed, exceeds_limits};
+ghost use Rattle.warp_prog.specs.Limits.{is_outside, period_exceeds, origin_exceeds, numbers_exceed, lists_exceed};
+ghost use Rattle.warp_prog.specs.Limits.{total, totals_exceed, action_exceeds, timer_exceeds, link_exceeds};
+ghost use Rattle.warp_prog.specs.Limits.{reaction_exceeds, reactor_exceeds, parts_exceed, exceeds_limits};
 ghost use Rattle.warp_prog.specs.View.{file_tree, reactor_tree, reaction_tree};
 ghost use Rattle.warp_prog.specs.inner.Kind.{count_of};
 ghost use Rattle.warp_prog.specs.declared.file.InputPart.{InputPart};
@@ -94,7 +96,8 @@ fn are_more(reactors: &[Reactor], kind: &Kind, most: usize) -> bool
 
 /// The room that is left of so much after the things of a kind in all reactors; `None` where it is not enough.
 fn room_after_all(reactors: &[Reactor], kind: &Kind, room: usize) -> Option<usize>
-    ensures { let n = total (count_of kind.now) (map reactor_tree reactors.now) in SomeIff result (n ≤ room) (room - n) }
+    ensures { let n = total (count_of kind.now) (map reactor_tree reactors.now) in
+        SomeIff result (n ≤ room) (room - n) }
 {
     let mut left = room;
     for reactor in reactors {

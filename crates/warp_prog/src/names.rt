@@ -1,7 +1,8 @@
 //! Names that stand for nothing of the kind that their place asks.
 ghost use Rattle.std.specs.Prelude.{◌≡◌, not, map};
 ghost use Rattle.std.specs.List.{list_any};
-ghost use Rattle.warp_prog.specs.Names.{is_known, is_written, reaction_unknown, is_input, is_output, link_unknown, names_unknown};
+ghost use Rattle.warp_prog.specs.Names.{is_known, is_written, reaction_unknown, is_input, is_output, link_unknown};
+ghost use Rattle.warp_prog.specs.Names.{names_unknown};
 ghost use Rattle.warp_prog.specs.Uses.{carries_value, is_trigger};
 ghost use Rattle.warp_prog.specs.View.{file_tree, reactor_tree, reaction_tree};
 ghost use Rattle.warp_prog.specs.inner.Rule.{use_of};
@@ -35,7 +36,8 @@ fn any_reactor(reactors: &[Reactor]) -> bool
 }
 
 fn any_reaction(reactor: &Reactor) -> bool
-    ensures { result ≡ list_any (reaction_unknown (reactor_tree reactor.now)) (map reaction_tree reactor.now.reactions.items) }
+    ensures { result ≡
+        list_any (reaction_unknown (reactor_tree reactor.now)) (map reaction_tree reactor.now.reactions.items) }
 {
     for reaction in &reactor.reactions {
         if reaction_unknown(reactor, reaction) {

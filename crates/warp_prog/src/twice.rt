@@ -2,7 +2,8 @@
 ghost use Rattle.std.specs.Prelude.{◌≡◌, ◌≤◌, ◌+◌, ◌-◌, ◌||◌, List, ℕ, map, bytes_eq, SomeIff, if◌then◌else◌};
 ghost use Rattle.std.specs.List.{list_any};
 ghost use Rattle.warp_prog.specs.File.{ReactorPart};
-ghost use Rattle.warp_prog.specs.Twice.{how_often, stands_twice, repeats, reactor_names, all_names, same_port, targets, names_twice};
+ghost use Rattle.warp_prog.specs.Twice.{how_often, stands_twice, repeats, reactor_names, all_names, same_port, targets};
+ghost use Rattle.warp_prog.specs.Twice.{names_twice};
 ghost use Rattle.warp_prog.specs.Uses.{startup, action_names, timer_names};
 ghost use Rattle.warp_prog.specs.View.{file_tree, reactor_tree};
 ghost use Rattle.warp_prog.specs.declared.file.PortName.{PortName};
@@ -37,7 +38,8 @@ fn reactors_repeat(reactors: &[Reactor]) -> bool
 
 /// The room that is left of so much after the reactors of this name; `None` where it is not enough.
 fn room_for_reactor(reactors: &[Reactor], name: &str, room: usize) -> Option<usize>
-    ensures { let n = how_often bytes_eq (reactor_names (map reactor_tree reactors.now)) name.now in SomeIff result (n ≤ room) (room - n) }
+    ensures { let n = how_often bytes_eq (reactor_names (map reactor_tree reactors.now)) name.now in
+        SomeIff result (n ≤ room) (room - n) }
 {
     let mut left = room;
     for reactor in reactors {
@@ -80,14 +82,16 @@ fn port_names_repeat(reactor: &Reactor) -> bool
 /// Whether the name of an action or a timer stands twice in its reactor.
 fn cause_names_repeat(reactor: &Reactor) -> bool
     ensures { let p = stands_twice bytes_eq (all_names (reactor_tree reactor.now)) in
-        result ≡ (list_any p (action_names (reactor_tree reactor.now)) || list_any p (timer_names (reactor_tree reactor.now))) }
+        result ≡ (list_any p (action_names (reactor_tree reactor.now)) ||
+        list_any p (timer_names (reactor_tree reactor.now))) }
 {
     any_stands_twice(reactor, &reactor.actions) || any_stands_twice(reactor, &reactor.timers)
 }
 
 /// Whether the name of one of these things stands twice in the reactor.
 fn any_stands_twice<T: Named>(reactor: &Reactor, things: &[T]) -> bool
-    ensures { result ≡ list_any (stands_twice bytes_eq (all_names (reactor_tree reactor.now))) (map T.called things.now) }
+    ensures { result ≡
+        list_any (stands_twice bytes_eq (all_names (reactor_tree reactor.now))) (map T.called things.now) }
 {
     for thing in things {
         if stands_twice(reactor, thing.name().as_str()) {
@@ -105,7 +109,8 @@ fn stands_twice(reactor: &Reactor, name: &str) -> bool
 
 /// The room that is left for a name in a reactor; `None` where it stands twice.
 fn room_in_reactor(reactor: &Reactor, name: &str) -> Option<usize>
-    ensures { let n = how_often bytes_eq (all_names (reactor_tree reactor.now)) name.now in SomeIff result (n ≤ 1) (1 - n) }
+    ensures { let n = how_often bytes_eq (all_names (reactor_tree reactor.now)) name.now in
+        SomeIff result (n ≤ 1) (1 - n) }
 {
     let beside = room_beside_startup(name);
     let left = room_for(&reactor.variables, name, beside)?;
@@ -122,7 +127,8 @@ fn room_beside_startup(name: &str) -> usize
 
 /// The room that is left of so much after the inputs and outputs of this name; `None` where it is not enough.
 fn room_for_port_name(reactor: &Reactor, name: &str, room: usize) -> Option<usize>
-    ensures { let n = how_often bytes_eq reactor.now.inputs.items name.now + how_often bytes_eq reactor.now.outputs.items name.now in
+    ensures { let n = how_often bytes_eq reactor.now.inputs.items name.now +
+        how_often bytes_eq reactor.now.outputs.items name.now in
         SomeIff result (n ≤ room) (room - n) }
 {
     let left = room_for(&reactor.inputs, name, room)?;
@@ -131,7 +137,8 @@ fn room_for_port_name(reactor: &Reactor, name: &str, room: usize) -> Option<usiz
 
 /// The room that is left of so much after the actions and timers of this name; `None` where it is not enough.
 fn room_for_cause_name(reactor: &Reactor, name: &str, room: usize) -> Option<usize>
-    ensures { let n = how_often bytes_eq (action_names (reactor_tree reactor.now)) name.now + how_often bytes_eq (timer_names (reactor_tree reactor.now)) name.now in
+    ensures { let n = how_often bytes_eq (action_names (reactor_tree reactor.now)) name.now +
+        how_often bytes_eq (timer_names (reactor_tree reactor.now)) name.now in
         SomeIff result (n ≤ room) (room - n) }
 {
     let left = room_for(&reactor.actions, name, room)?;
@@ -231,7 +238,8 @@ fn outputs_repeat(outputs: &[PortName]) -> bool
 
 /// The room that is left of so much after the things that refer to this port; `None` where it is not enough.
 fn room_for_port<T: Refers>(things: &[T], port: &PortName, room: usize) -> Option<usize>
-    ensures { let n = how_often same_port (map T.refers_to things.now) port.now in SomeIff result (n ≤ room) (room - n) }
+    ensures { let n = how_often same_port (map T.refers_to things.now) port.now in
+        SomeIff result (n ≤ room) (room - n) }
 {
     let mut left = room;
     for thing in things {

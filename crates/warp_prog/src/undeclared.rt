@@ -24,7 +24,8 @@ pub(crate) fn is_undeclared(file: &ProgramFile) -> bool
 }
 
 fn any_undeclared(reactor: &Reactor) -> bool
-    ensures { result ≡ list_any (reaction_undeclared (reactor_tree reactor.now)) (map reaction_tree reactor.now.reactions.items) }
+    ensures { result ≡
+        list_any (reaction_undeclared (reactor_tree reactor.now)) (map reaction_tree reactor.now.reactions.items) }
 {
     for reaction in &reactor.reactions {
         if breaks(&Rule::Declared(reactor, reaction), &reaction.body) {

@@ -1,7 +1,8 @@
 //! Cutting words off the front of a text, in one pass over its bytes.
 //!
 //! What is left of a text begins with the space behind the last word that was cut off, or is empty at the end.
-ghost use Rattle.std.specs.Prelude.{◌≡◌, ℕ, ℤ, ◌+◌, ◌<◌, ◌≤◌, ◌^◌, [], ◌∷◌, List, IfSome, IfNone, SomeIff, IsTrue, ◌↔◌, FitsSigned, decimal, length, slice_index, take};
+ghost use Rattle.std.specs.Prelude.{◌≡◌, ℕ, ℤ, ◌+◌, ◌<◌, ◌≤◌, ◌^◌, [], ◌∷◌, List, IfSome, IfNone, SomeIff, IsTrue, ◌↔◌};
+ghost use Rattle.std.specs.Prelude.{FitsSigned, decimal, length, slice_index, take};
 ghost use Rattle.std.specs.Char.{digit_value};
 ghost use Rattle.std.specs.Fmt.{signed_decimal};
 ghost use Rattle.std.specs.Int.{w64};
@@ -62,7 +63,8 @@ fn front_digits(bytes: &[u8]) -> (u64, usize)
     ensures short { result.1 ≤ FEW_DIGITS }
     ensures all_digits { AllDigits 10 (take result.1 bytes.now) }
     ensures value { digits_value 10 (take result.1 bytes.now) ≡ result.0 }
-    ensures end { result.1 < FEW_DIGITS → result.1 < length bytes.now → digit_value (slice_index bytes.now result.1) < 10 → ⊥ }
+    ensures end { result.1 < FEW_DIGITS → result.1 < length bytes.now →
+        digit_value (slice_index bytes.now result.1) < 10 → ⊥ }
 {
     // Up to so many are read by a loop with a known number of turns, which is quick.
     if bytes.len() >= KNOWN_TURNS {
@@ -129,7 +131,8 @@ fn front_number(bytes: &[u8], max: u64) -> Option<(u64, usize)>
 #[inline(always)]
 pub(crate) fn cut_number(text: &[u8], max: u64) -> Option<(u64, &[u8])>
     requires { max < 10 ^ FEW_DIGITS }
-    ensures found { IfSome result (λ cut. (cut.0 ≤ max) × (words_behind text.now ≡ decimal cut.0 ∷ words_behind cut.1.now)) }
+    ensures found { IfSome result
+        (λ cut. (cut.0 ≤ max) × (words_behind text.now ≡ decimal cut.0 ∷ words_behind cut.1.now)) }
     ensures none { IfNone result ((number : ℕ) (words : List (List ℕ)) → number ≤ max →
         words_behind text.now ≡ decimal number ∷ words → ⊥) }
 {
@@ -147,7 +150,8 @@ pub(crate) fn cut_number(text: &[u8], max: u64) -> Option<(u64, &[u8])>
 /// The number up to `max` that is the next word and fits 32 bits, and what is left behind it.
 #[inline(always)]
 pub(crate) fn cut_u32(text: &[u8], max: u32) -> Option<(u32, &[u8])>
-    ensures found { IfSome result (λ cut. (cut.0 ≤ max) × (words_behind text.now ≡ decimal cut.0 ∷ words_behind cut.1.now)) }
+    ensures found { IfSome result
+        (λ cut. (cut.0 ≤ max) × (words_behind text.now ≡ decimal cut.0 ∷ words_behind cut.1.now)) }
     ensures none { IfNone result ((number : ℕ) (words : List (List ℕ)) → number ≤ max →
         words_behind text.now ≡ decimal number ∷ words → ⊥) }
 {
@@ -158,8 +162,10 @@ pub(crate) fn cut_u32(text: &[u8], max: u32) -> Option<(u32, &[u8])>
 /// The signed number that is the next word and the last one.
 #[inline(always)]
 pub(crate) fn cut_last_int(text: &[u8]) -> Option<i64>
-    ensures found { IfSome result (λ number. FitsSigned w64 number × (words_behind text.now ≡ signed_decimal number ∷ [])) }
-    ensures none { IfNone result ((number : ℤ) → FitsSigned w64 number → words_behind text.now ≡ signed_decimal number ∷ [] → ⊥) }
+    ensures found { IfSome result
+        (λ number. FitsSigned w64 number × (words_behind text.now ≡ signed_decimal number ∷ [])) }
+    ensures none { IfNone result
+        ((number : ℤ) → FitsSigned w64 number → words_behind text.now ≡ signed_decimal number ∷ [] → ⊥) }
 {
     let [_, word @ ..] = text else {
         return None;

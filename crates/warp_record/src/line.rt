@@ -105,7 +105,8 @@ fn read_index(word: &[u8]) -> Option<u32>
 /// The query in range whose words these are; `None` where there is none.
 fn read_query(words: &[&[u8]]) -> Option<Query>
     ensures found { IfSome result (λ query. IsQuery query × (map (λ word. word.now) words.now ≡ query_words query)) }
-    ensures none { IfNone result ((query : Query) → IsQuery query → map (λ word. word.now) words.now ≡ query_words query → ⊥) }
+    ensures none { IfNone result
+        ((query : Query) → IsQuery query → map (λ word. word.now) words.now ≡ query_words query → ⊥) }
 {
     match words {
         [word] if is_keyword(word, OUTPUTS) => Some(Query::Outputs),
@@ -135,7 +136,8 @@ fn is_collect(words: &[&[u8]]) -> bool
 /// The look in range whose words these are; `None` where there is none.
 fn read_look(words: &[&[u8]]) -> Option<Look>
     ensures found { IfSome result (λ look. IsLook look × (map (λ word. word.now) words.now ≡ look_words look)) }
-    ensures none { IfNone result ((look : Look) → IsLook look → map (λ word. word.now) words.now ≡ look_words look → ⊥) }
+    ensures none { IfNone result
+        ((look : Look) → IsLook look → map (λ word. word.now) words.now ≡ look_words look → ⊥) }
 {
     match words {
         [word] if is_keyword(word, BOARD) => Some(Look::Board),
@@ -147,9 +149,11 @@ fn read_look(words: &[&[u8]]) -> Option<Look>
 /// The line in range that is no record whose words these are; `None` where there is none.
 fn line_of(words: &[&[u8]]) -> Option<Line>
     ensures found { IfSome result (λ line. IsLine line × (map (λ word. word.now) words.now ≡ line_words line)) }
-    ensures no_query { IfNone result ((query : Query) → IsQuery query → map (λ word. word.now) words.now ≡ query_words query → ⊥) }
+    ensures no_query { IfNone result
+        ((query : Query) → IsQuery query → map (λ word. word.now) words.now ≡ query_words query → ⊥) }
     ensures no_collect { IfNone result (map (λ word. word.now) words.now ≡ line_words Line.Collect → ⊥) }
-    ensures no_look { IfNone result ((look : Look) → IsLook look → map (λ word. word.now) words.now ≡ look_words look → ⊥) }
+    ensures no_look { IfNone result
+        ((look : Look) → IsLook look → map (λ word. word.now) words.now ≡ look_words look → ⊥) }
 {
     if let Some(query) = read_query(words) {
         return Some(Line::Ask(query));

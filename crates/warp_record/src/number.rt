@@ -1,5 +1,7 @@
 //! Words that are numbers, read and written. Each number has one spelling: no leading zero, no `+`, no `-0`.
-ghost use Rattle.std.specs.Prelude.{◌≡◌, ℕ, ℤ, List, ◌+◌, ◌-◌, ◌*◌, ◌<◌, ◌≤◌, ◌^◌, ◌∷◌, ◌++◌, take, drop, IfSome, IfNone, SomeIff, IsTrue, ◌↔◌, length, slice_index, FitsSigned, decimal, vec_len, vec_capacity, true, if◌then◌else◌};
+ghost use Rattle.std.specs.Prelude.{◌≡◌, ℕ, ℤ, List, ◌+◌, ◌-◌, ◌*◌, ◌<◌, ◌≤◌, ◌^◌, ◌∷◌, ◌++◌, take, drop, IfSome};
+ghost use Rattle.std.specs.Prelude.{IfNone, SomeIff, IsTrue, ◌↔◌, length, slice_index, FitsSigned, decimal, vec_len};
+ghost use Rattle.std.specs.Prelude.{vec_capacity, true, if◌then◌else◌};
 ghost use Rattle.std.specs.Char.{digit_value};
 ghost use Rattle.std.specs.Fmt.{signed_decimal};
 ghost use Rattle.std.specs.Int.{w64};
@@ -50,7 +52,8 @@ fn few_digits(word: &[u8]) -> Option<u64>
 
 /// The number with one more digit, where the byte is a digit and it fits.
 fn with_digit(number: u64, byte: u8) -> Option<u64>
-    ensures { SomeIff result ((digit_value byte < 10) × (number * 10 + digit_value byte < 2 ^ 64)) (number * 10 + digit_value byte) }
+    ensures { SomeIff result ((digit_value byte < 10) × (number * 10 + digit_value byte < 2 ^ 64))
+        (number * 10 + digit_value byte) }
 {
     if byte < b'0' || b'9' < byte {
         return None;

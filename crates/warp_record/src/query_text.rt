@@ -44,7 +44,8 @@ pub(crate) fn behind_output(bytes: &[u8]) -> Option<&[u8]>
 #[inline(always)]
 pub(crate) fn cut_last_index(text: &[u8]) -> Option<u32>
     ensures found { IfSome result (λ number. (number ≤ last_number) × (words_behind text.now ≡ decimal number ∷ [])) }
-    ensures none { IfNone result ((number : ℕ) → number ≤ last_number → words_behind text.now ≡ decimal number ∷ [] → ⊥) }
+    ensures none { IfNone result
+        ((number : ℕ) → number ≤ last_number → words_behind text.now ≡ decimal number ∷ [] → ⊥) }
 {
     let (number, rest) = cut_u32(text, u32::MAX)?;
     if is_at_end(rest) { Some(number) } else { None }

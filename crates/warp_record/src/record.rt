@@ -1,5 +1,6 @@
 //! Records: what an origin has to say, and the one spelling of each, read and written.
-ghost use Rattle.std.specs.Prelude.{◌≡◌, ℕ, ℤ, ◌+◌, ◌<◌, ◌≤◌, [], ◌∷◌, ◌++◌, IfSome, IfNone, FitsSigned, decimal, map, vec_len, vec_capacity};
+ghost use Rattle.std.specs.Prelude.{◌≡◌, ℕ, ℤ, ◌+◌, ◌<◌, ◌≤◌, [], ◌∷◌, ◌++◌, IfSome, IfNone, FitsSigned, decimal, map};
+ghost use Rattle.std.specs.Prelude.{vec_len, vec_capacity};
 ghost use Rattle.std.specs.Fmt.{signed_decimal};
 ghost use Rattle.std.specs.Int.{w64};
 ghost use Rattle.std.specs.List.{join_with_byte};
@@ -66,8 +67,10 @@ pub enum Record {
 
 /// The tag whose words these are.
 pub(crate) fn read_tag(time: &[u8], micro: &[u8]) -> Option<Tag>
-    ensures found { IfSome result (λ tag. IsInRange tag × (time.now ≡ decimal tag.time) × (micro.now ≡ decimal tag.microstep)) }
-    ensures none { IfNone result ((tag : Moment) → IsInRange tag → time.now ≡ decimal tag.time → micro.now ≡ decimal tag.microstep → ⊥) }
+    ensures found { IfSome result
+        (λ tag. IsInRange tag × (time.now ≡ decimal tag.time) × (micro.now ≡ decimal tag.microstep)) }
+    ensures none { IfNone result
+        ((tag : Moment) → IsInRange tag → time.now ≡ decimal tag.time → micro.now ≡ decimal tag.microstep → ⊥) }
 {
     let time = read_number(time, MAX_TIME)?;
     let micro = read_u32(micro, LAST_MICROSTEP)?;
@@ -115,7 +118,8 @@ fn read_counts(words: &[&[u8]]) -> Option<(Count, Count)>
 /// The record in range whose words these are; `None` where there is none.
 pub fn read_record(words: &[&[u8]]) -> Option<Record>
     ensures found { IfSome result (λ said. IsRecord said × (map (λ word. word.now) words.now ≡ record_words said)) }
-    ensures none { IfNone result ((said : Record) → IsRecord said → map (λ word. word.now) words.now ≡ record_words said → ⊥) }
+    ensures none { IfNone result
+        ((said : Record) → IsRecord said → map (λ word. word.now) words.now ≡ record_words said → ⊥) }
 {
     let [word, origin, time, micro, operands @ ..] = words else {
         return None;

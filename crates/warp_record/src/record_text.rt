@@ -67,8 +67,10 @@ pub(crate) fn behind_announce(bytes: &[u8]) -> Option<&[u8]>
 fn cut_name(text: &[u8]) -> Option<(u32, u64, u32, &[u8])>
     ensures found { IfSome result (λ name. (name.0 < most_origins) × (name.1 ≤ last_time) × (name.2 ≤ last_microstep)
         × (words_behind text.now ≡ decimal name.0 ∷ decimal name.1 ∷ decimal name.2 ∷ words_behind name.3.now)) }
-    ensures none { IfNone result ((origin time microstep : ℕ) (words : List (List ℕ)) → origin < most_origins → time ≤ last_time →
-        microstep ≤ last_microstep → words_behind text.now ≡ decimal origin ∷ decimal time ∷ decimal microstep ∷ words → ⊥) }
+    ensures none { IfNone result
+        ((origin time microstep : ℕ) (words : List (List ℕ)) → origin < most_origins → time ≤ last_time →
+        microstep ≤ last_microstep →
+        words_behind text.now ≡ decimal origin ∷ decimal time ∷ decimal microstep ∷ words → ⊥) }
 {
     let (origin, text) = cut_u32(text, LAST_ORIGIN)?;
     let (time, text) = cut_number(text, MAX_TIME)?;
@@ -79,8 +81,10 @@ fn cut_name(text: &[u8]) -> Option<(u32, u64, u32, &[u8])>
 /// The event in range whose words behind the first are these.
 #[inline(always)]
 pub(crate) fn read_event(text: &[u8]) -> Option<Record>
-    ensures found { IfSome result (λ said. IsRecord said × (codes "event" ∷ words_behind text.now ≡ record_words said)) }
-    ensures none { IfNone result ((said : Record) → IsRecord said → codes "event" ∷ words_behind text.now ≡ record_words said → ⊥) }
+    ensures found { IfSome result
+        (λ said. IsRecord said × (codes "event" ∷ words_behind text.now ≡ record_words said)) }
+    ensures none { IfNone result
+        ((said : Record) → IsRecord said → codes "event" ∷ words_behind text.now ≡ record_words said → ⊥) }
 {
     let (origin, time, micro, text) = cut_name(text)?;
     let tag = Tag::new(time, micro)?;
@@ -96,8 +100,10 @@ pub(crate) fn read_event(text: &[u8]) -> Option<Record>
 
 /// The withdrawal in range whose words behind the first are these.
 pub(crate) fn read_withdrawal(text: &[u8]) -> Option<Record>
-    ensures found { IfSome result (λ said. IsRecord said × (codes "withdraw" ∷ words_behind text.now ≡ record_words said)) }
-    ensures none { IfNone result ((said : Record) → IsRecord said → codes "withdraw" ∷ words_behind text.now ≡ record_words said → ⊥) }
+    ensures found { IfSome result
+        (λ said. IsRecord said × (codes "withdraw" ∷ words_behind text.now ≡ record_words said)) }
+    ensures none { IfNone result
+        ((said : Record) → IsRecord said → codes "withdraw" ∷ words_behind text.now ≡ record_words said → ⊥) }
 {
     let (origin, time, micro, text) = cut_name(text)?;
     let tag = Tag::new(time, micro)?;
@@ -110,8 +116,10 @@ pub(crate) fn read_withdrawal(text: &[u8]) -> Option<Record>
 
 /// The announcement in range whose words behind the first are these.
 pub(crate) fn read_announcement(text: &[u8]) -> Option<Record>
-    ensures found { IfSome result (λ said. IsRecord said × (codes "announce" ∷ words_behind text.now ≡ record_words said)) }
-    ensures none { IfNone result ((said : Record) → IsRecord said → codes "announce" ∷ words_behind text.now ≡ record_words said → ⊥) }
+    ensures found { IfSome result
+        (λ said. IsRecord said × (codes "announce" ∷ words_behind text.now ≡ record_words said)) }
+    ensures none { IfNone result
+        ((said : Record) → IsRecord said → codes "announce" ∷ words_behind text.now ≡ record_words said → ⊥) }
 {
     let (origin, time, micro, text) = cut_name(text)?;
     let tag = Tag::new(time, micro)?;

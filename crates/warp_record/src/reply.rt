@@ -1,5 +1,6 @@
 //! The replies, and the one spelling of each, read and written.
-ghost use Rattle.std.specs.Prelude.{◌≡◌, ◌≢◌, ℕ, Bool, codes, map, ◌+◌, ◌<◌, ◌≤◌, [], ◌∷◌, ◌++◌, IfSome, IfNone, decimal, length, vec_len, vec_capacity};
+ghost use Rattle.std.specs.Prelude.{◌≡◌, ◌≢◌, ℕ, Bool, codes, map, ◌+◌, ◌<◌, ◌≤◌, [], ◌∷◌, ◌++◌, IfSome, IfNone};
+ghost use Rattle.std.specs.Prelude.{decimal, length, vec_len, vec_capacity};
 ghost use Rattle.std.specs.Fmt.{signed_decimal};
 ghost use Rattle.std.specs.List.{join_with_byte};
 ghost use Rattle.warp_tag.specs.Limits.{greatest_count, most_records};
@@ -9,7 +10,8 @@ ghost use Rattle.warp_record.specs.declared.record.Record.{Record};
 ghost use Rattle.warp_record.specs.declared.reply.Refusal.{Refusal};
 ghost use Rattle.warp_record.specs.declared.reply.Reply.{Reply};
 ghost use Rattle.warp_record.specs.Record.{IsRecord, record_words, tag_words};
-ghost use Rattle.warp_record.specs.Reply.{IsOut, IsReply, flag_word, out_words, refusal_number, reply_spelling, reply_words};
+ghost use Rattle.warp_record.specs.Reply.{IsOut, IsReply, flag_word, out_words, refusal_number, reply_spelling};
+ghost use Rattle.warp_record.specs.Reply.{reply_words};
 
 use crate::count::MAX_COUNT;
 use crate::line::{BOARD, BREACH, HORIZON, LOG, LOST, OUTPUT, OUTPUTS, RELEASED, ROW, VAR};
@@ -392,7 +394,8 @@ fn append_length_and_count(out: &mut Vec<u8>, log: u32, count: u64)
 #[inline(always)]
 fn append_count(out: &mut Vec<u8>, word: &[u8], number: u32, count: u64)
     requires { vec_len out.old + (length word.now + 35) ≤ vec_capacity out.old }
-    ensures items { out.new.items ≡ out.old.items ++ join_with_byte 32 (word.now ∷ decimal number ∷ decimal count ∷ []) }
+    ensures items { out.new.items ≡ out.old.items ++
+        join_with_byte 32 (word.now ∷ decimal number ∷ decimal count ∷ []) }
     ensures len { vec_len out.new ≤ vec_len out.old + (length word.now + 35) }
     ensures capacity { vec_capacity out.old ≤ vec_capacity out.new }
 {
@@ -407,7 +410,8 @@ const VAR_ROOM: usize = 40;
 #[inline(never)]
 fn append_var(out: &mut Vec<u8>, log: u32, value: i64)
     requires { vec_len out.old + VAR_ROOM ≤ vec_capacity out.old }
-    ensures items { out.new.items ≡ out.old.items ++ join_with_byte 32 (codes "var" ∷ decimal log ∷ signed_decimal value ∷ []) }
+    ensures items { out.new.items ≡ out.old.items ++
+        join_with_byte 32 (codes "var" ∷ decimal log ∷ signed_decimal value ∷ []) }
     ensures len { vec_len out.new ≤ vec_len out.old + VAR_ROOM }
     ensures capacity { vec_capacity out.old ≤ vec_capacity out.new }
 {
@@ -422,7 +426,8 @@ fn append_var(out: &mut Vec<u8>, log: u32, value: i64)
 /// Appends the word, a number and a flag, for which there is room.
 fn append_flagged(out: &mut Vec<u8>, word: &[u8], number: u32, flag: bool)
     requires { vec_len out.old + (length word.now + 13) ≤ vec_capacity out.old }
-    ensures items { out.new.items ≡ out.old.items ++ join_with_byte 32 (word.now ∷ decimal number ∷ flag_word flag ∷ []) }
+    ensures items { out.new.items ≡ out.old.items ++
+        join_with_byte 32 (word.now ∷ decimal number ∷ flag_word flag ∷ []) }
     ensures len { vec_len out.new ≤ vec_len out.old + (length word.now + 13) }
     ensures capacity { vec_capacity out.old ≤ vec_capacity out.new }
 {

@@ -10,7 +10,8 @@ pub const MOST_WORDS: usize = 8;
 
 /// Adds the word behind the others; `None` where there is no place for it.
 fn push_word<'a>(words: &mut ArrayVec<&'a [u8], MOST_WORDS>, word: &'a [u8]) -> Option<()>
-    ensures added { OnSome result (map (λ word. word.now) words.new.items ≡ map (λ word. word.now) words.old.items ++ word.now ∷ []) }
+    ensures added { OnSome result
+        (map (λ word. word.now) words.new.items ≡ map (λ word. word.now) words.old.items ++ word.now ∷ []) }
     ensures full { IfNone result (length words.old.items ≡ MOST_WORDS) }
 {
     words.try_push(word).ok()

@@ -32,32 +32,40 @@ pub fn one_reply()
 /// program's answers see of a log: records taken in another order, or some of them again, have the same answers.
 pub fn same_replies()
     ensures { (P : Program) (records other : List Record) (query : Query) (reply : Reply) →
-        set_of records ≡ set_of other → ¬ AsksPlace query → GivesQuery P records query reply → GivesQuery P other query reply }
+        set_of records ≡ set_of other → ¬ AsksPlace query → GivesQuery P records query reply →
+        GivesQuery P other query reply }
 {}
 
 /// What merging makes of two logs has the records of both, and none twice where none of them had.
 pub fn merging_joins()
-    ensures set { (records other : List Record) → set_of (merged records other) ≡ union (set_of records) (set_of other) }
+    ensures set { (records other : List Record) →
+        set_of (merged records other) ≡ union (set_of records) (set_of other) }
     ensures once { (records other : List Record) → EachOnce records → EachOnce other → EachOnce (merged records other) }
 {}
 
 /// In what a program answers, joining two sets is commutative, associative and idempotent, and so is merging logs; a
 /// log that was merged brings nothing more.
 pub fn merging_laws()
-    ensures commutes { (P : Program) (S T : Records) (a b : Answers) → AreAnswers P (union S T) a → AreAnswers P (union T S) b → a ≡ b }
+    ensures commutes { (P : Program) (S T : Records) (a b : Answers) → AreAnswers P (union S T) a →
+        AreAnswers P (union T S) b → a ≡ b }
     ensures associates { (P : Program) (S T U : Records) (a b : Answers) →
         AreAnswers P (union (union S T) U) a → AreAnswers P (union S (union T U)) b → a ≡ b }
-    ensures idempotent { (P : Program) (S : Records) (a b : Answers) → AreAnswers P (union S S) a → AreAnswers P S b → a ≡ b }
-    ensures logs_commute { (P : Program) (records other : List Record) (query : Query) (reply : Reply) → ¬ AsksPlace query →
+    ensures idempotent { (P : Program) (S : Records) (a b : Answers) → AreAnswers P (union S S) a → AreAnswers P S b →
+        a ≡ b }
+    ensures logs_commute { (P : Program) (records other : List Record) (query : Query) (reply : Reply) →
+        ¬ AsksPlace query →
         GivesQuery P (merged records other) query reply → GivesQuery P (merged other records) query reply }
-    ensures logs_associate { (P : Program) (records other third : List Record) (query : Query) (reply : Reply) → ¬ AsksPlace query →
-        GivesQuery P (merged (merged records other) third) query reply → GivesQuery P (merged records (merged other third)) query reply }
+    ensures logs_associate { (P : Program) (records other third : List Record) (query : Query) (reply : Reply) →
+        ¬ AsksPlace query →
+        GivesQuery P (merged (merged records other) third) query reply →
+        GivesQuery P (merged records (merged other third)) query reply }
     ensures logs_again { (records other : List Record) → merged (merged records other) other ≡ merged records other }
 {}
 
 /// A record is taken in one way, but that memory may be wanting; and want of memory apart there is a way.
 pub fn one_taking()
-    ensures one { (P : Program) (records : List Record) (said : Record) (a b : Result Took Refusal) (left right : List Record) →
+    ensures one { (P : Program) (records : List Record) (said : Record) (a b : Result Took Refusal)
+        (left right : List Record) →
         EachOnce records → Takes P records said a left → Takes P records said b right →
         a ≢ Err Refusal.NoMemory → b ≢ Err Refusal.NoMemory → (a ≡ b) × (left ≡ right) }
     ensures some { (P : Program) (records : List Record) (said : Record) → length records ≤ most_records →
@@ -67,7 +75,8 @@ pub fn one_taking()
 /// What a puller does with a replica as its desk: the replica's log grows by the record that was replied, or not at
 /// all.
 pub fn pulled_record()
-    ensures { (s s' : LocalState) (place : ℕ) (said : Option Reply) (step : Step) → Pulls LocalGives s place said step s' →
+    ensures { (s s' : LocalState) (place : ℕ) (said : Option Reply) (step : Step) →
+        Pulls LocalGives s place said step s' →
         (s'.program ≡ s.program) × ((s'.records ≡ s.records)
         ⊎ ((log : ℕ) × (new : Record) × (said ≡ Some (Reply.Log log new)) × (s'.records ≡ s.records ++ new ∷ []))) }
 {}

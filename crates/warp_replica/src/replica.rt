@@ -1,5 +1,6 @@
 //! A replica: a program, the table of the records that it took, and the timeline that runs them.
-ghost use Rattle.std.specs.Prelude.{◌≡◌, ◌↔◌, ℕ, ◌+◌, ◌-◌, ◌<◌, ◌≤◌, [], ◌∷◌, ◌++◌, false, None, Ok, length, List, Contains, IsTrue, IfSome, IfNone, IsOk, IfOk, IfErr, OnOk, OnErr};
+ghost use Rattle.std.specs.Prelude.{◌≡◌, ◌↔◌, ℕ, ◌+◌, ◌-◌, ◌<◌, ◌≤◌, [], ◌∷◌, ◌++◌, false, None, Ok, length, List};
+ghost use Rattle.std.specs.Prelude.{Contains, IsTrue, IfSome, IfNone, IsOk, IfOk, IfErr, OnOk, OnErr};
 ghost use Rattle.warp_tag.specs.Limits.{most_outputs, most_records};
 ghost use Rattle.warp_record.specs.declared.line.Query.{Query};
 ghost use Rattle.warp_record.specs.declared.record.Record.{Record};
@@ -48,7 +49,11 @@ impl<T: Timeline> Model for Replica<T> {
 
     ghost invariant = { λ r.
         AreAllowed r.program r.table
-        × ((done : List Row) × Stands T.stands_for (record { program = r.program; records = r.table; timeline = r.timeline }) done) };
+        × ((done : List Row) × Stands T.stands_for (record {
+          program = r.program;
+          records = r.table;
+          timeline = r.timeline;
+        }) done) };
 }
 
 impl<T: Timeline> Replica<T> {
@@ -119,7 +124,8 @@ impl<T: Timeline> Replica<T> {
         ensures new { IsTrue (came_in result) → (done : List Row) → Stands T.stands_for self.old done →
             (after : List Row) × Stands T.stands_for self.new after
             × KeepsDone T.SLACK (tag_of «record».now) (standing_of self.old done) (standing_of self.new after) }
-        ensures kept { came_in result ≡ false → (done : List Row) → Stands T.stands_for self.old done → Stands T.stands_for self.new done }
+        ensures kept { came_in result ≡ false → (done : List Row) → Stands T.stands_for self.old done →
+            Stands T.stands_for self.new done }
         ensures settled { came_in result ≡ false → T.settled self.new.timeline ≡ T.settled self.old.timeline }
         ensures reply { IsReply (told result) }
     {
@@ -136,7 +142,9 @@ impl<T: Timeline> Replica<T> {
     /// The place of a record that was there before, which needs neither room nor memory; of another one why it does
     /// not come in.
     fn find(&self, record: &Record, refusal: Refusal) -> Result<Took, Refusal>
-        ensures known { IfOk result (λ took. (place : ℕ) × (took ≡ Took.Known place) × IsAt self.now.records place «record».now × (place ≤ most_records)) }
+        ensures known { IfOk result
+            (λ took. (place : ℕ) × (took ≡ Took.Known place) × IsAt self.now.records place «record».now ×
+            (place ≤ most_records)) }
         ensures lacking { IfErr result (λ why. (why ≡ refusal) × (¬ Contains self.now.records «record».now)) }
     {
         match self.table.position(record) {
@@ -150,15 +158,21 @@ impl<T: Timeline> Replica<T> {
     fn add(&mut self, alloc: Global, record: &Record) -> Result<Took, OutOfMemory>
         requires allowed { refusal_of self.old.program «record».now ≡ None }
         requires room { length self.old.records < most_records }
-        ensures takes { IfOk result (λ took. Takes self.old.program self.old.records «record».now (Ok took) self.new.records) }
+        ensures takes { IfOk result
+            (λ took. Takes self.old.program self.old.records «record».now (Ok took) self.new.records) }
         ensures err { OnErr result (self.new.records ≡ self.old.records) }
         ensures program { self.new.program ≡ self.old.program }
-        ensures new { IfOk result (λ took. IsTrue (came_in (Ok took)) → (done : List Row) → Stands T.stands_for self.old done →
+        ensures new { IfOk result
+            (λ took. IsTrue (came_in (Ok took)) → (done : List Row) → Stands T.stands_for self.old done →
             (after : List Row) × Stands T.stands_for self.new after
             × KeepsDone T.SLACK (tag_of «record».now) (standing_of self.old done) (standing_of self.new after)) }
-        ensures kept { IfOk result (λ took. came_in (Ok took) ≡ false → (done : List Row) → Stands T.stands_for self.old done → Stands T.stands_for self.new done) }
-        ensures settled { IfOk result (λ took. came_in (Ok took) ≡ false → T.settled self.new.timeline ≡ T.settled self.old.timeline) }
-        ensures kept_at_err { OnErr result ((done : List Row) → Stands T.stands_for self.old done → Stands T.stands_for self.new done) }
+        ensures kept { IfOk result
+            (λ took. came_in (Ok took) ≡ false → (done : List Row) → Stands T.stands_for self.old done →
+            Stands T.stands_for self.new done) }
+        ensures settled { IfOk result
+            (λ took. came_in (Ok took) ≡ false → T.settled self.new.timeline ≡ T.settled self.old.timeline) }
+        ensures kept_at_err { OnErr result
+            ((done : List Row) → Stands T.stands_for self.old done → Stands T.stands_for self.new done) }
         ensures settled_at_err { OnErr result (T.settled self.new.timeline ≡ T.settled self.old.timeline) }
         ensures reply { IfOk result (λ took. IsReply (told (Ok took))) }
     {
@@ -177,14 +191,17 @@ impl<T: Timeline> Replica<T> {
     /// settled replica it changes nothing, ticks nothing, and cannot fail.
     pub fn settle<M: Meter>(&mut self, alloc: Global, meter: &mut M) -> Result<(), OutOfMemory>
         ensures stands { (done : List Row) → Stands T.stands_for self.old done →
-            (after : List Row) × Settles T.stands_for self.new.timeline (standing_of self.old done) (M.ticks meter.new - M.ticks meter.old) after
+            (after : List Row) ×
+            Settles T.stands_for self.new.timeline (standing_of self.old done)
+            (M.ticks meter.new - M.ticks meter.old) after
             × OnOk result (IsDone (standing_of self.new after)) }
         ensures program { self.new.program ≡ self.old.program }
         ensures records { self.new.records ≡ self.old.records }
         ensures ticked { M.ticks meter.old ≤ M.ticks meter.new }
         ensures settled { OnOk result (IsTrue (T.settled self.new.timeline)) }
         ensures unsettled { OnErr result (T.settled self.new.timeline ≡ false) }
-        ensures idle { IsTrue (T.settled self.old.timeline) → IsOk result × (self.new ≡ self.old) × (M.ticks meter.new ≡ M.ticks meter.old) }
+        ensures idle { IsTrue (T.settled self.old.timeline) → IsOk result × (self.new ≡ self.old) ×
+            (M.ticks meter.new ≡ M.ticks meter.old) }
     {
         self.timeline.settle(alloc, &self.program, meter)
     }
@@ -404,8 +421,10 @@ impl<T: Timeline> Replica<T> {
         requires { self.old.program ≡ other.now.program }
         ensures merges { Merges self.old.records other.now.records result self.new.records }
         ensures program { self.new.program ≡ self.old.program }
-        ensures kept { self.new.records ≡ self.old.records → (done : List Row) → Stands T.stands_for self.old done → Stands T.stands_for self.new done }
-        ensures settled { self.new.records ≡ self.old.records → T.settled self.new.timeline ≡ T.settled self.old.timeline }
+        ensures kept { self.new.records ≡ self.old.records → (done : List Row) → Stands T.stands_for self.old done →
+            Stands T.stands_for self.new done }
+        ensures settled { self.new.records ≡ self.old.records →
+            T.settled self.new.timeline ≡ T.settled self.old.timeline }
     {
         // None of its records is there twice, and the program has no reason against one of them.
         other.valid();

@@ -1,6 +1,7 @@
 //! What a rollback sets aside: the checkpoints that it drops, with the outputs of the rows between them. Where the run
 //! comes to the tag of one of them in the same state, it is the run that was: it can go on over them.
-ghost use Rattle.std.specs.Prelude.{◌≡◌, ◌+◌, ◌<◌, ◌≤◌, ◌↔◌, ◌⊎◌, ◌∷◌, ◌++◌, IsTrue, IsSomeAnd, List, [], length, drop, OnErr, OnOk, Some};
+ghost use Rattle.std.specs.Prelude.{◌≡◌, ◌+◌, ◌<◌, ◌≤◌, ◌↔◌, ◌⊎◌, ◌∷◌, ◌++◌, IsTrue, IsSomeAnd, List, [], length, drop};
+ghost use Rattle.std.specs.Prelude.{OnErr, OnOk, Some};
 ghost use Rattle.warp_run.specs.Aside.{KeepsFrom, outputs_between, set_aside, since};
 ghost use Rattle.warp_run.specs.History.{IsOfState, Saved, before, newest};
 
@@ -72,7 +73,8 @@ impl Aside {
         requires { self.old.history.width ≡ history.old.width }
         ensures left { history.new ≡ record history.old { saves = before tag history.old.saves } }
         ensures width { self.new.history.width ≡ self.old.history.width }
-        ensures aside { (self.new.history.saves ≡ []) ⊎ KeepsFrom (set_aside tag history.old.saves []) outputs.now self.new }
+        ensures aside { (self.new.history.saves ≡ []) ⊎
+            KeepsFrom (set_aside tag history.old.saves []) outputs.now self.new }
     {
         self.unmet = self.unmet.wrapping_add(1);
         if self.unmet > PATIENCE && self.unmet % PAUSE != 0 {
@@ -90,7 +92,8 @@ impl Aside {
         requires { self.old.history.width ≡ history.old.width }
         ensures left { history.new ≡ record history.old { saves = before tag history.old.saves } }
         ensures width { self.new.history.width ≡ self.old.history.width }
-        ensures aside { (self.new.history.saves ≡ []) ⊎ KeepsFrom (set_aside tag history.old.saves []) outputs.now self.new }
+        ensures aside { (self.new.history.saves ≡ []) ⊎
+            KeepsFrom (set_aside tag history.old.saves []) outputs.now self.new }
     {
         history.set_aside(tag, &mut self.history);
         self.outputs.clear();
@@ -109,7 +112,8 @@ impl Aside {
 
     /// Lets go of what is before the tag.
     pub fn let_go_before(&mut self, tag: Tag)
-        ensures { self.new ≡ record self.old { history = record self.old.history { saves = since tag self.old.history.saves } } }
+        ensures { self.new ≡
+            record self.old { history = record self.old.history { saves = since tag self.old.history.saves } } }
     {
         self.history.drop_before(tag);
     }
@@ -117,8 +121,11 @@ impl Aside {
     /// Lets go of what is before the last row, and answers whether the earliest checkpoint that is left is after this
     /// row, in this state.
     pub fn meets(&mut self, last: Tag, state: &State) -> bool
-        ensures left { self.new ≡ record self.old { history = record self.old.history { saves = since last self.old.history.saves } } }
-        ensures met { IsTrue result ↔ (IsSomeAnd (newest self.new.history.saves) (λ done. done.last ≡ Some last) × IsOfState self.new.history.saves state.now) }
+        ensures left { self.new ≡
+            record self.old { history = record self.old.history { saves = since last self.old.history.saves } } }
+        ensures met { IsTrue result ↔
+            (IsSomeAnd (newest self.new.history.saves) (λ done. done.last ≡ Some last) ×
+            IsOfState self.new.history.saves state.now) }
     {
         self.let_go_before(last);
         let meets = match self.history.newest() {
@@ -141,7 +148,8 @@ impl Aside {
     /// Lets go of the earliest checkpoint.
     pub fn let_go_earliest(&mut self)
         requires { 0 < length self.old.history.saves }
-        ensures { self.new ≡ record self.old { history = record self.old.history { saves = drop 1 self.old.history.saves } } }
+        ensures { self.new ≡
+            record self.old { history = record self.old.history { saves = drop 1 self.old.history.saves } } }
     {
         self.history.drop_newest();
     }
@@ -156,7 +164,8 @@ impl Aside {
         requires start { self.now.first ≤ from }
         requires order { from ≤ to }
         requires within { to ≤ self.now.first + length self.now.outputs }
-        ensures ok { OnOk result (outputs.new.items ≡ outputs.old.items ++ outputs_between self.now.first self.now.outputs from to) }
+        ensures ok { OnOk result
+            (outputs.new.items ≡ outputs.old.items ++ outputs_between self.now.first self.now.outputs from to) }
         ensures err { OnErr result (outputs.new.items ≡ outputs.old.items) }
     {
         outputs.extend_from_slice(&self.outputs[from - self.first..to - self.first])
@@ -165,7 +174,8 @@ impl Aside {
     /// Gives a state back as it was at the earliest checkpoint, if there is one. It takes no memory.
     pub fn restore(&self, state: &mut State)
         requires { length state.old.vars ≡ self.now.history.width }
-        ensures { (earliest : Saved) (others : List Saved) → self.now.history.saves ≡ earliest ∷ others → state.new ≡ earliest.state }
+        ensures { (earliest : Saved) (others : List Saved) → self.now.history.saves ≡ earliest ∷ others →
+            state.new ≡ earliest.state }
     {
         self.history.restore(state);
     }

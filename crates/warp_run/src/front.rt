@@ -1,5 +1,6 @@
 //! The front of a run that is executed: its state, its outputs, and the checkpoints to which it can go back.
-ghost use Rattle.std.specs.Prelude.{◌≡◌, ◌+◌, ◌<◌, ◌≤◌, ◌↔◌, ◌++◌, ◌∷◌, false, true, IsTrue, List, [], Some, length, IfOk, OnOk, OnErr, vec_len, vec_capacity};
+ghost use Rattle.std.specs.Prelude.{◌≡◌, ◌+◌, ◌<◌, ◌≤◌, ◌↔◌, ◌++◌, ◌∷◌, false, true, IsTrue, List, [], Some, length};
+ghost use Rattle.std.specs.Prelude.{IfOk, OnOk, OnErr, vec_len, vec_capacity};
 ghost use Rattle.warp_tag.specs.Limits.{most_names};
 ghost use Rattle.warp_tag.specs.Table.{Event};
 ghost use Rattle.warp_step.specs.Program.{Program};
@@ -165,7 +166,8 @@ impl Front {
     fn save_if_due(&mut self) -> Result<(), OutOfMemory>
         requires { (P : Program) × (E : List Event) × (done : List Row) × IsAt P E self.old done }
         ensures others { self.new ≡ record self.old { due = self.new.due; history = self.new.history } }
-        ensures kept { (P : Program) (E : List Event) (done : List Row) → IsAt P E self.old done → IsAt P E self.new done }
+        ensures kept { (P : Program) (E : List Event) (done : List Row) → IsAt P E self.old done →
+            IsAt P E self.new done }
         ensures room { OnOk result (self.new.rows + 1 ≤ reach self.new.history.saves) }
     {
         if self.rows < self.due {
@@ -179,7 +181,8 @@ impl Front {
         requires at { (P : Program) × (E : List Event) × (done : List Row) × IsAt P E self.old done }
         requires few { more ≤ spacing }
         ensures others { self.new ≡ record self.old { due = self.new.due; history = self.new.history } }
-        ensures kept { (P : Program) (E : List Event) (done : List Row) → IsAt P E self.old done → IsAt P E self.new done }
+        ensures kept { (P : Program) (E : List Event) (done : List Row) → IsAt P E self.old done →
+            IsAt P E self.new done }
         ensures room { OnOk result (self.new.rows + more ≤ reach self.new.history.saves) }
     {
         if self.is_near(more) {
@@ -193,7 +196,8 @@ impl Front {
     fn add_checkpoint(&mut self) -> Result<(), OutOfMemory>
         requires { (P : Program) × (E : List Event) × (done : List Row) × IsAt P E self.old done }
         ensures others { self.new ≡ record self.old { due = self.new.due; history = self.new.history } }
-        ensures kept { (P : Program) (E : List Event) (done : List Row) → IsAt P E self.old done → IsAt P E self.new done }
+        ensures kept { (P : Program) (E : List Event) (done : List Row) → IsAt P E self.old done →
+            IsAt P E self.new done }
         ensures room { OnOk result (self.new.rows + spacing ≤ reach self.new.history.saves) }
     {
         if self.add_in_room() {
@@ -207,7 +211,8 @@ impl Front {
     fn add_with_room(&mut self) -> Result<(), OutOfMemory>
         requires { (P : Program) × (E : List Event) × (done : List Row) × IsAt P E self.old done }
         ensures others { self.new ≡ record self.old { due = self.new.due; history = self.new.history } }
-        ensures kept { (P : Program) (E : List Event) (done : List Row) → IsAt P E self.old done → IsAt P E self.new done }
+        ensures kept { (P : Program) (E : List Event) (done : List Row) → IsAt P E self.old done →
+            IsAt P E self.new done }
         ensures room { OnOk result (self.new.rows + spacing ≤ reach self.new.history.saves) }
     {
         self.history.reserve(&self.state)?;
@@ -223,7 +228,8 @@ impl Front {
     fn add_in_room(&mut self) -> bool
         requires { (P : Program) × (E : List Event) × (done : List Row) × IsAt P E self.old done }
         ensures others { self.new ≡ record self.old { due = self.new.due; history = self.new.history } }
-        ensures kept { (P : Program) (E : List Event) (done : List Row) → IsAt P E self.old done → IsAt P E self.new done }
+        ensures kept { (P : Program) (E : List Event) (done : List Row) → IsAt P E self.old done →
+            IsAt P E self.new done }
         ensures room { IsTrue result → self.new.rows + spacing ≤ reach self.new.history.saves }
     {
         let done = Done {
@@ -256,7 +262,8 @@ impl Front {
     pub fn go_back(&mut self, tag: Tag)
         requires at { (P : Program) × (E : List Event) × (done : List Row) × IsAt P E self.old done }
         requires late { is_after self.old.last tag ≡ false }
-        ensures { (P : Program) (E : List Event) (done : List Row) → IsAt P E self.old done → GoesBack P E tag done self.new }
+        ensures { (P : Program) (E : List Event) (done : List Row) → IsAt P E self.old done →
+            GoesBack P E tag done self.new }
     {
         self.aside.take_from(tag, &mut self.history, &self.outputs);
         if let Some(done) = self.history.newest() {
@@ -272,7 +279,8 @@ impl Front {
     pub fn let_go_before(&mut self, tag: Tag)
         requires { is_after self.old.last tag ≡ true }
         ensures others { self.new ≡ record self.old { aside = self.new.aside } }
-        ensures kept { (P : Program) (E : List Event) (done : List Row) → IsAt P E self.old done → GoesBack P E tag done self.new }
+        ensures kept { (P : Program) (E : List Event) (done : List Row) → IsAt P E self.old done →
+            GoesBack P E tag done self.new }
     {
         self.aside.let_go_before(tag);
     }
@@ -309,7 +317,8 @@ impl Front {
         requires at { (P : Program) × (E : List Event) × (done : List Row) × IsAt P E self.old done × AreFew P E }
         requires met { IsMet self.old.last self.old.state self.old.aside.history.saves }
         ensures on { GoesOn self.old self.new }
-        ensures met { IfOk result (λ more. IsTrue more → IsMet self.new.last self.new.state self.new.aside.history.saves) }
+        ensures met { IfOk result
+            (λ more. IsTrue more → IsMet self.new.last self.new.state self.new.aside.history.saves) }
         ensures fewer { IfOk result (λ more. IsTrue more →
             length self.new.aside.history.saves < length self.old.aside.history.saves) }
     {

@@ -1,6 +1,7 @@
 //! The checkpoints of a run, in lists that they share, so that each costs what is in use, and going back cuts the
 //! lists.
-ghost use Rattle.std.specs.Prelude.{◌≡◌, ◌+◌, ◌<◌, ◌≤◌, ◌-◌, ◌↔◌, List, [], ◌∷◌, ◌++◌, length, take, drop, IsTrue, if◌then◌else◌, vec_len, vec_capacity};
+ghost use Rattle.std.specs.Prelude.{◌≡◌, ◌+◌, ◌<◌, ◌≤◌, ◌-◌, ◌↔◌, List, [], ◌∷◌, ◌++◌, length, take, drop, IsTrue};
+ghost use Rattle.std.specs.Prelude.{if◌then◌else◌, vec_len, vec_capacity};
 ghost use Rattle.warp_tag.specs.Limits.{most_pending};
 ghost use Rattle.warp_step.specs.Snapshot.{AreInOrder, Snapshot};
 ghost use Rattle.warp_run.specs.Aside.{set_aside, since};
@@ -108,7 +109,8 @@ impl Model for History {
 
     ghost Value = { Saves };
 
-    ghost view = { λ h. record { width = h.width; saves = saves_of h.width [] h.marks.items h.values.items h.entries.items } };
+    ghost view = { λ h.
+        record { width = h.width; saves = saves_of h.width [] h.marks.items h.values.items h.entries.items } };
 
     ghost invariant = { λ h. AreKept h.width h.marks.items h.values.items h.entries.items };
 }
@@ -131,7 +133,8 @@ impl History {
     #[inline(always)]
     pub fn save(&mut self, done: Done, state: &State) -> bool
         requires { length state.now.vars ≡ self.old.width }
-        ensures { self.new ≡ (if result then record self.old { saves = saved_at done state.now ∷ self.old.saves } else self.old) }
+        ensures { self.new ≡
+            (if result then record self.old { saves = saved_at done state.now ∷ self.old.saves } else self.old) }
     {
         state.valid();
         let lost = state.lost();
@@ -196,7 +199,8 @@ impl History {
     pub fn set_aside(&mut self, tag: Tag, aside: &mut History) -> bool
         requires { aside.old.width ≡ self.old.width }
         ensures left { self.new ≡ record self.old { saves = before tag self.old.saves } }
-        ensures aside { aside.new ≡ record aside.old { saves = if result then set_aside tag self.old.saves [] else [] } }
+        ensures aside { aside.new ≡
+            record aside.old { saves = if result then set_aside tag self.old.saves [] else [] } }
     {
         aside.clear();
         while let Some(newest) = self.newest()
@@ -217,7 +221,8 @@ impl History {
         requires width { other.old.width ≡ self.old.width }
         requires some { 0 < length self.old.saves }
         ensures left { self.new ≡ (if result then record self.old { saves = drop 1 self.old.saves } else self.old) }
-        ensures other { other.new ≡ (if result then record other.old { saves = take 1 self.old.saves ++ other.old.saves } else other.old) }
+        ensures other { other.new ≡
+            (if result then record other.old { saves = take 1 self.old.saves ++ other.old.saves } else other.old) }
     {
         let Some(mark) = self.marks.last() else {
             return false;

@@ -1,5 +1,6 @@
 //! Walks along the places of an arena.
-ghost use Rattle.std.specs.Prelude.{◌≡◌, ◌++◌, ◌∷◌, [], true, IsTrue, List, Some, map, IfOk, IfSome, OnOk, IsSomeAnd, if◌then◌else◌};
+ghost use Rattle.std.specs.Prelude.{◌≡◌, ◌++◌, ◌∷◌, [], true, IsTrue, List, Some, map, IfOk, IfSome, OnOk, IsSomeAnd};
+ghost use Rattle.std.specs.Prelude.{if◌then◌else◌};
 ghost use Rattle.std.specs.Option.{option_map};
 ghost use Rattle.warp_tag.specs.Table.{live, live_event};
 ghost use Rattle.warp_step.specs.Run.{given_of, is_after};
@@ -75,7 +76,8 @@ pub(crate) fn next_event(
     latest: &Option<Tag>,
 ) -> Option<Live>
     requires { (rest : List Place) × Reaches arena.now.places rest cursor × AreThrough latest.now (live_of rest) }
-    ensures { (rest : List Place) → Reaches arena.now.places rest cursor → AreThrough latest.now (live_of rest) → FindsFirst arena.now.places rest result }
+    ensures { (rest : List Place) → Reaches arena.now.places rest cursor → AreThrough latest.now (live_of rest) →
+        FindsFirst arena.now.places rest result }
 {
     let node = cursor?;
     let live = live_at(node, &arena.entry(node));
@@ -89,7 +91,8 @@ pub(crate) fn next_event(
 #[inline(never)]
 fn seek_event(arena: &Arena, cursor: Option<NodeId>, latest: &Option<Tag>) -> Option<Live>
     requires { (rest : List Place) × Reaches arena.now.places rest cursor × AreThrough latest.now (live_of rest) }
-    ensures { (rest : List Place) → Reaches arena.now.places rest cursor → AreThrough latest.now (live_of rest) → FindsFirst arena.now.places rest result }
+    ensures { (rest : List Place) → Reaches arena.now.places rest cursor → AreThrough latest.now (live_of rest) →
+        FindsFirst arena.now.places rest result }
 {
     arena.ordered();
     let Some(latest) = *latest else {
@@ -133,7 +136,8 @@ pub(crate) fn gather_from(
 ) -> Result<Option<NodeId>, OutOfMemory>
     requires { (rest : List Place) × Reaches arena.now.places rest cursor }
     ensures { IfOk result (λ at. (rest : List Place) → Reaches arena.now.places rest cursor →
-        Reaches arena.now.places (ahead (Some tag) rest) at × (given.new.items ≡ given.old.items ++ given_by (through tag rest))) }
+        Reaches arena.now.places (ahead (Some tag) rest) at ×
+        (given.new.items ≡ given.old.items ++ given_by (through tag rest))) }
 {
     arena.ordered();
     let mut at = cursor;
@@ -151,7 +155,8 @@ pub(crate) fn gather_from(
 /// The first place after a tag, sought on from the first place after an earlier one.
 pub(crate) fn first_from(arena: &Arena, cursor: Option<NodeId>, last: Tag) -> Option<NodeId>
     requires { (rest : List Place) × Reaches arena.now.places rest cursor }
-    ensures { (rest : List Place) → Reaches arena.now.places rest cursor → Reaches arena.now.places (ahead (Some last) rest) result }
+    ensures { (rest : List Place) → Reaches arena.now.places rest cursor →
+        Reaches arena.now.places (ahead (Some last) rest) result }
 {
     arena.ordered();
     let mut at = cursor;

@@ -1,5 +1,6 @@
 //! The timeline with rollback.
-ghost use Rattle.std.specs.Prelude.{◌≡◌, ◌+◌, ◌-◌, ◌≤◌, false, true, IsTrue, List, None, IfSome, OnOk, OnErr, IsSomeAnd};
+ghost use Rattle.std.specs.Prelude.{◌≡◌, ◌+◌, ◌-◌, ◌≤◌, false, true, IsTrue, List, None, IfSome, OnOk, OnErr};
+ghost use Rattle.std.specs.Prelude.{IsSomeAnd};
 ghost use Rattle.warp_tag.specs.Table.{Event, live};
 ghost use Rattle.warp_step.specs.Program.{Program};
 ghost use Rattle.warp_step.specs.Events.{IsNameOf};
@@ -162,8 +163,11 @@ impl Warp {
     fn next_row(&self) -> Option<Next>
         requires { (m : Standing) × StandsFor self.now m }
         ensures none { result ≡ None → (m : Standing) → StandsFor self.now m → IsDone m }
-        ensures some { IfSome result (λ r. (m : Standing) → StandsFor self.now m → IsNext (live m.table) self.now.front.last self.now.front.state (tag_of_next r)) }
-        ensures event { IfSome result (IsAtFirst self.now.arena.places (ahead self.now.front.last self.now.arena.places)) }
+        ensures some { IfSome result
+            (λ r. (m : Standing) → StandsFor self.now m →
+            IsNext (live m.table) self.now.front.last self.now.front.state (tag_of_next r)) }
+        ensures event { IfSome result
+            (IsAtFirst self.now.arena.places (ahead self.now.front.last self.now.arena.places)) }
     {
         self.arena.ordered();
         let event = next_event(&self.arena, self.cursor, &self.latest);
@@ -313,9 +317,12 @@ impl Warp {
         ensures unsettled { self.new.settled ≡ false }
         ensures given { self.new.given ≡ self.old.given }
         // A change after the last row leaves what is executed.
-        ensures ahead { is_after self.old.front.last tag ≡ true → self.new.front ≡ record self.old.front { aside = self.new.front.aside } }
-        ensures front { (P : Program) (E : List Event) (done : List Row) → IsAt P E self.old.front done → GoesBack P E tag done self.new.front }
-        ensures cursor { Reaches self.old.arena.places (ahead self.old.front.last self.old.arena.places) self.old.cursor →
+        ensures ahead { is_after self.old.front.last tag ≡ true →
+            self.new.front ≡ record self.old.front { aside = self.new.front.aside } }
+        ensures front { (P : Program) (E : List Event) (done : List Row) → IsAt P E self.old.front done →
+            GoesBack P E tag done self.new.front }
+        ensures cursor { Reaches self.old.arena.places
+            (ahead self.old.front.last self.old.arena.places) self.old.cursor →
             Reaches self.new.arena.places (ahead self.new.front.last self.new.arena.places) self.new.cursor }
     {
         self.settled = false;

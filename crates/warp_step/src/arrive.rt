@@ -7,7 +7,8 @@ ghost use Rattle.warp_tag.specs.Moment.{is_before, is_same};
 ghost use Rattle.warp_body.specs.Presence.{places_of, target_fits, with_value};
 ghost use Rattle.warp_step.specs.Valid.{program_places};
 ghost use Rattle.warp_step.specs.Snapshot.{IsStateOf};
-ghost use Rattle.warp_step.specs.Step.{AreInputs, absent, arrived, arrived_entries, plan_of, sources_of, with_repeats, without_entries};
+ghost use Rattle.warp_step.specs.Step.{AreInputs, absent, arrived, arrived_entries, plan_of, sources_of, with_repeats};
+ghost use Rattle.warp_step.specs.Step.{without_entries};
 ghost use Rattle.warp_step.specs.inner.Due.{AreDue};
 ghost use Rattle.warp_step.specs.inner.Front.{HasOtherHead};
 ghost use Rattle.warp_step.specs.inner.Sure.{IsSure};
@@ -37,8 +38,10 @@ impl State {
         requires none_before { IsTrue (list_all (λ w. not (is_before w.tag tag)) self.old.pending) }
         requires plan { plan.now ≡ plan_of program.now }
         requires absent { present.old ≡ absent program.now }
-        ensures state { self.new ≡ with_repeats program.now tag present.new 0 program.now.timers (without_entries tag self.old) }
-        ensures present { present.new ≡ arrived_entries (filter (λ w. is_same w.tag tag) self.old.pending) (absent program.now) }
+        ensures state { self.new ≡
+            with_repeats program.now tag present.new 0 program.now.timers (without_entries tag self.old) }
+        ensures present { present.new ≡
+            arrived_entries (filter (λ w. is_same w.tag tag) self.old.pending) (absent program.now) }
         ensures places { places_of present.new ≡ places_of present.old }
         ensures sources { present.new.sources ≡ present.old.sources }
         ensures due { AreDue program.now present.new result.marks.word }
@@ -69,7 +72,8 @@ impl State {
         requires some { 0 < length self.old.pending }
         requires plan { plan.now ≡ plan_of program.now }
         requires absent { present.old ≡ absent program.now }
-        ensures state { self.new ≡ with_repeats program.now tag present.new 0 program.now.timers (record self.old { pending = drop 1 self.old.pending }) }
+        ensures state { self.new ≡ with_repeats program.now tag present.new 0 program.now.timers
+            (record self.old { pending = drop 1 self.old.pending }) }
         ensures present { present.new ≡ arrived_entries (take 1 self.old.pending) (absent program.now) }
         ensures places { places_of present.new ≡ places_of present.old }
         ensures sources { present.new.sources ≡ present.old.sources }
@@ -143,8 +147,10 @@ impl State {
         requires none_before { IsTrue (list_all (λ w. not (is_before w.tag tag)) self.old.pending) }
         requires plan { plan.now ≡ plan_of program.now }
         requires absent { present.old ≡ absent program.now }
-        ensures state { self.new ≡ with_repeats program.now tag present.new 0 program.now.timers (without_entries tag self.old) }
-        ensures present { present.new ≡ arrived_entries (filter (λ w. is_same w.tag tag) self.old.pending) (absent program.now) }
+        ensures state { self.new ≡
+            with_repeats program.now tag present.new 0 program.now.timers (without_entries tag self.old) }
+        ensures present { present.new ≡
+            arrived_entries (filter (λ w. is_same w.tag tag) self.old.pending) (absent program.now) }
         ensures places { places_of present.new ≡ places_of present.old }
         ensures sources { present.new.sources ≡ present.old.sources }
         ensures due { AreDue program.now present.new result.marks.word }

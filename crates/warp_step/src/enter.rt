@@ -1,5 +1,6 @@
 //! What a step enters into the pending entries: timers that repeat, wishes, and what links with a delay deliver.
-ghost use Rattle.std.specs.Prelude.{◌≡◌, ◌<◌, ◌≤◌, IsTrue, length, map, nat_lt, pos, replicate, List, [], if◌then◌else◌};
+ghost use Rattle.std.specs.Prelude.{◌≡◌, ◌<◌, ◌≤◌, IsTrue, length, map, nat_lt, pos, replicate, List, []};
+ghost use Rattle.std.specs.Prelude.{if◌then◌else◌};
 ghost use Rattle.std.specs.List.{list_all};
 ghost use Rattle.warp_tag.specs.Limits.{longest_period};
 ghost use Rattle.warp_body.specs.Presence.{places_of, present_at};
@@ -9,7 +10,8 @@ ghost use Rattle.warp_step.specs.Valid.{link_fits, program_places, program_sizes
 ghost use Rattle.warp_step.specs.Snapshot.{landed};
 ghost use Rattle.warp_step.specs.inner.Due.{AreDue};
 ghost use Rattle.warp_step.specs.inner.Flagged.{HasNone};
-ghost use Rattle.warp_step.specs.Step.{repeats, with_repeats, with_wishes, with_all_wishes, with_links, delivered, lists_of, plan_of};
+ghost use Rattle.warp_step.specs.Step.{repeats, with_repeats, with_wishes, with_all_wishes, with_links, delivered};
+ghost use Rattle.warp_step.specs.Step.{lists_of, plan_of};
 
 use crate::marks::{Marks, first_link, first_timer};
 use crate::parts::{Link, Timer};
@@ -179,7 +181,9 @@ impl State {
         requires time { tag.time ≤ program.now.stop }
         requires places { places_of present.now ≡ program_places program.now }
         requires link { IsTrue (link_fits program.now link.now) }
-        ensures { self.new ≡ delivered program.now tag link.now.target (present_at present.now (to.Port link.now.source)) link.now.delay self.old }
+        ensures { self.new ≡
+            delivered program.now tag link.now.target
+            (present_at present.now (to.Port link.now.source)) link.now.delay self.old }
     {
         if let Some(delay) = link.delay
             && let Some(value) = present.get(Target::Port(link.source))

@@ -1,6 +1,7 @@
 //! The list of the pending entries. The earliest are taken out at its front without moving the rest, and a new one
 //! moves those on its shorter side, where there is room.
-ghost use Rattle.std.specs.Prelude.{◌≡◌, ℕ, ◌+◌, ◌-◌, ◌<◌, ◌≤◌, ◌++◌, [], true, false, length, take, drop, slice_index_or, slice_range, slice_set, if◌then◌else◌};
+ghost use Rattle.std.specs.Prelude.{◌≡◌, ℕ, ◌+◌, ◌-◌, ◌<◌, ◌≤◌, ◌++◌, [], true, false, length, take, drop};
+ghost use Rattle.std.specs.Prelude.{slice_index_or, slice_range, slice_set, if◌then◌else◌};
 ghost use Rattle.std.specs.List.{copy_within, insert};
 ghost use Rattle.warp_tag.specs.Limits.{most_pending};
 ghost use Rattle.warp_tag.specs.Moment.{is_before};
@@ -39,7 +40,8 @@ impl Model for Entries {
 
     ghost view = { λ e. slice_range e.items e.start e.end };
 
-    ghost invariant = { λ e. (length e.items ≡ 512) × (e.start ≤ e.end) × (e.end ≤ 512) × (e.end ≤ e.start + most_pending) };
+    ghost invariant = { λ e. (length e.items ≡ 512) × (e.start ≤ e.end) × (e.end ≤ 512) ×
+        (e.end ≤ e.start + most_pending) };
 }
 
 impl Entries {
@@ -208,8 +210,10 @@ fn move_later(items: &mut [Waiting], start: usize, end: usize, tag: Tag) -> usiz
     ensures from { start ≤ result }
     ensures to { result ≤ end }
     ensures front { take (result + 1) items.new ≡ take (result + 1) items.old }
-    ensures behind { drop (result + 1) items.new ≡ take (end - result) (drop result items.old) ++ drop (end + 1) items.old }
-    ensures later { (k : ℕ) (d : Entry) → result ≤ k → k < end → is_before tag (slice_index_or items.old k d).tag ≡ true }
+    ensures behind { drop (result + 1) items.new ≡ take (end - result) (drop result items.old) ++
+        drop (end + 1) items.old }
+    ensures later { (k : ℕ) (d : Entry) → result ≤ k → k < end →
+        is_before tag (slice_index_or items.old k d).tag ≡ true }
     ensures len { length items.new ≡ length items.old }
 {
     let mut at = end;
@@ -238,7 +242,9 @@ fn insert_later(items: &mut [Waiting], start: usize, end: usize, entry: Waiting)
     requires order { start ≤ end }
     requires room { end < length items.old }
     requires sorted { AreInOrder (slice_range items.old start end) }
-    ensures entered { result ≡ true → slice_range items.new start (end + 1) ≡ with_entry entry.tag entry.target entry.value (slice_range items.old start end) }
+    ensures entered { result ≡ true →
+        slice_range items.new start (end + 1) ≡
+        with_entry entry.tag entry.target entry.value (slice_range items.old start end) }
     ensures same { result ≡ false → slice_range items.new start end ≡ slice_range items.old start end }
     ensures len { length items.new ≡ length items.old }
 {

@@ -28,7 +28,8 @@ pub fn early_outputs()
 /// A law: the outputs of a run come in the order of their tags. Those before a tag are a front of all of them, and of
 /// those before any tag that is not earlier; they are as many from the front as they are.
 pub fn outputs_begin()
-    ensures later { (P : Program) (E : List Event) (trace : List Row) (end later : Moment) → Run P E trace → is_before later end ≡ false →
+    ensures later { (P : Program) (E : List Event) (trace : List Row) (end later : Moment) → Run P E trace →
+        is_before later end ≡ false →
         StartsWith (outputs_until later (outputs_of trace)) (outputs_until end (outputs_of trace)) }
     ensures whole { (P : Program) (E : List Event) (trace : List Row) (end : Moment) → Run P E trace →
         StartsWith (outputs_of trace) (outputs_until end (outputs_of trace)) }

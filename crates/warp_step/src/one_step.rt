@@ -1,12 +1,14 @@
 //! One step of a program, and the room that it works in.
-ghost use Rattle.std.specs.Prelude.{◌≡◌, ℕ, ◌+◌, ◌≤◌, ◌++◌, IfOk, IsTrue, List, [], length, replicate, vec_len, vec_capacity};
+ghost use Rattle.std.specs.Prelude.{◌≡◌, ℕ, ◌+◌, ◌≤◌, ◌++◌, IfOk, IsTrue, List, [], length, replicate, vec_len};
+ghost use Rattle.std.specs.Prelude.{vec_capacity};
 ghost use Rattle.std.specs.List.{list_all};
 ghost use Rattle.warp_tag.specs.Moment.{is_before};
 ghost use Rattle.warp_body.specs.Presence.{places_of};
 ghost use Rattle.warp_step.specs.Valid.{program_places};
 ghost use Rattle.warp_step.specs.Snapshot.{Snapshot, IsStateOf};
 ghost use Rattle.warp_step.specs.inner.Due.{AreDue};
-ghost use Rattle.warp_step.specs.Step.{CanStep, Step, Room, lists_of, plan_of, reacted, room_of, source_of, sources_of, state_after};
+ghost use Rattle.warp_step.specs.Step.{CanStep, Step, Room, lists_of, plan_of, reacted, room_of, source_of, sources_of};
+ghost use Rattle.warp_step.specs.Step.{state_after};
 
 use crate::arrive::arrive;
 use crate::marks::Marks;
@@ -42,7 +44,13 @@ impl Model for Scratch {
 
     ghost coded = { room_code };
 
-    ghost view = { λ s. record { places = places_of s.present; sources = s.present.sources; bodies = length s.wishes.items; plan = s.plan } };
+    ghost view = { λ s.
+        record {
+          places = places_of s.present;
+          sources = s.present.sources;
+          bodies = length s.wishes.items;
+          plan = s.plan;
+        } };
 
     ghost use Rattle.std.specs.Prelude.{◌≡◌, [], replicate};
     ghost use Rattle.warp_step.specs.Step.{lists_of};
@@ -128,7 +136,8 @@ pub fn step<M: Meter>(
     requires can { CanStep program.now state.old tag given.now }
     requires scratch { scratch.old ≡ room_of program.now }
     requires room { vec_len out.old + length program.now.outputs ≤ vec_capacity out.old }
-    ensures step { (outs : List Out) × (out.new.items ≡ out.old.items ++ outs) × Step program.now state.old tag given.now state.new outs }
+    ensures step { (outs : List Out) × (out.new.items ≡ out.old.items ++ outs) ×
+        Step program.now state.old tag given.now state.new outs }
     ensures of_program { IsStateOf program.now state.new }
     ensures later { IsTrue (list_all (λ w. is_before tag w.tag) state.new.pending) }
     ensures scratch { scratch.new ≡ scratch.old }

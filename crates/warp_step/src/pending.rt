@@ -25,7 +25,8 @@ impl Waiting {
     /// Whether it comes before this tag and target: by tag, then by target.
     #[inline(always)]
     pub(crate) fn comes_before(&self, tag: Tag, target: Target) -> bool
-        ensures { result ≡ key_before self.now.tag self.now.target (record { tag = tag; target = target; value = self.now.value }) }
+        ensures { result ≡
+            key_before self.now.tag self.now.target (record { tag = tag; target = target; value = self.now.value }) }
     {
         self.tag.is_before(tag) || (self.tag.is_same(tag) && self.target.is_before(target))
     }
@@ -42,7 +43,12 @@ impl Waiting {
 /// Whether this tag and target is before all entries, or at the first.
 #[inline(always)]
 fn is_in_front(entries: &[Waiting], tag: Tag, target: Target) -> bool
-    ensures { result ≡ true → prefix_len (λ w. key_before w.tag w.target (record { tag = tag; target = target; value = w.value })) entries.now ≡ 0 }
+    ensures { result ≡ true →
+        prefix_len (λ w. key_before w.tag w.target (record {
+          tag = tag;
+          target = target;
+          value = w.value;
+        })) entries.now ≡ 0 }
 {
     match entries.first() {
         Some(first) => !first.comes_before(tag, target),
@@ -54,7 +60,12 @@ fn is_in_front(entries: &[Waiting], tag: Tag, target: Target) -> bool
 #[inline(never)]
 fn place_by_halves(entries: &[Waiting], tag: Tag, target: Target) -> usize
     requires { AreInOrder entries.now }
-    ensures place { result ≡ prefix_len (λ w. key_before w.tag w.target (record { tag = tag; target = target; value = w.value })) entries.now }
+    ensures place { result ≡
+        prefix_len (λ w. key_before w.tag w.target (record {
+          tag = tag;
+          target = target;
+          value = w.value;
+        })) entries.now }
     ensures within { result ≤ length entries.now }
 {
     entries.partition_point(|entry| entry.comes_before(tag, target))
@@ -64,7 +75,12 @@ fn place_by_halves(entries: &[Waiting], tag: Tag, target: Target) -> usize
 #[inline(always)]
 fn place(entries: &[Waiting], tag: Tag, target: Target) -> usize
     requires { AreInOrder entries.now }
-    ensures place { result ≡ prefix_len (λ w. key_before w.tag w.target (record { tag = tag; target = target; value = w.value })) entries.now }
+    ensures place { result ≡
+        prefix_len (λ w. key_before w.tag w.target (record {
+          tag = tag;
+          target = target;
+          value = w.value;
+        })) entries.now }
     ensures within { result ≤ length entries.now }
 {
     if is_in_front(entries, tag, target) {
@@ -78,7 +94,12 @@ fn place(entries: &[Waiting], tag: Tag, target: Target) -> usize
 #[inline(always)]
 fn is_there(entries: &[Waiting], at: usize, tag: Tag, target: Target) -> bool
     requires order { AreInOrder entries.now }
-    requires place { at ≡ prefix_len (λ w. key_before w.tag w.target (record { tag = tag; target = target; value = w.value })) entries.now }
+    requires place { at ≡
+        prefix_len (λ w. key_before w.tag w.target (record {
+          tag = tag;
+          target = target;
+          value = w.value;
+        })) entries.now }
     ensures answer { result ≡ list_any (has_key tag target) entries.now }
     ensures within { IsTrue result → at < length entries.now }
     ensures entries { (value : ℤ) → with_entry tag target value entries.now ≡ (if result
@@ -96,7 +117,12 @@ fn is_there(entries: &[Waiting], at: usize, tag: Tag, target: Target) -> bool
 #[inline(always)]
 fn is_behind(entries: &Entries, tag: Tag, target: Target) -> bool
     requires { AreInOrder entries.now }
-    ensures { IsTrue result → length entries.now ≡ prefix_len (λ w. key_before w.tag w.target (record { tag = tag; target = target; value = w.value })) entries.now }
+    ensures { IsTrue result →
+        length entries.now ≡ prefix_len (λ w. key_before w.tag w.target (record {
+          tag = tag;
+          target = target;
+          value = w.value;
+        })) entries.now }
 {
     if entries.len() == 0 {
         return true;

@@ -1,11 +1,14 @@
 //! Whom the presence of a place concerns: a step looks only at those. And the bodies of reactions, ready to run.
-ghost use Rattle.std.specs.Prelude.{◌≡◌, ◌+◌, ◌<◌, ◌≤◌, [], ◌∷◌, map, filter, length, IfOk, slice_index_or, if◌then◌else◌};
+ghost use Rattle.std.specs.Prelude.{◌≡◌, ◌+◌, ◌<◌, ◌≤◌, [], ◌∷◌, map, filter, length, IfOk, slice_index_or};
+ghost use Rattle.std.specs.Prelude.{if◌then◌else◌};
 ghost use Rattle.std.specs.List.{list_any};
 ghost use Rattle.warp_tag.specs.Limits.{most_reactions};
 ghost use Rattle.warp_body.specs.declared.place.Target.{Target};
 ghost use Rattle.warp_body.specs.declared.place.Target.TheVariants as to;
 ghost use Rattle.warp_step.specs.Marks.{first_link, first_reaction, marks_from, most_marks, no_marks, with_mark};
-ghost use Rattle.warp_step.specs.Plan.{first_heeding, heeds, heeds_any, is_port, link_heeds, most_places, numbered_place, output_heeds, place_number, place_numbers, place_of, reaction_heeds, timer_heeds, with_watchers};
+ghost use Rattle.warp_step.specs.Plan.{first_heeding, heeds, heeds_any, is_port, link_heeds, most_places};
+ghost use Rattle.warp_step.specs.Plan.{numbered_place, output_heeds, place_number, place_numbers, place_of};
+ghost use Rattle.warp_step.specs.Plan.{reaction_heeds, timer_heeds, with_watchers};
 ghost use Rattle.warp_step.specs.Program.{rule_of};
 ghost use Rattle.warp_step.specs.Step.{marks_of, plan_of, sources_of};
 
@@ -49,7 +52,8 @@ fn heeds_any(triggers: &[Target], sources: &[u32], places: &[Target]) -> bool
 
 /// Marks a number if one of the places is that of one of the triggers.
 fn watch(marks: &mut Marks, number: usize, triggers: &[Target], sources: &[u32], places: &[Target])
-    ensures { marks.new.word ≡ (if heeds_any sources.now triggers.now places.now then with_mark number marks.old.word else marks.old.word) }
+    ensures { marks.new.word ≡
+        (if heeds_any sources.now triggers.now places.now then with_mark number marks.old.word else marks.old.word) }
 {
     if heeds_any(triggers, sources, places) {
         marks.add(number);
@@ -59,7 +63,9 @@ fn watch(marks: &mut Marks, number: usize, triggers: &[Target], sources: &[u32],
 /// Marks the reactions that one of the places may trigger.
 fn watch_reactions(marks: &mut Marks, reactions: &[Reaction], sources: &[u32], places: &[Target])
     requires { length reactions.now ≤ most_reactions }
-    ensures { marks.new.word ≡ with_watchers reaction_heeds first_reaction sources.now places.now 0 (map rule_of reactions.now) marks.old.word }
+    ensures { marks.new.word ≡
+        with_watchers reaction_heeds first_reaction sources.now places.now 0
+        (map rule_of reactions.now) marks.old.word }
 {
     for (number, reaction) in reactions.iter().enumerate() {
         watch(marks, number, &reaction.triggers, sources, places);
@@ -228,7 +234,8 @@ fn of_place(program: &Program, sources: &[u32], number: usize) -> Concerned
     requires place { number < most_places }
     requires sources { sources.now ≡ sources_of program.now }
     ensures marks { result.marks.word ≡ marks_of program.now (numbered_place number ∷ []) }
-    ensures first { result.first ≡ first_heeding (sources_of program.now) (numbered_place number) 0 program.now.reactions }
+    ensures first { result.first ≡
+        first_heeding (sources_of program.now) (numbered_place number) 0 program.now.reactions }
 {
     Concerned {
         marks: marks_of(program, sources, &[numbered_place(number)]),
@@ -243,7 +250,9 @@ fn of_places(
     sources: &[u32],
 ) -> Result<Vec<Concerned>, OutOfMemory>
     requires { sources.now ≡ sources_of program.now }
-    ensures marks { IfOk result (λ all. map (λ one. one.marks.word) all.items ≡ map (λ n. marks_of program.now (numbered_place n ∷ [])) place_numbers) }
+    ensures marks { IfOk result
+        (λ all.
+        map (λ one. one.marks.word) all.items ≡ map (λ n. marks_of program.now (numbered_place n ∷ [])) place_numbers) }
     ensures firsts { IfOk result (λ all. map (λ one. one.first) all.items
         ≡ map (λ n. first_heeding (sources_of program.now) (numbered_place n) 0 program.now.reactions) place_numbers) }
 {
@@ -282,8 +291,12 @@ fn of_reactions(
     sources: &[u32],
 ) -> Result<Vec<Ready>, OutOfMemory>
     requires { sources.now ≡ sources_of program.now }
-    ensures bodies { IfOk result (λ all. map (λ one. one.code) all.items ≡ map (λ rule. rule.body) program.now.reactions) }
-    ensures after { IfOk result (λ all. map (λ one. one.after.word) all.items ≡ map (λ rule. marks_of program.now (filter is_port rule.writes)) program.now.reactions) }
+    ensures bodies { IfOk result
+        (λ all. map (λ one. one.code) all.items ≡ map (λ rule. rule.body) program.now.reactions) }
+    ensures after { IfOk result
+        (λ all.
+        map (λ one. one.after.word) all.items ≡
+        map (λ rule. marks_of program.now (filter is_port rule.writes)) program.now.reactions) }
 {
     let mut all = Vec::with_capacity(alloc, program.reactions().len())?;
     for reaction in program.reactions() {

@@ -1,5 +1,6 @@
 //! The reactions of a step, and the outputs that it puts.
-ghost use Rattle.std.specs.Prelude.{◌≡◌, ℕ, ◌+◌, ◌≤◌, ◌<◌, ◌++◌, IsTrue, is_some, false, true, List, [], map, filter, replicate, length, slice_index_or, vec_len, vec_capacity};
+ghost use Rattle.std.specs.Prelude.{◌≡◌, ℕ, ◌+◌, ◌≤◌, ◌<◌, ◌++◌, IsTrue, is_some, false, true, List, [], map, filter};
+ghost use Rattle.std.specs.Prelude.{replicate, length, slice_index_or, vec_len, vec_capacity};
 ghost use Rattle.std.specs.List.{list_all, list_any};
 ghost use Rattle.warp_tag.specs.Limits.{most_wishes};
 ghost use Rattle.warp_body.specs.Presence.{Presence, places_of, present_at, target_fits};
@@ -12,7 +13,8 @@ ghost use Rattle.warp_step.specs.Plan.{is_port};
 ghost use Rattle.warp_step.specs.inner.Due.{AreDue};
 ghost use Rattle.warp_step.specs.inner.Flagged.{HasNone};
 ghost use Rattle.warp_step.specs.inner.Sure.{IsSure};
-ghost use Rattle.warp_step.specs.Step.{Reacting, after_reactions, is_triggered, lists_of, marks_of, no_wishes, order_of, outputs_from, plan_of, react, sources_of, with_output};
+ghost use Rattle.warp_step.specs.Step.{Reacting, after_reactions, is_triggered, lists_of, marks_of, no_wishes};
+ghost use Rattle.warp_step.specs.Step.{order_of, outputs_from, plan_of, react, sources_of, with_output};
 
 use crate::marks::{Marks, first_output};
 use crate::out::Out;
@@ -97,14 +99,19 @@ fn run_reaction(
     requires code { ready.now.code ≡ (rule_of reaction.now).body }
     requires none { slice_index_or (lists_of wishes.old) number [] ≡ [] }
     ensures effect { record { vars = vars.new; present = present.new; wishes = lists_of wishes.new }
-        ≡ react number (rule_of reaction.now) (record { vars = vars.old; present = present.old; wishes = lists_of wishes.old }) }
+        ≡ react number (rule_of reaction.now) (record {
+          vars = vars.old;
+          present = present.old;
+          wishes = lists_of wishes.old;
+        }) }
     ensures vars { length vars.new ≡ length vars.old }
     ensures places { places_of present.new ≡ places_of present.old }
     ensures sources { present.new.sources ≡ present.old.sources }
     ensures wishes { IsTrue (list_all (list_all (wish_fits (sizes_of vars.old present.old))) (lists_of wishes.old)) →
         IsTrue (list_all (list_all (wish_fits (sizes_of vars.old present.old))) (lists_of wishes.new)) }
     ensures none { result ≡ false → lists_of wishes.new ≡ lists_of wishes.old }
-    ensures due { (P : Program) → IsTrue (is_valid P) → IsTrue (rule_fits P (rule_of reaction.now)) → present.old.sources ≡ sources_of P
+    ensures due { (P : Program) → IsTrue (is_valid P) → IsTrue (rule_fits P (rule_of reaction.now)) →
+        present.old.sources ≡ sources_of P
         → ready.now.after.word ≡ marks_of P (filter is_port (rule_of reaction.now).writes)
         → AreDue P present.old due.old.word → AreDue P present.new due.new.word }
 {
@@ -136,7 +143,11 @@ pub(crate) fn run_reactions(
     requires due { AreDue program.now present.old due.old.word }
     requires sure { IsSure program.now present.old sure }
     ensures effect { record { vars = vars.new; present = present.new; wishes = lists_of wishes.new }
-        ≡ after_reactions program.now (order_of program.now) (record { vars = vars.old; present = present.old; wishes = no_wishes program.now }) }
+        ≡ after_reactions program.now (order_of program.now) (record {
+          vars = vars.old;
+          present = present.old;
+          wishes = no_wishes program.now;
+        }) }
     ensures vars { length vars.new ≡ length vars.old }
     ensures places { places_of present.new ≡ places_of present.old }
     ensures sources { present.new.sources ≡ present.old.sources }
@@ -241,7 +252,8 @@ fn put_due_outputs(program: &Program, tag: Tag, due: Marks, present: &Present, o
 fn put_output(number: u32, port: u32, tag: Tag, present: &Present, out: &mut Vec<Out>)
     requires port { port < length present.now.ports }
     requires room { vec_len out.old < vec_capacity out.old }
-    ensures outputs { out.new.items ≡ out.old.items ++ with_output number tag (present_at present.now (to.Port port)) [] }
+    ensures outputs { out.new.items ≡ out.old.items ++
+        with_output number tag (present_at present.now (to.Port port)) [] }
     ensures len { vec_len out.new ≤ vec_len out.old + 1 }
     ensures capacity { vec_capacity out.old ≤ vec_capacity out.new }
 {

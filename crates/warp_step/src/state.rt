@@ -5,7 +5,8 @@ ghost use Rattle.warp_tag.specs.Limits.{longest_delay, most_pending, most_variab
 ghost use Rattle.warp_step.specs.Program.{rule_of};
 ghost use Rattle.warp_step.specs.Valid.{names};
 ghost use Rattle.warp_body.specs.declared.place.Target.TheVariants as to;
-ghost use Rattle.warp_step.specs.Snapshot.{AreInOrder, IsStateOf, entered, landed, least_pending, start_state, with_loss, with_timers};
+ghost use Rattle.warp_step.specs.Snapshot.{AreInOrder, IsStateOf, entered, landed, least_pending, start_state};
+ghost use Rattle.warp_step.specs.Snapshot.{with_loss, with_timers};
 
 use crate::entries::Entries;
 use crate::parts::Variable;

@@ -4,7 +4,8 @@
 //! from the newest end, so that what comes in order of tag costs no pass over what came before.
 ghost use Rattle.std.specs.Prelude.{◌≡◌, ◌↔◌, ◌⊎◌, ◌+◌, ◌<◌, ◌^◌, ◌||◌, All, Contains, IsTrue, OnOk, OnErr, fold, map};
 ghost use Rattle.warp_table.specs.inner.Heard.{Announced, IsExceeded, IsHeardTo, earlier_of, nothing_heard, with_tag};
-ghost use Rattle.warp_table.specs.inner.Tally.{AreInOrder, before_of, beyond, counted, has_doubled, is_exceeded, is_met, with_name, with_tally};
+ghost use Rattle.warp_table.specs.inner.Tally.{AreInOrder, before_of, beyond, counted, has_doubled, is_exceeded};
+ghost use Rattle.warp_table.specs.inner.Tally.{is_met, with_name, with_tally};
 
 use crate::tags::{Tagged, Tags, place};
 use std::alloc::{AllocError, Global};
@@ -161,7 +162,13 @@ impl Model for Announcer {
 
     ghost Value = { Heard };
 
-    ghost view = { λ a. record { events = a.events; withdrawn = a.withdrawn; doubled = a.doubled; announced = map announcement_of a.announced.items } };
+    ghost view = { λ a.
+        record {
+          events = a.events;
+          withdrawn = a.withdrawn;
+          doubled = a.doubled;
+          announced = map announcement_of a.announced.items;
+        } };
 
     ghost invariant = { λ a. AreKept a.events a.withdrawn a.doubled a.announced.items a.verdict };
 }

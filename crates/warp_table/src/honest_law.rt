@@ -22,7 +22,8 @@ pub fn one_horizon()
 
 /// A larger set has no earlier horizon.
 pub fn later_horizon()
-    ensures { (P : Program) (S T : Records) (a b : Moment) → IsWithin S T → IsHorizon P S a → IsHorizon P T b → is_before b a ≡ false }
+    ensures { (P : Program) (S T : Records) (a b : Moment) → IsWithin S T → IsHorizon P S a → IsHorizon P T b →
+        is_before b a ≡ false }
 {}
 
 /// Below its horizon a set within an honest one, of records that the program takes, has the live events of that one.
@@ -35,5 +36,6 @@ pub fn same_below()
 /// In every set of a list an origin's announcements reach to some tag, and each origin either broke one or did not.
 pub fn some_reach()
     ensures reach { (records : List Record) (origin : ℕ) → (end : Moment) × ReachesTo (set_of records) origin end }
-    ensures breach { (records : List Record) (origin : ℕ) → (broken : Bool) × (IsTrue broken ↔ IsBroken (set_of records) origin) }
+    ensures breach { (records : List Record) (origin : ℕ) → (broken : Bool) ×
+        (IsTrue broken ↔ IsBroken (set_of records) origin) }
 {}

@@ -39,12 +39,14 @@ pub fn is_table()
 /// What the table knows of a name is what the set of the records tells of it: the greatest payload of its events, and
 /// whether it is withdrawn.
 pub fn known_by_set()
-    ensures { (records : List Record) (origin : ℕ) (tag : Moment) → Tells (set_of records) origin tag (known origin tag (table_of records)) }
+    ensures { (records : List Record) (origin : ℕ) (tag : Moment) →
+        Tells (set_of records) origin tag (known origin tag (table_of records)) }
 {}
 
 /// A set tells one thing of a name.
 pub fn told_once()
-    ensures { (S : Records) (origin : ℕ) (tag : Moment) (a b : Option Entry) → Tells S origin tag a → Tells S origin tag b → a ≡ b }
+    ensures { (S : Records) (origin : ℕ) (tag : Moment) (a b : Option Entry) → Tells S origin tag a →
+        Tells S origin tag b → a ≡ b }
 {}
 
 /// Lists with one set have one table.
@@ -66,5 +68,6 @@ pub fn live_once()
 pub fn names_once()
     ensures once { (records : List Record) → AllPairs (λ a b. a ≢ b) (names_of records) }
     ensures each { (records : List Record) (origin : ℕ) (tag : Moment) →
-        Contains (names_of records) (origin, tag) ↔ ((said : Record) × IsIn (set_of records) said × IsOf origin tag said) }
+        Contains (names_of records) (origin, tag) ↔
+        ((said : Record) × IsIn (set_of records) said × IsOf origin tag said) }
 {}

@@ -51,7 +51,8 @@ impl Names {
     ghost use Rattle.std.specs.Prelude.{◌≡◌, [], None, Some, IsTrue, is_some, Contains, IfSome, OnOk, OnErr, slice_get};
     ghost use Rattle.std.specs.Map.{lookup};
     ghost use Rattle.warp_table.specs.inner.Heard.{with_tag};
-    ghost use Rattle.warp_table.specs.inner.Kept.{is_named, nothing_known, put_known, with_event_at, with_withdrawal_at};
+    ghost use Rattle.warp_table.specs.inner.Kept.{is_named, nothing_known, put_known, with_event_at};
+    ghost use Rattle.warp_table.specs.inner.Kept.{with_withdrawal_at};
 
     /// None yet. They grow in `alloc`.
     pub(crate) fn new(alloc: Global) -> Names
@@ -98,7 +99,8 @@ impl Names {
         requires new { lookup (is_named name.origin name.tag) self.old ≡ None }
         requires fresh { ¬ Contains announcer.old.events name.tag }
         ensures ok { OnOk result (self.new ≡ put_known self.old name (with_event_at place nothing_known)) }
-        ensures heard { OnOk result (announcer.new ≡ record announcer.old { events = with_tag name.tag announcer.old.events }) }
+        ensures heard { OnOk result
+            (announcer.new ≡ record announcer.old { events = with_tag name.tag announcer.old.events }) }
         ensures err { OnErr result ((self.new ≡ self.old) × (announcer.new ≡ announcer.old)) }
     {
         keep_up_to(&mut self.origins, name.origin)?;
@@ -118,7 +120,8 @@ impl Names {
         requires new { lookup (is_named name.origin name.tag) self.old ≡ None }
         requires fresh { ¬ Contains announcer.old.withdrawn name.tag }
         ensures ok { OnOk result (self.new ≡ put_known self.old name (with_withdrawal_at place nothing_known)) }
-        ensures heard { OnOk result (announcer.new ≡ record announcer.old { withdrawn = with_tag name.tag announcer.old.withdrawn }) }
+        ensures heard { OnOk result
+            (announcer.new ≡ record announcer.old { withdrawn = with_tag name.tag announcer.old.withdrawn }) }
         ensures err { OnErr result ((self.new ≡ self.old) × (announcer.new ≡ announcer.old)) }
     {
         keep_up_to(&mut self.origins, name.origin)?;

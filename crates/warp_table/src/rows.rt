@@ -226,7 +226,8 @@ impl Rows {
         requires new { row_of tag self.old ≡ None }
         requires fresh { ¬ Contains announcer.old.events tag }
         ensures ok { OnOk result (IsWith tag (with_event_at place nothing_known) self.old self.new) }
-        ensures heard { OnOk result (announcer.new ≡ record announcer.old { events = with_tag tag announcer.old.events }) }
+        ensures heard { OnOk result
+            (announcer.new ≡ record announcer.old { events = with_tag tag announcer.old.events }) }
         ensures err { OnErr result ((self.new ≡ self.old) × (announcer.new ≡ announcer.old)) }
     {
         self.rows.reserve(1)?;
@@ -246,7 +247,8 @@ impl Rows {
         requires new { row_of tag self.old ≡ None }
         requires fresh { ¬ Contains announcer.old.withdrawn tag }
         ensures ok { OnOk result (IsWith tag (with_withdrawal_at place nothing_known) self.old self.new) }
-        ensures heard { OnOk result (announcer.new ≡ record announcer.old { withdrawn = with_tag tag announcer.old.withdrawn }) }
+        ensures heard { OnOk result
+            (announcer.new ≡ record announcer.old { withdrawn = with_tag tag announcer.old.withdrawn }) }
         ensures err { OnErr result ((self.new ≡ self.old) × (announcer.new ≡ announcer.old)) }
     {
         self.rows.reserve(1)?;

@@ -5,7 +5,9 @@
 //! new record in order of tags costs a look at the last name of its origin; only announcements, and events of a name
 //! with a lesser payload, are found by a hash. What an origin announced is kept by its `Announcer`, so that in order of
 //! tags no record costs a pass over all announcements or names. A horizon costs a look at each origin of the program.
-ghost use Rattle.std.specs.Prelude.{◌≡◌, ◌↔◌, ◌⊎◌, ℕ, ℤ, ◌+◌, ◌<◌, ◌≤◌, List, [], ◌∷◌, ◌++◌, None, Some, true, false, length, slice_get, vec_len, Contains, IsTrue, IfSome, IfNone, IfOk, IsOk, OnOk, OnErr, MatchResult};
+ghost use Rattle.std.specs.Prelude.{◌≡◌, ◌↔◌, ◌⊎◌, ℕ, ℤ, ◌+◌, ◌<◌, ◌≤◌, List, [], ◌∷◌, ◌++◌, None, Some, true, false};
+ghost use Rattle.std.specs.Prelude.{length, slice_get, vec_len, Contains, IsTrue, IfSome, IfNone, IfOk, IsOk, OnOk};
+ghost use Rattle.std.specs.Prelude.{OnErr, MatchResult};
 ghost use Rattle.std.specs.Option.{option_copied};
 ghost use Rattle.warp_tag.specs.Limits.{most_origins, most_records};
 ghost use Rattle.warp_step.specs.Events.{is_declared};
@@ -18,7 +20,10 @@ ghost use Rattle.warp_table.specs.Names.{Tells, origin_of};
 ghost use Rattle.warp_table.specs.Records.{set_of};
 ghost use Rattle.warp_table.specs.Table.{names_of};
 ghost use Rattle.warp_table.specs.inner.Heard.{Announced, AreHeard, IsHeard, heard_at, with_tag};
-ghost use Rattle.warp_table.specs.inner.Kept.{HoldsEvent, IsAdded, Keeps, NotesEvent, counts_less, entry_of, event_place, known_of, other_place, parted_of, payload_at, place_in, put_known, put_other, record_at, stands, with_event_at, with_withdrawal_at, withdrawal_place};
+ghost use Rattle.warp_table.specs.inner.Kept.{HoldsEvent, IsAdded, Keeps, NotesEvent, counts_less, entry_of};
+ghost use Rattle.warp_table.specs.inner.Kept.{event_place, known_of, other_place, parted_of, payload_at, place_in};
+ghost use Rattle.warp_table.specs.inner.Kept.{put_known, put_other, record_at, stands, with_event_at};
+ghost use Rattle.warp_table.specs.inner.Kept.{with_withdrawal_at, withdrawal_place};
 
 use crate::announcer::Announcer;
 use crate::names::{Name, Names};
@@ -92,7 +97,8 @@ impl Table {
     /// Whether the program takes such a record, and else the first reason why not: no such origin, past its stop, no
     /// such input, an input of another origin.
     pub fn check(program: &Program, record: &Record) -> Result<(), Refusal>
-        ensures { MatchResult result (λ _. refusal_of program.now «record».now ≡ None) (λ k. refusal_of program.now «record».now ≡ Some k) }
+        ensures { MatchResult result (λ _. refusal_of program.now «record».now ≡ None)
+            (λ k. refusal_of program.now «record».now ≡ Some k) }
     {
         match *record {
             Record::Event {
@@ -149,8 +155,10 @@ impl Table {
         requires room { length self.old < most_records }
         requires origin { origin_of «record».now < most_origins }
         ensures new { IfOk result (λ added. IsTrue added.is_new →
-            (¬ Contains self.old «record».now) × (added.place ≡ length self.old + 1) × (self.new ≡ self.old ++ «record».now ∷ [])) }
-        ensures known { IfOk result (λ added. added.is_new ≡ false → IsAt self.old added.place «record».now × (self.new ≡ self.old)) }
+            (¬ Contains self.old «record».now) × (added.place ≡ length self.old + 1) ×
+            (self.new ≡ self.old ++ «record».now ∷ [])) }
+        ensures known { IfOk result
+            (λ added. added.is_new ≡ false → IsAt self.old added.place «record».now × (self.new ≡ self.old)) }
         ensures err { OnErr result (self.new ≡ self.old) }
     {
         self.records.reserve(1)?;
@@ -378,11 +386,16 @@ fn note_further_event(
     payload: (u32, i64),
 ) -> Result<Noted, OutOfMemory>
     requires room { length records.now < most_records }
-    requires kept { (before : ℕ × ℤ) × IsAt records.now kept (Record.Event name.now.origin name.now.tag before.0 before.1) }
+    requires kept { (before : ℕ × ℤ) ×
+        IsAt records.now kept (Record.Event name.now.origin name.now.tag before.0 before.1) }
     ensures new { IfOk result (λ noted. IsTrue noted.added.is_new → (noted.added.place ≡ length records.now + 1) ×
-        NotesEvent records.now name.now payload kept noted.event others.old.entries others.new.entries announcer.old announcer.new) }
-    ensures known { IfOk result (λ noted. noted.added.is_new ≡ false → (others.new.entries ≡ others.old.entries) × (announcer.new ≡ announcer.old) ×
-        (event_place records.now kept others.old.entries (Record.Event name.now.origin name.now.tag payload.0 payload.1) ≡ Some noted.added.place)) }
+        NotesEvent records.now name.now payload kept noted.event others.old.entries others.new.entries
+        announcer.old announcer.new) }
+    ensures known { IfOk result
+        (λ noted. noted.added.is_new ≡ false → (others.new.entries ≡ others.old.entries) ×
+        (announcer.new ≡ announcer.old) ×
+        (event_place records.now kept others.old.entries
+        (Record.Event name.now.origin name.now.tag payload.0 payload.1) ≡ Some noted.added.place)) }
     ensures err { OnErr result ((others.new.entries ≡ others.old.entries) × (announcer.new ≡ announcer.old)) }
 {
     let record = Record::Event {
@@ -414,7 +427,8 @@ fn note_further_event(
 /// What comes of the first event of a name, which goes behind these records.
 fn noted_first(records: &[Record]) -> Noted
     requires { length records.now < most_records }
-    ensures { (result.added.place ≡ length records.now + 1) × (result.event ≡ length records.now + 1) × IsTrue result.added.is_new }
+    ensures { (result.added.place ≡ length records.now + 1) × (result.event ≡ length records.now + 1) ×
+        IsTrue result.added.is_new }
 {
     let place = records.len() as u32 + 1;
     let added = Added {
@@ -436,7 +450,9 @@ fn note_first_event(
 ) -> Result<Noted, OutOfMemory>
     requires room { length records.now < most_records }
     requires fresh { ¬ Contains announcer.old.events tag }
-    ensures ok { IfOk result (λ noted. (noted.added.place ≡ length records.now + 1) × (noted.event ≡ length records.now + 1) × IsTrue noted.added.is_new) }
+    ensures ok { IfOk result
+        (λ noted. (noted.added.place ≡ length records.now + 1) × (noted.event ≡ length records.now + 1) ×
+        IsTrue noted.added.is_new) }
     ensures heard { OnOk result (announcer.new ≡ record announcer.old { events = with_tag tag announcer.old.events }) }
     ensures err { OnErr result (announcer.new ≡ announcer.old) }
 {
@@ -459,11 +475,14 @@ fn add_event(
     requires fresh { (known_of name.now names.old).event ≡ 0 → ¬ Contains announcer.old.events name.now.tag }
     ensures new { IfOk result (λ noted. IsTrue noted.added.is_new → (noted.added.place ≡ length records.now + 1) ×
         (names.new ≡ put_known names.old name.now (with_event_at noted.event (known_of name.now names.old))) ×
-        NotesEvent records.now name.now payload (known_of name.now names.old).event noted.event others.old.entries others.new.entries announcer.old announcer.new) }
+        NotesEvent records.now name.now payload (known_of name.now names.old).event noted.event
+        others.old.entries others.new.entries announcer.old announcer.new) }
     ensures known { IfOk result (λ noted. noted.added.is_new ≡ false → (names.new ≡ names.old) ×
         (others.new.entries ≡ others.old.entries) × (announcer.new ≡ announcer.old) ×
-        (event_place records.now (known_of name.now names.old).event others.old.entries (Record.Event name.now.origin name.now.tag payload.0 payload.1) ≡ Some noted.added.place)) }
-    ensures err { OnErr result ((names.new ≡ names.old) × (others.new.entries ≡ others.old.entries) × (announcer.new ≡ announcer.old)) }
+        (event_place records.now (known_of name.now names.old).event others.old.entries
+        (Record.Event name.now.origin name.now.tag payload.0 payload.1) ≡ Some noted.added.place)) }
+    ensures err { OnErr result
+        ((names.new ≡ names.old) × (others.new.entries ≡ others.old.entries) × (announcer.new ≡ announcer.old)) }
 {
     match names.known(*name) {
         Some(known) => {
@@ -495,9 +514,13 @@ fn note_event(
     requires kept { HoldsEvent records.now name.now kept }
     requires fresh { kept ≡ 0 → ¬ Contains announcer.old.events name.now.tag }
     ensures new { IfOk result (λ noted. IsTrue noted.added.is_new → (noted.added.place ≡ length records.now + 1) ×
-        NotesEvent records.now name.now payload kept noted.event others.old.entries others.new.entries announcer.old announcer.new) }
-    ensures known { IfOk result (λ noted. noted.added.is_new ≡ false → (others.new.entries ≡ others.old.entries) × (announcer.new ≡ announcer.old) ×
-        (event_place records.now kept others.old.entries (Record.Event name.now.origin name.now.tag payload.0 payload.1) ≡ Some noted.added.place)) }
+        NotesEvent records.now name.now payload kept noted.event others.old.entries others.new.entries
+        announcer.old announcer.new) }
+    ensures known { IfOk result
+        (λ noted. noted.added.is_new ≡ false → (others.new.entries ≡ others.old.entries) ×
+        (announcer.new ≡ announcer.old) ×
+        (event_place records.now kept others.old.entries
+        (Record.Event name.now.origin name.now.tag payload.0 payload.1) ≡ Some noted.added.place)) }
     ensures err { OnErr result ((others.new.entries ≡ others.old.entries) × (announcer.new ≡ announcer.old)) }
 {
     if kept == 0 {
@@ -515,10 +538,12 @@ fn add_withdrawal(
     next: u32,
 ) -> Result<Added, OutOfMemory>
     requires { (known_of name.now names.old).withdrawal ≡ 0 → ¬ Contains announcer.old.withdrawn name.now.tag }
-    ensures new { IfOk result (λ added. IsTrue added.is_new → (added.place ≡ next) × ((known_of name.now names.old).withdrawal ≡ 0) ×
+    ensures new { IfOk result
+        (λ added. IsTrue added.is_new → (added.place ≡ next) × ((known_of name.now names.old).withdrawal ≡ 0) ×
         (names.new ≡ put_known names.old name.now (with_withdrawal_at next (known_of name.now names.old))) ×
         (announcer.new ≡ record announcer.old { withdrawn = with_tag name.now.tag announcer.old.withdrawn })) }
-    ensures known { IfOk result (λ added. added.is_new ≡ false → (names.new ≡ names.old) × (announcer.new ≡ announcer.old) ×
+    ensures known { IfOk result
+        (λ added. added.is_new ≡ false → (names.new ≡ names.old) × (announcer.new ≡ announcer.old) ×
         (withdrawal_place (known_of name.now names.old).withdrawal ≡ Some added.place)) }
     ensures err { OnErr result ((names.new ≡ names.old) × (announcer.new ≡ announcer.old)) }
 {
@@ -559,7 +584,8 @@ fn add_announcement(
         (announcer.new ≡ record announcer.old { announced = announcer.new.announced }) ×
         ((a : Announced) → Contains announcer.new.announced a ↔
         Contains announcer.old.announced a ⊎ (a ≡ record { tag = tag; events = events; withdrawn = withdrawn }))) }
-    ensures known { IfOk result (λ added. added.is_new ≡ false → (others.new.entries ≡ others.old.entries) × (announcer.new ≡ announcer.old) ×
+    ensures known { IfOk result
+        (λ added. added.is_new ≡ false → (others.new.entries ≡ others.old.entries) × (announcer.new ≡ announcer.old) ×
         (other_place others.old.entries said.now ≡ Some added.place)) }
     ensures err { OnErr result ((others.new.entries ≡ others.old.entries) × (announcer.new ≡ announcer.old)) }
 {
@@ -617,11 +643,13 @@ fn note_own(
     requires room { length records.now < most_records }
     requires keeps { Keeps records.now names.old others.old.entries }
     requires heard { IsHeard (set_of records.now) (origin_of «record».now) announcer.old }
-    ensures new { IfOk result (λ added. IsTrue added.is_new → IsAdded records.now «record».now added.place names.new others.new.entries ×
+    ensures new { IfOk result
+        (λ added. IsTrue added.is_new → IsAdded records.now «record».now added.place names.new others.new.entries ×
         IsHeard (set_of (records.now ++ «record».now ∷ [])) (origin_of «record».now) announcer.new) }
     ensures known { IfOk result (λ added. added.is_new ≡ false → IsAt records.now added.place «record».now ×
         (names.new ≡ names.old) × (others.new.entries ≡ others.old.entries) × (announcer.new ≡ announcer.old)) }
-    ensures err { OnErr result ((names.new ≡ names.old) × (others.new.entries ≡ others.old.entries) × (announcer.new ≡ announcer.old)) }
+    ensures err { OnErr result
+        ((names.new ≡ names.old) × (others.new.entries ≡ others.old.entries) × (announcer.new ≡ announcer.old)) }
 {
     let next = records.len() as u32 + 1;
     match *record {
@@ -663,10 +691,12 @@ fn note(
     requires room { length records.now < most_records }
     requires keeps { Keeps records.now names.old others.old.entries }
     requires heard { AreHeard records.now announcers.old.items }
-    ensures new { IfOk result (λ added. IsTrue added.is_new → IsAdded records.now «record».now added.place names.new others.new.entries ×
+    ensures new { IfOk result
+        (λ added. IsTrue added.is_new → IsAdded records.now «record».now added.place names.new others.new.entries ×
         AreHeard (records.now ++ «record».now ∷ []) announcers.new.items) }
     ensures known { IfOk result (λ added. added.is_new ≡ false → IsAt records.now added.place «record».now ×
-        (names.new ≡ names.old) × (others.new.entries ≡ others.old.entries) × AreHeard records.now announcers.new.items) }
+        (names.new ≡ names.old) × (others.new.entries ≡ others.old.entries) ×
+        AreHeard records.now announcers.new.items) }
     ensures err { OnErr result ((names.new ≡ names.old) × (others.new.entries ≡ others.old.entries) ×
         AreHeard records.now announcers.new.items) }
 {
@@ -678,7 +708,8 @@ fn note(
 
 /// Why the program takes no event of this origin, at this tag, for this input.
 fn check_event(program: &Program, origin: u32, tag: Tag, input: u32) -> Result<(), Refusal>
-    ensures { (value : ℤ) → MatchResult result (λ _. refusal_of program.now (Record.Event origin tag input value) ≡ None)
+    ensures { (value : ℤ) →
+        MatchResult result (λ _. refusal_of program.now (Record.Event origin tag input value) ≡ None)
         (λ k. refusal_of program.now (Record.Event origin tag input value) ≡ Some k) }
 {
     check_name(program, origin, tag)?;
@@ -710,7 +741,8 @@ fn check_name(program: &Program, origin: u32, tag: Tag) -> Result<(), Refusal>
 
 /// Why the program takes no announcement of this origin, up to this tag.
 fn check_end(program: &Program, origin: u32, tag: Tag) -> Result<(), Refusal>
-    ensures { (events withdrawn : ℕ) → MatchResult result (λ _. refusal_of program.now (Record.Announce origin tag events withdrawn) ≡ None)
+    ensures { (events withdrawn : ℕ) →
+        MatchResult result (λ _. refusal_of program.now (Record.Announce origin tag events withdrawn) ≡ None)
         (λ k. refusal_of program.now (Record.Announce origin tag events withdrawn) ≡ Some k) }
 {
     // Each program is valid, and so its stop is in range.
@@ -725,7 +757,8 @@ fn check_end(program: &Program, origin: u32, tag: Tag) -> Result<(), Refusal>
 
 /// Why the program takes nothing of this origin.
 fn check_origin(program: &Program, origin: u32) -> Result<(), Refusal>
-    ensures { MatchResult result (λ _. is_declared program.now origin ≡ true) (λ k. (is_declared program.now origin ≡ false) × (k ≡ Refusal.NoOrigin)) }
+    ensures { MatchResult result (λ _. is_declared program.now origin ≡ true)
+        (λ k. (is_declared program.now origin ≡ false) × (k ≡ Refusal.NoOrigin)) }
 {
     if program.origins() <= origin {
         return Err(Refusal::NoOrigin);

@@ -1,6 +1,7 @@
 //! The tags of an origin's names. Those that come in order of tag, or nearly so, stand in that order; those that come
 //! newest first stand in the order in which they came. So neither costs a walk, nor moves what came before.
-ghost use Rattle.std.specs.Prelude.{◌≡◌, ◌+◌, ◌<◌, ◌≤◌, ◌^◌, [], ◌∷◌, ◌++◌, All, AllPairs, IsTrue, OnOk, OnErr, false, length, true};
+ghost use Rattle.std.specs.Prelude.{◌≡◌, ◌+◌, ◌<◌, ◌≤◌, ◌^◌, [], ◌∷◌, ◌++◌, All, AllPairs, IsTrue, OnOk, OnErr, false};
+ghost use Rattle.std.specs.Prelude.{length, true};
 ghost use Rattle.std.specs.List.{position_or_len};
 ghost use Rattle.warp_tag.specs.Moment.{Moment, is_before};
 ghost use Rattle.warp_table.specs.inner.Heard.{count_before as tags_before, with_tag};

@@ -90,7 +90,8 @@ impl Tag {
 
     /// The tag of this time and microstep; `None` exactly where one of them is out of range.
     pub fn new(time: u64, micro: u32) -> Option<Tag>
-        ensures { SomeIff result (IsInRange (record { time = time; microstep = micro })) (record { time = time; microstep = micro }) }
+        ensures { SomeIff result (IsInRange (record { time = time; microstep = micro }))
+            (record { time = time; microstep = micro }) }
     {
         if time <= MAX_TIME && micro <= LAST_MICROSTEP {
             Some(Tag::of(time, micro))

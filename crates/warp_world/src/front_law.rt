@@ -21,13 +21,15 @@ pub fn equal_sets()
 /// after some of the moves, the one list begins the other; and what a replica releases begins what it releases later,
 /// unless it was restarted between.
 pub fn released_fronts()
-    ensures agree { (P : Program) (count : ℕ) (moves : List Move) (i j one other : ℕ) (left right : List Record) (a b : Answers) →
+    ensures agree { (P : Program) (count : ℕ) (moves : List Move) (i j one other : ℕ) (left right : List Record)
+        (a b : Answers) →
         IsHonest (world_after P count moves).made →
         log_of (world_after P count (take i moves)) one ≡ Some left →
         log_of (world_after P count (take j moves)) other ≡ Some right →
         AreAnswers P (set_of left) a → AreAnswers P (set_of right) b →
         StartsWith b.released a.released ⊎ StartsWith a.released b.released }
-    ensures stays { (P : Program) (count : ℕ) (moves : List Move) (i j replica : ℕ) (early late : List Record) (a b : Answers) →
+    ensures stays { (P : Program) (count : ℕ) (moves : List Move) (i j replica : ℕ) (early late : List Record)
+        (a b : Answers) →
         IsHonest (world_after P count moves).made → i ≤ j → ¬ Contains (drop i (take j moves)) (Restart replica) →
         log_of (world_after P count (take i moves)) replica ≡ Some early →
         log_of (world_after P count (take j moves)) replica ≡ Some late →

@@ -99,7 +99,8 @@ fn move_of(words: &[&[u8]]) -> Option<Move>
 /// The number of replicas that the first line spells, and the bytes behind the line; `None` where it spells none.
 fn read_count(bytes: &[u8]) -> Option<(usize, &[u8])>
     ensures found { IfSome result (λ read. IsCount read.0 × (bytes.now ≡ line (count_words read.0) ++ read.1.now)) }
-    ensures none { IfNone result ((count : ℕ) (rest : List ℕ) → IsCount count → bytes.now ≢ line (count_words count) ++ rest) }
+    ensures none { IfNone result
+        ((count : ℕ) (rest : List ℕ) → IsCount count → bytes.now ≢ line (count_words count) ++ rest) }
 {
     let (text, rest) = split_line(bytes)?;
     let words = split_words(text)?;
@@ -109,7 +110,8 @@ fn read_count(bytes: &[u8]) -> Option<(usize, &[u8])>
 /// The move that the first line spells, and the bytes behind the line; `None` where it spells none.
 fn read_move(bytes: &[u8]) -> Option<(Move, &[u8])>
     ensures found { IfSome result (λ read. IsMove read.0 × (bytes.now ≡ line (move_words read.0) ++ read.1.now)) }
-    ensures none { IfNone result ((next : Move) (rest : List ℕ) → IsMove next → bytes.now ≢ line (move_words next) ++ rest) }
+    ensures none { IfNone result
+        ((next : Move) (rest : List ℕ) → IsMove next → bytes.now ≢ line (move_words next) ++ rest) }
 {
     let (text, rest) = split_line(bytes)?;
     let words = split_words(text)?;

@@ -1,5 +1,6 @@
 //! Several replicas of one program, and what happens to them.
-ghost use Rattle.std.specs.Prelude.{◌≡◌, ◌<◌, ◌≤◌, List, [], ◌∷◌, ◌++◌, All, IfNone, IfOk, IfSome, IsTrue, OnOk, Some, length, map, slice_get, slice_set, if◌then◌else◌};
+ghost use Rattle.std.specs.Prelude.{◌≡◌, ◌<◌, ◌≤◌, List, [], ◌∷◌, ◌++◌, All, IfNone, IfOk, IfSome, IsTrue, OnOk, Some};
+ghost use Rattle.std.specs.Prelude.{length, map, slice_get, slice_set, if◌then◌else◌};
 ghost use Rattle.warp_step.specs.Program.{Program};
 ghost use Rattle.warp_step.specs.Counter.{IsUnused};
 ghost use Rattle.warp_record.specs.declared.record.Record.{Record};
@@ -128,7 +129,8 @@ impl<T: Timeline> World<T> {
     /// Lets a replica take a record, if there is such a replica. Where it is refused, nothing happens; an `Err` says
     /// that memory was wanting.
     fn bring(&mut self, alloc: Global, replica: u32, record: &Record) -> Result<(), OutOfMemory>
-        ensures logs { (P : Program) → RunAll P self.old → OnOk result ((made : Records) → let w = world_of made self.old in
+        ensures logs { (P : Program) → RunAll P self.old →
+            OnOk result ((made : Records) → let w = world_of made self.old in
             logs_of self.new ≡ (after_carry P replica w (Some «record».now) (log_of w replica)).logs) }
         ensures programs { map (λ r. r.program) self.new ≡ map (λ r. r.program) self.old }
     {
@@ -182,7 +184,8 @@ fn take_in<T: Timeline>(
     record: &Record,
 ) -> Result<(), OutOfMemory>
     ensures records { OnOk result (let log = replica.old.records in
-        replica.new.records ≡ (if takes_in replica.old.program log «record».now then log ++ «record».now ∷ [] else log)) }
+        replica.new.records ≡
+        (if takes_in replica.old.program log «record».now then log ++ «record».now ∷ [] else log)) }
     ensures program { replica.new.program ≡ replica.old.program }
 {
     match replica.take(alloc, record) {

@@ -28,7 +28,8 @@ ghost use Rattle.std.specs.Process.{exit_status};
 ghost use Rattle.std.specs.declared.io.ErrorKind.TheVariants.{OutOfMemory};
 ghost use Rattle.clap.specs.Words.{kind_of};
 ghost use Rattle.warp_step.specs.Counter.{IsUnused};
-ghost use Rattle.warpd.specs.Outcome.{Does, EndsSo, IsPrinted, IsShown, Obeys, Plays, PlaysBytes, PlaysOver, Runs, Seen};
+ghost use Rattle.warpd.specs.Outcome.{Does, EndsSo, IsPrinted, IsShown, Obeys, Plays, PlaysBytes, PlaysOver, Runs};
+ghost use Rattle.warpd.specs.Outcome.{Seen};
 ghost use Rattle.warpd.specs.Outcome.{line_of, status_of};
 ghost use Rattle.warpd.specs.Words.{task_of};
 

@@ -87,7 +87,8 @@ fn append_title(text: &mut Vec<u8>, number: usize) -> Result<(), OutOfMemory>
 /// much was lost.
 fn append_counts<T: Timeline>(text: &mut Vec<u8>, replica: &Replica<T>) -> Result<(), OutOfMemory>
     requires { IsTrue (T.settled replica.now.timeline) }
-    ensures { OnOk result (Adds replica.now.program (set_of replica.now.records) count_lines text.old.items text.new.items) }
+    ensures { OnOk result
+        (Adds replica.now.program (set_of replica.now.records) count_lines text.old.items text.new.items) }
 {
     append_answer(text, replica, Query::Horizon)?;
     append_answer(text, replica, Query::Outputs)?;
@@ -102,7 +103,8 @@ fn append_variables<T: Timeline>(
     replica: &Replica<T>,
 ) -> Result<(), OutOfMemory>
     requires { IsTrue (T.settled replica.now.timeline) }
-    ensures { OnOk result (Adds replica.now.program (set_of replica.now.records) variable_lines text.old.items text.new.items) }
+    ensures { OnOk result
+        (Adds replica.now.program (set_of replica.now.records) variable_lines text.old.items text.new.items) }
 {
     for number in 0..variable_count(replica.program()) {
         append_answer(text, replica, Query::Var(number))?;

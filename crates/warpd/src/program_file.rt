@@ -48,7 +48,8 @@ fn built_in(alloc: Global) -> Result<Program, Outcome>
 /// The program that a reader's bytes spell: all of them, or where there are more than a program file may have, so
 /// many that it is seen.
 fn loaded<R: Read + Drop>(alloc: Global, reader: R) -> Result<Program, Outcome>
-    ensures ok { IfOk result (λ P. (bytes : List ℕ) × IsFrontOf (longest_file + 1) (R.remaining reader) bytes × IsLoaded bytes P) }
+    ensures ok { IfOk result
+        (λ P. (bytes : List ℕ) × IsFrontOf (longest_file + 1) (R.remaining reader) bytes × IsLoaded bytes P) }
     ensures err { IfErr result (λ outcome. (outcome ≡ Outcome.NoProgram) ⊎ (outcome ≡ Outcome.Memory)
         ⊎ ((bytes : List ℕ) × IsFrontOf (longest_file + 1) (R.remaining reader) bytes
         × ((error : LoadError) × IsRefused bytes error × (outcome ≡ refused_outcome error)))) }

@@ -1,7 +1,8 @@
 //! A session: lines come in as bytes, in any pieces, and their replies go out as bytes.
 //!
 //! It knows neither who answers them, a `Desk`, nor where bytes come from and go to, a `Source` and a `Sink`.
-ghost use Rattle.std.specs.Prelude.{◌≡◌, ℕ, ◌+◌, ◌<◌, ◌≤◌, List, [], ◌∷◌, ◌++◌, Option, IfOk, OnOk, IfSome, length, take, vec_len};
+ghost use Rattle.std.specs.Prelude.{◌≡◌, ℕ, ◌+◌, ◌<◌, ◌≤◌, List, [], ◌∷◌, ◌++◌, Option, IfOk, OnOk, IfSome, length};
+ghost use Rattle.std.specs.Prelude.{take, vec_len};
 ghost use Rattle.std.specs.Io.KnownBytes.{Appends};
 ghost use Rattle.warp_tag.specs.Limits.{most_reads};
 ghost use Rattle.warp_step.specs.Counter.{IsUnused};

@@ -1,7 +1,8 @@
 //! Bodies that go past a limit.
 ghost use Rattle.std.specs.Prelude.{◌≡◌, ◌≤◌, ◌-◌, length, nat_lt, SomeIff};
 ghost use Rattle.std.specs.List.{list_any};
-ghost use Rattle.warp_prog.specs.Limits.{term_depth, statement_depth, body_depth, statement_terms, body_terms, statement_delays, body_delays, is_too_deep, period_exceeds, body_exceeds};
+ghost use Rattle.warp_prog.specs.Limits.{term_depth, statement_depth, body_depth, statement_terms, body_terms};
+ghost use Rattle.warp_prog.specs.Limits.{statement_delays, body_delays, is_too_deep, period_exceeds, body_exceeds};
 ghost use Rattle.warp_prog.specs.View.{term_tree, statement_tree};
 ghost use Rattle.warp_prog.specs.inner.Rule.{statements_tree};
 

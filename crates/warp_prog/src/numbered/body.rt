@@ -106,7 +106,8 @@ pub(crate) fn numbered_body(
 ) -> Result<Vec<Stmt>, OutOfMemory>
     requires { HasRoom before.now (reactor_tree reactor.now) }
     ensures { let r = reactor_tree reactor.now in
-        IfOk result (λ ss. statements_of ss.items ≡ numbered_body before.now r (body_tree (map statement_tree body.now))) }
+        IfOk result
+        (λ ss. statements_of ss.items ≡ numbered_body before.now r (body_tree (map statement_tree body.now))) }
 {
     let mut numbered = Vec::with_capacity(alloc, body.len())?;
     for statement in body {

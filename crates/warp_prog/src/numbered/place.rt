@@ -1,7 +1,9 @@
 //! The numbers of names: what stands before a reactor, and the place of a name among those of its kind.
 ghost use Rattle.std.specs.Prelude.{◌≡◌, ◌≤◌, length, map, if◌then◌else◌};
 ghost use Rattle.warp_body.specs.declared.place.Target.TheVariants.{Startup, Timer, Action};
-ghost use Rattle.warp_prog.specs.Numbered.{nothing_before, past, place_among, variable_number, input_number, output_number, action_number, timer_number, readable, writable, source_number, target_number};
+ghost use Rattle.warp_prog.specs.Numbered.{nothing_before, past, place_among, variable_number, input_number};
+ghost use Rattle.warp_prog.specs.Numbered.{output_number, action_number, timer_number, readable, writable};
+ghost use Rattle.warp_prog.specs.Numbered.{source_number, target_number};
 ghost use Rattle.warp_prog.specs.inner.Room.{HasRoom, HaveRoom};
 ghost use Rattle.warp_prog.specs.Uses.{is_among, action_names, timer_names};
 ghost use Rattle.warp_prog.specs.View.{reactor_tree};

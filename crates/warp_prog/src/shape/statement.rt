@@ -2,7 +2,8 @@
 ghost use Rattle.std.specs.Prelude.{◌≡◌, Some, None, IfOk, Err, option_map, map};
 ghost use Rattle.serde_json.specs.Data.{array};
 ghost use Rattle.serde_json.specs.View.{view, items_view};
-ghost use Rattle.warp_prog.specs.Statements.{assignment, assignment_of, scheduling_of, choice_of, statement_of, body_of, statements_of};
+ghost use Rattle.warp_prog.specs.Statements.{assignment, assignment_of, scheduling_of, choice_of, statement_of};
+ghost use Rattle.warp_prog.specs.Statements.{body_of, statements_of};
 ghost use Rattle.warp_prog.specs.View.{term_tree, statement_tree, body_tree};
 
 use crate::file::{Expression, Statement};
