@@ -36,27 +36,34 @@ fn told(table: &Table, program: &Program) -> (Tag, bool, bool) {
     (table.horizon(program), table.broken(0), table.broken(1))
 }
 
+/// A record's origin, its tag and what it says; the horizon after it, and whether origin 0 broke an announcement.
+type Row = (u32, (u64, u32), Says, (u64, u32), bool);
+
+/// Adds these records, one after another.
+fn add_rows(rt: &impl Abort, table: &mut Table, program: &Program, rows: &[Row]) {
+    for &(origin, tag, says, horizon, broken) in rows {
+        add(rt, table, origin, tag, says);
+        assert_eq!(rt; told(table, program), (at(rt, horizon), broken, false));
+    }
+}
+
 #[test]
 fn worked_rows(rt: HostRuntime) -> Result<(), Fail> {
     let program = Program::twice(rt.alloc())?;
-    let rows = [
-        (true, 0, (10, 0), Says::Announcement(1, 0), (0, 0), false),
-        (false, 1, (10, 0), Says::Announcement(0, 0), (0, 0), false),
-        (false, 0, (5, 0), Says::Event(0, 3), (10, 0), false),
-        (false, 0, (6, 0), Says::Event(0, 1), (10, 0), true),
-        (true, 0, (5, 0), Says::Event(0, 3), (0, 0), false),
-        (false, 0, (10, 0), Says::Announcement(1, 1), (0, 0), false),
-        (false, 1, (10, 0), Says::Announcement(0, 0), (0, 0), false),
-        (false, 0, (5, 0), Says::Withdrawal, (10, 0), false),
+    let honest_and_broken = [
+        (0, (10, 0), Says::Announcement(1, 0), (0, 0), false),
+        (1, (10, 0), Says::Announcement(0, 0), (0, 0), false),
+        (0, (5, 0), Says::Event(0, 3), (10, 0), false),
+        (0, (6, 0), Says::Event(0, 1), (10, 0), true),
     ];
-    let mut table = Table::new(rt.alloc());
-    for (starts, origin, tag, says, horizon, broken) in rows {
-        if starts {
-            table = Table::new(rt.alloc());
-        }
-        add(&rt, &mut table, origin, tag, says);
-        let horizon = at(&rt, horizon);
-        assert_eq!(rt; told(&table, &program), (horizon, broken, false));
+    let withdrawn = [
+        (0, (5, 0), Says::Event(0, 3), (0, 0), false),
+        (0, (10, 0), Says::Announcement(1, 1), (0, 0), false),
+        (1, (10, 0), Says::Announcement(0, 0), (0, 0), false),
+        (0, (5, 0), Says::Withdrawal, (10, 0), false),
+    ];
+    for rows in [honest_and_broken, withdrawn] {
+        add_rows(&rt, &mut Table::new(rt.alloc()), &program, &rows);
     }
     Ok(())
 }

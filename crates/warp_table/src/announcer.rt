@@ -274,57 +274,82 @@ impl Announcer {
 #[cfg(test)]
 mod tests {
     use super::Announcer;
-    use std::test::Fail;
+    use std::process::Abort;
     use warp_tag::Tag;
 
+    /// An event of a name that has none yet.
+    fn event(rt: &impl Abort, origin: &mut Announcer, tag: Tag)
+        requires { ¬ Contains origin.old.events tag }
+        ensures { origin.new ≡ record origin.old { events = with_tag tag origin.old.events } }
+    {
+        origin.note_event(tag).expect(rt, "memory");
+    }
+
+    /// A withdrawal of a name that has none yet.
+    fn withdrawal(rt: &impl Abort, origin: &mut Announcer, tag: Tag)
+        requires { ¬ Contains origin.old.withdrawn tag }
+        ensures { origin.new ≡ record origin.old { withdrawn = with_tag tag origin.old.withdrawn } }
+    {
+        origin.note_withdrawal(tag).expect(rt, "memory");
+    }
+
+    /// An announcement of so many events and withdrawals.
+    fn announcement(rt: &impl Abort, origin: &mut Announcer, tag: Tag, events: u32, withdrawn: u32)
+        ensures { origin.new ≡ record origin.old { announced = origin.new.announced } }
+    {
+        origin
+            .note_announcement(tag, events, withdrawn)
+            .expect(rt, "memory");
+    }
+
     /// Up to which time announcements are reached, and whether one is exceeded.
-    fn told(origin: &Announcer) -> (u64, bool) {
-        (origin.reached().time(), origin.is_broken())
+    fn is_told(rt: &impl Abort, origin: &Announcer, reached: u64, is_broken: bool) {
+        assert_eq!(rt;
+            (origin.reached().time(), origin.is_broken()),
+            (reached, is_broken)
+        );
     }
 
     #[test]
-    fn late_event(rt: HostRuntime) -> Result<(), Fail> {
+    fn late_event(rt: HostRuntime) {
         let mut origin = Announcer::new(rt.alloc());
-        assert_eq!(rt; told(&origin), (0, false));
-        origin.note_announcement(Tag::beginning_of(6), 1, 0)?;
-        assert_eq!(rt; told(&origin), (0, false));
-        origin.note_event(Tag::beginning_of(7))?;
-        assert_eq!(rt; told(&origin), (0, false));
-        origin.note_announcement(Tag::beginning_of(10), 1, 0)?;
-        assert_eq!(rt; told(&origin), (10, false));
-        origin.note_event(Tag::beginning_of(5))?;
-        assert_eq!(rt; told(&origin), (10, true));
-        Ok(())
+        is_told(&rt, &origin, 0, false);
+        announcement(&rt, &mut origin, Tag::beginning_of(6), 1, 0);
+        is_told(&rt, &origin, 0, false);
+        event(&rt, &mut origin, Tag::beginning_of(7));
+        is_told(&rt, &origin, 0, false);
+        announcement(&rt, &mut origin, Tag::beginning_of(10), 1, 0);
+        is_told(&rt, &origin, 10, false);
+        event(&rt, &mut origin, Tag::beginning_of(5));
+        is_told(&rt, &origin, 10, true);
     }
 
     #[test]
-    fn late_announcement(rt: HostRuntime) -> Result<(), Fail> {
+    fn late_announcement(rt: HostRuntime) {
         let mut origin = Announcer::new(rt.alloc());
-        origin.note_event(Tag::beginning_of(5))?;
-        origin.note_announcement(Tag::beginning_of(10), 1, 1)?;
-        assert_eq!(rt; told(&origin), (0, false));
-        origin.note_announcement(Tag::beginning_of(6), 1, 0)?;
-        assert_eq!(rt; told(&origin), (6, false));
-        origin.note_withdrawal(Tag::beginning_of(10))?;
-        assert_eq!(rt; told(&origin), (6, false));
-        origin.note_withdrawal(Tag::beginning_of(6))?;
-        assert_eq!(rt; told(&origin), (10, false));
-        origin.note_announcement(Tag::beginning_of(7), 1, 0)?;
-        assert_eq!(rt; told(&origin), (10, true));
-        Ok(())
+        event(&rt, &mut origin, Tag::beginning_of(5));
+        announcement(&rt, &mut origin, Tag::beginning_of(10), 1, 1);
+        is_told(&rt, &origin, 0, false);
+        announcement(&rt, &mut origin, Tag::beginning_of(6), 1, 0);
+        is_told(&rt, &origin, 6, false);
+        withdrawal(&rt, &mut origin, Tag::beginning_of(10));
+        is_told(&rt, &origin, 6, false);
+        withdrawal(&rt, &mut origin, Tag::beginning_of(6));
+        is_told(&rt, &origin, 10, false);
+        announcement(&rt, &mut origin, Tag::beginning_of(7), 1, 0);
+        is_told(&rt, &origin, 10, true);
     }
 
     #[test]
-    fn two_payloads(rt: HostRuntime) -> Result<(), Fail> {
+    fn two_payloads(rt: HostRuntime) {
         let mut origin = Announcer::new(rt.alloc());
-        origin.note_event(Tag::beginning_of(5))?;
-        origin.note_announcement(Tag::beginning_of(5), 0, 0)?;
+        event(&rt, &mut origin, Tag::beginning_of(5));
+        announcement(&rt, &mut origin, Tag::beginning_of(5), 0, 0);
         origin.note_two_payloads(Tag::beginning_of(7));
-        assert_eq!(rt; told(&origin), (5, false));
+        is_told(&rt, &origin, 5, false);
         origin.note_two_payloads(Tag::beginning_of(5));
-        assert_eq!(rt; told(&origin), (5, false));
-        origin.note_announcement(Tag::beginning_of(6), 1, 0)?;
-        assert_eq!(rt; told(&origin), (6, true));
-        Ok(())
+        is_told(&rt, &origin, 5, false);
+        announcement(&rt, &mut origin, Tag::beginning_of(6), 1, 0);
+        is_told(&rt, &origin, 6, true);
     }
 }

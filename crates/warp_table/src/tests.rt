@@ -1,5 +1,5 @@
 //! Each call with ample memory, and each answer of `check`.
-ghost use Rattle.std.specs.Prelude.{◌≡◌};
+ghost use Rattle.std.specs.Prelude.{◌≡◌, ◌<◌};
 ghost use Rattle.warp_table.specs.Names.{origin_of};
 
 use crate::Table;
@@ -84,9 +84,23 @@ fn reasons(rt: HostRuntime) -> Result<(), Fail> {
     Ok(())
 }
 
-/// Withdrawals come before their event, after it and for none; of two payloads the greater one counts.
-#[test]
-fn places_and_names(rt: HostRuntime) -> Result<(), Fail> {
+/// Adds a record that comes to this place, and adds it again, which changes nothing.
+fn add_twice(rt: &impl Abort, table: &mut Table, record: &Record, place: u32)
+    requires { origin_of record.now < 32 }
+{
+    assert_eq!(rt; table.position(record), None);
+    assert!(rt; !table.is_full());
+    let added = table.add(record).expect(rt, "memory");
+    assert_eq!(rt; (added.place, added.is_new), (place, true));
+    assert!(rt; !table.is_full());
+    let again = table.add(record).expect(rt, "memory");
+    assert_eq!(rt; (again.place, again.is_new), (place, false));
+    assert_eq!(rt; table.position(record), Some(place));
+    assert_eq!(rt; table.entry(place), Some(*record));
+}
+
+/// Nine records, each added twice.
+fn nine_records(rt: &impl Abort, table: &mut Table) {
     let rows = [
         (1, 1, (7, 0), Says::Event(1, 4)),
         (2, 0, (5, 0), Says::Withdrawal),
@@ -98,22 +112,14 @@ fn places_and_names(rt: HostRuntime) -> Result<(), Fail> {
         (8, 1, (7, 0), Says::Withdrawal),
         (9, 1, (2, 1), Says::Withdrawal),
     ];
-    let mut table = Table::new(rt.alloc());
     for (place, origin, tag, says) in rows {
-        let record = record(&rt, origin, tag, says);
         assert!(rt; origin < 32);
-        assert_eq!(rt; table.position(&record), None);
-        assert!(rt; !table.is_full());
-        let added = table.add(&record)?;
-        assert_eq!(rt; (added.place, added.is_new), (place, true));
-        assert!(rt; !table.is_full());
-        let again = table.add(&record)?;
-        assert_eq!(rt; (again.place, again.is_new), (place, false));
-        assert_eq!(rt; table.position(&record), Some(place));
-        assert_eq!(rt; table.entry(place), Some(record));
+        add_twice(rt, table, &record(rt, origin, tag, says), place);
     }
-    assert_eq!(rt; table.len(), 9);
-    assert_eq!(rt; (table.entry(0), table.entry(10)), (None, None));
+}
+
+/// The names of these records, in the order in which they came.
+fn are_named(rt: &impl Abort, table: &Table) {
     let names = [
         (0, 1, (7, 0), Some((1, 4)), true),
         (1, 0, (5, 0), Some((0, 3)), true),
@@ -121,7 +127,7 @@ fn places_and_names(rt: HostRuntime) -> Result<(), Fail> {
         (3, 1, (2, 1), None, true),
     ];
     for (number, origin, tag, event, withdrawn) in names {
-        let tag = at(&rt, tag);
+        let tag = at(rt, tag);
         let entry = Entry {
             origin,
             tag,
@@ -131,7 +137,16 @@ fn places_and_names(rt: HostRuntime) -> Result<(), Fail> {
         assert_eq!(rt; table.name_at(number), Some(entry));
     }
     assert_eq!(rt; table.name_at(4), None);
-    Ok(())
+}
+
+/// Withdrawals come before their event, after it and for none; of two payloads the greater one counts.
+#[test]
+fn places_and_names(rt: HostRuntime) {
+    let mut table = Table::new(rt.alloc());
+    nine_records(&rt, &mut table);
+    assert_eq!(rt; table.len(), 9);
+    assert_eq!(rt; (table.entry(0), table.entry(10)), (None, None));
+    are_named(&rt, &table);
 }
 
 /// One of three events of a name, its withdrawal and an announcement of its origin.
@@ -167,9 +182,30 @@ fn add_again(rt: &impl Abort, table: &mut Table, number: u32, place: u32) {
     assert_eq!(rt; table.entry(place), Some(record));
 }
 
-/// In each order of three payloads each record is known at its place afterwards, and the greatest payload counts.
+/// In this order each record is known at its place afterwards, and the greatest payload counts.
+fn payloads_in_order(rt: &impl Abort, table: &mut Table, order: [u32; 5]) {
+    let mut place = 0_u32;
+    for number in order {
+        place = place.saturating_add(1);
+        add_new(rt, table, number, place);
+    }
+    place = 0;
+    for number in order {
+        place = place.saturating_add(1);
+        add_again(rt, table, number, place);
+    }
+    let name = Entry {
+        origin: 0,
+        tag: at(rt, (5, 0)),
+        event: Some((1, -2)),
+        withdrawn: true,
+    };
+    assert_eq!(rt; table.name_at(0), Some(name));
+    assert_eq!(rt; (table.name_at(1), table.len()), (None, 5));
+}
+
 #[test]
-fn payloads_in_each_order(rt: HostRuntime) -> Result<(), Fail> {
+fn payloads_in_each_order(rt: HostRuntime) {
     let orders = [
         [0, 1, 2, 3, 4],
         [0, 2, 1, 4, 3],
@@ -178,27 +214,7 @@ fn payloads_in_each_order(rt: HostRuntime) -> Result<(), Fail> {
         [4, 2, 0, 3, 1],
         [3, 2, 1, 0, 4],
     ];
-    let tag = at(&rt, (5, 0));
     for order in orders {
-        let mut table = Table::new(rt.alloc());
-        let mut place = 0_u32;
-        for number in order {
-            place = place.saturating_add(1);
-            add_new(&rt, &mut table, number, place);
-        }
-        place = 0;
-        for number in order {
-            place = place.saturating_add(1);
-            add_again(&rt, &mut table, number, place);
-        }
-        let name = Entry {
-            origin: 0,
-            tag,
-            event: Some((1, -2)),
-            withdrawn: true,
-        };
-        assert_eq!(rt; table.name_at(0), Some(name));
-        assert_eq!(rt; (table.name_at(1), table.len()), (None, 5));
+        payloads_in_order(&rt, &mut Table::new(rt.alloc()), order);
     }
-    Ok(())
 }
