@@ -2,6 +2,7 @@
 use crate::error::LoadError;
 use crate::loading::load;
 use std::alloc::Global;
+use std::process::Abort;
 use std::test::Fail;
 use warp_body::Target;
 use warp_step::{Link, Port, Program, ProgramInput, Timer, Variable};
@@ -57,9 +58,8 @@ fn twice_is_the_built_in_program(rt: HostRuntime) -> Result<(), Fail> {
     Ok(())
 }
 
-#[test]
-fn numbers_go_over_all_reactors(rt: HostRuntime) -> Result<(), Fail> {
-    let pulse = loaded(rt.alloc(), PULSE)?;
+/// The variables, timers, links and outputs of two reactors.
+fn parts_go_over_both(rt: &impl Abort, pulse: &Program) {
     let variables = [
         Variable {
             reactor: 0,
@@ -85,6 +85,10 @@ fn numbers_go_over_all_reactors(rt: HostRuntime) -> Result<(), Fail> {
     assert!(rt; pulse.timers() == timers.as_slice());
     assert!(rt; pulse.links() == links.as_slice());
     assert!(rt; pulse.outputs() == [0, 2].as_slice());
+}
+
+/// The reactions of two reactors.
+fn reactions_go_over_both(rt: &impl Abort, pulse: &Program) -> Result<(), Fail> {
     let [first, second, third] = pulse.reactions() else {
         return Err("not three reactions")?;
     };
@@ -93,6 +97,14 @@ fn numbers_go_over_all_reactors(rt: HostRuntime) -> Result<(), Fail> {
     assert!(rt; second.triggers.as_slice() == [Target::Timer(0)].as_slice());
     assert!(rt; third.triggers.as_slice() == [Target::Port(1)].as_slice());
     assert!(rt; third.writes.as_slice() == [Target::Port(2)].as_slice());
+    Ok(())
+}
+
+#[test]
+fn numbers_go_over_all_reactors(rt: HostRuntime) -> Result<(), Fail> {
+    let pulse = loaded(rt.alloc(), PULSE)?;
+    parts_go_over_both(&rt, &pulse);
+    reactions_go_over_both(&rt, &pulse)?;
     Ok(())
 }
 
@@ -170,11 +182,13 @@ fn files_are_refused_for_their_first_fault(rt: HostRuntime) {
             5,
         ),
         (
-            r#"{"version":1,"stop":1,"origins":1,"reactors":[{"name":"r","inputs":["a"],"outputs":["y"]}],"links":[["r.y","r.a"]]}"#,
+            r#"{"version":1,"stop":1,"origins":1,"reactors":[{"name":"r","inputs":["a"],"outputs":["y"]}],
+"links":[["r.y","r.a"]]}"#,
             6,
         ),
         (
-            r#"{"version":1,"stop":1,"origins":1,"reactors":[{"name":"r","outputs":["y"],"reactions":[{"on":["startup"],"body":[["put","y",1]]}]}]}"#,
+            r#"{"version":1,"stop":1,"origins":1,"reactors":[{"name":"r","outputs":["y"],"reactions":[
+{"on":["startup"],"body":[["put","y",1]]}]}]}"#,
             7,
         ),
         (

@@ -114,10 +114,8 @@ fn honest(rt: &impl Abort, alloc: Global, order: &[usize]) -> Replica<Plain> {
     replica
 }
 
-/// What a replica of these records releases: the first of its outputs, up to this horizon. No origin broke an
-/// announcement.
-fn released(rt: &impl Abort, alloc: Global, order: &[usize], time: u64) -> Vec<Out> {
-    let mut replica = honest(rt, alloc, order);
+/// No origin broke an announcement, and this is the horizon's time.
+fn is_honest_to(rt: &impl Abort, replica: &mut Replica<Plain>, alloc: Global, time: u64) {
     let log = replica.len();
     let tag = at(rt, time);
     let rows = [
@@ -126,8 +124,14 @@ fn released(rt: &impl Abort, alloc: Global, order: &[usize], time: u64) -> Vec<O
         (Query::Horizon, Reply::Horizon { log, tag }),
     ];
     for (query, reply) in rows {
-        assert_eq!(rt; answer(rt, &mut replica, alloc, query), reply, "{order:?}");
+        assert_eq!(rt; answer(rt, replica, alloc, query), reply, "{query:?}");
     }
+}
+
+/// What a replica of these records releases: the first of its outputs, up to this horizon.
+fn released(rt: &impl Abort, alloc: Global, order: &[usize], time: u64) -> Vec<Out> {
+    let mut replica = honest(rt, alloc, order);
+    is_honest_to(rt, &mut replica, alloc, time);
     assert!(rt; replica.is_settled());
     let released = replica.released();
     assert!(rt; replica.timeline().outputs().starts_with(released));
@@ -209,11 +213,16 @@ fn pull_all<T: Timeline, U: Timeline>(rt: &impl Abort, other: &mut Local<T>, des
     assert_eq!(rt; desk.ask(Line::Ask(Query::Var(0))), both);
 }
 
+/// A desk of a replica that took these records.
+fn desk_of(rt: &impl Abort, alloc: Global, records: &[Record]) -> Local<Plain> {
+    Local::new(alloc, replica_of(rt, alloc, records))
+}
+
 #[test]
 fn pulling(rt: HostRuntime) {
     let alloc = rt.alloc();
     let records = [event(&rt, 0, 5, 0, 3), event(&rt, 1, 2, 1, 4)];
-    let mut other = Local::new(alloc, replica_of(&rt, alloc, &records));
-    let mut desk = Local::new(alloc, replica(&rt, alloc));
+    let mut other = desk_of(&rt, alloc, &records);
+    let mut desk = desk_of(&rt, alloc, &[]);
     pull_all(&rt, &mut other, &mut desk);
 }

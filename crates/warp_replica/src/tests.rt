@@ -219,24 +219,31 @@ fn merging(rt: HostRuntime) {
     merge_both(&rt, alloc, &mut a, &mut b);
 }
 
+/// Takes so many events of one name that the log has room for one record more.
+fn fill(rt: &impl Abort, alloc: Global, replica: &mut Replica<Plain>) {
+    for value in 0..99_999 {
+        assert!(rt; replica.take(alloc, &event(rt, 0, 5, 0, value)).is_ok());
+    }
+}
+
+/// Merges a replica that took these records, of which the second has no room.
+fn merge_too_much(rt: &impl Abort, alloc: Global, full: &mut Replica<Plain>, news: &[Record]) {
+    let other = replica_of(rt, alloc, news);
+    assert_eq!(rt; merge(rt, alloc, full, &other), Err((1, Refusal::LogFull)));
+    assert_eq!(rt; full.len(), 100_000);
+}
+
 #[test]
 fn full_log(rt: HostRuntime) {
     let alloc = rt.alloc();
     let mut full = replica(&rt, alloc);
-    for value in 0..99_999 {
-        assert!(rt; full.take(alloc, &event(&rt, 0, 5, 0, value)).is_ok());
-    }
+    fill(&rt, alloc, &mut full);
     let news = [
         withdraw(&rt, 0, 1),
         withdraw(&rt, 0, 2),
         withdraw(&rt, 0, 3),
     ];
-    let other = replica_of(&rt, alloc, &news);
-    assert_eq!(rt;
-        merge(&rt, alloc, &mut full, &other),
-        Err((1, Refusal::LogFull))
-    );
-    assert_eq!(rt; full.len(), 100_000);
+    merge_too_much(&rt, alloc, &mut full, &news);
     assert_eq!(rt; full.take(alloc, &news[0]), Ok(Took::Known(100_000)));
     assert_eq!(rt; full.take(alloc, &news[1]), Err(Refusal::LogFull));
 }

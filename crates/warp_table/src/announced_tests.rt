@@ -47,22 +47,26 @@ fn add_rows(rt: &impl Abort, table: &mut Table, program: &Program, rows: &[Row])
     }
 }
 
+/// An event that is announced, and one that is not.
+const BROKEN: [Row; 4] = [
+    (0, (10, 0), Says::Announcement(1, 0), (0, 0), false),
+    (1, (10, 0), Says::Announcement(0, 0), (0, 0), false),
+    (0, (5, 0), Says::Event(0, 3), (10, 0), false),
+    (0, (6, 0), Says::Event(0, 1), (10, 0), true),
+];
+
+/// An event and its withdrawal, which are announced.
+const HONEST: [Row; 4] = [
+    (0, (5, 0), Says::Event(0, 3), (0, 0), false),
+    (0, (10, 0), Says::Announcement(1, 1), (0, 0), false),
+    (1, (10, 0), Says::Announcement(0, 0), (0, 0), false),
+    (0, (5, 0), Says::Withdrawal, (10, 0), false),
+];
+
 #[test]
 fn worked_rows(rt: HostRuntime) -> Result<(), Fail> {
     let program = Program::twice(rt.alloc())?;
-    let honest_and_broken = [
-        (0, (10, 0), Says::Announcement(1, 0), (0, 0), false),
-        (1, (10, 0), Says::Announcement(0, 0), (0, 0), false),
-        (0, (5, 0), Says::Event(0, 3), (10, 0), false),
-        (0, (6, 0), Says::Event(0, 1), (10, 0), true),
-    ];
-    let withdrawn = [
-        (0, (5, 0), Says::Event(0, 3), (0, 0), false),
-        (0, (10, 0), Says::Announcement(1, 1), (0, 0), false),
-        (1, (10, 0), Says::Announcement(0, 0), (0, 0), false),
-        (0, (5, 0), Says::Withdrawal, (10, 0), false),
-    ];
-    for rows in [honest_and_broken, withdrawn] {
+    for rows in [BROKEN, HONEST] {
         add_rows(&rt, &mut Table::new(rt.alloc()), &program, &rows);
     }
     Ok(())

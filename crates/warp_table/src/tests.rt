@@ -48,36 +48,38 @@ pub(crate) fn record(rt: &impl Abort, origin: u32, tag: (u64, u32), says: Says) 
     }
 }
 
+/// Records, and whether the program allows them.
+const ALLOWED: [(u32, (u64, u32), Says, Result<(), Refusal>); 14] = [
+    (0, (5, 0), Says::Event(0, 3), Ok(())),
+    (0, (100, 0), Says::Event(0, 1), Ok(())),
+    (1, (100, 0), Says::Event(1, 3), Ok(())),
+    (2, (101, 0), Says::Event(2, 3), Err(Refusal::NoOrigin)),
+    (1, (101, 0), Says::Event(2, 3), Err(Refusal::PastStop)),
+    (1, (100, 0), Says::Event(2, 3), Err(Refusal::NoInput)),
+    (1, (100, 0), Says::Event(0, 3), Err(Refusal::NotYours)),
+    (0, (101, 0), Says::Event(0, 1), Err(Refusal::PastStop)),
+    (0, (100, 15), Says::Withdrawal, Ok(())),
+    (0, (101, 0), Says::Withdrawal, Err(Refusal::PastStop)),
+    (2, (101, 0), Says::Withdrawal, Err(Refusal::NoOrigin)),
+    (0, (101, 0), Says::Announcement(1, 0), Ok(())),
+    (
+        0,
+        (101, 1),
+        Says::Announcement(1, 0),
+        Err(Refusal::PastStop),
+    ),
+    (
+        2,
+        (101, 1),
+        Says::Announcement(1, 0),
+        Err(Refusal::NoOrigin),
+    ),
+];
+
 #[test]
 fn reasons(rt: HostRuntime) -> Result<(), Fail> {
     let program = Program::twice(rt.alloc())?;
-    let rows = [
-        (0, (5, 0), Says::Event(0, 3), Ok(())),
-        (0, (100, 0), Says::Event(0, 1), Ok(())),
-        (1, (100, 0), Says::Event(1, 3), Ok(())),
-        (2, (101, 0), Says::Event(2, 3), Err(Refusal::NoOrigin)),
-        (1, (101, 0), Says::Event(2, 3), Err(Refusal::PastStop)),
-        (1, (100, 0), Says::Event(2, 3), Err(Refusal::NoInput)),
-        (1, (100, 0), Says::Event(0, 3), Err(Refusal::NotYours)),
-        (0, (101, 0), Says::Event(0, 1), Err(Refusal::PastStop)),
-        (0, (100, 15), Says::Withdrawal, Ok(())),
-        (0, (101, 0), Says::Withdrawal, Err(Refusal::PastStop)),
-        (2, (101, 0), Says::Withdrawal, Err(Refusal::NoOrigin)),
-        (0, (101, 0), Says::Announcement(1, 0), Ok(())),
-        (
-            0,
-            (101, 1),
-            Says::Announcement(1, 0),
-            Err(Refusal::PastStop),
-        ),
-        (
-            2,
-            (101, 1),
-            Says::Announcement(1, 0),
-            Err(Refusal::NoOrigin),
-        ),
-    ];
-    for (origin, tag, says, answer) in rows {
+    for (origin, tag, says, answer) in ALLOWED {
         let record = record(&rt, origin, tag, says);
         assert_eq!(rt; Table::check(&program, &record), answer);
     }

@@ -166,22 +166,42 @@ fn reply_as_expected<T: Timeline, U: Timeline>(
     }
 }
 
+/// The two take the same records in other orders, and meet.
+fn go_two_ways(rt: &impl Abort, alloc: Global, one: &mut Replica<Plain>, other: &mut Replica<Plain>)
+    requires { one.old.program ≡ other.old.program }
+{
+    take(rt, alloc, one, &[0, 1, 2, 1]);
+    settle(rt, alloc, one);
+    take(rt, alloc, one, &[3, 4, 0, 5]);
+    take(rt, alloc, other, &[5, 2, 5, 4]);
+    settle(rt, alloc, other);
+    assert_eq!(rt; other.collect(), Reply::Collected { log: 3 });
+    take(rt, alloc, other, &[3, 2, 1]);
+    meet(rt, alloc, one, other);
+    reply_as_expected(rt, one, other);
+    // They took the records in other orders.
+    assert_ne!(rt; one.entry(1), other.entry(1));
+}
+
 #[test]
 fn replies_alike(rt: HostRuntime) {
     let alloc = rt.alloc();
     let mut one = replica(&rt, alloc);
     let mut other = replica(&rt, alloc);
-    take(&rt, alloc, &mut one, &[0, 1, 2, 1]);
-    settle(&rt, alloc, &mut one);
-    take(&rt, alloc, &mut one, &[3, 4, 0, 5]);
-    take(&rt, alloc, &mut other, &[5, 2, 5, 4]);
-    settle(&rt, alloc, &mut other);
-    assert_eq!(rt; other.collect(), Reply::Collected { log: 3 });
-    take(&rt, alloc, &mut other, &[3, 2, 1]);
-    meet(&rt, alloc, &mut one, &mut other);
-    reply_as_expected(&rt, &one, &other);
-    // They took the records in other orders.
-    assert_ne!(rt; one.entry(1), other.entry(1));
+    go_two_ways(&rt, alloc, &mut one, &mut other);
+}
+
+/// The one takes all records, the other some of them, and each releases its first outputs.
+fn release(rt: &impl Abort, alloc: Global, one: &mut Replica<Plain>, other: &mut Replica<Plain>)
+    requires { one.old.program ≡ other.old.program }
+{
+    take(rt, alloc, one, &[0, 1, 2, 3, 4, 5]);
+    take(rt, alloc, other, &[0, 3, 4]);
+    settle(rt, alloc, one);
+    settle(rt, alloc, other);
+    let (all, some) = releases(one, other);
+    assert!(rt; all == [first_output(rt)].as_slice());
+    assert!(rt; some.is_empty());
 }
 
 #[test]
@@ -189,11 +209,5 @@ fn released_lists(rt: HostRuntime) {
     let alloc = rt.alloc();
     let mut one = replica(&rt, alloc);
     let mut other = replica(&rt, alloc);
-    take(&rt, alloc, &mut one, &[0, 1, 2, 3, 4, 5]);
-    take(&rt, alloc, &mut other, &[0, 3, 4]);
-    settle(&rt, alloc, &mut one);
-    settle(&rt, alloc, &mut other);
-    let (all, some) = releases(&one, &other);
-    assert!(rt; all == [first_output(&rt)].as_slice());
-    assert!(rt; some.is_empty());
+    release(&rt, alloc, &mut one, &mut other);
 }

@@ -183,63 +183,35 @@ mod tests {
         }
     }
 
+    /// Lines that are no move: each stands between two linefeeds.
+    const NO_MOVES: &str =
+        "\nreplicas 1\ncollect\ncollect 00\ncollect 16\ncollect  0\ncollect 0 \n collect 0\n\
+        collect 0\r\ncollect -0\ncollect 0 0\nCollect 0\nsettle 16\nsettle\nrestart 16\n\
+        restart 0 0\ncarry 0 1\ncarry 0 1 0 0\ncarry 16 1 0\ncarry 0 100001 0\ncarry 0 1 16\n\
+        carry 0 01 0\nvar 0\noutputs\nhorizon\nlog 1\nboard\nevent 0 5 0 0 3\nmake\nmake 0\n\
+        make 0 collect\nmake 0 var 0\nmake 16 event 0 5 0 0 3\nmake 00 event 0 5 0 0 3\n\
+        make  0 event 0 5 0 0 3\nmake 0 event 32 5 0 0 3\nmake 0 event 0 1000002 0 0 3\n\
+        make 0 event 0 5 16 0 3\nmake 0 event 0 5 0 64 3\n\
+        make 0 event 0 5 0 0 9223372036854775808\nmake 0 event 0 5 0 0 -0\n\
+        make 0 event 0 5 0 0\nmake 0 event 0 5 0 0 3 4\nmake 0 event 0 5 0 0 3 4 5 6\n\
+        make 0 withdraw 32 0 0\nmake 0 announce 0 5 0 100001 0";
+
+    /// A schedule whose third line is this one is refused there.
+    fn is_refused(rt: &impl Abort, alloc: Global, line: &str) {
+        let text = format!(in alloc; "replicas 1\nsettle 0\n{line}\nsettle 0\n").expect(
+            rt, "memory",
+        );
+        assert_eq!(rt; refusal(alloc, text.as_bytes()), Some(3));
+    }
+
     #[test]
-    fn refused_moves(rt: HostRuntime) -> Result<(), Fail> {
-        let rows: [&[u8]; 46] = [
-            b"",
-            b"replicas 1",
-            b"collect",
-            b"collect 00",
-            b"collect 16",
-            b"collect  0",
-            b"collect 0 ",
-            b" collect 0",
-            b"collect 0\r",
-            b"collect -0",
-            b"collect 0 0",
-            b"Collect 0",
-            b"settle 16",
-            b"settle",
-            b"restart 16",
-            b"restart 0 0",
-            b"carry 0 1",
-            b"carry 0 1 0 0",
-            b"carry 16 1 0",
-            b"carry 0 100001 0",
-            b"carry 0 1 16",
-            b"carry 0 01 0",
-            b"var 0",
-            b"outputs",
-            b"horizon",
-            b"log 1",
-            b"board",
-            b"event 0 5 0 0 3",
-            b"make",
-            b"make 0",
-            b"make 0 collect",
-            b"make 0 var 0",
-            b"make 16 event 0 5 0 0 3",
-            b"make 00 event 0 5 0 0 3",
-            b"make  0 event 0 5 0 0 3",
-            b"make 0 event 32 5 0 0 3",
-            b"make 0 event 0 1000002 0 0 3",
-            b"make 0 event 0 5 16 0 3",
-            b"make 0 event 0 5 0 64 3",
-            b"make 0 event 0 5 0 0 9223372036854775808",
-            b"make 0 event 0 5 0 0 -0",
-            b"make 0 event 0 5 0 0",
-            b"make 0 event 0 5 0 0 3 4",
-            b"make 0 event 0 5 0 0 3 4 5 6",
-            b"make 0 withdraw 32 0 0",
-            b"make 0 announce 0 5 0 100001 0",
-        ];
-        for line in rows {
-            let mut text = Vec::from_slice(rt.alloc(), b"replicas 1\nsettle 0\n")?;
-            text.extend_from_slice(line)?;
-            text.extend_from_slice(b"\nsettle 0\n")?;
-            assert_eq!(rt; refusal(rt.alloc(), &text), Some(3));
+    fn refused_moves(rt: HostRuntime) {
+        let mut count = 0_u32;
+        for line in NO_MOVES.split('\n') {
+            is_refused(&rt, rt.alloc(), line);
+            count = count.wrapping_add(1);
         }
-        Ok(())
+        assert_eq!(rt; count, 46);
     }
 
     #[test]
