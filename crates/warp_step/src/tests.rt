@@ -347,23 +347,39 @@ fn go_and_return(rt: &impl Abort, alloc: Global, program: &Program, state: &mut 
     state.restore(&values[1..], &entries[1..], lost);
 }
 
-/// A state with pending entries that is kept in lists behind others, and restored after further steps, is the state
-/// that it was.
-#[test]
-fn a_kept_state_is_restored(rt: HostRuntime) -> Result<(), Fail> {
-    let program = pulse(&rt, rt.alloc());
-    let mut state = play(&rt, rt.alloc(), &program, &PULSE[..3]);
-    let copy = state.copy(rt.alloc())?;
-    go_and_return(&rt, rt.alloc(), &program, &mut state, &PULSE[3..]);
+/// Compares two states.
+fn are_equal(rt: &impl Abort, state: &State, copy: &State) {
     assert_eq!(rt; state.vars(), copy.vars());
     assert_eq!(rt; state.pending(), copy.pending());
     assert_eq!(rt; state.lost(), copy.lost());
-    assert_eq!(rt; copy.pending().len(), 3);
-    assert!(rt; state.is_same_as(copy.vars(), copy.pending(), copy.lost()));
-    assert!(rt; !state.is_same_as(&[], copy.pending(), copy.lost()));
-    assert!(rt; !state.is_same_as(copy.vars(), &copy.pending()[1..], copy.lost()));
-    assert!(rt; !state.is_same_as(copy.vars(), copy.pending(), 1));
-    Ok(())
+}
+
+/// Compares a state with its parts, and with others.
+fn compare_parts(rt: &impl Abort, state: &State, vars: &[i64], pending: &[Waiting], lost: u64) {
+    assert_eq!(rt; pending.len(), 3);
+    assert!(rt; state.is_same_as(vars, pending, lost));
+    assert!(rt; !state.is_same_as(&[], pending, lost));
+    assert!(rt; !state.is_same_as(vars, &pending[1..], lost));
+    assert!(rt; !state.is_same_as(vars, pending, 1));
+}
+
+/// Restores a state after further steps, and compares it with a copy of what it was.
+fn restores(rt: &impl Abort, alloc: Global, program: &Program, state: &mut State, rows: &[Row])
+    requires { IsStateOf program.now state.old }
+{
+    let copy = state.copy(alloc).expect(rt, "memory");
+    go_and_return(rt, alloc, program, state, rows);
+    are_equal(rt, state, &copy);
+    compare_parts(rt, state, copy.vars(), copy.pending(), copy.lost());
+}
+
+/// A state with pending entries that is kept in lists behind others, and restored after further steps, is the state
+/// that it was.
+#[test]
+fn a_kept_state_is_restored(rt: HostRuntime) {
+    let program = pulse(&rt, rt.alloc());
+    let mut state = play(&rt, rt.alloc(), &program, &PULSE[..3]);
+    restores(&rt, rt.alloc(), &program, &mut state, &PULSE[3..]);
 }
 
 /// A link without delay, and two inputs at one tag.
@@ -428,9 +444,26 @@ fn two_full_bodies_at_one_tag(rt: HostRuntime) -> Result<(), Fail> {
     Ok(())
 }
 
+/// The entry that is due at 1050 has the value 7, and each other 5.
+fn one_is_new(rt: &impl Abort, pending: &[Waiting]) {
+    let new_value = Tag::new(1050, 0).expect(rt, "a tag");
+    for entry in pending {
+        let want = if entry.tag == new_value { 7 } else { 5 };
+        assert_eq!(rt; entry.value, want, "{entry:?}");
+    }
+}
+
+/// Compares a state that lost one entry with its copy.
+fn compare_copy(rt: &impl Abort, alloc: Global, state: &State) {
+    let copy = state.copy(alloc).expect(rt, "memory");
+    assert_eq!(rt; copy.vars(), state.vars());
+    assert_eq!(rt; copy.pending(), state.pending());
+    assert_eq!(rt; copy.lost(), 1);
+}
+
 /// Where 256 entries are pending a new one is lost, and one that is there takes a new value.
 #[test]
-fn pending_entries_are_full(rt: HostRuntime) -> Result<(), Fail> {
+fn pending_entries_are_full(rt: HostRuntime) {
     let program = crowd(&rt, rt.alloc());
     let rows = [
         crowd_row(0, &[(0, 5)], 32, 0),
@@ -445,16 +478,8 @@ fn pending_entries_are_full(rt: HostRuntime) -> Result<(), Fail> {
         crowd_row(50, &[(1, 7)], 256, 1),
     ];
     let state = play(&rt, rt.alloc(), &program, &rows);
-    let new_value = Tag::new(1050, 0).expect(&rt, "a tag");
-    for entry in state.pending() {
-        let want = if entry.tag == new_value { 7 } else { 5 };
-        assert_eq!(rt; entry.value, want, "{entry:?}");
-    }
-    let copy = state.copy(rt.alloc())?;
-    assert_eq!(rt; copy.vars(), state.vars());
-    assert_eq!(rt; copy.pending(), state.pending());
-    assert_eq!(rt; copy.lost(), 1);
-    Ok(())
+    one_is_new(&rt, state.pending());
+    compare_copy(&rt, rt.alloc(), &state);
 }
 
 #[test]
