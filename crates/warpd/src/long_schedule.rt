@@ -130,26 +130,41 @@ fn are_equal(
     are_equal
 }
 
-#[test]
-fn equal_sets_print_equal_texts(rt: HostRuntime) -> Result<(), Fail> {
-    let alloc = rt.alloc();
-    let program = Program::twice(alloc)?;
-    let schedule = schedule(&rt, alloc);
-    let world = world(&rt, alloc, &program, &schedule);
-    let printed = play_text(alloc, &program, schedule.as_bytes()).expect(&rt, "a schedule");
-    let printed = str::from_utf8(&printed).expect(&rt, "a text");
-    let texts = texts(&rt, alloc, printed);
-    assert_eq!(rt; texts.len(), 16);
+/// Whether any two replicas differ; the first ones do not.
+fn differ(rt: &impl Abort, world: &World<Warp>, texts: &[&str]) -> bool {
     let mut differs = false;
     for one in 0..16 {
         for other in 0..one {
-            if !are_equal(&rt, &world, &texts, one, other) {
+            if !are_equal(rt, world, texts, one, other) {
                 assert!(rt; one >= 8, "{one} {other}");
                 differs = true;
             }
         }
     }
+    differs
+}
+
+/// Replicas that hold the same records have the same text in what is printed.
+fn print_alike(rt: &impl Abort, alloc: Global, world: &World<Warp>, printed: &[u8]) {
+    let printed = str::from_utf8(printed).expect(rt, "a text");
+    let texts = texts(rt, alloc, printed);
+    assert_eq!(rt; texts.len(), 16);
     // Not all are equal, or nothing would be seen.
-    assert!(rt; differs);
+    assert!(rt; differ(rt, world, &texts));
+}
+
+/// The same after this schedule.
+fn print_alike_after(rt: &impl Abort, alloc: Global, program: &Program, schedule: &str) {
+    let world = world(rt, alloc, program, schedule);
+    let printed = play_text(alloc, program, schedule.as_bytes()).expect(rt, "a schedule");
+    print_alike(rt, alloc, &world, &printed);
+}
+
+#[test]
+fn equal_sets_print_equal_texts(rt: HostRuntime) -> Result<(), Fail> {
+    let alloc = rt.alloc();
+    let program = Program::twice(alloc)?;
+    let schedule = schedule(&rt, alloc);
+    print_alike_after(&rt, alloc, &program, &schedule);
     Ok(())
 }

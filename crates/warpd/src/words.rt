@@ -286,189 +286,162 @@ fn with_word<'a>(
 mod tests {
     use super::*;
     use clap::error::ErrorKind;
+    use std::process::Abort;
     use std::test::Fail;
 
-    #[test]
-    fn reads_the_program(rt: HostRuntime) -> Result<(), Fail> {
-        let rows = [
-            (
-                ["warpd", "run", "builtin:twice"].as_slice(),
-                "builtin:twice",
-            ),
-            (["warpd", "run", "a file.json"].as_slice(), "a file.json"),
-            (["warpd", "run", "--", "-x"].as_slice(), "-x"),
-            (["./warpd", "run", ""].as_slice(), ""),
-        ];
-        for (line, wanted) in rows {
-            match words(rt.alloc(), line)? {
-                Job::Run { program } => assert_eq!(rt; program, wanted),
-                job => panic!(rt; "{job:?}"),
-            }
+    /// Lines, and the program of each.
+    const RUNS: &[(&[&str], &str)] = &[
+        (&["warpd", "run", "builtin:twice"], "builtin:twice"),
+        (&["warpd", "run", "a file.json"], "a file.json"),
+        (&["warpd", "run", "--", "-x"], "-x"),
+        (&["./warpd", "run", ""], ""),
+    ];
+
+    /// The words ask for a run of the program.
+    fn runs(rt: &impl Abort, alloc: Global, line: &[&str], wanted: &str) {
+        match words(alloc, line).expect(rt, "a job") {
+            Job::Run { program } => assert_eq!(rt; program, wanted),
+            job => panic!(rt; "{job:?}"),
         }
-        Ok(())
     }
 
     #[test]
-    fn reads_the_program_and_the_schedule(rt: HostRuntime) -> Result<(), Fail> {
-        let rows = [
-            (
-                ["warpd", "play", "builtin:twice", "two.schedule"].as_slice(),
-                "builtin:twice",
-                "two.schedule",
-            ),
-            (["warpd", "play", "a", "a"].as_slice(), "a", "a"),
-            (["warpd", "play", "a", "--", "-x"].as_slice(), "a", "-x"),
-            (["./warpd", "play", "", "run"].as_slice(), "", "run"),
-        ];
-        for (line, wanted, file) in rows {
-            match words(rt.alloc(), line)? {
-                Job::Play { program, schedule } => {
-                    assert_eq!(rt; program, wanted);
-                    assert_eq!(rt; schedule, file);
-                }
-                job => panic!(rt; "{job:?}"),
-            }
+    fn reads_the_program(rt: HostRuntime) {
+        for (line, wanted) in RUNS {
+            runs(&rt, rt.alloc(), line, wanted);
         }
-        Ok(())
+    }
+
+    /// Lines, and the program and the schedule of each.
+    const PLAYS: &[(&[&str], &str, &str)] = &[
+        (
+            &["warpd", "play", "builtin:twice", "two.schedule"],
+            "builtin:twice",
+            "two.schedule",
+        ),
+        (&["warpd", "play", "a", "a"], "a", "a"),
+        (&["warpd", "play", "a", "--", "-x"], "a", "-x"),
+        (&["./warpd", "play", "", "run"], "", "run"),
+    ];
+
+    /// The words ask to play the schedule over the program.
+    fn plays(rt: &impl Abort, alloc: Global, line: &[&str], wanted: &str, file: &str) {
+        match words(alloc, line).expect(rt, "a job") {
+            Job::Play { program, schedule } => {
+                assert_eq!(rt; program, wanted);
+                assert_eq!(rt; schedule, file);
+            }
+            job => panic!(rt; "{job:?}"),
+        }
     }
 
     #[test]
-    fn refuses_other_words_and_shows_help_and_version(rt: HostRuntime) -> Result<(), Fail> {
-        let rows = [
-            (["warpd", "--help"].as_slice(), ErrorKind::DisplayHelp, 0),
-            (["warpd", "-h"].as_slice(), ErrorKind::DisplayHelp, 0),
-            (
-                ["warpd", "--version"].as_slice(),
-                ErrorKind::DisplayVersion,
-                0,
-            ),
-            (["warpd", "-V"].as_slice(), ErrorKind::DisplayVersion, 0),
-            (
-                ["warpd", "help", "run"].as_slice(),
-                ErrorKind::DisplayHelp,
-                0,
-            ),
-            (
-                ["warpd", "run", "--help"].as_slice(),
-                ErrorKind::DisplayHelp,
-                0,
-            ),
-            (
-                ["warpd"].as_slice(),
-                ErrorKind::DisplayHelpOnMissingArgumentOrSubcommand,
-                2,
-            ),
-            (
-                ["warpd", "walk"].as_slice(),
-                ErrorKind::InvalidSubcommand,
-                2,
-            ),
-            (
-                ["warpd", "--fast"].as_slice(),
-                ErrorKind::UnknownArgument,
-                2,
-            ),
-            (
-                ["warpd", "run"].as_slice(),
-                ErrorKind::MissingRequiredArgument,
-                2,
-            ),
-            (
-                ["warpd", "run", "a", "b"].as_slice(),
-                ErrorKind::UnknownArgument,
-                2,
-            ),
-            (
-                ["warpd", "run", "-x"].as_slice(),
-                ErrorKind::UnknownArgument,
-                2,
-            ),
-            (
-                ["warpd", "run", "--version"].as_slice(),
-                ErrorKind::UnknownArgument,
-                2,
-            ),
-            (
-                ["warpd", "play", "--help"].as_slice(),
-                ErrorKind::DisplayHelp,
-                0,
-            ),
-            (
-                ["warpd", "play"].as_slice(),
-                ErrorKind::MissingRequiredArgument,
-                2,
-            ),
-            (
-                ["warpd", "play", "a"].as_slice(),
-                ErrorKind::MissingRequiredArgument,
-                2,
-            ),
-            (
-                ["warpd", "play", "a", "b", "c"].as_slice(),
-                ErrorKind::UnknownArgument,
-                2,
-            ),
-        ];
-        for (line, kind, code) in rows {
-            match words(rt.alloc(), line) {
-                Ok(job) => panic!(rt; "{job:?}"),
-                Err(error) => {
-                    assert_eq!(rt; error.kind(), kind);
-                    assert_eq!(rt; error.exit_code(), code, "{kind:?}");
-                    assert_eq!(rt; error.use_stderr(), code == 2, "{kind:?}");
-                }
+    fn reads_the_program_and_the_schedule(rt: HostRuntime) {
+        for (line, wanted, file) in PLAYS {
+            plays(&rt, rt.alloc(), line, wanted, file);
+        }
+    }
+
+    /// Lines that ask for no job, and the kind and the exit status of each.
+    const REFUSED: &[(&[&str], ErrorKind, i32)] = &[
+        (&["warpd", "--help"], ErrorKind::DisplayHelp, 0),
+        (&["warpd", "-h"], ErrorKind::DisplayHelp, 0),
+        (&["warpd", "--version"], ErrorKind::DisplayVersion, 0),
+        (&["warpd", "-V"], ErrorKind::DisplayVersion, 0),
+        (&["warpd", "help", "run"], ErrorKind::DisplayHelp, 0),
+        (&["warpd", "run", "--help"], ErrorKind::DisplayHelp, 0),
+        (
+            &["warpd"],
+            ErrorKind::DisplayHelpOnMissingArgumentOrSubcommand,
+            2,
+        ),
+        (&["warpd", "walk"], ErrorKind::InvalidSubcommand, 2),
+        (&["warpd", "--fast"], ErrorKind::UnknownArgument, 2),
+        (&["warpd", "run"], ErrorKind::MissingRequiredArgument, 2),
+        (&["warpd", "run", "a", "b"], ErrorKind::UnknownArgument, 2),
+        (&["warpd", "run", "-x"], ErrorKind::UnknownArgument, 2),
+        (
+            &["warpd", "run", "--version"],
+            ErrorKind::UnknownArgument,
+            2,
+        ),
+        (&["warpd", "play", "--help"], ErrorKind::DisplayHelp, 0),
+        (&["warpd", "play"], ErrorKind::MissingRequiredArgument, 2),
+        (
+            &["warpd", "play", "a"],
+            ErrorKind::MissingRequiredArgument,
+            2,
+        ),
+        (
+            &["warpd", "play", "a", "b", "c"],
+            ErrorKind::UnknownArgument,
+            2,
+        ),
+    ];
+
+    /// The words are refused so.
+    fn refuses(rt: &impl Abort, alloc: Global, line: &[&str], kind: ErrorKind, code: i32) {
+        match words(alloc, line) {
+            Ok(job) => panic!(rt; "{job:?}"),
+            Err(error) => {
+                assert_eq!(rt; error.kind(), kind);
+                assert_eq!(rt; error.exit_code(), code, "{kind:?}");
+                assert_eq!(rt; error.use_stderr(), code == 2, "{kind:?}");
             }
         }
-        Ok(())
     }
 
     #[test]
-    fn help_tells_how_to_begin(rt: HostRuntime) -> Result<(), Fail> {
-        let rows = [
-            (["warpd", "--help"].as_slice(), "Usage: warpd <COMMAND>"),
-            (["warpd", "--help"].as_slice(), "in any order"),
-            (["warpd", "--help"].as_slice(), "Exit status:"),
-            (
-                ["warpd", "run", "--help"].as_slice(),
-                "Usage: warpd run <PROGRAM>",
-            ),
-            (["warpd", "run", "--help"].as_slice(), "builtin:twice"),
-            (["warpd", "run", "--help"].as_slice(), "taken P, or known P"),
-            (["warpd", "run", "--help"].as_slice(), "collected N"),
-            (
-                ["warpd", "run", "--help"].as_slice(),
-                "5  the input belongs to another origin",
-            ),
-            (["warpd", "run"].as_slice(), "<PROGRAM>"),
-            (
-                ["warpd", "--help"].as_slice(),
-                "the program or the schedule was refused",
-            ),
-            (
-                ["warpd", "play", "--help"].as_slice(),
-                "Usage: warpd play <PROGRAM> <SCHEDULE>",
-            ),
-            (["warpd", "play", "--help"].as_slice(), "carry F I R"),
-            (
-                ["warpd", "play", "--help"].as_slice(),
-                "schedule refused at line K",
-            ),
-            (["warpd", "play", "a"].as_slice(), "<SCHEDULE>"),
-            (
-                ["warpd", "walk"].as_slice(),
-                "unrecognized subcommand 'walk'",
-            ),
-        ];
-        for (line, wanted) in rows {
-            match words(rt.alloc(), line) {
-                Ok(job) => panic!(rt; "{job:?}"),
-                Err(error) => {
-                    let text = format!(in rt.alloc(); "{error}")?;
-                    assert!(rt; text.contains(wanted), "{text}");
-                }
+    fn refuses_other_words_and_shows_help_and_version(rt: HostRuntime) {
+        for (line, kind, code) in REFUSED {
+            refuses(&rt, rt.alloc(), line, *kind, *code);
+        }
+    }
+
+    /// Lines that are answered by a text, and a part of each text.
+    const TOLD: &[(&[&str], &str)] = &[
+        (&["warpd", "--help"], "Usage: warpd <COMMAND>"),
+        (&["warpd", "--help"], "in any order"),
+        (&["warpd", "--help"], "Exit status:"),
+        (&["warpd", "run", "--help"], "Usage: warpd run <PROGRAM>"),
+        (&["warpd", "run", "--help"], "builtin:twice"),
+        (&["warpd", "run", "--help"], "taken P, or known P"),
+        (&["warpd", "run", "--help"], "collected N"),
+        (
+            &["warpd", "run", "--help"],
+            "5  the input belongs to another origin",
+        ),
+        (&["warpd", "run"], "<PROGRAM>"),
+        (
+            &["warpd", "--help"],
+            "the program or the schedule was refused",
+        ),
+        (
+            &["warpd", "play", "--help"],
+            "Usage: warpd play <PROGRAM> <SCHEDULE>",
+        ),
+        (&["warpd", "play", "--help"], "carry F I R"),
+        (&["warpd", "play", "--help"], "schedule refused at line K"),
+        (&["warpd", "play", "a"], "<SCHEDULE>"),
+        (&["warpd", "walk"], "unrecognized subcommand 'walk'"),
+    ];
+
+    /// The words are answered by a text with this part.
+    fn tells(rt: &impl Abort, alloc: Global, line: &[&str], wanted: &str) {
+        match words(alloc, line) {
+            Ok(job) => panic!(rt; "{job:?}"),
+            Err(error) => {
+                let text = format!(in alloc; "{error}").expect(rt, "memory");
+                assert!(rt; text.contains(wanted), "{text}");
             }
         }
-        Ok(())
+    }
+
+    #[test]
+    fn help_tells_how_to_begin(rt: HostRuntime) {
+        for (line, wanted) in TOLD {
+            tells(&rt, rt.alloc(), line, wanted);
+        }
     }
 
     #[test]
