@@ -304,7 +304,7 @@ mod tests {
     use crate::memory::{MemoryReader, MemoryWriter};
     use std::cell::Cell;
     use std::io::Read;
-    use std::test::Fail;
+    use std::process::Abort;
 
     /// The words, each a text of its own.
     fn owned(alloc: Global, line: &[&str]) -> Result<Vec<String>, AllocError> {
@@ -319,12 +319,13 @@ mod tests {
     /// Its failures are counted in these ledgers.
     fn run_over<R: Read + Drop, L: Ledger, M: Ledger>(
         rt: &HostRuntime,
+        abort: &impl Abort,
         words: Vec<String>,
         reader: R,
         writer: MemoryWriter<'_>,
         reads: Blank,
         writes: Blank,
-    ) -> Result<(ExitCode, Vec<u8>, Vec<u8>), Fail>
+    ) -> (ExitCode, Vec<u8>, Vec<u8>)
         requires reads { IsUnused reads L.name L.parts }
         requires writes { IsUnused writes M.name M.parts }
     {
@@ -336,14 +337,14 @@ mod tests {
         let count = Cell::new(0);
         let mut errors = MemoryWriter::new(alloc, &count, 7, None);
         let (status, told) = perform(rt, alloc, Ok(words), &mut streams, &mut errors);
-        told?;
+        told.expect(abort, "what is told");
         let Streams { source: _, sink } = streams;
         let written = sink.into_inner().into_written();
-        Ok((status, written, errors.into_written()))
+        (status, written, errors.into_written())
     }
 
     #[test]
-    fn a_run_answers_and_tells_how_it_ended(rt: HostRuntime) -> Result<(), Fail> {
+    fn a_run_answers_and_tells_how_it_ended(rt: HostRuntime) {
         let twice = ["warpd", "run", "builtin:twice"].as_slice();
         let rows = [
             (twice, None, 0, "taken 1\nvar 1 3\n", ""),
@@ -372,32 +373,44 @@ mod tests {
             ),
             (["warpd", "walk"].as_slice(), None, 2, "", ""),
         ];
-        let alloc = rt.alloc();
         for (line, sound, status, output, errors) in rows {
-            let words = owned(alloc, line)?;
-            let reader = MemoryReader::new(b"event 0 5 0 0 3\nvar 0\n", 7, None);
-            let count = Cell::new(0);
-            let writer = MemoryWriter::new(alloc, &count, 7, sound);
-            let (reads, writes) = (Blank::new(1), Blank::new(1));
-            let (ended, written, told) = run_over::<_, Brand, Brand>(
-                &rt, words, reader, writer, reads, writes,
-            )?;
-            assert_eq!(rt; ended, ExitCode::from(status), "{line:?}");
-            assert_eq!(rt; written.as_slice(), output.as_bytes(), "{line:?}");
-            assert_eq!(rt; told.as_slice(), errors.as_bytes(), "{line:?}");
+            ends_so(&rt, &rt, line, sound, status, output, errors);
         }
-        Ok(())
     }
 
-    /// How playing a schedule of these bytes over the program `twice` ends, and what it wrote. Its failures are
-    /// counted in these ledgers.
+    /// A run with these words ends with this status, and writes this to its output and as its errors.
+    fn ends_so(
+        rt: &HostRuntime,
+        abort: &impl Abort,
+        line: &[&str],
+        sound: Option<u64>,
+        status: u8,
+        output: &str,
+        errors: &str,
+    ) {
+        let words = owned(rt.alloc(), line).expect(abort, "memory");
+        let reader = MemoryReader::new(b"event 0 5 0 0 3\nvar 0\n", 7, None);
+        let count = Cell::new(0);
+        let writer = MemoryWriter::new(rt.alloc(), &count, 7, sound);
+        let (reads, writes) = (Blank::new(1), Blank::new(1));
+        let (ended, written, told) = run_over::<_, Brand, Brand>(
+            rt, abort, words, reader, writer, reads, writes,
+        );
+        assert_eq!(abort; ended, ExitCode::from(status), "{line:?}");
+        assert_eq!(abort; written.as_slice(), output.as_bytes(), "{line:?}");
+        assert_eq!(abort; told.as_slice(), errors.as_bytes(), "{line:?}");
+    }
+
+    /// How playing a schedule of these bytes over this program ends, and what it wrote. Its failures are counted in
+    /// these ledgers.
     fn play_over_memory<L: Ledger, M: Ledger>(
         alloc: Global,
+        program: &Program,
         schedule: &[u8],
         writer: MemoryWriter<'_>,
         reads: Blank,
         writes: Blank,
-    ) -> Result<(Outcome, Vec<u8>), Fail>
+    ) -> (Outcome, Vec<u8>)
         requires reads { IsUnused reads L.name L.parts }
         requires writes { IsUnused writes M.name M.parts }
     {
@@ -405,14 +418,13 @@ mod tests {
             source: Stream::<_, L>::new(MemoryReader::new(b"", 1, None), reads),
             sink: Stream::<_, M>::new(writer, writes),
         };
-        let program = Program::twice(alloc)?;
-        let outcome = play_bytes(alloc, &program, schedule, &mut streams);
+        let outcome = play_bytes(alloc, program, schedule, &mut streams);
         let Streams { source: _, sink } = streams;
-        Ok((outcome, sink.into_inner().into_written()))
+        (outcome, sink.into_inner().into_written())
     }
 
     #[test]
-    fn a_schedule_is_printed_or_refused(rt: HostRuntime) -> Result<(), Fail> {
+    fn a_schedule_is_printed_or_refused(rt: HostRuntime) {
         let text = "replica 0\nhorizon 0 0 0\noutputs 0 0\nreleased 0 0\nlost 0 0\nvar 0 0\n";
         let rows = [
             ("replicas 1\n", None, Outcome::Done, text),
@@ -421,45 +433,62 @@ mod tests {
             ("", None, Outcome::Schedule(1), ""),
             ("replicas 1\ncollect 00\n", None, Outcome::Schedule(2), ""),
         ];
-        let alloc = rt.alloc();
         for (schedule, sound, outcome, output) in rows {
-            let count = Cell::new(0);
-            let writer = MemoryWriter::new(alloc, &count, 7, sound);
-            let (reads, writes) = (Blank::new(1), Blank::new(1));
-            let bytes = schedule.as_bytes();
-            let (ended, written) = play_over_memory::<Brand, Brand>(
-                alloc, bytes, writer, reads, writes,
-            )?;
-            assert_eq!(rt; ended, outcome, "{schedule}");
-            assert_eq!(rt; written.as_slice(), output.as_bytes(), "{schedule}");
+            prints_so(&rt, rt.alloc(), schedule, sound, outcome, output);
         }
-        Ok(())
     }
 
+    /// Playing the schedule ends so, and writes this.
+    fn prints_so(
+        rt: &impl Abort,
+        alloc: Global,
+        schedule: &str,
+        sound: Option<u64>,
+        outcome: Outcome,
+        output: &str,
+    ) {
+        let count = Cell::new(0);
+        let writer = MemoryWriter::new(alloc, &count, 7, sound);
+        let (reads, writes) = (Blank::new(1), Blank::new(1));
+        let program = Program::twice(alloc).expect(rt, "memory");
+        let bytes = schedule.as_bytes();
+        let (ended, written) = play_over_memory::<Brand, Brand>(
+            alloc, &program, bytes, writer, reads, writes,
+        );
+        assert_eq!(rt; ended, outcome, "{schedule}");
+        assert_eq!(rt; written.as_slice(), output.as_bytes(), "{schedule}");
+    }
+
+    /// Lines that ask for no job, and the outcome and the status of each.
+    const SHOWN: &[(&[&str], Outcome, u8)] = &[
+        (&["warpd", "--help"], Outcome::Done, 0),
+        (&["warpd", "-h"], Outcome::Done, 0),
+        (&["warpd", "help", "run"], Outcome::Done, 0),
+        (&["warpd", "run", "--help"], Outcome::Done, 0),
+        (&["warpd", "play", "--help"], Outcome::Done, 0),
+        (&["warpd"], Outcome::Words, 2),
+        (&["warpd", "walk"], Outcome::Words, 2),
+        (&["warpd", "run"], Outcome::Words, 2),
+        (&["warpd", "run", "a", "b"], Outcome::Words, 2),
+        (&["warpd", "play", "a"], Outcome::Words, 2),
+    ];
+
     #[test]
-    fn help_is_done_and_a_wrong_word_is_a_mistake(rt: HostRuntime) -> Result<(), Fail> {
-        let rows = [
-            (["warpd", "--help"].as_slice(), Outcome::Done, 0),
-            (["warpd", "-h"].as_slice(), Outcome::Done, 0),
-            (["warpd", "help", "run"].as_slice(), Outcome::Done, 0),
-            (["warpd", "run", "--help"].as_slice(), Outcome::Done, 0),
-            (["warpd", "play", "--help"].as_slice(), Outcome::Done, 0),
-            (["warpd"].as_slice(), Outcome::Words, 2),
-            (["warpd", "walk"].as_slice(), Outcome::Words, 2),
-            (["warpd", "run"].as_slice(), Outcome::Words, 2),
-            (["warpd", "run", "a", "b"].as_slice(), Outcome::Words, 2),
-            (["warpd", "play", "a"].as_slice(), Outcome::Words, 2),
-        ];
-        for (line, wanted, code) in rows {
-            match words(rt.alloc(), line) {
-                Ok(job) => panic!(rt; "{job:?}"),
-                Err(error) => {
-                    let outcome = show(&rt, &error);
-                    assert_eq!(rt; outcome, wanted, "{line:?}");
-                    assert_eq!(rt; status(outcome), code, "{line:?}");
-                }
+    fn help_is_done_and_a_wrong_word_is_a_mistake(rt: HostRuntime) {
+        for (line, wanted, code) in SHOWN {
+            shows_so(&rt, &rt, line, *wanted, *code);
+        }
+    }
+
+    /// What the words give instead of a job is shown, with this outcome and status.
+    fn shows_so(rt: &HostRuntime, abort: &impl Abort, line: &[&str], wanted: Outcome, code: u8) {
+        match words(rt.alloc(), &*line) {
+            Ok(job) => panic!(abort; "{job:?}"),
+            Err(error) => {
+                let outcome = show(rt, &error);
+                assert_eq!(abort; outcome, wanted, "{line:?}");
+                assert_eq!(abort; status(outcome), code, "{line:?}");
             }
         }
-        Ok(())
     }
 }

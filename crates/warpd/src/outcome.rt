@@ -119,6 +119,7 @@ pub fn outcome_of_fault(fault: ScheduleFault) -> Outcome
 #[cfg(test)]
 mod tests {
     use super::*;
+    use std::process::Abort;
 
     #[test]
     fn each_outcome_has_its_status_and_line(rt: HostRuntime) {
@@ -143,9 +144,14 @@ mod tests {
             (Outcome::Accept, 6, "cannot accept\n"),
         ];
         for (outcome, code, line) in rows {
-            assert_eq!(rt; status(outcome), code, "{outcome:?}");
-            assert_eq!(rt; say(outcome).as_str(), line, "{outcome:?}");
+            tells(&rt, outcome, code, line);
         }
+    }
+
+    /// The outcome has this status and this line.
+    fn tells(rt: &impl Abort, outcome: Outcome, code: u8, line: &str) {
+        assert_eq!(rt; status(outcome), code, "{outcome:?}");
+        assert_eq!(rt; say(outcome).as_str(), line, "{outcome:?}");
     }
 
     #[test]

@@ -149,6 +149,7 @@ fn append_line(text: &mut Vec<u8>, reply: &Reply) -> Result<(), OutOfMemory>
 #[cfg(test)]
 mod tests {
     use super::*;
+    use std::process::Abort;
     use std::test::Fail;
     use warp_prog::load;
 
@@ -161,54 +162,60 @@ mod tests {
 {"on":["a"],"writes":["z"],"body":[["set","s",["+","s","a"]],["put","z","s"]]}]}],
 "links":[["p.y","q.a",4]],"outputs":["p.y","q.z"]}"#;
 
+    /// This is printed of the schedule over the program.
+    fn prints(rt: &impl Abort, alloc: Global, program: &Program, schedule: &str, wanted: &str) {
+        let text = play_text(alloc, program, schedule.as_bytes()).expect(rt, "a text");
+        assert_eq!(rt; text.as_slice(), wanted.as_bytes(), "{schedule}");
+    }
+
+    /// Schedules over the program `twice`, and what is printed of each.
+    const TWICE: &[(&str, &str)] = &[
+        (
+            "replicas 2\nmake 0 event 0 5 0 0 3\nmake 1 event 1 2 0 1 4\ncarry 1 1 0\ncarry 0 1 1\n",
+            "replica 0\nhorizon 2 0 0\noutputs 2 2\nreleased 2 0\nlost 2 0\nvar 2 -5\n\
+                replica 1\nhorizon 2 0 0\noutputs 2 2\nreleased 2 0\nlost 2 0\nvar 2 -5\n",
+        ),
+        (
+            "replicas 2\nmake 0 event 0 5 0 0 3\nmake 1 event 1 2 0 1 4\ncarry 1 1 0\ncarry 0 1 1\nrestart 0\n",
+            "replica 0\nhorizon 0 0 0\noutputs 0 0\nreleased 0 0\nlost 0 0\nvar 0 0\n\
+                replica 1\nhorizon 2 0 0\noutputs 2 2\nreleased 2 0\nlost 2 0\nvar 2 -5\n",
+        ),
+        (
+            "replicas 1\nmake 0 event 0 5 0 9 3\ncarry 0 1 0\nrestart 3\n",
+            "replica 0\nhorizon 0 0 0\noutputs 0 0\nreleased 0 0\nlost 0 0\nvar 0 0\n",
+        ),
+    ];
+
     /// Schedules over the program `twice`, and what is printed of them.
     #[test]
-    fn rows_of_twice(rt: HostRuntime) -> Result<(), Fail> {
-        let rows = [
-            (
-                "replicas 2\nmake 0 event 0 5 0 0 3\nmake 1 event 1 2 0 1 4\ncarry 1 1 0\ncarry 0 1 1\n",
-                "replica 0\nhorizon 2 0 0\noutputs 2 2\nreleased 2 0\nlost 2 0\nvar 2 -5\n\
-                    replica 1\nhorizon 2 0 0\noutputs 2 2\nreleased 2 0\nlost 2 0\nvar 2 -5\n",
-            ),
-            (
-                "replicas 2\nmake 0 event 0 5 0 0 3\nmake 1 event 1 2 0 1 4\ncarry 1 1 0\ncarry 0 1 1\nrestart 0\n",
-                "replica 0\nhorizon 0 0 0\noutputs 0 0\nreleased 0 0\nlost 0 0\nvar 0 0\n\
-                    replica 1\nhorizon 2 0 0\noutputs 2 2\nreleased 2 0\nlost 2 0\nvar 2 -5\n",
-            ),
-            (
-                "replicas 1\nmake 0 event 0 5 0 9 3\ncarry 0 1 0\nrestart 3\n",
-                "replica 0\nhorizon 0 0 0\noutputs 0 0\nreleased 0 0\nlost 0 0\nvar 0 0\n",
-            ),
-        ];
+    fn rows_of_twice(rt: HostRuntime) {
         let alloc = rt.alloc();
-        let program = Program::twice(alloc)?;
-        for (schedule, wanted) in rows {
-            let text = play_text(alloc, &program, schedule.as_bytes()).expect(&rt, "a text");
-            assert_eq!(rt; text.as_slice(), wanted.as_bytes(), "{schedule}");
+        let program = Program::twice(alloc).expect(&rt, "memory");
+        for (schedule, wanted) in TWICE {
+            prints(&rt, alloc, &program, schedule, wanted);
         }
-        Ok(())
     }
+
+    /// Schedules over the program above, and what is printed of each.
+    const PULSES: &[(&str, &str)] = &[
+        (
+            "replicas 1\n",
+            "replica 0\nhorizon 0 0 0\noutputs 0 5\nreleased 0 0\nlost 0 0\nvar 0 103\nvar 0 203\n",
+        ),
+        (
+            "replicas 1\nmake 0 announce 0 9 0 0 0\ncollect 0\n",
+            "replica 0\nhorizon 1 9 0\noutputs 1 5\nreleased 1 4\nlost 1 0\nvar 1 103\nvar 1 203\n",
+        ),
+    ];
 
     /// The lines of two variables, and outputs of which some are released.
     #[test]
-    fn each_variable_is_printed(rt: HostRuntime) -> Result<(), Fail> {
-        let rows = [
-            (
-                "replicas 1\n",
-                "replica 0\nhorizon 0 0 0\noutputs 0 5\nreleased 0 0\nlost 0 0\nvar 0 103\nvar 0 203\n",
-            ),
-            (
-                "replicas 1\nmake 0 announce 0 9 0 0 0\ncollect 0\n",
-                "replica 0\nhorizon 1 9 0\noutputs 1 5\nreleased 1 4\nlost 1 0\nvar 1 103\nvar 1 203\n",
-            ),
-        ];
+    fn each_variable_is_printed(rt: HostRuntime) {
         let alloc = rt.alloc();
         let program = load(alloc, PULSE.as_bytes()).expect(&rt, "a program");
-        for (schedule, wanted) in rows {
-            let text = play_text(alloc, &program, schedule.as_bytes()).expect(&rt, "a text");
-            assert_eq!(rt; text.as_slice(), wanted.as_bytes(), "{schedule}");
+        for (schedule, wanted) in PULSES {
+            prints(&rt, alloc, &program, schedule, wanted);
         }
-        Ok(())
     }
 
     #[test]
@@ -222,11 +229,16 @@ mod tests {
         let alloc = rt.alloc();
         let program = Program::twice(alloc)?;
         for (schedule, line) in rows {
-            match play_text(alloc, &program, schedule.as_bytes()) {
-                Ok(text) => panic!(rt; "{text:?}"),
-                Err(fault) => assert_eq!(rt; fault, ScheduleFault::Line(line), "{schedule}"),
-            }
+            refuses_at(&rt, alloc, &program, schedule, line);
         }
         Ok(())
+    }
+
+    /// The schedule is refused at this line.
+    fn refuses_at(rt: &impl Abort, alloc: Global, program: &Program, schedule: &str, line: u64) {
+        match play_text(alloc, program, schedule.as_bytes()) {
+            Ok(text) => panic!(rt; "{text:?}"),
+            Err(fault) => assert_eq!(rt; fault, ScheduleFault::Line(line), "{schedule}"),
+        }
     }
 }

@@ -280,6 +280,7 @@ mod tests {
     use std::cell::Cell;
     use std::io::Read;
     use std::marker::Brand;
+    use std::process::Abort;
     use std::sync::ledger::{Blank, Ledger};
     use std::test::Fail;
     use warp_record::{Line, Query};
@@ -341,50 +342,64 @@ mod tests {
         run_in::<R, Brand, Brand>(alloc, reader, writer, Blank::new(1), Blank::new(1))
     }
 
+    /// Lines, and their answers.
+    const LINES: &[(&str, &str)] = &[
+        ("", ""),
+        (
+            "var 7\nevent 0 5 0 0 3\nvar 8\n",
+            "var 1 7\ntaken 2\nvar 3 8\n",
+        ),
+        (
+            "\nvar 07\nvar 7\nvar 8",
+            "refused 1\nrefused 1\nvar 1 7\nrefused 1\n",
+        ),
+    ];
+
     #[test]
-    fn lines_and_answers(rt: HostRuntime) -> Result<(), Fail> {
-        let rows = [
-            ("", ""),
-            (
-                "var 7\nevent 0 5 0 0 3\nvar 8\n",
-                "var 1 7\ntaken 2\nvar 3 8\n",
-            ),
-            (
-                "\nvar 07\nvar 7\nvar 8",
-                "refused 1\nrefused 1\nvar 1 7\nrefused 1\n",
-            ),
-        ];
-        let count = Cell::new(0);
-        for (lines, answers) in rows {
-            for most in [1, 7, 4_096] {
-                let reader = MemoryReader::new(lines.as_bytes(), most, None);
-                let writer = MemoryWriter::new(rt.alloc(), &count, most, None);
-                let (end, written) = run(rt.alloc(), reader, writer);
-                assert_eq!(rt; end, SessionEnd::End);
-                assert_eq!(rt; written.as_slice(), answers.as_bytes(), "{lines} by {most}");
-            }
+    fn lines_and_answers(rt: HostRuntime) {
+        for (lines, answers) in LINES {
+            is_answered(&rt, rt.alloc(), lines, answers, 1);
+            is_answered(&rt, rt.alloc(), lines, answers, 7);
+            is_answered(&rt, rt.alloc(), lines, answers, 4_096);
         }
-        Ok(())
+    }
+
+    /// The lines are answered so, in pieces of at most `most` bytes.
+    fn is_answered(rt: &impl Abort, alloc: Global, lines: &str, answers: &str, most: usize)
+        requires { 0 < most }
+    {
+        let count = Cell::new(0);
+        let reader = MemoryReader::new(lines.as_bytes(), most, None);
+        let writer = MemoryWriter::new(alloc, &count, most, None);
+        let (end, written) = run(alloc, reader, writer);
+        assert_eq!(rt; end, SessionEnd::End);
+        assert_eq!(rt; written.as_slice(), answers.as_bytes(), "{lines} by {most}");
+    }
+
+    /// What these lines are answered, in large pieces.
+    fn large(rt: &impl Abort, alloc: Global, lines: &[u8]) -> Vec<u8> {
+        let count = Cell::new(0);
+        let reader = MemoryReader::new(lines, 65_536, None);
+        let writer = MemoryWriter::new(alloc, &count, 100_000, None);
+        let (end, written) = run(alloc, reader, writer);
+        assert_eq!(rt; end, SessionEnd::End);
+        written
     }
 
     #[test]
     fn more_replies_than_there_is_room(rt: HostRuntime) -> Result<(), Fail> {
         let lines = Vec::from_elem(rt.alloc(), b'\n', 10_000)?;
+        let written = large(&rt, rt.alloc(), &lines);
         let mut answers = Vec::new(rt.alloc());
         for _ in 0..10_000 {
             answers.extend_from_slice(b"refused 1\n")?;
         }
-        let count = Cell::new(0);
-        let reader = MemoryReader::new(lines.as_slice(), 65_536, None);
-        let writer = MemoryWriter::new(rt.alloc(), &count, 100_000, None);
-        let (end, written) = run(rt.alloc(), reader, writer);
-        assert_eq!(rt; end, SessionEnd::End);
         assert_eq!(rt; written.as_slice(), answers.as_slice());
         Ok(())
     }
 
     #[test]
-    fn faults(rt: HostRuntime) -> Result<(), Fail> {
+    fn faults(rt: HostRuntime) {
         // Two lines of six bytes each. The first read may end inside the second, which is then not answered.
         let lines = b"var 7\nvar 8\n".as_slice();
         let rows = [
@@ -394,15 +409,26 @@ mod tests {
             (6, None, Some(0), SessionEnd::WriteFault, ""),
             (6, None, Some(1), SessionEnd::WriteFault, "var"),
         ];
-        let count = Cell::new(0);
         for (most, sound_reads, sound_writes, wanted, answers) in rows {
             let reader = MemoryReader::new(lines, most, sound_reads);
-            let writer = MemoryWriter::new(rt.alloc(), &count, 3, sound_writes);
-            let (end, written) = run(rt.alloc(), reader, writer);
-            assert_eq!(rt; end, wanted);
-            assert_eq!(rt; written.as_slice(), answers.as_bytes());
+            ends_so(&rt, rt.alloc(), reader, sound_writes, wanted, answers);
         }
-        Ok(())
+    }
+
+    /// A session over this reader ends so, with these answers, where so many writes are good.
+    fn ends_so(
+        rt: &impl Abort,
+        alloc: Global,
+        reader: MemoryReader<'_>,
+        sound: Option<u64>,
+        wanted: SessionEnd,
+        answers: &str,
+    ) {
+        let count = Cell::new(0);
+        let writer = MemoryWriter::new(alloc, &count, 3, sound);
+        let (end, written) = run(alloc, reader, writer);
+        assert_eq!(rt; end, wanted);
+        assert_eq!(rt; written.as_slice(), answers.as_bytes());
     }
 
     #[test]

@@ -144,7 +144,7 @@ mod tests {
     use std::alloc::{AllocError, Global};
     use std::cell::Cell;
     use std::marker::Brand;
-    use std::test::Fail;
+    use std::process::Abort;
 
     const TEXT: &[u8] = b"abcde";
 
@@ -193,7 +193,7 @@ mod tests {
     }
 
     #[test]
-    fn reads_in_pieces_and_after_a_failure(rt: HostRuntime) -> Result<(), Fail> {
+    fn reads_in_pieces_and_after_a_failure(rt: HostRuntime) {
         let end = Ok(0);
         let rows = [
             (100, 100, None, [Ok(5), end, end, end, end, end]),
@@ -205,15 +205,27 @@ mod tests {
         let alloc = rt.alloc();
         for (most, room, sound, wanted) in rows {
             let reader = MemoryReader::new(TEXT, most, sound);
-            let (given, answers) = six_reads::<Brand>(alloc, reader, room, Blank::new(1))?;
-            assert_eq!(rt; given.as_slice(), TEXT);
-            assert_eq!(rt; answers.as_slice(), wanted.as_slice());
+            reads_so(&rt, alloc, reader, room, &wanted);
         }
-        Ok(())
+    }
+
+    /// Six reads give the text and answer so.
+    fn reads_so(
+        rt: &impl Abort,
+        alloc: Global,
+        reader: MemoryReader<'_>,
+        room: usize,
+        wanted: &[Result<usize, Failed>],
+    ) {
+        let (given, answers) = six_reads::<Brand>(alloc, reader, room, Blank::new(1)).expect(
+            rt, "memory",
+        );
+        assert_eq!(rt; given.as_slice(), TEXT);
+        assert_eq!(rt; answers.as_slice(), wanted);
     }
 
     #[test]
-    fn writes_in_pieces_and_fails_where_nothing_is_taken(rt: HostRuntime) -> Result<(), Fail> {
+    fn writes_in_pieces_and_fails_where_nothing_is_taken(rt: HostRuntime) {
         let bad = Err(Failed);
         let rows = [
             (
@@ -235,10 +247,22 @@ mod tests {
         let count = Cell::new(0);
         for (most, sound, text, wanted) in rows {
             let writer = MemoryWriter::new(alloc, &count, most, sound);
-            let (written, answers) = six_writes::<Brand>(alloc, writer, Blank::new(1))?;
-            assert_eq!(rt; written.as_slice(), text.as_bytes());
-            assert_eq!(rt; answers.as_slice(), wanted.as_slice());
+            writes_so(&rt, alloc, writer, text, &wanted);
         }
-        Ok(())
+    }
+
+    /// Six writes write this text and answer so.
+    fn writes_so(
+        rt: &impl Abort,
+        alloc: Global,
+        writer: MemoryWriter<'_>,
+        text: &str,
+        wanted: &[Result<usize, Failed>],
+    ) {
+        let (written, answers) = six_writes::<Brand>(alloc, writer, Blank::new(1)).expect(
+            rt, "memory",
+        );
+        assert_eq!(rt; written.as_slice(), text.as_bytes());
+        assert_eq!(rt; answers.as_slice(), wanted);
     }
 }

@@ -199,23 +199,41 @@ fn settle_both<T: Timeline, U: Timeline>(
     agree_in_all(rt, one, twin);
 }
 
+/// A replica of this program.
+fn replica<T: Timeline + Drop>(rt: &impl Abort, alloc: Global, program: Program) -> Replica<T> {
+    Replica::<T>::new(alloc, program).expect(rt, "memory")
+}
+
+/// Both settle, and then take drawn records and answer the same after each.
+fn answer_alike<T: Timeline, U: Timeline>(
+    rt: &impl Abort,
+    alloc: Global,
+    one: &mut Replica<T>,
+    twin: &mut Replica<U>,
+    dice: &mut Dice,
+) {
+    settle(rt, alloc, one);
+    settle(rt, alloc, twin);
+    for _ in 0..400 {
+        let record = drawn(rt, dice);
+        take(rt, alloc, one, twin, &record);
+        settle_both(rt, alloc, one, twin, changed_tag(&record));
+    }
+}
+
+/// A replica of this program and its slow twin answer the same after each record that is drawn from this seed.
+fn answer_alike_over(rt: &impl Abort, alloc: Global, program: Program, seed: u64) {
+    let copy = program.copy(alloc).expect(rt, "memory");
+    let mut warp = replica::<Warp>(rt, alloc, program);
+    let mut plain = replica::<Plain>(rt, alloc, copy);
+    answer_alike(rt, alloc, &mut warp, &mut plain, &mut Dice { state: seed });
+}
+
 #[test]
 fn answers_after_each_record(rt: HostRuntime) {
     let alloc = rt.alloc();
     for (seed, text) in [(1, MIXED), (2, CASCADE), (3, ECHO), (5, LATEST)] {
-        let mut dice = Dice { state: seed };
-        let program = program(&rt, alloc, text);
-        let copy = program.copy(alloc).expect(&rt, "memory");
-        let mut warp = Replica::<Warp>::new(alloc, program).expect(&rt, "memory");
-        let mut plain = Replica::<Plain>::new(alloc, copy).expect(&rt, "memory");
-        settle(&rt, alloc, &mut warp);
-        settle(&rt, alloc, &mut plain);
-        for _ in 0..400 {
-            let record = drawn(&rt, &mut dice);
-            take(&rt, alloc, &mut warp, &mut plain, &record);
-            let least = changed_tag(&record);
-            settle_both(&rt, alloc, &mut warp, &mut plain, least);
-        }
+        answer_alike_over(&rt, alloc, program(&rt, alloc, text), seed);
     }
 }
 
@@ -233,39 +251,76 @@ fn merge<T: Timeline, U: Timeline>(
     replica.merge(alloc, other).expect(rt, "room");
 }
 
-#[test]
-fn answers_after_merges(rt: HostRuntime) {
-    let alloc = rt.alloc();
+/// Both take what the peer has, and the peer what they have.
+fn merge_all<T: Timeline, U: Timeline>(
+    rt: &impl Abort,
+    alloc: Global,
+    one: &mut Replica<T>,
+    twin: &mut Replica<U>,
+    peer: &mut Replica<T>,
+) {
+    merge(rt, alloc, one, peer);
+    merge(rt, alloc, twin, peer);
+    merge(rt, alloc, peer, twin);
+}
+
+/// The peer takes a drawn record, or both do; and where both take it or all merge, `least` is the least tag that
+/// changed. Answers the number of the turn.
+fn take_turn<T: Timeline, U: Timeline>(
+    rt: &impl Abort,
+    alloc: Global,
+    one: &mut Replica<T>,
+    twin: &mut Replica<U>,
+    peer: &mut Replica<T>,
+    dice: &mut Dice,
+    least: &mut Option<Tag>,
+) -> u64 {
+    let record = drawn(rt, dice);
+    let turn = dice.roll() % 64;
+    if turn < 24 {
+        let _ = peer.take(alloc, &record);
+    } else {
+        take(rt, alloc, one, twin, &record);
+        *least = earlier(*least, changed_tag(&record));
+    }
+    if turn == 0 {
+        merge_all(rt, alloc, one, twin, peer);
+        *least = Some(Tag::beginning_of(0));
+    }
+    turn
+}
+
+/// Both take drawn records, and merge with the peer, and answer the same when they are settled.
+fn merge_alike<T: Timeline, U: Timeline>(
+    rt: &impl Abort,
+    alloc: Global,
+    one: &mut Replica<T>,
+    twin: &mut Replica<U>,
+    peer: &mut Replica<T>,
+) {
     let mut dice = Dice { state: 4 };
-    let mut warp = Replica::<Warp>::new(alloc, program(&rt, alloc, MIXED)).expect(&rt, "memory");
-    let mut plain = Replica::<Plain>::new(alloc, program(&rt, alloc, MIXED)).expect(&rt, "memory");
-    let mut peer = Replica::<Warp>::new(alloc, program(&rt, alloc, MIXED)).expect(&rt, "memory");
-    settle(&rt, alloc, &mut warp);
-    settle(&rt, alloc, &mut plain);
     let mut least = None;
     for _ in 0..1_000 {
-        let record = drawn(&rt, &mut dice);
-        let turn = dice.roll() % 64;
-        if turn < 24 {
-            let _ = peer.take(alloc, &record);
-        } else {
-            take(&rt, alloc, &mut warp, &mut plain, &record);
-            least = earlier(least, changed_tag(&record));
-        }
-        if turn == 0 {
-            merge(&rt, alloc, &mut warp, &peer);
-            merge(&rt, alloc, &mut plain, &peer);
-            merge(&rt, alloc, &mut peer, &plain);
-            least = Some(Tag::beginning_of(0));
-        }
+        let turn = take_turn(rt, alloc, one, twin, peer, &mut dice, &mut least);
         if turn % 4 == 1 {
-            settle(&rt, alloc, &mut peer);
+            settle(rt, alloc, peer);
         }
         if turn % 4 == 2 {
-            settle_both(&rt, alloc, &mut warp, &mut plain, least);
+            settle_both(rt, alloc, one, twin, least);
             least = None;
         }
     }
+}
+
+#[test]
+fn answers_after_merges(rt: HostRuntime) {
+    let alloc = rt.alloc();
+    let mut warp = replica::<Warp>(&rt, alloc, program(&rt, alloc, MIXED));
+    let mut plain = replica::<Plain>(&rt, alloc, program(&rt, alloc, MIXED));
+    let mut peer = replica::<Warp>(&rt, alloc, program(&rt, alloc, MIXED));
+    settle(&rt, alloc, &mut warp);
+    settle(&rt, alloc, &mut plain);
+    merge_alike(&rt, alloc, &mut warp, &mut plain, &mut peer);
     assert!(rt; warp.len() > 500);
 }
 
@@ -326,30 +381,52 @@ fn rework_is_bounded(rt: HostRuntime) {
     takes_rows(&rt, alloc, &mut replica, &event(&rt, 0, 40, 0), 0);
 }
 
+/// Both take four hundred events, and the one settles after each.
+fn take_many<T: Timeline, U: Timeline>(
+    rt: &impl Abort,
+    alloc: Global,
+    one: &mut Replica<T>,
+    twin: &mut Replica<U>,
+) {
+    for time in 1..=400 {
+        let record = event(rt, 0, 10 * time, time as i64);
+        take(rt, alloc, one, twin, &record);
+        settle(rt, alloc, one);
+    }
+}
+
+/// Both take a tardy record, which costs the one few rows, and answer the same.
+fn take_tardy<T: Timeline, U: Timeline>(
+    rt: &impl Abort,
+    alloc: Global,
+    one: &mut Replica<T>,
+    twin: &mut Replica<U>,
+    record: &Record,
+) {
+    take(rt, alloc, one, twin, record);
+    let rows = settle(rt, alloc, one);
+    assert!(rt; rows <= 50, "{rows} rows after {record:?}");
+    settle(rt, alloc, twin);
+    agree_in_all(rt, one, twin);
+}
+
 /// After four hundred events of a program that keeps the last value alone, a tardy one costs few rows, and so do its
 /// withdrawal and another value: where the state is again what it was, what was executed stands.
 #[test]
 fn what_is_forgotten_costs_little(rt: HostRuntime) {
     let alloc = rt.alloc();
-    let mut warp = Replica::<Warp>::new(alloc, program(&rt, alloc, LATEST)).expect(&rt, "memory");
-    let mut plain = Replica::<Plain>::new(alloc, program(&rt, alloc, LATEST)).expect(&rt, "memory");
-    for time in 1..=400 {
-        let record = event(&rt, 0, 10 * time, time as i64);
-        take(&rt, alloc, &mut warp, &mut plain, &record);
-        settle(&rt, alloc, &mut warp);
-    }
-    let tardy = [
-        event(&rt, 0, 15, 7),
-        event(&rt, 1, 2_000, 8),
-        withdrawal(&rt, 0, 15),
-        event(&rt, 0, 20, 9),
-        withdrawal(&rt, 0, 2_560),
-    ];
-    for record in &tardy {
-        take(&rt, alloc, &mut warp, &mut plain, record);
-        let rows = settle(&rt, alloc, &mut warp);
-        assert!(rt; rows <= 50, "{rows} rows after {record:?}");
-        settle(&rt, alloc, &mut plain);
-        agree_in_all(&rt, &warp, &plain);
-    }
+    let mut warp = replica::<Warp>(&rt, alloc, program(&rt, alloc, LATEST));
+    let mut plain = replica::<Plain>(&rt, alloc, program(&rt, alloc, LATEST));
+    take_many(&rt, alloc, &mut warp, &mut plain);
+    take_tardy(&rt, alloc, &mut warp, &mut plain, &event(&rt, 0, 15, 7));
+    take_tardy(&rt, alloc, &mut warp, &mut plain, &event(&rt, 1, 2_000, 8));
+    take_tardy(&rt, alloc, &mut warp, &mut plain, &withdrawal(&rt, 0, 15));
+    take_tardy(&rt, alloc, &mut warp, &mut plain, &event(&rt, 0, 20, 9));
+    take_tardy(
+        &rt,
+        alloc,
+        &mut warp,
+        &mut plain,
+        &withdrawal(&rt, 0, 2_560),
+    );
 }

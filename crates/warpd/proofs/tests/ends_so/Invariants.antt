@@ -1,5 +1,5 @@
 -- The ledgers of the two streams are the two new ones.
-use Rattle.warpd.proofs.tests.a_run_answers_and_tells_how_it_ended.Given as goal
+use Rattle.warpd.proofs.tests.ends_so.Given as goal
 
 abbrev pub ghosts-run_over-L-Ledger : goal.ghosts-run_over-L-Ledger
 ghosts-run_over-L-Ledger g a = record { name = a.reads.name; parts = a.reads.parts }
