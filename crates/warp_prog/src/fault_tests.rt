@@ -103,7 +103,7 @@ fn fault_of_depth(
 }
 
 /// The first keys of a file, and its fault.
-const NUMBERS: [(&str, u8); 10] = [
+const NUMBERS: &[(&str, u8)] = &[
     (r#""version":1,"stop":0,"origins":1"#, 0),
     (r#""version":0,"stop":0,"origins":1"#, 3),
     (r#""version":2,"stop":0,"origins":1"#, 3),
@@ -118,7 +118,7 @@ const NUMBERS: [(&str, u8); 10] = [
 
 #[test]
 fn numbers(rt: HostRuntime) -> Result<(), Fail> {
-    for (part, wanted) in NUMBERS {
+    for &(part, wanted) in NUMBERS {
         let found = fault_of(rt.alloc(), "{", part, r#","reactors":[{"name":"r"}]}"#)?;
         assert_eq!(rt; found, wanted, "{part}");
     }
@@ -126,7 +126,7 @@ fn numbers(rt: HostRuntime) -> Result<(), Fail> {
 }
 
 /// Reactors, and the fault of a file that has them.
-const REACTORS: [(&str, u8); 28] = [
+const REACTORS: &[(&str, u8)] = &[
     (
         r#"{"name":"r","vars":[["v",-9223372036854775808],["w",9223372036854775807]]}"#,
         0,
@@ -171,7 +171,7 @@ const REACTORS: [(&str, u8); 28] = [
 
 #[test]
 fn reactors(rt: HostRuntime) -> Result<(), Fail> {
-    for (part, wanted) in REACTORS {
+    for &(part, wanted) in REACTORS {
         let found = fault_of(
             rt.alloc(),
             r#"{"version":1,"stop":1,"origins":1,"reactors":["#,
@@ -184,7 +184,7 @@ fn reactors(rt: HostRuntime) -> Result<(), Fail> {
 }
 
 /// What names ports, and the fault of a file that has it.
-const PORTS: [(&str, u8); 25] = [
+const PORTS: &[(&str, u8)] = &[
     (
         r#""links":[["r.o","s.i"],["r.o","s.j"],["s.o","r.i",0],["r.p","r.j",1000000]]"#,
         0,
@@ -223,7 +223,7 @@ const PORTS: [(&str, u8); 25] = [
 
 #[test]
 fn ports(rt: HostRuntime) -> Result<(), Fail> {
-    for (part, wanted) in PORTS {
+    for &(part, wanted) in PORTS {
         let found = fault_of(
             rt.alloc(),
             r#"{"version":1,"stop":1,"origins":2,"reactors":[{"name":"r","inputs":["i","j"],
@@ -237,7 +237,7 @@ fn ports(rt: HostRuntime) -> Result<(), Fail> {
 }
 
 /// Reactors whose parts share names, and the fault of a file that has them.
-const SHARED_NAMES: [(&str, u8); 6] = [
+const SHARED_NAMES: &[(&str, u8)] = &[
     (
         r#"{"name":"r","vars":[["a",0]],"inputs":["a"],"reactions":[{"on":["a"],"body":[["set","a","a"]]}]}"#,
         5,
@@ -267,7 +267,7 @@ const SHARED_NAMES: [(&str, u8); 6] = [
 
 #[test]
 fn shared_names(rt: HostRuntime) -> Result<(), Fail> {
-    for (part, wanted) in SHARED_NAMES {
+    for &(part, wanted) in SHARED_NAMES {
         let found = fault_of(
             rt.alloc(),
             r#"{"version":1,"stop":1,"origins":1,"reactors":["#,
@@ -287,7 +287,7 @@ fn shared_names(rt: HostRuntime) -> Result<(), Fail> {
 }
 
 /// What a reaction says, and the fault of a file that has it.
-const REACTIONS: [(&str, u8); 37] = [
+const REACTIONS: &[(&str, u8)] = &[
     (
         r#""on":["i","a","t","startup","i"],"reads":["i","a","t","startup"],"writes":["o","a","o"]"#,
         0,
@@ -376,7 +376,7 @@ const REACTIONS: [(&str, u8); 37] = [
 
 #[test]
 fn reactions(rt: HostRuntime) -> Result<(), Fail> {
-    for (part, wanted) in REACTIONS {
+    for &(part, wanted) in REACTIONS {
         let found = fault_of(
             rt.alloc(),
             r#"{"version":1,"stop":1,"origins":1,"reactors":[{"name":"q"},{"name":"r","vars":[["v",0]],
@@ -390,7 +390,7 @@ fn reactions(rt: HostRuntime) -> Result<(), Fail> {
 }
 
 /// A text, a piece, and a text behind; how often the piece may stand there, and the fault where it stands so often.
-const COUNTS: [(&str, &str, &str, u16, u8); 17] = [
+const COUNTS: &[(&str, &str, &str, u16, u8)] = &[
     ("", r#"{"name":"r"}"#, "]", 64, 5),
     (r#"{"name":"r","vars":["#, r#"["v",0]"#, "]}]", 256, 5),
     (
@@ -467,7 +467,7 @@ const COUNTS: [(&str, &str, &str, u16, u8); 17] = [
 /// With more than the most, the limit is the fault; with the most, that they share a name or that nothing has the name.
 #[test]
 fn counts(rt: HostRuntime) -> Result<(), Fail> {
-    for (before, piece, after, most, wanted) in COUNTS {
+    for &(before, piece, after, most, wanted) in COUNTS {
         let most = usize::from(most);
         for (times, wanted) in [(most, wanted), (most + 1, 3)] {
             let found = fault_of_row(&rt, rt.alloc(), (before, piece, after), times)?;
@@ -478,7 +478,7 @@ fn counts(rt: HostRuntime) -> Result<(), Fail> {
 }
 
 /// A text, one that opens, one inside, one that closes and one behind; and how often the two may stand there.
-const DEPTHS: [(&str, &str, &str, &str, &str, u16); 12] = [
+const DEPTHS: &[(&str, &str, &str, &str, &str, u16)] = &[
     (r#"["set","v","#, r#"["neg","#, "1", "]", "]", 23),
     (r#"["put","o","#, r#"["+",1,"#, r#""v""#, "]", "]", 23),
     (
@@ -516,7 +516,7 @@ const DEPTHS: [(&str, &str, &str, &str, &str, u16); 12] = [
 
 #[test]
 fn depths(rt: HostRuntime) -> Result<(), Fail> {
-    for (before, open, middle, close, after, most) in DEPTHS {
+    for &(before, open, middle, close, after, most) in DEPTHS {
         let most = usize::from(most);
         for (times, wanted) in [(most, 0), (most + 1, 3)] {
             let texts = (before, open, middle, close, after);

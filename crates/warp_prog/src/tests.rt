@@ -60,7 +60,7 @@ fn fault(alloc: Global, at: At, text: &str) -> u8 {
 }
 
 /// Texts that are read where they stand.
-const READ: [(At, &str); 14] = [
+const READ: &[(At, &str)] = &[
     (At::Top, r#""links":[],"inputs":[],"outputs":[]"#),
     (At::Top, r#""links":[["r.y","r.x"],["r.y","r.x",4]]"#),
     (At::Top, r#""inputs":[[0,"r.x"]],"outputs":["r.y","s_1.Z"]"#),
@@ -86,13 +86,13 @@ const READ: [(At, &str); 14] = [
 /// Texts that are read where they stand: each key of each table with a value that it may have.
 #[test]
 fn read(rt: HostRuntime) {
-    for (at, text) in READ {
+    for &(at, text) in READ {
         assert_eq!(rt; fault(rt.alloc(), at, text), 0, "{text}");
     }
 }
 
 /// Texts that a file may not have at its top.
-const NOT_AT_THE_TOP: [(At, &str); 36] = [
+const NOT_AT_THE_TOP: &[(At, &str)] = &[
     (At::File, "null"),
     (At::File, "[]"),
     (At::File, r#""version""#),
@@ -152,13 +152,13 @@ const NOT_AT_THE_TOP: [(At, &str); 36] = [
 /// Texts that no table of the format allows where they stand.
 #[test]
 fn refused_by_the_top_table(rt: HostRuntime) {
-    for (at, text) in NOT_AT_THE_TOP {
+    for &(at, text) in NOT_AT_THE_TOP {
         assert_eq!(rt; fault(rt.alloc(), at, text), 2, "{text}");
     }
 }
 
 /// Texts that a reactor may not have.
-const NOT_IN_A_REACTOR: [(At, &str); 32] = [
+const NOT_IN_A_REACTOR: &[(At, &str)] = &[
     (At::Reactors, "[{}]"),
     (At::Reactors, r#"[{"name":1}]"#),
     (At::Reactors, r#"[{"name":""}]"#),
@@ -199,13 +199,13 @@ const NOT_IN_A_REACTOR: [(At, &str); 32] = [
 /// The same of reactors.
 #[test]
 fn refused_by_the_reactor_table(rt: HostRuntime) {
-    for (at, text) in NOT_IN_A_REACTOR {
+    for &(at, text) in NOT_IN_A_REACTOR {
         assert_eq!(rt; fault(rt.alloc(), at, text), 2, "{text}");
     }
 }
 
 /// Texts that a reaction may not have.
-const NOT_IN_A_REACTION: [(At, &str); 33] = [
+const NOT_IN_A_REACTION: &[(At, &str)] = &[
     (At::Reactor, r#""reactions":[{"reads":["a"]}]"#),
     (At::Reactor, r#""reactions":[{"on":[]}]"#),
     (At::Reactor, r#""reactions":[{"on":"a"}]"#),
@@ -244,13 +244,13 @@ const NOT_IN_A_REACTION: [(At, &str); 33] = [
 /// The same of reactions and their statements.
 #[test]
 fn refused_by_the_reaction_table(rt: HostRuntime) {
-    for (at, text) in NOT_IN_A_REACTION {
+    for &(at, text) in NOT_IN_A_REACTION {
         assert_eq!(rt; fault(rt.alloc(), at, text), 2, "{text}");
     }
 }
 
 /// Texts that are no statement or no expression.
-const NO_EXPRESSIONS: [(At, &str); 28] = [
+const NO_EXPRESSIONS: &[(At, &str)] = &[
     (At::Expression, "null"),
     (At::Expression, "true"),
     (At::Expression, "{}"),
@@ -284,7 +284,7 @@ const NO_EXPRESSIONS: [(At, &str); 28] = [
 /// The same of expressions.
 #[test]
 fn refused_as_expressions(rt: HostRuntime) {
-    for (at, text) in NO_EXPRESSIONS {
+    for &(at, text) in NO_EXPRESSIONS {
         assert_eq!(rt; fault(rt.alloc(), at, text), 2, "{text}");
     }
 }
