@@ -107,30 +107,51 @@ fn ask<D: Desk>(desk: &mut D, line: Line) -> Reply {
     desk.ask(line)
 }
 
+/// Records that are taken, and some of them again.
+fn taken(rt: &impl Abort) -> [(Record, Result<Took, Refusal>); 7] {
+    [
+        (event(rt, 0, 5, 0, 3), Ok(Took::New(1))),
+        (event(rt, 1, 7, 1, 4), Ok(Took::New(2))),
+        (withdraw(rt, 0, 5), Ok(Took::New(3))),
+        (announce(rt, 1, 101, 0), Ok(Took::New(4))),
+        (event(rt, 0, 5, 0, 3), Ok(Took::Known(1))),
+        (withdraw(rt, 0, 5), Ok(Took::Known(3))),
+        (announce(rt, 1, 101, 0), Ok(Took::Known(4))),
+    ]
+}
+
+/// Records that are refused.
+fn refused(rt: &impl Abort) -> [(Record, Result<Took, Refusal>); 8] {
+    [
+        (event(rt, 2, 101, 2, 3), Err(Refusal::NoOrigin)),
+        (withdraw(rt, 2, 101), Err(Refusal::NoOrigin)),
+        (announce(rt, 2, 101, 1), Err(Refusal::NoOrigin)),
+        (event(rt, 0, 101, 2, 3), Err(Refusal::PastStop)),
+        (withdraw(rt, 0, 101), Err(Refusal::PastStop)),
+        (announce(rt, 0, 101, 1), Err(Refusal::PastStop)),
+        (event(rt, 0, 5, 2, 3), Err(Refusal::NoInput)),
+        (event(rt, 0, 5, 1, 3), Err(Refusal::NotYours)),
+    ]
+}
+
+/// The replica takes these records with these answers.
+fn takes(
+    rt: &impl Abort,
+    alloc: Global,
+    replica: &mut Replica<Plain>,
+    rows: &[(Record, Result<Took, Refusal>)],
+) {
+    for (record, answer) in rows {
+        assert_eq!(rt; replica.take(alloc, record), *answer);
+    }
+}
+
 #[test]
 fn records(rt: HostRuntime) {
     let alloc = rt.alloc();
     let mut replica = replica(&rt, alloc);
-    let rows = [
-        (event(&rt, 0, 5, 0, 3), Ok(Took::New(1))),
-        (event(&rt, 1, 7, 1, 4), Ok(Took::New(2))),
-        (withdraw(&rt, 0, 5), Ok(Took::New(3))),
-        (announce(&rt, 1, 101, 0), Ok(Took::New(4))),
-        (event(&rt, 0, 5, 0, 3), Ok(Took::Known(1))),
-        (withdraw(&rt, 0, 5), Ok(Took::Known(3))),
-        (announce(&rt, 1, 101, 0), Ok(Took::Known(4))),
-        (event(&rt, 2, 101, 2, 3), Err(Refusal::NoOrigin)),
-        (withdraw(&rt, 2, 101), Err(Refusal::NoOrigin)),
-        (announce(&rt, 2, 101, 1), Err(Refusal::NoOrigin)),
-        (event(&rt, 0, 101, 2, 3), Err(Refusal::PastStop)),
-        (withdraw(&rt, 0, 101), Err(Refusal::PastStop)),
-        (announce(&rt, 0, 101, 1), Err(Refusal::PastStop)),
-        (event(&rt, 0, 5, 2, 3), Err(Refusal::NoInput)),
-        (event(&rt, 0, 5, 1, 3), Err(Refusal::NotYours)),
-    ];
-    for (record, answer) in rows {
-        assert_eq!(rt; replica.take(alloc, &record), answer);
-    }
+    takes(&rt, alloc, &mut replica, &taken(&rt));
+    takes(&rt, alloc, &mut replica, &refused(&rt));
     assert_eq!(rt; replica.len(), 4);
     assert!(rt; !replica.is_settled());
     let reply = plain_total(&rt, &mut replica, alloc);
@@ -139,59 +160,82 @@ fn records(rt: HostRuntime) {
     assert_eq!(rt; replica.program().origins(), 2);
 }
 
-#[test]
-fn lines(rt: HostRuntime) {
-    let mut desk = Local::new(rt.alloc(), replica(&rt, rt.alloc()));
-    let rows = [
+/// Lines, and their replies.
+fn first_lines(rt: &impl Abort) -> [(Line, Reply); 9] {
+    [
         (Line::Ask(Query::Var(0)), Reply::Var { log: 0, value: 0 }),
         (
             Line::Ask(Query::Outputs),
             Reply::Outputs { log: 0, count: 0 },
         ),
-        (Line::Put(event(&rt, 0, 5, 0, 3)), Reply::Taken(1)),
+        (Line::Put(event(rt, 0, 5, 0, 3)), Reply::Taken(1)),
         (Line::Ask(Query::Var(0)), Reply::Var { log: 1, value: 3 }),
         (
             Line::Ask(Query::Output(0)),
             Reply::Output {
                 log: 1,
-                output: output(&rt, 5, 3),
+                output: output(rt, 5, 3),
             },
         ),
         (Line::Ask(Query::Output(1)), Reply::Nothing { log: 1 }),
-        (Line::Put(event(&rt, 0, 5, 0, 3)), Reply::Known(1)),
-        (Line::Put(event(&rt, 0, 4, 0, 1)), Reply::Taken(2)),
+        (Line::Put(event(rt, 0, 5, 0, 3)), Reply::Known(1)),
+        (Line::Put(event(rt, 0, 4, 0, 1)), Reply::Taken(2)),
         (Line::Ask(Query::Var(0)), Reply::Var { log: 2, value: 5 }),
+    ]
+}
+
+/// Further lines, and their replies.
+fn later_lines(rt: &impl Abort) -> [(Line, Reply); 8] {
+    [
         (
             Line::Ask(Query::Outputs),
             Reply::Outputs { log: 2, count: 2 },
         ),
-        (Line::Put(withdraw(&rt, 1, 6)), Reply::Taken(3)),
-        (Line::Put(event(&rt, 1, 6, 1, 9)), Reply::Taken(4)),
+        (Line::Put(withdraw(rt, 1, 6)), Reply::Taken(3)),
+        (Line::Put(event(rt, 1, 6, 1, 9)), Reply::Taken(4)),
         (Line::Ask(Query::Var(0)), Reply::Var { log: 4, value: 5 }),
-        (Line::Put(withdraw(&rt, 0, 4)), Reply::Taken(5)),
+        (Line::Put(withdraw(rt, 0, 4)), Reply::Taken(5)),
         (Line::Ask(Query::Var(0)), Reply::Var { log: 5, value: 3 }),
         (Line::Ask(Query::Lost), Reply::Lost { log: 5, count: 0 }),
         (Line::Collect, Reply::Collected { log: 5 }),
+    ]
+}
+
+/// Lines that tell nothing, or are refused.
+fn last_lines(rt: &impl Abort) -> [(Line, Reply); 7] {
+    [
         (Line::Ask(Query::Var(0)), Reply::Var { log: 5, value: 3 }),
         (Line::Ask(Query::Log(0)), Reply::Nothing { log: 5 }),
         (
             Line::Ask(Query::Log(3)),
             Reply::Log {
                 log: 5,
-                record: withdraw(&rt, 1, 6),
+                record: withdraw(rt, 1, 6),
             },
         ),
         (Line::Ask(Query::Log(6)), Reply::Nothing { log: 5 }),
         (Line::Ask(Query::Var(1)), Reply::Refused(Refusal::NoVar)),
         (Line::Look(Look::Board), Reply::Refused(Refusal::NoBoard)),
         (
-            Line::Put(withdraw(&rt, 2, 6)),
+            Line::Put(withdraw(rt, 2, 6)),
             Reply::Refused(Refusal::NoOrigin),
         ),
-    ];
+    ]
+}
+
+/// The desk replies so to these lines.
+fn replies(rt: &impl Abort, desk: &mut Local<Plain>, rows: &[(Line, Reply)]) {
     for (line, reply) in rows {
-        assert_eq!(rt; ask(&mut desk, line), reply, "{line:?}");
+        assert_eq!(rt; ask(desk, *line), *reply, "{line:?}");
     }
+}
+
+#[test]
+fn lines(rt: HostRuntime) {
+    let mut desk = Local::new(rt.alloc(), replica(&rt, rt.alloc()));
+    replies(&rt, &mut desk, &first_lines(&rt));
+    replies(&rt, &mut desk, &later_lines(&rt));
+    replies(&rt, &mut desk, &last_lines(&rt));
     // A new record is settled at once.
     let last = ask(&mut desk, Line::Put(event(&rt, 1, 8, 1, 1)));
     assert_eq!(rt; last, Reply::Taken(6));
@@ -248,10 +292,9 @@ fn full_log(rt: HostRuntime) {
     assert_eq!(rt; full.take(alloc, &news[1]), Err(Refusal::LogFull));
 }
 
-#[test]
-fn programs(rt: HostRuntime) {
-    let alloc = rt.alloc();
-    let nothing = Program::new(Parts {
+/// A program of nothing.
+fn nothing(alloc: Global) -> Program {
+    Program::new(Parts {
         stop: 100,
         origins: 2,
         reactors: 0,
@@ -263,8 +306,13 @@ fn programs(rt: HostRuntime) {
         links: Vec::new(alloc),
         inputs: Vec::new(alloc),
         outputs: Vec::new(alloc),
-    });
-    let other = Replica::<Plain>::new(alloc, nothing).expect(&rt, "memory");
+    })
+}
+
+#[test]
+fn programs(rt: HostRuntime) {
+    let alloc = rt.alloc();
+    let other = Replica::<Plain>::new(alloc, nothing(alloc)).expect(&rt, "memory");
     let twice = replica(&rt, alloc);
     assert!(rt; twice.same_program(&twice) && !twice.same_program(&other));
 }
