@@ -7,7 +7,7 @@ use mathlib.Core.Option.{some, none, some-injective, some-ne-none}
 use lib.ListN.{get_elem?}
 use Rattle.atomic_table.specs.Table.{State, step, stepped, keeps, Allows, Splits, Joins, opening}
 use Rattle.atomic_table.proofs.Lists.{at_set, at_snoc, set_again, set_else}
-use Rattle.warp_step.specs.declared.out.Out.{Out}
+use Rattle.warp_tag.specs.declared.out.Out.{Out}
 use Rattle.warp_board.specs.declared.notes.Notes.{Notes}
 use Rattle.warp_tag.specs.Lists.{StartsWith}
 use Rattle.warp_board.specs.Board.{BoardState}

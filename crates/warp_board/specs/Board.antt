@@ -1,7 +1,7 @@
 -- What a board is, and what its writer and its readers know of it.
 use Rattle.std.specs.Prelude.{ℕ, ◌-◌, ◌/◌, Bool, List}
 use Rattle.atomic_table.specs.Seated.{TableId}
-use Rattle.warp_step.specs.declared.out.Out.{Out}
+use Rattle.warp_tag.specs.declared.out.Out.{Out}
 
 -- for how many rows a board has room: two words each, behind the count and the flag
 abbrev pub room_of : TableId → ℕ

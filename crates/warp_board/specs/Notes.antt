@@ -1,6 +1,6 @@
 -- What a seat at a board's table knows, and how two seats' notes become one.
 use Rattle.std.specs.Prelude.{ℕ, Bool, false, List, []}
-use Rattle.warp_step.specs.declared.out.Out.{Out}
+use Rattle.warp_tag.specs.declared.out.Out.{Out}
 use Rattle.warp_board.specs.declared.notes.Notes.{Notes}
 
 -- between two calls: no word is staged, and nothing that was taken in waits to be compared

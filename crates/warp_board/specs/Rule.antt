@@ -4,7 +4,7 @@ use mathlib.Core.Option.{some}
 use lib.ListN.{get_elem?}
 use Rattle.atomic_table.specs.Table.{State}
 use Rattle.warp_tag.specs.Lists.{StartsWith}
-use Rattle.warp_step.specs.declared.out.Out.{Out}
+use Rattle.warp_tag.specs.declared.out.Out.{Out}
 use Rattle.warp_board.specs.declared.notes.Notes.{Notes}
 use Rattle.warp_board.specs.Board.{BoardState}
 use Rattle.warp_board.specs.Spelling.{Spells}

@@ -3,7 +3,7 @@ use Rattle.std.specs.Prelude.{◌≡◌, ℕ, ◌+◌, ◌*◌, ◌<◌, FitsSig
 use Rattle.std.specs.Int.{w64, cast_unsigned}
 use Rattle.warp_tag.specs.Limits.{most_outputs}
 use Rattle.warp_tag.specs.Moment.{IsInRange}
-use Rattle.warp_step.specs.declared.out.Out.{Out}
+use Rattle.warp_tag.specs.declared.out.Out.{Out}
 
 -- the time, the microstep and the port, side by side
 abbrev pub first_word : Out → ℕ

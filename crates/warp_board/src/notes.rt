@@ -1,5 +1,5 @@
 //! What one seat at a board's table knows.
-use warp_step::Out;
+use warp_tag::Out;
 
 /// What a seat knows of its board. No value of it is made. A clause reads an array as a list, of any length.
 pub struct Notes {

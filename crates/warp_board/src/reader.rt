@@ -7,7 +7,7 @@ use crate::rule::{Copies, LoadCount, LoadFlag, LoadWord, TakesIn};
 use crate::spell::read_row;
 use crate::words::{Board, Seat};
 use std::marker::Model;
-use warp_step::Out;
+use warp_tag::Out;
 
 /// A reader of a board. What it has seen never changes. Contracts see it as the board, the rows below the count that it
 /// knows, and whether it saw the flag up.

@@ -1,11 +1,10 @@
 //! How a row is spelled in two words.
 ghost use Rattle.std.specs.Prelude.{◌≡◌, ◌<◌, ◌↔◌, Some};
 ghost use Rattle.warp_tag.specs.Limits.{most_outputs};
-ghost use Rattle.warp_step.specs.declared.out.Out.{Out};
+ghost use Rattle.warp_tag.specs.declared.out.Out.{Out};
 ghost use Rattle.warp_board.specs.Spelling.{Spells};
 
-use warp_step::Out;
-use warp_tag::Tag;
+use warp_tag::{Out, Tag};
 
 /// How many ports a row can name: 0 to 63.
 pub const PORTS: u32 = 64;

@@ -10,8 +10,7 @@ use std::test::Fail;
 use std::thread;
 use std::thread::Threads;
 use std::time::{Clock, Duration};
-use warp_step::Out;
-use warp_tag::Tag;
+use warp_tag::{Out, Tag};
 
 fn out(time: u64, micro: u32, port: u32, value: i64) -> Option<Out>
     requires { port < PORTS }

@@ -11,8 +11,7 @@ use crate::spell::spell_row;
 use crate::words::{Board, Seat};
 use std::marker::Model;
 use std::mem;
-use warp_step::Out;
-use warp_tag::OutOfMemory;
+use warp_tag::{Out, OutOfMemory};
 
 /// The board has no room for another row.
 #[derive(Clone, Copy, Debug, PartialEq, Eq)]

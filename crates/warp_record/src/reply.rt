@@ -5,7 +5,7 @@ ghost use Rattle.std.specs.Fmt.{signed_decimal};
 ghost use Rattle.std.specs.List.{join_with_byte};
 ghost use Rattle.warp_tag.specs.Limits.{greatest_count, most_records};
 ghost use Rattle.warp_tag.specs.Moment.{Moment, IsInRange};
-ghost use Rattle.warp_step.specs.declared.out.Out.{Out};
+ghost use Rattle.warp_tag.specs.declared.out.Out.{Out};
 ghost use Rattle.warp_record.specs.declared.record.Record.{Record};
 ghost use Rattle.warp_record.specs.declared.reply.Refusal.{Refusal};
 ghost use Rattle.warp_record.specs.declared.reply.Reply.{Reply};
@@ -23,8 +23,7 @@ use crate::record::{Record, append_record, append_tag, read_record, read_tag};
 use crate::room::REPLY_ROOM;
 use crate::words::{is_keyword, split_words};
 use itoa::write_digits;
-use warp_step::Out;
-use warp_tag::Tag;
+use warp_tag::{Out, Tag};
 
 // The first words of replies that begin no line. That of `none` stands alone or before a length.
 const TAKEN: &[u8] = b"taken";

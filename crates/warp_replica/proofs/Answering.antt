@@ -12,7 +12,7 @@ use Rattle.warp_step.specs.Snapshot.{Snapshot, start_state}
 use Rattle.warp_step.specs.Run.{Row, Run, state_at_end, outputs_of}
 use Rattle.warp_step.specs.Events.{is_declared}
 use Rattle.warp_step.specs.Valid.{is_valid}
-use Rattle.warp_step.specs.declared.out.Out.{Out}
+use Rattle.warp_tag.specs.declared.out.Out.{Out}
 use Rattle.warp_step.proofs.ValidLemmas.{validity}
 use Rattle.warp_step.proofs.OutputsOfRun.{output_within}
 use Rattle.warp_record.specs.declared.record.Record.{Record}

@@ -6,7 +6,7 @@ use Rattle.warp_tag.specs.Lists.{StartsWith}
 use Rattle.warp_tag.specs.Moment.{is_before}
 use Rattle.warp_step.specs.Program.{Program}
 use Rattle.warp_step.specs.Run.{events_until, outputs_of, outputs_until}
-use Rattle.warp_step.specs.declared.out.Out.{Out}
+use Rattle.warp_tag.specs.declared.out.Out.{Out}
 use Rattle.warp_step.proofs.OutputsBefore.{early_outputs, front_taken, later_begins}
 use Rattle.warp_step.proofs.RowsBefore.{early_rows}
 use Rattle.warp_table.specs.Announced.{IsHonest, IsWithin}

@@ -5,7 +5,7 @@ use Rattle.warp_tag.specs.Table.{Event}
 use Rattle.warp_step.specs.Program.{Program}
 use Rattle.warp_step.specs.Snapshot.{Snapshot, start_state}
 use Rattle.warp_step.specs.Run.{Row, Run, state_at_end, outputs_of, outputs_until}
-use Rattle.warp_step.specs.declared.out.Out.{Out}
+use Rattle.warp_tag.specs.declared.out.Out.{Out}
 use Rattle.warp_table.specs.Records.{Records, HasSize}
 use Rattle.warp_table.specs.Names.{IsLive}
 use Rattle.warp_table.specs.Announced.{IsHorizon, IsBroken}

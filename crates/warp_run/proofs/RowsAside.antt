@@ -8,7 +8,7 @@ use Rattle.warp_tag.specs.Table.{Event}
 use Rattle.warp_step.specs.Program.{Program}
 use Rattle.warp_step.specs.Snapshot.{Snapshot, start_state}
 use Rattle.warp_step.specs.Run.{Row, is_after, state_at_end, outputs_of}
-use Rattle.warp_step.specs.declared.out.Out.{Out}
+use Rattle.warp_tag.specs.declared.out.Out.{Out}
 use Rattle.warp_line.specs.Begin.{Begin, BeginFrom, last_after}
 use Rattle.warp_run.specs.Aside.{AreAside, IsFrom, KeepsFrom, Leads, SetAside, set_aside, since}
 use Rattle.warp_run.specs.Front.{AreSaved, IsSaved}

@@ -11,7 +11,7 @@ use Rattle.warp_tag.specs.Table.{Event}
 use Rattle.warp_step.specs.Program.{Program}
 use Rattle.warp_step.specs.Snapshot.{Snapshot, start_state}
 use Rattle.warp_step.specs.Run.{Row, Run, RunFrom, is_after, state_at_end, outputs_of}
-use Rattle.warp_step.specs.declared.out.Out.{Out}
+use Rattle.warp_tag.specs.declared.out.Out.{Out}
 use Rattle.warp_step.proofs.PartedLists.{filter_none}
 use Rattle.warp_step.proofs.RowsBefore.{none_early}
 use Rattle.warp_line.specs.Begin.{Begin, last_after}

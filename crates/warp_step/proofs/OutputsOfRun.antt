@@ -12,7 +12,7 @@ use Rattle.warp_step.specs.Program.{Program}
 use Rattle.warp_step.specs.Snapshot.{Snapshot, start_state}
 use Rattle.warp_step.specs.Step.{reacted, with_output, outputs_from}
 use Rattle.warp_step.specs.Run.{Row, Run, RunFrom, given_at, outputs_of}
-use Rattle.warp_step.specs.declared.out.Out.{Out}
+use Rattle.warp_tag.specs.declared.out.Out.{Out}
 use Rattle.warp_step.proofs.ValidLemmas.{list_all_get}
 
 -- all outputs have numbers below this one

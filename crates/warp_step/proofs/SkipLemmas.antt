@@ -16,7 +16,7 @@ use Rattle.warp_step.specs.Program.{Program, Rule}
 use Rattle.warp_step.specs.Snapshot.{Snapshot, landed}
 use Rattle.warp_step.specs.Step.{Reacting, after_reactions, delivered, is_triggered, numbers, outputs_from, repeats, with_links, with_output, with_repeats}
 use Rattle.warp_step.specs.declared.parts.Link.{Link}
-use Rattle.warp_step.specs.declared.out.Out.{Out}
+use Rattle.warp_tag.specs.declared.out.Out.{Out}
 use Rattle.warp_step.specs.declared.parts.Timer.{Timer}
 use Rattle.warp_step.specs.inner.Due.{AreMarked}
 use Rattle.warp_step.proofs.DueLemmas.{skip, unmarked}

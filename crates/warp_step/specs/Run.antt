@@ -6,8 +6,8 @@ use Rattle.warp_tag.specs.Table.{Event}
 use Rattle.warp_step.specs.Program.{Program}
 use Rattle.warp_step.specs.Snapshot.{Snapshot, start_state}
 use Rattle.warp_step.specs.Step.{Step}
-use Rattle.warp_step.specs.declared.out.Given.{Given}
-use Rattle.warp_step.specs.declared.out.Out.{Out}
+use Rattle.warp_step.specs.declared.given.Given.{Given}
+use Rattle.warp_tag.specs.declared.out.Out.{Out}
 
 -- a row of a trace: the tag of a step, the state after it, and its outputs
 pub record Row : Type 0 where

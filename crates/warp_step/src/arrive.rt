@@ -13,8 +13,8 @@ ghost use Rattle.warp_step.specs.inner.Due.{AreDue};
 ghost use Rattle.warp_step.specs.inner.Front.{HasOtherHead};
 ghost use Rattle.warp_step.specs.inner.Sure.{IsSure};
 
+use crate::given::Given;
 use crate::marks::Marks;
-use crate::out::Given;
 use crate::pending::Waiting;
 use crate::plan::{Concerned, NO_REACTION, Plan};
 use crate::program::Program;

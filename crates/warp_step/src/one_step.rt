@@ -11,9 +11,9 @@ ghost use Rattle.warp_step.specs.Step.{CanStep, Step, Room, lists_of, plan_of, r
 ghost use Rattle.warp_step.specs.Step.{state_after};
 
 use crate::arrive::arrive;
+use crate::given::Given;
 use crate::marks::Marks;
 use crate::meter::Meter;
-use crate::out::{Given, Out};
 use crate::parts::Link;
 use crate::plan::Plan;
 use crate::program::Program;
@@ -22,7 +22,7 @@ use crate::state::State;
 use std::alloc::Global;
 use std::marker::Model;
 use warp_body::{Places, Present, Wishes};
-use warp_tag::{OutOfMemory, Tag};
+use warp_tag::{Out, OutOfMemory, Tag};
 
 /// Room that the steps of one program share. Contracts see of which program it is: its places, the sources of its
 /// ports, for how many bodies it keeps wishes, and its plan: whom each place concerns, and the bodies, ready to run.

@@ -17,12 +17,11 @@ ghost use Rattle.warp_step.specs.Step.{Reacting, after_reactions, is_triggered, 
 ghost use Rattle.warp_step.specs.Step.{order_of, outputs_from, plan_of, react, sources_of, with_output};
 
 use crate::marks::{Marks, first_output};
-use crate::out::Out;
 use crate::plan::{Plan, Ready};
 use crate::program::Program;
 use crate::reaction::Reaction;
 use warp_body::{Present, Target, Vars, Wishes};
-use warp_tag::Tag;
+use warp_tag::{Out, Tag};
 
 /// Whether one of the reaction's triggers is present. Where that is sure they are not looked at.
 #[inline(always)]

@@ -6,11 +6,13 @@
 #![tactic(auto)]
 
 mod entry;
+mod out;
 mod tag;
 #[cfg(test)]
 mod tests;
 
 pub use entry::Entry;
+pub use out::Out;
 pub use std::alloc::AllocError as OutOfMemory;
 pub use tag::{
     LAST_MICROSTEP, Landing, MAX_DELAY, MAX_PERIOD, MAX_STOP, MAX_TIME, Tag, tag_limits,

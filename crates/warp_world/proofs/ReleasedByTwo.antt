@@ -3,7 +3,7 @@
 use Rattle.std.proofs.Common.{◌≡◌, ◌⊎◌, List, sym, ap, subst, ◌∙◌}
 use Rattle.warp_tag.specs.Lists.{StartsWith}
 use Rattle.warp_step.specs.Program.{Program}
-use Rattle.warp_step.specs.declared.out.Out.{Out}
+use Rattle.warp_tag.specs.declared.out.Out.{Out}
 use Rattle.warp_table.specs.Announced.{IsHonest, IsWithin}
 use Rattle.warp_table.specs.Records.{Records}
 use Rattle.warp_replica.specs.Answers.{Answers, AreAnswers, IsReleased}

@@ -1,6 +1,6 @@
 use Rattle.std.proofs.Common.{◌≡◌, ℕ, true, Bool, List, [], ◌∷◌, ◌++◌, length, refl, ap, ◌∙◌, arith, rules}
 use Rattle.atomic_table.specs.Seated.{TableId}
-use Rattle.warp_step.specs.declared.out.Out.{Out}
+use Rattle.warp_tag.specs.declared.out.Out.{Out}
 use Rattle.warp_board.specs.Notes.{at_rest}
 use Rattle.warp_board.specs.Steps.{Seat}
 use Rattle.warp_board.proofs.Keeping.{staging, finishing}

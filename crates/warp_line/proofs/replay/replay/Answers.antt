@@ -6,8 +6,8 @@ use Rattle.warp_tag.specs.declared.entry.Entry.{Entry}
 use Rattle.warp_step.specs.Snapshot.{Snapshot, least_pending, start_state}
 use Rattle.warp_step.specs.Run.{given_of}
 use Rattle.warp_step.specs.Events.{event_fits}
-use Rattle.warp_step.specs.declared.out.Given.{Given}
-use Rattle.warp_step.specs.declared.out.Out.{Out}
+use Rattle.warp_step.specs.declared.given.Given.{Given}
+use Rattle.warp_tag.specs.declared.out.Out.{Out}
 use Rattle.warp_line.specs.inner.Replay.{GoesOn, Passes, next_of}
 use Rattle.warp_line.proofs.NextLemmas.{next_entries, next_pending, none_next}
 use Rattle.warp_line.proofs.ReplayLemmas.{can_step, fits_drop, fits_take, passes, table_drop, table_take}

@@ -7,7 +7,7 @@ use Rattle.warp_body.specs.declared.place.Places.{Places}
 use Rattle.warp_body.specs.declared.place.Target.TheVariants as to
 use Rattle.warp_step.specs.Plan.{output_heeds}
 use Rattle.warp_step.specs.Step.{outputs_from, with_output}
-use Rattle.warp_step.specs.declared.out.Out.{Out}
+use Rattle.warp_tag.specs.declared.out.Out.{Out}
 use Rattle.warp_step.specs.inner.Due.{AreMarked}
 use Rattle.warp_step.proofs.ReactLemmas.{outputs_one_more}
 use Rattle.warp_step.proofs.SkipLemmas.{skip_outputs}

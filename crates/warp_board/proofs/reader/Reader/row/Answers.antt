@@ -1,7 +1,7 @@
 use Rattle.std.proofs.Common.{◌≤◌, length, ◌↔◌, IsNone, Option, subst, sym, ◌≡◌, Some, slice_get, refl, ap, ◌∙◌, arith, rules}
 use Rattle.atomic_table.specs.Seated.{TableId}
 use Rattle.atomic_table.specs.Table.{Me}
-use Rattle.warp_step.specs.declared.out.Out.{Out}
+use Rattle.warp_tag.specs.declared.out.Out.{Out}
 use Rattle.warp_board.specs.declared.notes.Notes.{Notes}
 use Rattle.warp_board.specs.Board.{ReaderState}
 use Rattle.warp_board.proofs.Keeping.{reading, answered, none_exactly}

@@ -1,5 +1,5 @@
 use Rattle.std.proofs.Common.{◌≡◌, ◌⊎◌, List, [], refl, sym, subst, ◌∙◌, ap, rules}
-use Rattle.warp_step.specs.declared.out.Out.{Out}
+use Rattle.warp_tag.specs.declared.out.Out.{Out}
 use Rattle.warp_run.specs.Aside.{KeepsFrom, set_aside}
 use Rattle.warp_run.specs.History.{Saves, newest}
 use Rattle.warp_run.proofs.RowsBack.{always_left, goes_back}
