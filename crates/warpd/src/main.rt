@@ -17,8 +17,6 @@ mod programs;
 mod schedule_file;
 mod session;
 mod stream;
-#[cfg(test)]
-mod twins;
 mod words;
 
 ghost use Rattle.std.specs.Prelude.{◌≡◌, ◌≢◌, ◌<◌, ◌⊎◌, IfErr, IfOk, MatchResult, OnOk, codes, map, string_bytes};

@@ -1,0 +1,11 @@
+//! Tests alone: what no line of the program reaches, and no contract says. Each file has one subject, and stands on public calls.
+//!
+//! They stand in a crate of their own since a crate with tests is proved twice.
+#![tactic(auto)]
+
+#[cfg(test)]
+mod dice;
+#[cfg(test)]
+mod programs;
+#[cfg(test)]
+mod twins;
