@@ -3,10 +3,10 @@ use Rattle.std.proofs.Common.{◌≡◌, ◌<◌, ◌≤◌, length, refl}
 use Rattle.std.specs.Prelude.{IfSome}
 use Rattle.warp_tag.specs.Limits.{most_reads}
 use Rattle.warp_step.specs.Program.{Program}
-use Rattle.warpd.specs.LocalSession.{TranscribesAll, TranscribesSoFar}
+use Rattle.warp_session.specs.LocalSession.{TranscribesAll, TranscribesSoFar}
 use Rattle.warpd.specs.Outcome.{EndsSo, Seen}
-use Rattle.warpd.specs.declared.session.SessionEnd.{SessionEnd}
-use Rattle.warpd.specs.declared.session.SessionEnd.TheVariants.{End, ReadFault, WriteFault, TooManyReads, NoMemory}
+use Rattle.warp_session.specs.declared.desk_session.SessionEnd.{SessionEnd}
+use Rattle.warp_session.specs.declared.desk_session.SessionEnd.TheVariants.{End, ReadFault, WriteFault, TooManyReads, NoMemory}
 
 pub ends_so : (P : Program) (before after : Seen) (end : SessionEnd)
     → (end ≡ End → TranscribesAll P before.left before.written after.written)

@@ -1,7 +1,1 @@
-pub mod Stream
-pub mod Session
-pub mod LocalSession
-pub mod Play
 pub mod Outcome
-pub mod Words
-pub mod inner

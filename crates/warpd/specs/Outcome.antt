@@ -14,11 +14,11 @@ use Rattle.warp_prog.specs.declared.error.LoadError.TheVariants.{Memory as WantO
 use Rattle.warp_world.specs.Schedule.{IsFault}
 use Rattle.warp_world.specs.declared.fault.ScheduleFault.{ScheduleFault}
 use Rattle.warp_world.specs.declared.fault.ScheduleFault.TheVariants as schedule_fault
-use Rattle.warpd.specs.LocalSession.{TranscribesAll, TranscribesSoFar}
-use Rattle.warpd.specs.Play.{PlaysSchedule}
-use Rattle.warpd.specs.Words.{Task, RunProgram, PlaySchedule, task_in, warpd_command}
-use Rattle.warpd.specs.declared.session.SessionEnd.{SessionEnd}
-use Rattle.warpd.specs.declared.session.SessionEnd.TheVariants.{End, ReadFault, WriteFault, TooManyReads, NoMemory}
+use Rattle.warp_session.specs.LocalSession.{TranscribesAll, TranscribesSoFar}
+use Rattle.warp_session.specs.Play.{PlaysSchedule}
+use Rattle.warp_words.specs.Words.{Task, RunProgram, PlaySchedule, task_in, warpd_command}
+use Rattle.warp_session.specs.declared.desk_session.SessionEnd.{SessionEnd}
+use Rattle.warp_session.specs.declared.desk_session.SessionEnd.TheVariants.{End, ReadFault, WriteFault, TooManyReads, NoMemory}
 use Rattle.warpd.specs.declared.outcome.Outcome.{Outcome}
 use Rattle.warpd.specs.declared.outcome.Outcome.TheVariants.{Done, Words, TooManyLanes, Program, Schedule, NoProgram, NoSchedule, Input, Output, Memory, Listen, Accept}
 

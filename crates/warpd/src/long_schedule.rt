@@ -1,12 +1,12 @@
 //! A long schedule of sixteen replicas, by a fixed seed: replicas that hold the same records print the same text.
 use crate::dice::Dice;
-use crate::play_text::play_text;
 use std::alloc::Global;
 use std::process::Abort;
 use std::test::Fail;
 use warp_record::Record;
 use warp_replica::Replica;
 use warp_run::Warp;
+use warp_session::play_text;
 use warp_step::Program;
 use warp_world::{World, play, read_schedule};
 

@@ -4,20 +4,15 @@
 #[cfg(test)]
 mod dice;
 mod file_bytes;
-mod local_session;
 #[cfg(test)]
 mod long_schedule;
 #[cfg(test)]
 mod memory;
 mod outcome;
-mod play_text;
 mod program_file;
 #[cfg(test)]
 mod programs;
 mod schedule_file;
-mod session;
-mod stream;
-mod words;
 
 ghost use Rattle.std.specs.Prelude.{◌≡◌, ◌≢◌, ◌<◌, ◌⊎◌, IfErr, IfOk, MatchResult, OnOk, codes, map, string_bytes};
 ghost use Rattle.std.specs.Io.KnownBytes.{Appends};
@@ -29,15 +24,12 @@ ghost use Rattle.warp_step.specs.Counter.{IsUnused};
 ghost use Rattle.warpd.specs.Outcome.{Does, EndsSo, IsPrinted, IsShown, Obeys, Plays, PlaysBytes, PlaysOver, Runs};
 ghost use Rattle.warpd.specs.Outcome.{Seen};
 ghost use Rattle.warpd.specs.Outcome.{line_of, status_of};
-ghost use Rattle.warpd.specs.Words.{task_of};
+ghost use Rattle.warp_words.specs.Words.{task_of};
 
 use clap::error::ErrorKind;
-use local_session::run_session;
 use outcome::{Outcome, outcome_of, outcome_of_fault, say, status};
-use play_text::play_text;
 use program_file::program_named;
 use schedule_file::schedule_bytes;
-use session::SessionEnd;
 use std::alloc::{AllocError, Global};
 use std::fs::Files;
 use std::io::{Eprint, Print, Write};
@@ -45,9 +37,9 @@ use std::marker::{Brand, Model};
 use std::process::ExitCode;
 use std::sync::ledger::{Blank, Ledger};
 use std::{env, io};
-use stream::{Sink, Source, Stream, write_all};
+use warp_session::{SessionEnd, Sink, Source, Stream, play_text, run_session, write_all};
 use warp_step::Program;
-use words::{Job, words};
+use warp_words::{Job, words};
 
 fn main(rt: HostRuntime) -> ExitCode {
     start::<Brand, Brand>(&rt, Blank::new(1), Blank::new(1))

@@ -2,9 +2,9 @@
 ghost use Rattle.std.specs.Prelude.{◌≡◌, ◌+◌, ◌++◌, ◌≤◌, [], ◌∷◌, decimal, length};
 ghost use Rattle.warpd.specs.Outcome.{end_outcome, fault_outcome, line_of, status_of};
 
-use crate::session::SessionEnd;
 use arrayvec::ArrayString;
 use itoa::Buffer;
+use warp_session::SessionEnd;
 use warp_world::ScheduleFault;
 
 /// The room for a line, in bytes: none is longer.

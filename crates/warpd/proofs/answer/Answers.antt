@@ -1,7 +1,7 @@
 -- The session over the streams ends as `run_session` says.
 use Rattle.std.proofs.Common.{◌≡◌, refl, subst}
 use Rattle.warpd.specs.Outcome.{EndsSo, Seen}
-use Rattle.warpd.specs.declared.session.SessionEnd.TheVariants.{NoMemory}
+use Rattle.warp_session.specs.declared.desk_session.SessionEnd.TheVariants.{NoMemory}
 use Rattle.warpd.proofs.Endings.{ends_so}
 use Rattle.warpd.proofs.answer.Goals as goal
 

@@ -1,0 +1,4 @@
+pub mod Fronts
+pub mod TurnsLemmas
+pub mod LocalSessions
+pub mod Printings

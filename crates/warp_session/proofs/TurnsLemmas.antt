@@ -1,0 +1,259 @@
+-- Lemmas on how far a session has come.
+use Rattle.std.proofs.Common.{◌≡◌, ℕ, ◌+◌, ◌-◌, ◌<◌, ◌≤◌, List, [], ◌∷◌, ◌++◌, length, take, drop, length-append, length-take-le, get_or, Option, Some, None, false, true≢false, not, min, IsSome, IfSome, IfNone, OnSome, ◌↔◌, inr, refl, sym, ap, subst, ◌∙◌, append_assoc, append-nil, arith}
+use Rattle.std.specs.List.{flat_map, before_first}
+use Rattle.std.specs.Option.{option_map, option_to_list}
+use Rattle.std.specs.Io.KnownBytes.{Appends, Consumes, IsAtEnd}
+use Rattle.std.proofs.KnownBytes.{Appends-nil, Appends-trans, Consumes-trans}
+use Rattle.std.proofs.lemmas.List.{take_more, take_all}
+use Rattle.std.proofs.lemmas.List.Concat.{flat_map-append}
+use Rattle.std.proofs.lemmas.List.Elements.{All-nil, All-append}
+use Rattle.std.proofs.lemmas.List.Sums.{passes_at_first, prefix_len-le-length}
+use Rattle.std.proofs.lemmas.Bool.{eqb-true}
+use Rattle.warp_record.specs.declared.line.Line.{Line}
+use Rattle.warp_record.specs.declared.reply.Reply.{Reply}
+use Rattle.warp_record.specs.declared.feed.Fed.{Fed}
+use Rattle.warp_record.specs.Lines.{Piece, is_end, IsOneLine, ended, unended, lines_of, first_end, kept_of, piece_of}
+use Rattle.warp_record.proofs.LineCuts.{lines_of-ended, lines_of-unended, one_line_before, one_line_more}
+use Rattle.warp_session.proofs.Fronts.{more_of_rest}
+use Rattle.warp_session.specs.Session.{GivesPiece, GivesAll, GivesText, Transcribes, reply_line}
+use Rattle.warp_session.specs.inner.Turns.{At, AreCutOff, Answered, Taken, Takes, Ends, pieces_fed}
+
+-- ---- whole lines
+
+-- a line with its line feed
+AreCutOff-line : (line : List ℕ) → IsOneLine line → AreCutOff (line ++ 10 ∷ [])
+AreCutOff-line line one more =
+    ap lines_of (append_assoc line (10 ∷ []) more)
+    ∙ lines_of-ended line more one
+    ∙ ap (λ (l : List Piece). l ++ lines_of more) (sym (lines_of-ended line [] one))
+
+-- bytes that are cut off, and more of them
+AreCutOff-append : (a b : List ℕ) → AreCutOff a → AreCutOff b → AreCutOff (a ++ b)
+AreCutOff-append a b first second more =
+    ap lines_of (append_assoc a b more)
+    ∙ first (b ++ more)
+    ∙ ap (λ (l : List Piece). lines_of a ++ l) (second more)
+    ∙ sym (append_assoc (lines_of a) (lines_of b) (lines_of more))
+    ∙ ap (λ (l : List Piece). l ++ lines_of more) (sym (first b))
+
+-- the bytes up to and with the first line feed
+up_to_end : (piece : List ℕ) → first_end piece < length piece → take (first_end piece + 1) piece ≡ before_first is_end piece ++ 10 ∷ []
+up_to_end piece some =
+    let is_lf : get_or piece (first_end piece) 0 ≡ 10 = eqb-true (get_or piece (first_end piece) 0) 10 (passes_at_first is_end piece 0 some) in
+    take_more piece (first_end piece) 0 some ∙ ap (λ (byte : ℕ). before_first is_end piece ++ byte ∷ []) is_lf
+
+-- a session is over any desk
+module _ {S : Type 0} (gives : S → Line → Reply → S → Type 0) where
+  -- ---- answers
+
+  GivesAll-append : (s mid s' : S) (ps qs : List Piece) (rs ss : List Reply)
+      → GivesAll gives s ps rs mid → GivesAll gives mid qs ss s' → GivesAll gives s (ps ++ qs) (rs ++ ss) s'
+  GivesAll-append s mid s' [] qs [] ss first second = subst (λ (t : S). GivesAll gives t qs ss s') first second
+  GivesAll-append s mid s' [] qs (r ∷ rs) ss first second = absurd first
+  GivesAll-append s mid s' (p ∷ ps) qs [] ss first second = absurd first
+  GivesAll-append s mid s' (p ∷ ps) qs (r ∷ rs) ss first second =
+      (first.0, first.1, GivesAll-append first.0 mid s' ps qs rs ss first.2 second)
+
+  GivesText-append : (s mid s' : S) (ps qs : List Piece) (text more : List ℕ)
+      → GivesText gives s ps text mid → GivesText gives mid qs more s' → GivesText gives s (ps ++ qs) (text ++ more) s'
+  GivesText-append s mid s' ps qs text more first second = (
+    first.0 ++ second.0,
+    GivesAll-append s mid s' ps qs first.0 second.0 first.1 second.1,
+    ap (λ (t : List ℕ). t ++ more) first.2 ∙ ap (λ (t : List ℕ). flat_map reply_line first.0 ++ t) second.2
+        ∙ sym (flat_map-append reply_line first.0 second.0),
+  )
+
+  -- pieces that were answered, and then more of them
+  Answered-append : (ps qs : List Piece) (a b c : At S) → Answered gives ps a b → Answered gives qs b c → Answered gives (ps ++ qs) a c
+  Answered-append ps qs a b c first second = record {
+    text = first.text ++ second.text;
+    sent = first.sent ++ second.sent;
+    given = GivesText-append a.state b.state c.state ps qs first.text second.text first.given second.given;
+    out = Appends-trans a.written b.written c.written first.sent second.sent first.out second.out;
+    rest = append_assoc first.sent second.sent c.held.gathered
+        ∙ ap (λ (l : List ℕ). first.sent ++ l) second.rest
+        ∙ sym (append_assoc first.sent b.held.gathered second.text)
+        ∙ ap (λ (l : List ℕ). l ++ second.text) first.rest
+        ∙ append_assoc a.held.gathered first.text second.text;
+  }
+
+  -- where a session is before the answers does not depend on what the feed kept
+  Answered-from : (ps : List Piece) (a b : At S) (kept : Option (List ℕ))
+      → Answered gives ps (record a { held = record { kept = kept; gathered = a.held.gathered } }) b → Answered gives ps a b
+  Answered-from ps a b kept was = record { text = was.text; sent = was.sent; given = was.given; out = was.out; rest = was.rest }
+
+  -- the reply to a piece came behind what was gathered, of which a front went out
+  pub Answered-gathered : (piece : Piece) (said : Reply) (a b : At S) → GivesPiece gives a.state piece said b.state
+      → (sent : List ℕ) × Appends a.written b.written sent × (sent ++ b.held.gathered ≡ a.held.gathered ++ reply_line said)
+      → Answered gives (piece ∷ []) a b
+  Answered-gathered piece said a b gives was = record {
+    text = reply_line said;
+    sent = was.0;
+    given = (said ∷ [], (b.state, gives, refl), sym (append-nil (reply_line said)));
+    out = was.1;
+    rest = was.2;
+  }
+
+  -- all that was gathered went out
+  Answered-flushed : (ps : List Piece) (a b c : At S) → Answered gives ps a b → c.state ≡ b.state → c.held.gathered ≡ []
+      → Appends b.written c.written b.held.gathered → Answered gives ps a c
+  Answered-flushed ps a b c was same empty out = record {
+    text = was.text;
+    sent = was.sent ++ b.held.gathered;
+    given = subst (GivesText gives a.state ps was.text) (sym same) was.given;
+    out = Appends-trans a.written b.written c.written was.sent b.held.gathered was.out out;
+    rest = ap (λ (l : List ℕ). (was.sent ++ b.held.gathered) ++ l) empty ∙ append-nil (was.sent ++ b.held.gathered) ∙ was.rest;
+  }
+
+  -- where nothing was gathered before and after, the replies' text went out
+  Answered-out : (ps : List Piece) (a b : At S) → a.held.gathered ≡ [] → b.held.gathered ≡ [] → Answered gives ps a b
+      → (text : List ℕ) × GivesText gives a.state ps text b.state × Appends a.written b.written text
+  Answered-out ps a b none empty was = (
+    was.text,
+    was.given,
+    subst (Appends a.written b.written)
+        (sym (append-nil was.sent) ∙ ap (λ (l : List ℕ). was.sent ++ l) (sym empty) ∙ was.rest ∙ ap (λ (l : List ℕ). l ++ was.text) none)
+        was.out,
+  )
+
+  -- no piece was answered
+  pub Answered-nil : (a : At S) → Answered gives [] a a
+  Answered-nil a = record {
+    text = [];
+    sent = [];
+    given = ([], refl, refl);
+    out = Appends-nil a.written;
+    rest = sym (append-nil a.held.gathered);
+  }
+
+  -- ---- bytes that were taken
+
+  -- bytes, and then more of them
+  Takes-append : (xs ys : List ℕ) (a b c : At S) → Takes gives xs a b → Takes gives ys b c → Takes gives (xs ++ ys) a c
+  Takes-append xs ys a b c first second start seen was =
+      subst (λ (l : List ℕ). Taken gives l start c) (append_assoc seen xs ys) (second start (seen ++ xs) (first start seen was))
+
+  -- a front of the bytes, and then some of the rest
+  pub Takes-more : (bytes : List ℕ) (front n : ℕ) (a b c : At S) → Takes gives (take front bytes) a b
+      → Takes gives (take n (take (length bytes - front) (drop front bytes))) b c → Takes gives (take (front + n) bytes) a c
+  Takes-more bytes front n a b c first second =
+      subst (λ (l : List ℕ). Takes gives l a c) (more_of_rest bytes front n)
+      (Takes-append (take front bytes) (take n (take (length bytes - front) (drop front bytes))) a b c first second)
+
+  -- a line feed ended the unfinished line, which was answered
+  pub Takes-line : (a b : At S) (piece : List ℕ) (given : Piece) → first_end piece < length piece
+      → ((line : List ℕ) → a.held.kept ≡ kept_of line → given ≡ ended (line ++ before_first is_end piece))
+      → b.held.kept ≡ kept_of [] → Answered gives (given ∷ []) a b → Takes gives (take (first_end piece + 1) piece) a b
+  Takes-line a b piece given some is_line fresh answers start seen was =
+      let before : List ℕ = before_first is_end piece in
+      let line : List ℕ = was.line ++ before in
+      let one : IsOneLine line = All-append (λ (byte : ℕ). is_end byte ≡ false) was.line before was.one_line (one_line_before piece) in
+      let last : lines_of (was.lines ++ (line ++ 10 ∷ [])) ≡ lines_of was.lines ++ given ∷ [] =
+      was.cut_off (line ++ 10 ∷ []) ∙ ap (λ (l : List Piece). lines_of was.lines ++ l) (lines_of-ended line [] one)
+      ∙ ap (λ (p : Piece). lines_of was.lines ++ p ∷ []) (sym (is_line was.line was.kept)) in
+      record {
+        lines = was.lines ++ (line ++ 10 ∷ []);
+        line = [];
+        cut = ap (λ (l : List ℕ). seen ++ l) (up_to_end piece some) ∙ ap (λ (l : List ℕ). l ++ (before ++ 10 ∷ [])) was.cut
+            ∙ simp (append_assoc, append-nil);
+        whole = inr (was.lines ++ line, sym (append_assoc was.lines line (10 ∷ [])));
+        cut_off = AreCutOff-append was.lines (line ++ 10 ∷ []) was.cut_off (AreCutOff-line line one);
+        one_line = All-nil (λ (byte : ℕ). is_end byte ≡ false);
+        kept = fresh;
+        answers = subst (λ (l : List Piece). Answered gives l start b) (sym last)
+            (Answered-append (lines_of was.lines) (given ∷ []) start a b was.answers answers);
+      }
+
+  -- bytes without a line feed went on with the line
+  Takes-rest : (a b : At S) (piece : List ℕ) → first_end piece ≡ length piece
+      → ((line : List ℕ) → a.held.kept ≡ kept_of line → b.held.kept ≡ kept_of (line ++ piece))
+      → Answered gives [] a b → Takes gives piece a b
+  Takes-rest a b piece none keeps answers start seen was = record {
+    lines = was.lines;
+    line = was.line ++ piece;
+    cut = ap (λ (l : List ℕ). l ++ piece) was.cut ∙ append_assoc was.lines was.line piece;
+    whole = was.whole;
+    cut_off = was.cut_off;
+    one_line = one_line_more was.line piece was.one_line none;
+    kept = keeps was.line was.kept;
+    answers = subst (λ (l : List Piece). Answered gives l start b) (append-nil (lines_of was.lines))
+        (Answered-append (lines_of was.lines) [] start a b was.answers answers);
+  }
+
+  -- a push into the feed, and the answer to the line that it gave, if it gave one
+  pub Takes-pushed : (a b : At S) (kept : Option (List ℕ)) (piece : List ℕ) (n : ℕ) (fed : Option Fed) → n ≡ min (first_end piece + 1) (length piece)
+      → IsSome fed ↔ (first_end piece < length piece)
+      → IfSome fed (λ given. (line : List ℕ) → a.held.kept ≡ kept_of line → piece_of given ≡ ended (line ++ before_first is_end piece))
+      → OnSome fed (kept ≡ kept_of [])
+      → IfNone fed ((line : List ℕ) → a.held.kept ≡ kept_of line → kept ≡ kept_of (line ++ piece))
+      → b.held.kept ≡ kept → Answered gives (pieces_fed fed) (record a { held = record { kept = kept; gathered = a.held.gathered } }) b
+      → Takes gives (take n piece) a b
+  Takes-pushed a b kept piece n (Some given) count some is_line fresh keeps same answers =
+      let here : first_end piece < length piece = some.0 refl in
+      let all : n ≡ first_end piece + 1 = omega arith in
+      subst (λ (m : ℕ). Takes gives (take m piece) a b) (sym all)
+      (Takes-line a b piece (piece_of given) here is_line (same ∙ fresh) (Answered-from (piece_of given ∷ []) a b kept answers))
+  Takes-pushed a b kept piece n None count some is_line fresh keeps same answers =
+      let within : first_end piece ≤ length piece = prefix_len-le-length (λ (byte : ℕ). not (is_end byte)) piece in
+      let past : first_end piece < length piece → ⊥ = λ here. true≢false (sym (some.1 here)) in
+      let all : first_end piece ≡ length piece = omega arith in
+      let whole : take n piece ≡ piece = take_all n piece (omega arith) in
+      subst (λ (l : List ℕ). Takes gives l a b) (sym whole)
+      (Takes-rest a b piece all (λ line is. same ∙ keeps line is) (Answered-from [] a b kept answers))
+
+  -- all bytes, and then all that was gathered went out
+  pub Takes-flushed : (bytes : List ℕ) (front : ℕ) (a b c : At S) → length bytes ≤ front → Takes gives (take front bytes) a b
+      → c.state ≡ b.state → c.held.gathered ≡ [] → c.held.kept ≡ b.held.kept → Appends b.written c.written b.held.gathered → Takes gives bytes a c
+  Takes-flushed bytes front a b c over takes same empty kept out start seen was =
+      let t : Taken gives (seen ++ bytes) start b = subst (λ (l : List ℕ). Taken gives (seen ++ l) start b) (take_all front bytes over) (takes start seen was) in
+      record {
+        lines = t.lines;
+        line = t.line;
+        cut = t.cut;
+        whole = t.whole;
+        cut_off = t.cut_off;
+        one_line = t.one_line;
+        kept = kept ∙ t.kept;
+        answers = Answered-flushed (lines_of t.lines) start b c t.answers same empty out;
+      }
+
+  -- the last line was answered, if there was one, and all that was gathered went out
+  pub Ends-last : (a b c : At S) (kept : Option (List ℕ)) (fed : Option Fed)
+      → ((line : List ℕ) → a.held.kept ≡ kept_of line → option_map piece_of fed ≡ unended line)
+      → Answered gives (pieces_fed fed) (record a { held = record { kept = kept; gathered = a.held.gathered } }) b
+      → c.state ≡ b.state → c.held.gathered ≡ [] → Appends b.written c.written b.held.gathered → Ends gives a c
+  Ends-last a b c kept fed is_line answers same empty out start seen was =
+      let is : lines_of seen ≡ lines_of was.lines ++ pieces_fed fed =
+      ap lines_of was.cut ∙ was.cut_off was.line
+      ∙ ap (λ (l : List Piece). lines_of was.lines ++ l) (lines_of-unended was.line was.one_line)
+      ∙ ap (λ (o : Option Piece). lines_of was.lines ++ option_to_list o) (sym (is_line was.line was.kept)) in
+      let all : Answered gives (lines_of seen) start b =
+      subst (λ (l : List Piece). Answered gives l start b) (sym is)
+      (Answered-append (lines_of was.lines) (pieces_fed fed) start a b was.answers (Answered-from (pieces_fed fed) a b kept answers)) in
+      (Answered-flushed (lines_of seen) start b c all same empty out, empty)
+
+  -- ---- whole sessions
+
+  transcribed_whole : (left left-after : Option (List ℕ)) (seen : List ℕ) (a b c : At S) → a.held.gathered ≡ [] → Taken gives seen a b → Ends gives b c
+      → Consumes left left-after seen → IsAtEnd left-after → Transcribes gives a.state left a.written c.written c.state
+  transcribed_whole None left-after seen a b c none taken ends reads over = tt
+  transcribed_whole (Some input) None seen a b c none taken ends reads over = absurd reads
+  transcribed_whole (Some input) (Some rest) seen a b c none taken ends reads over =
+      let all : input ≡ seen = reads ∙ ap (λ (l : List ℕ). seen ++ l) over ∙ append-nil seen in
+      let done = ends a seen taken in
+      Answered-out (lines_of input) a c none done.1 (subst (λ (l : List ℕ). Answered gives (lines_of l) a c) (sym all) done.0)
+
+  -- all that a source gave was taken, and then it gave nothing: the transcript is out
+  pub transcribed : (left mid left-after : Option (List ℕ)) (seen buffer : List ℕ) (count : ℕ) (a b c : At S) → a.held.gathered ≡ [] → Taken gives seen a b
+      → Ends gives b c → Consumes left mid seen → Consumes mid left-after (take count buffer) × (count ≡ 0 → 0 < length buffer → IsAtEnd left-after)
+      → count ≡ 0 → 0 < length buffer → Transcribes gives a.state left a.written c.written c.state
+  transcribed left mid left-after seen buffer count a b c none taken ends before last over some =
+      let reads = Consumes-trans left mid left-after seen (take count buffer) before last.0 in
+      let is : seen ++ take count buffer ≡ seen = ap (λ (n : ℕ). seen ++ take n buffer) over ∙ append-nil seen in
+      transcribed_whole left left-after seen a b c none taken ends (subst (Consumes left left-after) is reads) (last.1 over some)
+
+-- ---- counts
+
+-- each read that went on took a byte
+pub read_more : (seen buffer : List ℕ) (count reads : ℕ) → reads ≤ length seen → count ≤ length buffer → (count ≡ 0 → ⊥) → reads + 1 ≤ length (seen ++ take count buffer)
+read_more seen buffer count reads few within some = omega (arith, length-append seen (take count buffer), length-take-le count buffer within)

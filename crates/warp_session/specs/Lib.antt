@@ -1,0 +1,5 @@
+pub mod Stream
+pub mod Session
+pub mod LocalSession
+pub mod Play
+pub mod inner

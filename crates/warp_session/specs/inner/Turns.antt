@@ -1,0 +1,72 @@
+-- How far a session has come: for its loops and the calls inside it alone. No contract of a public call cites this.
+use Rattle.std.specs.Prelude.{◌≡◌, ℕ, List, [], ◌++◌, Option, Result, IfOk}
+use Rattle.std.specs.Io.KnownBytes.{Appends}
+use Rattle.std.specs.Option.{option_map, option_to_list}
+use Rattle.warp_record.specs.declared.line.Line.{Line}
+use Rattle.warp_record.specs.declared.reply.Reply.{Reply}
+use Rattle.warp_record.specs.declared.feed.Fed.{Fed}
+use Rattle.warp_record.specs.Lines.{Piece, IsOneLine, lines_of, kept_of, piece_of}
+use Rattle.warp_session.specs.Stream.{Counts}
+use Rattle.warp_session.specs.Session.{GivesText, AreWholeLines}
+
+-- what waits in a session: what the feed keeps of the unfinished line, and the text gathered
+pub record Held : Type 0 where
+  pub kept : Option (List ℕ)
+  pub gathered : List ℕ
+
+-- nothing waits
+abbrev pub nothing : Held
+nothing = record { kept = kept_of []; gathered = [] }
+
+-- where a session is: its desk's state, what waits, the bytes written if they are told, and how many writes failed
+pub record At (S : Type 0) : Type 0 where
+  pub state : S
+  pub held : Held
+  pub written : Option (List ℕ)
+  pub failures : ℕ
+
+-- where a session is, of its parts
+abbrev pub at : {S : Type 0} → S → Held → Option (List ℕ) → ℕ → At S
+at state held written failures = record { state = state; held = held; written = written; failures = failures }
+
+-- these pieces were answered: of their text behind what was gathered the front went out, and the rest is gathered now
+pub record Answered {S : Type 0} (gives : S → Line → Reply → S → Type 0) (pieces : List Piece) (old new : At S) : Type 0 where
+  pub text : List ℕ
+  pub sent : List ℕ
+  pub given : GivesText gives old.state pieces text new.state
+  pub out : Appends old.written new.written sent
+  pub rest : sent ++ new.held.gathered ≡ old.held.gathered ++ text
+
+-- what a call of a session does: at Ok this, and no write failed; at Err one did
+pub record Turn {S T E : Type 0} (Does : T → At S → At S → Type 0) (old new : At S) (result : Result T E) : Type 0 where
+  pub does : IfOk result (λ v. Does v old new)
+  pub failures : Counts old.failures new.failures result
+
+-- whatever follows these bytes is cut into lines by itself
+abbrev pub AreCutOff : List ℕ → Type 0
+AreCutOff bytes = (more : List ℕ) → lines_of (bytes ++ more) ≡ lines_of bytes ++ lines_of more
+
+-- from `start` on these bytes were taken: their whole lines were answered, and the feed keeps the unfinished one
+pub record Taken {S : Type 0} (gives : S → Line → Reply → S → Type 0) (bytes : List ℕ) (start now : At S) : Type 0 where
+  pub lines : List ℕ
+  pub line : List ℕ
+  pub cut : bytes ≡ lines ++ line
+  pub whole : AreWholeLines lines
+  pub cut_off : AreCutOff lines
+  pub one_line : IsOneLine line
+  pub kept : now.held.kept ≡ kept_of line
+  pub answers : Answered gives (lines_of lines) start now
+
+-- whatever was taken before, these bytes were taken too
+abbrev pub Takes : {S : Type 0} → (S → Line → Reply → S → Type 0) → List ℕ → At S → At S → Type 0
+Takes {S} gives bytes old new =
+    (start : At S) → (seen : List ℕ) → Taken gives seen start old → Taken gives (seen ++ bytes) start new
+
+-- whatever was taken before, all of it is answered now, and nothing is gathered any more
+abbrev pub Ends : {S : Type 0} → (S → Line → Reply → S → Type 0) → At S → At S → Type 0
+Ends {S} gives old new =
+    (start : At S) → (seen : List ℕ) → Taken gives seen start old → Answered gives (lines_of seen) start new × (new.held.gathered ≡ [])
+
+-- the pieces that a feed gave: one or none
+abbrev pub pieces_fed : Option Fed → List Piece
+pieces_fed fed = option_to_list (option_map piece_of fed)

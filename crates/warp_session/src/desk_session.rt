@@ -1,0 +1,447 @@
+//! A session: lines come in as bytes, in any pieces, and their replies go out as bytes.
+//!
+//! It knows neither who answers them, a `Desk`, nor where bytes come from and go to, a `Source` and a `Sink`.
+ghost use Rattle.std.specs.Prelude.{◌≡◌, ℕ, ◌+◌, ◌<◌, ◌≤◌, List, [], ◌∷◌, ◌++◌, Option, IfOk, OnOk, IfSome, length};
+ghost use Rattle.std.specs.Prelude.{take, vec_len};
+ghost use Rattle.std.specs.Io.KnownBytes.{Appends};
+ghost use Rattle.warp_tag.specs.Limits.{most_reads};
+ghost use Rattle.warp_step.specs.Counter.{IsUnused};
+ghost use Rattle.warp_record.specs.Lines.{piece_of};
+ghost use Rattle.warp_record.specs.Lines.Piece.{Whole};
+ghost use Rattle.warp_session.specs.Session.{GivesPiece, Transcribes, TranscribesLines, reply_line};
+ghost use Rattle.warp_session.specs.Stream.{Counts};
+ghost use Rattle.warp_session.specs.inner.Turns.{Answered, Turn, Takes, Ends, at, nothing, pieces_fed};
+
+use crate::stream::{Failed, Sink, Source, write_all};
+use std::alloc::{AllocError, Global};
+use std::marker::Model;
+use std::mem;
+use warp_exchange::Desk;
+use warp_record::{Fed, Feed, REPLY_ROOM, Refusal, Reply, read_line, write_reply};
+
+/// The most reads of a session.
+const MAX_READS: u32 = 1_000_000_000;
+
+/// How many bytes a read asks for.
+const PIECE: usize = 65_536;
+
+/// The room for replies that wait to be written, in bytes.
+const ROOM: usize = 65_536;
+
+/// How a session ended.
+#[derive(Clone, Copy, Debug, PartialEq, Eq)]
+pub enum SessionEnd {
+    /// All that came was answered.
+    End,
+    /// A read failed. The answers to all whole lines before it are out.
+    ReadFault,
+    /// A write failed.
+    WriteFault,
+    /// 1,000,000,000 reads came to no end.
+    TooManyReads,
+    /// No memory was to be had; nothing was read.
+    NoMemory,
+}
+
+/// The reply to a whole line, without its line feed.
+#[inline(always)]
+fn reply_to_text<D: Desk>(desk: &mut D, text: &[u8]) -> Reply
+    ensures { GivesPiece D.gives (D.state desk.old) (Whole text.now) result (D.state desk.new) }
+{
+    match read_line(text) {
+        Some(line) => desk.ask(line),
+        None => Reply::Refused(Refusal::Syntax),
+    }
+}
+
+/// Cuts what comes in into lines, and gathers the replies that wait to be written.
+#[derive(Drop)]
+struct Transcriber {
+    feed: Feed,
+    gathered: Vec<u8>,
+}
+
+impl Model for Transcriber {
+    ghost use Rattle.std.specs.Prelude.{◌≤◌, vec_capacity};
+    ghost use Rattle.warp_session.specs.declared.desk_session.TheConstants.{ROOM};
+    ghost use Rattle.warp_session.specs.inner.Turns.{Held};
+
+    ghost Value = { Held };
+
+    ghost view = { λ t. record { kept = t.feed; gathered = t.gathered.items } };
+
+    ghost invariant = { λ t. ROOM ≤ vec_capacity t.gathered };
+}
+
+impl Transcriber {
+    /// Nothing was taken yet.
+    fn new(alloc: Global) -> Result<Transcriber, AllocError>
+        ensures { IfOk result (λ made. made ≡ nothing) }
+    {
+        let gathered = Vec::with_capacity(alloc, ROOM)?;
+        Ok(Transcriber {
+            feed: Feed::new(),
+            gathered,
+        })
+    }
+
+    /// Writes what was gathered.
+    fn flush<W: Sink>(&mut self, sink: &mut W) -> Result<(), Failed>
+        ensures written { OnOk result (Appends (W.written sink.old) (W.written sink.new) self.old.gathered) }
+        ensures empty { OnOk result (self.new.gathered ≡ []) }
+        ensures kept { self.new.kept ≡ self.old.kept }
+        ensures failures { Counts (W.failures sink.old) (W.failures sink.new) result }
+    {
+        write_all(sink, &self.gathered)?;
+        self.gathered.clear();
+        Ok(())
+    }
+
+    /// Gathers a reply behind the others, which are written where it has no room.
+    #[inline(always)]
+    fn gather<W: Sink>(&mut self, sink: &mut W, reply: &Reply) -> Result<(), Failed>
+        ensures gathered { OnOk result ((sent : List ℕ) × Appends (W.written sink.old) (W.written sink.new) sent
+            × (sent ++ self.new.gathered ≡ self.old.gathered ++ reply_line «reply».now)) }
+        ensures kept { self.new.kept ≡ self.old.kept }
+        ensures failures { Counts (W.failures sink.old) (W.failures sink.new) result }
+    {
+        let is_full = self.gathered.len() + REPLY_ROOM > ROOM;
+        if is_full {
+            self.flush(sink)?;
+        }
+        write_reply(&mut self.gathered, reply);
+        self.gathered.push_reserved(b'\n');
+        Ok(())
+    }
+
+    /// Answers a whole line, without its line feed, and gathers the reply.
+    #[inline(never)]
+    fn answer_text<D: Desk, W: Sink>(
+        &mut self,
+        desk: &mut D,
+        sink: &mut W,
+        text: &[u8],
+    ) -> Result<(), Failed>
+        ensures answered { OnOk result (Answered D.gives (Whole text.now ∷ [])
+            (at (D.state desk.old) self.old (W.written sink.old) (W.failures sink.old))
+            (at (D.state desk.new) self.new (W.written sink.new) (W.failures sink.new))) }
+        ensures kept { self.new.kept ≡ self.old.kept }
+        ensures failures { Counts (W.failures sink.old) (W.failures sink.new) result }
+    {
+        let reply = reply_to_text(desk, text);
+        self.gather(sink, &reply)?;
+        Ok(())
+    }
+
+    /// Answers a line that was cut from the stream, if there is one, and gathers the reply.
+    fn answer<D: Desk, W: Sink>(
+        &mut self,
+        desk: &mut D,
+        sink: &mut W,
+        fed: Option<Fed>,
+    ) -> Result<(), Failed>
+        ensures turn { Turn (λ _. Answered D.gives (pieces_fed fed))
+            (at (D.state desk.old) self.old (W.written sink.old) (W.failures sink.old))
+            (at (D.state desk.new) self.new (W.written sink.new) (W.failures sink.new)) result }
+        ensures kept { self.new.kept ≡ self.old.kept }
+    {
+        match fed {
+            None => Ok(()),
+            Some(Fed::Text(bytes)) => self.answer_text(desk, sink, &bytes),
+            Some(Fed::TooLong) => {
+                self.gather(sink, &Reply::Refused(Refusal::TooLong))?;
+                Ok(())
+            }
+            Some(Fed::Torn) => {
+                self.gather(sink, &Reply::Refused(Refusal::Syntax))?;
+                Ok(())
+            }
+        }
+    }
+
+    /// Takes bytes up to and with the first line feed, or all where there is none, and answers the line that it ends.
+    /// Gives how many bytes it took.
+    fn take_line<D: Desk, W: Sink>(
+        &mut self,
+        desk: &mut D,
+        sink: &mut W,
+        bytes: &[u8],
+    ) -> Result<usize, Failed>
+        requires { 0 < length bytes.now }
+        ensures count { IfOk result (λ n. (0 < n) × (n ≤ length bytes.now)) }
+        ensures turn { Turn (λ n. Takes D.gives (take n bytes.now))
+            (at (D.state desk.old) self.old (W.written sink.old) (W.failures sink.old))
+            (at (D.state desk.new) self.new (W.written sink.new) (W.failures sink.new)) result }
+    {
+        // A line of which nothing came before is read where it stands.
+        if let Some(text) = self.feed.whole(bytes) {
+            self.answer_text(desk, sink, text)?;
+            return Ok(text.len() + 1);
+        }
+        let (count, fed) = self.feed.push(bytes);
+        self.answer(desk, sink, fed)?;
+        Ok(count)
+    }
+
+    /// Takes bytes, answers the lines that they end, and writes all that was gathered.
+    fn take<D: Desk, W: Sink>(
+        &mut self,
+        desk: &mut D,
+        sink: &mut W,
+        bytes: &[u8],
+    ) -> Result<(), Failed>
+        ensures turn { Turn (λ _. Takes D.gives bytes.now)
+            (at (D.state desk.old) self.old (W.written sink.old) (W.failures sink.old))
+            (at (D.state desk.new) self.new (W.written sink.new) (W.failures sink.new)) result }
+        ensures empty { OnOk result (self.new.gathered ≡ []) }
+    {
+        let mut at = 0;
+        while at < bytes.len() {
+            at += self.take_line(desk, sink, &bytes[at..])?;
+        }
+        self.flush(sink)?;
+        Ok(())
+    }
+
+    /// Answers the last line, which has no line feed, if there is one, and writes all that was gathered.
+    fn finish<D: Desk, W: Sink>(&mut self, desk: &mut D, sink: &mut W) -> Result<(), Failed>
+        ensures { Turn (λ _. Ends D.gives)
+            (at (D.state desk.old) self.old (W.written sink.old) (W.failures sink.old))
+            (at (D.state desk.new) self.new (W.written sink.new) (W.failures sink.new)) result }
+    {
+        let last = mem::replace(&mut self.feed, Feed::new()).end();
+        self.answer(desk, sink, last)?;
+        self.flush(sink)?;
+        Ok(())
+    }
+}
+
+/// The buffer for a read, and the session's beginning.
+fn begin(alloc: Global) -> Result<(Vec<u8>, Transcriber), AllocError>
+    ensures piece { IfOk result (λ made. 0 < vec_len made.0) }
+    ensures empty { IfOk result (λ made. made.1 ≡ nothing) }
+{
+    let buffer = vec![in alloc; 0; PIECE]?;
+    let transcriber = Transcriber::new(alloc)?;
+    Ok((buffer, transcriber))
+}
+
+/// Reads lines to the end of `source`, and writes to `sink` what `desk` replies to each, in order. Replies are
+/// gathered, and written before the next read. A last line without a line feed is refused 1, a line of more than 128
+/// bytes refused 9.
+pub fn session<R: Source, W: Sink, D: Desk>(
+    alloc: Global,
+    source: &mut R,
+    sink: &mut W,
+    desk: &mut D,
+) -> SessionEnd
+    // At the end all bytes were read, and their transcript was written.
+    ensures bytes { result ≡ SessionEnd.End →
+        Transcribes D.gives (D.state desk.old) (R.left source.old)
+        (W.written sink.old) (W.written sink.new) (D.state desk.new) }
+    ensures read_fault { result ≡ SessionEnd.ReadFault → R.failures source.old < R.failures source.new }
+    // Before a failed read the lines so far were answered, and no torn one.
+    ensures lines { result ≡ SessionEnd.ReadFault →
+        TranscribesLines D.gives (D.state desk.old) (R.left source.old) (R.left source.new)
+        (W.written sink.old) (W.written sink.new) (D.state desk.new) }
+    ensures write_fault { result ≡ SessionEnd.WriteFault → W.failures sink.old < W.failures sink.new }
+    ensures many { result ≡ SessionEnd.TooManyReads → IfSome (R.left source.old) (λ input. most_reads ≤ length input) }
+    // Without memory nothing was read or written.
+    ensures memory { result ≡ SessionEnd.NoMemory →
+        (source.new ≡ source.old) × (sink.new ≡ sink.old) × (desk.new ≡ desk.old) }
+{
+    let Ok((mut buffer, mut transcriber)) = begin(alloc) else {
+        return SessionEnd::NoMemory;
+    };
+    let buffer = buffer.as_mut_slice();
+    'reads: for _read in 0..MAX_READS {
+        let Ok(count) = source.read(buffer) else {
+            return SessionEnd::ReadFault;
+        };
+        let has_ended = count == 0;
+        if has_ended {
+            let Ok(()) = transcriber.finish(desk, sink) else {
+                return SessionEnd::WriteFault;
+            };
+            return SessionEnd::End;
+        }
+        let Ok(()) = transcriber.take(desk, sink, &buffer[..count]) else {
+            return SessionEnd::WriteFault;
+        };
+    }
+    SessionEnd::TooManyReads
+}
+
+#[cfg(test)]
+mod tests {
+    use super::*;
+    use crate::memory::{MemoryReader, MemoryWriter, PacedReader};
+    use crate::stream::Stream;
+    use std::cell::Cell;
+    use std::io::Read;
+    use std::marker::Brand;
+    use std::process::Abort;
+    use std::sync::ledger::{Blank, Ledger};
+    use std::test::Fail;
+    use warp_record::{Line, Query};
+
+    /// A desk that counts the lines that it gets: the first record is `taken 1`, a variable's value its number.
+    #[derive(Drop)]
+    struct Numbers {
+        asked: u32,
+    }
+
+    impl Desk for Numbers {
+        ghost use Rattle.warp_record.specs.Reply.{IsReply};
+
+        ghost State = { Unit {0} };
+
+        ghost state = { λ _. tt };
+
+        ghost gives = { λ _ _ reply _. IsReply reply };
+
+        fn ask(&mut self, line: Line) -> Reply {
+            self.asked = self.asked % 100_000 + 1;
+            match line {
+                Line::Put(_) => Reply::Taken(self.asked),
+                Line::Ask(Query::Var(number)) => Reply::Var {
+                    log: self.asked,
+                    value: i64::from(number),
+                },
+                Line::Ask(_) => Reply::Nothing { log: self.asked },
+                Line::Collect => Reply::Collected { log: self.asked },
+                Line::Look(_) => Reply::NoRow,
+            }
+        }
+    }
+
+    /// How a session ends, and what it wrote. Its failures are counted in these ledgers.
+    fn run_in<R: Read + Drop, L: Ledger, M: Ledger>(
+        alloc: Global,
+        reader: R,
+        writer: MemoryWriter<'_>,
+        reads: Blank,
+        writes: Blank,
+    ) -> (SessionEnd, Vec<u8>)
+        requires reads { IsUnused reads L.name L.parts }
+        requires writes { IsUnused writes M.name M.parts }
+    {
+        let mut source = Stream::<_, L>::new(reader, reads);
+        let mut sink = Stream::<_, M>::new(writer, writes);
+        let mut desk = Numbers { asked: 0 };
+        let end = session(alloc, &mut source, &mut sink, &mut desk);
+        (end, sink.into_inner().into_written())
+    }
+
+    /// How a session ends, and what it wrote.
+    fn run<R: Read + Drop>(
+        alloc: Global,
+        reader: R,
+        writer: MemoryWriter<'_>,
+    ) -> (SessionEnd, Vec<u8>) {
+        run_in::<R, Brand, Brand>(alloc, reader, writer, Blank::new(1), Blank::new(1))
+    }
+
+    /// Lines, and their answers.
+    const LINES: &[(&str, &str)] = &[
+        ("", ""),
+        (
+            "var 7\nevent 0 5 0 0 3\nvar 8\n",
+            "var 1 7\ntaken 2\nvar 3 8\n",
+        ),
+        (
+            "\nvar 07\nvar 7\nvar 8",
+            "refused 1\nrefused 1\nvar 1 7\nrefused 1\n",
+        ),
+    ];
+
+    #[test]
+    fn lines_and_answers(rt: HostRuntime) {
+        for (lines, answers) in LINES {
+            is_answered(&rt, rt.alloc(), lines, answers, 1);
+            is_answered(&rt, rt.alloc(), lines, answers, 7);
+            is_answered(&rt, rt.alloc(), lines, answers, 4_096);
+        }
+    }
+
+    /// The lines are answered so, in pieces of at most `most` bytes.
+    fn is_answered(rt: &impl Abort, alloc: Global, lines: &str, answers: &str, most: usize)
+        requires { 0 < most }
+    {
+        let count = Cell::new(0);
+        let reader = MemoryReader::new(lines.as_bytes(), most, None);
+        let writer = MemoryWriter::new(alloc, &count, most, None);
+        let (end, written) = run(alloc, reader, writer);
+        assert_eq!(rt; end, SessionEnd::End);
+        assert_eq!(rt; written.as_slice(), answers.as_bytes(), "{lines} by {most}");
+    }
+
+    /// What these lines are answered, in large pieces.
+    fn large(rt: &impl Abort, alloc: Global, lines: &[u8]) -> Vec<u8> {
+        let count = Cell::new(0);
+        let reader = MemoryReader::new(lines, 65_536, None);
+        let writer = MemoryWriter::new(alloc, &count, 100_000, None);
+        let (end, written) = run(alloc, reader, writer);
+        assert_eq!(rt; end, SessionEnd::End);
+        written
+    }
+
+    #[test]
+    fn more_replies_than_there_is_room(rt: HostRuntime) -> Result<(), Fail> {
+        let lines = Vec::from_elem(rt.alloc(), b'\n', 10_000)?;
+        let written = large(&rt, rt.alloc(), &lines);
+        let mut answers = Vec::new(rt.alloc());
+        for _ in 0..10_000 {
+            answers.extend_from_slice(b"refused 1\n")?;
+        }
+        assert_eq!(rt; written.as_slice(), answers.as_slice());
+        Ok(())
+    }
+
+    #[test]
+    fn faults(rt: HostRuntime) {
+        // Two lines of six bytes each. The first read may end inside the second, which is then not answered.
+        let lines = b"var 7\nvar 8\n".as_slice();
+        let rows = [
+            (6, Some(0), None, SessionEnd::ReadFault, ""),
+            (6, Some(1), None, SessionEnd::ReadFault, "var 1 7\n"),
+            (9, Some(1), None, SessionEnd::ReadFault, "var 1 7\n"),
+            (6, None, Some(0), SessionEnd::WriteFault, ""),
+            (6, None, Some(1), SessionEnd::WriteFault, "var"),
+        ];
+        for (most, sound_reads, sound_writes, wanted, answers) in rows {
+            let reader = MemoryReader::new(lines, most, sound_reads);
+            ends_so(&rt, rt.alloc(), reader, sound_writes, wanted, answers);
+        }
+    }
+
+    /// A session over this reader ends so, with these answers, where so many writes are good.
+    fn ends_so(
+        rt: &impl Abort,
+        alloc: Global,
+        reader: MemoryReader<'_>,
+        sound: Option<u64>,
+        wanted: SessionEnd,
+        answers: &str,
+    ) {
+        let count = Cell::new(0);
+        let writer = MemoryWriter::new(alloc, &count, 3, sound);
+        let (end, written) = run(alloc, reader, writer);
+        assert_eq!(rt; end, wanted);
+        assert_eq!(rt; written.as_slice(), answers.as_bytes());
+    }
+
+    #[test]
+    fn replies_are_out_before_the_next_read(rt: HostRuntime) {
+        let rows = [("var 7\n", 0), ("va", 8), ("r 8\nvar 9\nvar", 8), ("", 24)];
+        let count = Cell::new(0);
+        let reader = PacedReader::new(rows.as_slice(), &count);
+        let writer = MemoryWriter::new(rt.alloc(), &count, 100, None);
+        let (end, written) = run(rt.alloc(), reader, writer);
+        assert_eq!(rt; end, SessionEnd::End);
+        assert_eq!(rt;
+            written.as_slice(),
+            b"var 1 7\nvar 2 8\nvar 3 9\nrefused 1\n".as_slice()
+        );
+    }
+}

@@ -1,0 +1,2 @@
+pub mod FaultlessWalks
+pub mod GivenArguments

@@ -1,0 +1,458 @@
+//! The words of the command line.
+ghost use Rattle.std.specs.Prelude.{◌≡◌, [], IfErr, IfOk, Some, map, option_map};
+ghost use Rattle.std.specs.Prelude.{false};
+ghost use Rattle.clap.specs.Words.{app_of, fault_of, first_of, found_of, HasKind, rows_of, subcommand_of};
+ghost use Rattle.clap.specs.Words.{subcommand_rows_of};
+ghost use Rattle.clap.specs.Words.{with_rule, with_subcommand};
+ghost use Rattle.clap.specs.declared.builder.command.Command.TheViews.{out-Command as fields_of};
+ghost use Rattle.warp_words.specs.Words.{play_command, play_task, run_command, run_task, task_found, task_in, task_of};
+ghost use Rattle.warp_words.specs.Words.{top_command, wanted_word, warpd_command};
+
+use clap::{Arg, ArgMatches, Command, Error};
+use std::alloc::{AllocError, Global};
+
+/// What the words ask for.
+#[derive(Clone, Copy, Debug, PartialEq, Eq)]
+pub enum Job<'a> {
+    /// Answer the lines of standard input on standard output.
+    Run {
+        /// The word that names the program to run.
+        program: &'a str,
+    },
+    /// Print what the replicas of a schedule answer in the end.
+    Play {
+        /// The word that names the program to run.
+        program: &'a str,
+        /// The word that names the file of the schedule.
+        schedule: &'a str,
+    },
+}
+
+const VERSION: &str = "0.1.0";
+
+const ABOUT: &str = "Runs a deterministic reactor program over events that may come late";
+
+const LONG_ABOUT: &str = "\
+warpd runs a deterministic reactor program. Events may come late and in any order: each
+answer is that of the program run over all of them in the order of their tags.";
+
+const STATUSES: &str = "\
+Exit status:
+  0  done, or help or the version was asked for
+  2  the words were not understood
+  3  the program or the schedule was refused
+  4  the program or the schedule couldn't be read, or a standard stream failed
+  5  memory ran out";
+
+const RUN_ABOUT: &str = "Answers the lines of standard input on standard output";
+
+const RUN_LONG_ABOUT: &str = "\
+Reads lines on standard input up to its end, and answers each of them with one line on
+standard output, in order.
+
+  event ORIGIN TIME MICROSTEP INPUT VALUE   an event: taken P, or known P
+  withdraw ORIGIN TIME MICROSTEP            no event of this name counts: the same
+  announce ORIGIN TIME MICROSTEP E W        before this time the origin has E names with an
+                                            event and W withdrawn, and adds none: the same
+  var INDEX                                 a variable: var N VALUE
+  outputs                                   how many outputs there are: outputs N COUNT
+  output INDEX                              output N TIME MICROSTEP PORT VALUE, or none N
+  horizon                                   the tag before which outputs are released:
+                                            horizon N TIME MICROSTEP
+  released                                  how many are released: released N COUNT
+  breach ORIGIN                             whether it broke an announcement of its own:
+                                            breach N 1, or breach N 0
+  lost                                      how much was lost: lost N COUNT
+  log P                                     log N and a record's line, or none N
+  collect                                   lets go of what is not needed before the horizon,
+                                            and changes no answer: collected N
+  board, row INDEX                          refused: there is no board here
+
+P is a record's place in the log, from 1, and N the length of the log. The name of an event
+is its origin with its time and microstep. A line that is not understood or not allowed is
+answered by refused K, and changes nothing.
+
+PROGRAM is the path of a program file, which docs/FORMATS.md describes, or builtin:twice.
+That stops at time 100. Its variable 0 begins at 0. An event of origin 0 for input 0 doubles
+it and adds the value; an event of origin 1 for input 1 takes the value from it.";
+
+const RUN_NOTES: &str = "\
+Why a line is refused:
+  1  it is no line of these forms, or ends before its line feed
+  2  the program has no such origin
+  3  the tag is past the program's stop
+  4  the program has no such input
+  5  the input belongs to another origin
+  6  the program has no such variable
+  7  the log is full
+  8  there is no memory for it
+  9  it is longer than 128 bytes
+ 11  there is no board here
+
+Why a program file is refused:
+  1  it is no JSON text
+  2  it has not the shape of a program file
+  3  it goes past a limit
+  4  a name is unknown in its place
+  5  something stands twice
+  6  a link without delay leads back
+  7  a reaction uses what it doesn't declare
+
+Example:
+  printf 'event 0 5 0 0 3\\nvar 0\\n' | warpd run builtin:twice";
+
+const PLAY_ABOUT: &str = "Plays a schedule over replicas, and prints what each answers in the end";
+
+const PLAY_LONG_ABOUT: &str = "\
+Plays the moves of a schedule file over replicas of the program, then settles each replica
+and prints what it answers. Standard input is not read.
+
+The first line of the file says how many replicas there are, 1 to 16, numbered from 0:
+
+  replicas N
+
+Each further line is a move:
+
+  make R RECORD   a record comes from outside to replica R: the line of an event, a
+                  withdraw or an announce, as `warpd run --help` shows them
+  carry F I R     the record at place I of the log of replica F, from 1, comes to replica R
+  collect R       replica R settles, and lets go of what is not needed before its horizon
+  settle R        replica R executes what is not done
+  restart R       replica R starts anew, with an empty log
+
+A move does nothing where the program refuses its record, where the log has that record or
+is full, and where there is no such replica or place.
+
+Of each replica are printed, in order, with N the length of its log:
+
+  replica R
+  horizon N TIME MICROSTEP   the tag before which outputs are released
+  outputs N COUNT            how many outputs there are
+  released N COUNT           how many of them are released
+  lost N COUNT               how much was lost
+  var N VALUE                a line for each variable, from 0";
+
+const PLAY_NOTES: &str = "\
+A schedule is refused where a line is not of this form, is longer than 128 bytes, or has no
+line feed. Nothing is printed then but this, on standard error, for the first such line:
+
+  schedule refused at line K   K counts from 1; 1 too for an empty file, and 0 for a file
+                               of more than 1,048,576 bytes
+
+Why a program file is refused: warpd run --help
+
+Example:
+  printf 'replicas 2\\nmake 0 event 0 5 0 0 3\\ncarry 0 1 1\\n' > two.schedule
+  warpd play builtin:twice two.schedule";
+
+const PROGRAM: &str = "PROGRAM";
+
+const PROGRAM_HELP: &str = "The program to run: the path of a program file, or builtin:twice";
+
+const SCHEDULE: &str = "SCHEDULE";
+
+const SCHEDULE_HELP: &str = "The schedule to play: the path of its file";
+
+/// Reads the words of the command line, of which the first is the program's own name.
+/// An error is a mistake in the words, a request for help or the version, or want of memory; its text is for the user.
+pub fn words<'a>(alloc: Global, line: &'a [&'a str]) -> Result<Job<'a>, Error>
+    ensures ok { IfOk result (λ job. (fault_of warpd_command (map (λ word. word.now) line.entry.now) ≡ [])
+        × (task_in (map (λ word. word.now) line.entry.now) ≡ Some (task_of job))) }
+    ensures err { IfErr result (HasKind (fault_of warpd_command (map (λ word. word.now) line.entry.now))) }
+{
+    let matches = matches(alloc, line)?;
+    match job_asked(&matches) {
+        Some(job) => Ok(job),
+        None => unreachable!(),
+    }
+}
+
+/// What the parser makes of the words.
+fn matches<'a>(alloc: Global, line: &'a [&'a str]) -> Result<ArgMatches<'a>, Error>
+    ensures ok { IfOk result (λ m. (fault_of warpd_command (map (λ word. word.now) line.entry.now) ≡ [])
+        × (subcommand_rows_of m ≡ subcommand_of warpd_command (map (λ word. word.now) line.entry.now))) }
+    ensures err { IfErr result (HasKind (fault_of warpd_command (map (λ word. word.now) line.entry.now))) }
+{
+    command(alloc)?.try_get_matches_from(line)
+}
+
+/// What the subcommand asks for.
+fn job_asked<'a>(matches: &ArgMatches<'a>) -> Option<Job<'a>>
+    ensures { option_map task_of result ≡ task_found (subcommand_rows_of matches.now) }
+{
+    if let Some(found) = matches.subcommand_matches("run") {
+        return run_job(found);
+    }
+    if let Some(found) = matches.subcommand_matches("play") {
+        return play_job(found);
+    }
+    None
+}
+
+/// What `run` asks for.
+fn run_job<'a>(found: &ArgMatches<'a>) -> Option<Job<'a>>
+    ensures { option_map task_of result ≡ run_task (rows_of (found_of found.now)) }
+{
+    let program = text(found, PROGRAM)?;
+    Some(Job::Run { program })
+}
+
+/// What `play` asks for.
+fn play_job<'a>(found: &ArgMatches<'a>) -> Option<Job<'a>>
+    ensures { option_map task_of result ≡ play_task (rows_of (found_of found.now)) }
+{
+    let program = text(found, PROGRAM)?;
+    let schedule = text(found, SCHEDULE)?;
+    Some(Job::Play { program, schedule })
+}
+
+/// The first text of the argument with this id.
+fn text<'a>(found: &ArgMatches<'a>, id: &str) -> Option<&'a str>
+    ensures { option_map (λ word. word.now) result ≡ first_of id.now (rows_of (found_of found.now)) }
+{
+    found.get_str(id)
+}
+
+/// The command line of `warpd`.
+fn command<'a>(alloc: Global) -> Result<Command<'a>, AllocError>
+    ensures { IfOk result (λ c. app_of c ≡ warpd_command) }
+{
+    let play = play(alloc)?;
+    with_run(alloc)?.subcommand(play)
+}
+
+/// `warpd` with `run` alone.
+fn with_run<'a>(alloc: Global) -> Result<Command<'a>, AllocError>
+    ensures { IfOk result (λ c. app_of c ≡ with_subcommand top_command run_command.top) }
+{
+    let run = run(alloc)?;
+    top(alloc).subcommand(run)
+}
+
+/// `warpd` without its subcommands.
+fn top<'a>(alloc: Global) -> Command<'a>
+    ensures { app_of result ≡ top_command }
+{
+    Command::new(alloc, "warpd")
+        .version(VERSION)
+        .about(ABOUT)
+        .long_about(LONG_ABOUT)
+        .after_long_help(STATUSES)
+        .arg_required_else_help(true)
+        .subcommand_required(true)
+}
+
+/// The subcommand `run`.
+fn run<'a>(alloc: Global) -> Result<Command<'a>, AllocError>
+    ensures shape { IfOk result (λ c. app_of c ≡ run_command) }
+    ensures local { IfOk result (λ c. (fields_of c).has_globals ≡ false) }
+{
+    let run = Command::new(alloc, "run")
+        .about(RUN_ABOUT)
+        .long_about(RUN_LONG_ABOUT)
+        .after_long_help(RUN_NOTES);
+    with_word(alloc, run, PROGRAM, PROGRAM_HELP)
+}
+
+/// The subcommand `play`.
+fn play<'a>(alloc: Global) -> Result<Command<'a>, AllocError>
+    ensures shape { IfOk result (λ c. app_of c ≡ play_command) }
+    ensures local { IfOk result (λ c. (fields_of c).has_globals ≡ false) }
+{
+    let play = Command::new(alloc, "play")
+        .about(PLAY_ABOUT)
+        .long_about(PLAY_LONG_ABOUT)
+        .after_long_help(PLAY_NOTES);
+    let play = with_word(alloc, play, PROGRAM, PROGRAM_HELP)?;
+    with_word(alloc, play, SCHEDULE, SCHEDULE_HELP)
+}
+
+/// The command with one more place for a word, which has to be there.
+fn with_word<'a>(
+    alloc: Global,
+    command: Command<'a>,
+    place: &'a str,
+    help: &'a str,
+) -> Result<Command<'a>, AllocError>
+    ensures shape { IfOk result (λ c. app_of c ≡ with_rule (app_of command.entry) (wanted_word place.entry.now)) }
+    ensures local { (fields_of command.entry).has_globals ≡ false →
+        IfOk result (λ c. (fields_of c).has_globals ≡ false) }
+{
+    let word = Arg::new(alloc, place).help(help).required(true);
+    command.arg(word)
+}
+
+#[cfg(test)]
+mod tests {
+    use super::*;
+    use clap::error::ErrorKind;
+    use std::process::Abort;
+    use std::test::Fail;
+
+    /// Lines, and the program of each.
+    const RUNS: &[(&[&str], &str)] = &[
+        (&["warpd", "run", "builtin:twice"], "builtin:twice"),
+        (&["warpd", "run", "a file.json"], "a file.json"),
+        (&["warpd", "run", "--", "-x"], "-x"),
+        (&["./warpd", "run", ""], ""),
+    ];
+
+    /// The words ask for a run of the program.
+    fn runs(rt: &impl Abort, alloc: Global, line: &[&str], wanted: &str) {
+        match words(alloc, line).expect(rt, "a job") {
+            Job::Run { program } => assert_eq!(rt; program, wanted),
+            job => panic!(rt; "{job:?}"),
+        }
+    }
+
+    #[test]
+    fn reads_the_program(rt: HostRuntime) {
+        for (line, wanted) in RUNS {
+            runs(&rt, rt.alloc(), line, wanted);
+        }
+    }
+
+    /// Lines, and the program and the schedule of each.
+    const PLAYS: &[(&[&str], &str, &str)] = &[
+        (
+            &["warpd", "play", "builtin:twice", "two.schedule"],
+            "builtin:twice",
+            "two.schedule",
+        ),
+        (&["warpd", "play", "a", "a"], "a", "a"),
+        (&["warpd", "play", "a", "--", "-x"], "a", "-x"),
+        (&["./warpd", "play", "", "run"], "", "run"),
+    ];
+
+    /// The words ask to play the schedule over the program.
+    fn plays(rt: &impl Abort, alloc: Global, line: &[&str], wanted: &str, file: &str) {
+        match words(alloc, line).expect(rt, "a job") {
+            Job::Play { program, schedule } => {
+                assert_eq!(rt; program, wanted);
+                assert_eq!(rt; schedule, file);
+            }
+            job => panic!(rt; "{job:?}"),
+        }
+    }
+
+    #[test]
+    fn reads_the_program_and_the_schedule(rt: HostRuntime) {
+        for (line, wanted, file) in PLAYS {
+            plays(&rt, rt.alloc(), line, wanted, file);
+        }
+    }
+
+    /// Lines that ask for no job, and the kind and the exit status of each.
+    const REFUSED: &[(&[&str], ErrorKind, i32)] = &[
+        (&["warpd", "--help"], ErrorKind::DisplayHelp, 0),
+        (&["warpd", "-h"], ErrorKind::DisplayHelp, 0),
+        (&["warpd", "--version"], ErrorKind::DisplayVersion, 0),
+        (&["warpd", "-V"], ErrorKind::DisplayVersion, 0),
+        (&["warpd", "help", "run"], ErrorKind::DisplayHelp, 0),
+        (&["warpd", "run", "--help"], ErrorKind::DisplayHelp, 0),
+        (
+            &["warpd"],
+            ErrorKind::DisplayHelpOnMissingArgumentOrSubcommand,
+            2,
+        ),
+        (&["warpd", "walk"], ErrorKind::InvalidSubcommand, 2),
+        (&["warpd", "--fast"], ErrorKind::UnknownArgument, 2),
+        (&["warpd", "run"], ErrorKind::MissingRequiredArgument, 2),
+        (&["warpd", "run", "a", "b"], ErrorKind::UnknownArgument, 2),
+        (&["warpd", "run", "-x"], ErrorKind::UnknownArgument, 2),
+        (
+            &["warpd", "run", "--version"],
+            ErrorKind::UnknownArgument,
+            2,
+        ),
+        (&["warpd", "play", "--help"], ErrorKind::DisplayHelp, 0),
+        (&["warpd", "play"], ErrorKind::MissingRequiredArgument, 2),
+        (
+            &["warpd", "play", "a"],
+            ErrorKind::MissingRequiredArgument,
+            2,
+        ),
+        (
+            &["warpd", "play", "a", "b", "c"],
+            ErrorKind::UnknownArgument,
+            2,
+        ),
+    ];
+
+    /// The words are refused so.
+    fn refuses(rt: &impl Abort, alloc: Global, line: &[&str], kind: ErrorKind, code: i32) {
+        match words(alloc, line) {
+            Ok(job) => panic!(rt; "{job:?}"),
+            Err(error) => {
+                assert_eq!(rt; error.kind(), kind);
+                assert_eq!(rt; error.exit_code(), code, "{kind:?}");
+                assert_eq!(rt; error.use_stderr(), code == 2, "{kind:?}");
+            }
+        }
+    }
+
+    #[test]
+    fn refuses_other_words_and_shows_help_and_version(rt: HostRuntime) {
+        for (line, kind, code) in REFUSED {
+            refuses(&rt, rt.alloc(), line, *kind, *code);
+        }
+    }
+
+    /// Lines that are answered by a text, and a part of each text.
+    const TOLD: &[(&[&str], &str)] = &[
+        (&["warpd", "--help"], "Usage: warpd <COMMAND>"),
+        (&["warpd", "--help"], "in any order"),
+        (&["warpd", "--help"], "Exit status:"),
+        (&["warpd", "run", "--help"], "Usage: warpd run <PROGRAM>"),
+        (&["warpd", "run", "--help"], "builtin:twice"),
+        (&["warpd", "run", "--help"], "taken P, or known P"),
+        (&["warpd", "run", "--help"], "collected N"),
+        (
+            &["warpd", "run", "--help"],
+            "5  the input belongs to another origin",
+        ),
+        (&["warpd", "run"], "<PROGRAM>"),
+        (
+            &["warpd", "--help"],
+            "the program or the schedule was refused",
+        ),
+        (
+            &["warpd", "play", "--help"],
+            "Usage: warpd play <PROGRAM> <SCHEDULE>",
+        ),
+        (&["warpd", "play", "--help"], "carry F I R"),
+        (&["warpd", "play", "--help"], "schedule refused at line K"),
+        (&["warpd", "play", "a"], "<SCHEDULE>"),
+        (&["warpd", "walk"], "unrecognized subcommand 'walk'"),
+    ];
+
+    /// The words are answered by a text with this part.
+    fn tells(rt: &impl Abort, alloc: Global, line: &[&str], wanted: &str) {
+        match words(alloc, line) {
+            Ok(job) => panic!(rt; "{job:?}"),
+            Err(error) => {
+                let text = format!(in alloc; "{error}").expect(rt, "memory");
+                assert!(rt; text.contains(wanted), "{text}");
+            }
+        }
+    }
+
+    #[test]
+    fn help_tells_how_to_begin(rt: HostRuntime) {
+        for (line, wanted) in TOLD {
+            tells(&rt, rt.alloc(), line, wanted);
+        }
+    }
+
+    #[test]
+    fn version_is_one_line(rt: HostRuntime) -> Result<(), Fail> {
+        match words(rt.alloc(), ["warpd", "--version"].as_slice()) {
+            Ok(job) => panic!(rt; "{job:?}"),
+            Err(error) => {
+                let text = format!(in rt.alloc(); "{error}")?;
+                assert_eq!(rt; text.as_str(), "warpd 0.1.0\n");
+            }
+        }
+        Ok(())
+    }
+}

@@ -1,0 +1,6 @@
+//! The words of the command line of `warpd`: what they ask for, or the text that says why they ask for nothing.
+#![tactic(auto)]
+
+mod command_line;
+
+pub use command_line::{Job, words};
