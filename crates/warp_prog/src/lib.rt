@@ -7,13 +7,9 @@
 
 mod backward;
 mod error;
-#[cfg(test)]
-mod fault_tests;
 mod file;
 mod limits;
 mod loading;
-#[cfg(test)]
-mod loading_tests;
 mod misread;
 mod name;
 mod named;
@@ -22,8 +18,6 @@ mod numbered;
 mod reading;
 mod scope;
 mod shape;
-#[cfg(test)]
-mod tests;
 mod twice;
 mod undeclared;
 mod uses;

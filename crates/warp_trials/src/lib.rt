@@ -6,6 +6,8 @@
 #[cfg(test)]
 mod dice;
 #[cfg(test)]
+mod prog;
+#[cfg(test)]
 mod programs;
 #[cfg(test)]
 mod twins;
