@@ -10,11 +10,7 @@ mod idle;
 mod law;
 mod local;
 mod release_law;
-#[cfg(test)]
-mod release_tests;
 mod replica;
-#[cfg(test)]
-mod tests;
 mod took;
 
 pub use idle::Idle;

@@ -6,8 +6,6 @@
 //! `some_reach`).
 #![tactic(auto)]
 
-#[cfg(test)]
-mod announced_tests;
 mod announcer;
 mod honest_law;
 mod law;
@@ -15,8 +13,6 @@ mod names;
 mod rows;
 mod table;
 mod tags;
-#[cfg(test)]
-mod tests;
 
 pub use honest_law::{honest_within, later_horizon, one_horizon, same_below, some_reach};
 pub use law::{

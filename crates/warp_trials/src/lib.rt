@@ -1,13 +1,25 @@
-//! Tests alone: what no line of the program reaches, and no contract says. Each file has one subject, and stands on public calls.
+//! Tests alone: what no line of the program reaches, and no contract says. Each file has one subject, over public calls.
 //!
 //! They stand in a crate of their own since a crate with tests is proved twice.
 #![tactic(auto)]
 
 #[cfg(test)]
+mod convergence;
+#[cfg(test)]
 mod dice;
+#[cfg(test)]
+mod exchange;
 #[cfg(test)]
 mod prog;
 #[cfg(test)]
 mod programs;
 #[cfg(test)]
+mod replica;
+#[cfg(test)]
+mod steps;
+#[cfg(test)]
+mod table;
+#[cfg(test)]
 mod twins;
+#[cfg(test)]
+mod world;

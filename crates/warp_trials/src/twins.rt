@@ -1,72 +1,19 @@
 //! A replica with rollback beside its slow twin, which runs from the start: they answer the same, and going back
 //! executes no more again than the rows at tags from the least change on, and sixteen.
 ghost use Rattle.std.specs.Prelude.{◌≡◌, IsTrue};
-ghost use Rattle.warp_step.specs.Counter.{IsUnused};
 
 use crate::dice::Dice;
 use crate::programs::{CASCADE, ECHO, LATEST, MIXED};
+use crate::steps::{event, is_total, replica, settle, twice, withdrawal};
 use std::alloc::Global;
-use std::marker::Brand;
 use std::process::Abort;
-use std::sync::ledger::{Blank, Ledger};
 use warp_line::{Plain, Timeline};
 use warp_prog::load;
-use warp_record::{Count, Query, Record, Reply};
-use warp_replica::{Replica, Took};
+use warp_record::{Count, Query, Record};
+use warp_replica::Replica;
 use warp_run::Warp;
-use warp_step::{Counter, Meter, Out, Program};
+use warp_step::{Out, Program};
 use warp_tag::Tag;
-
-/// A meter whose count can be read.
-#[derive(Drop)]
-struct Tally<L: Ledger> {
-    count: u64,
-    ticks: Counter<L>,
-}
-
-impl<L: Ledger> Tally<L> {
-    fn new(blank: Blank) -> Tally<L>
-        requires { IsUnused blank L.name L.parts }
-    {
-        Tally {
-            count: 0,
-            ticks: Counter::new(blank),
-        }
-    }
-}
-
-impl<L: Ledger> Meter for Tally<L> {
-    ghost ticks = { λ t. t.ticks };
-
-    fn tick(&mut self) {
-        self.ticks.grow();
-        self.count = self.count.wrapping_add(1);
-    }
-}
-
-/// Settles a replica, and answers how many rows that executed. `blank` is the ledger that they are counted in.
-fn settle_in<T: Timeline, L: Ledger>(
-    rt: &impl Abort,
-    alloc: Global,
-    replica: &mut Replica<T>,
-    blank: Blank,
-) -> u64
-    requires { IsUnused blank L.name L.parts }
-    ensures settled { IsTrue (T.settled replica.new.timeline) }
-    ensures program { replica.new.program ≡ replica.old.program }
-{
-    let mut tally = Tally::<L>::new(blank);
-    replica.settle(alloc, &mut tally).expect(rt, "memory");
-    tally.count
-}
-
-/// The same, in a ledger of its own.
-fn settle<T: Timeline>(rt: &impl Abort, alloc: Global, replica: &mut Replica<T>) -> u64
-    ensures settled { IsTrue (T.settled replica.new.timeline) }
-    ensures program { replica.new.program ≡ replica.old.program }
-{
-    settle_in::<T, Brand>(rt, alloc, replica, Blank::new(1))
-}
 
 /// Both answer the same to a query.
 fn agree<T: Timeline, U: Timeline>(
@@ -199,11 +146,6 @@ fn settle_both<T: Timeline, U: Timeline>(
     agree_in_all(rt, one, twin);
 }
 
-/// A replica of this program.
-fn replica<T: Timeline + Drop>(rt: &impl Abort, alloc: Global, program: Program) -> Replica<T> {
-    Replica::<T>::new(alloc, program).expect(rt, "memory")
-}
-
 /// Both settle, and then take drawn records and answer the same after each.
 fn answer_alike<T: Timeline, U: Timeline>(
     rt: &impl Abort,
@@ -324,23 +266,6 @@ fn answers_after_merges(rt: HostRuntime) {
     assert!(rt; warp.len() > 500);
 }
 
-/// The event at microstep 0 of this origin's input.
-fn event(rt: &impl Abort, origin: u32, time: u64, value: i64) -> Record {
-    let tag = Tag::new(time, 0).expect(rt, "a tag");
-    Record::Event {
-        origin,
-        tag,
-        input: origin,
-        value,
-    }
-}
-
-/// The withdrawal of the name at microstep 0.
-fn withdrawal(rt: &impl Abort, origin: u32, time: u64) -> Record {
-    let tag = Tag::new(time, 0).expect(rt, "a tag");
-    Record::Withdraw { origin, tag }
-}
-
 /// Takes a record and settles: that executes so many rows.
 fn takes_rows<T: Timeline>(
     rt: &impl Abort,
@@ -356,20 +281,12 @@ fn takes_rows<T: Timeline>(
     assert_eq!(rt; executed, rows, "{record:?}");
 }
 
-/// The value of the first variable.
-fn is_total<T: Timeline>(rt: &impl Abort, replica: &Replica<T>, log: u32, value: i64)
-    requires { IsTrue (T.settled replica.now.timeline) }
-{
-    assert!(rt; replica.answer(Query::Var(0)) == Reply::Var { log, value });
-}
-
 /// After forty events a tardy one costs what is after it, and at most sixteen more; what changes no live event costs
 /// nothing.
 #[test]
 fn rework_is_bounded(rt: HostRuntime) {
     let alloc = rt.alloc();
-    let program = Program::twice(alloc).expect(&rt, "memory");
-    let mut replica = Replica::<Warp>::new(alloc, program).expect(&rt, "memory");
+    let mut replica = twice::<Warp>(&rt, alloc);
     for time in 1..=40 {
         takes_rows(&rt, alloc, &mut replica, &event(&rt, 0, time, 1), 1);
     }

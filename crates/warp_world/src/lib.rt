@@ -6,15 +6,11 @@
 #![tactic(auto)]
 
 mod convergence;
-#[cfg(test)]
-mod convergence_tests;
 mod fault;
 mod front_law;
 mod moves;
 mod schedule;
 mod schedule_law;
-#[cfg(test)]
-mod tests;
 mod world;
 mod world_law;
 

@@ -1,17 +1,11 @@
 //! The program `warpd`: it reads the words, runs the job, and tells how that ended.
 #![tactic(auto)]
 
-#[cfg(test)]
-mod dice;
 mod file_bytes;
-#[cfg(test)]
-mod long_schedule;
 #[cfg(test)]
 mod memory;
 mod outcome;
 mod program_file;
-#[cfg(test)]
-mod programs;
 mod schedule_file;
 
 ghost use Rattle.std.specs.Prelude.{◌≡◌, ◌≢◌, ◌<◌, ◌⊎◌, IfErr, IfOk, MatchResult, OnOk, codes, map, string_bytes};

@@ -2,35 +2,16 @@
 //! reply alike; and a replica of fewer records has released the first of the outputs. Over `Plain` and the program
 //! `twice`.
 ghost use Rattle.std.specs.Prelude.{◌≡◌, IsTrue};
-ghost use Rattle.warp_step.specs.Counter.{IsUnused};
-ghost use Rattle.warp_step.specs.Twice.{twice};
 ghost use Rattle.warp_table.specs.Records.{set_of};
 
-use crate::{releases, replies};
+use crate::steps::{at, event, settle, twice, withdrawal};
 use std::alloc::Global;
-use std::marker::Brand;
 use std::process::Abort;
-use std::sync::ledger::{Blank, Ledger};
 use warp_line::{Plain, Timeline};
 use warp_record::{Count, Query, Record, Reply};
-use warp_replica::{Idle, Replica};
-use warp_step::{Out, Program};
-use warp_tag::Tag;
-
-/// A tag with microstep 0.
-fn at(rt: &impl Abort, time: u64) -> Tag {
-    Tag::new(time, 0).expect(rt, "a tag")
-}
-
-/// An event with microstep 0. The input of an origin has its number.
-fn event(rt: &impl Abort, origin: u32, time: u64, value: i64) -> Record {
-    Record::Event {
-        origin,
-        tag: at(rt, time),
-        input: origin,
-        value,
-    }
-}
+use warp_replica::Replica;
+use warp_step::Out;
+use warp_world::{releases, replies};
 
 /// That one event comes before time 10, and so many withdrawals.
 fn announce(rt: &impl Abort, origin: u32, withdrawn: u32) -> Record {
@@ -47,10 +28,7 @@ fn numbered(rt: &impl Abort, number: u32) -> Record {
     match number {
         0 => event(rt, 0, 5, 3),
         1 => event(rt, 1, 2, 4),
-        2 => Record::Withdraw {
-            origin: 1,
-            tag: at(rt, 2),
-        },
+        2 => withdrawal(rt, 1, 2),
         3 => announce(rt, 0, 0),
         4 => announce(rt, 1, 1),
         _ => event(rt, 0, 12, 1),
@@ -66,14 +44,6 @@ fn first_output(rt: &impl Abort) -> Out {
     }
 }
 
-/// A replica of `twice`.
-fn replica(rt: &impl Abort, alloc: Global) -> Replica<Plain>
-    ensures { result.program ≡ twice }
-{
-    let program = Program::twice(alloc).expect(rt, "memory");
-    Replica::new(alloc, program).expect(rt, "memory")
-}
-
 /// Takes the records with these numbers, in this order.
 fn take<T: Timeline>(rt: &impl Abort, alloc: Global, replica: &mut Replica<T>, numbers: &[u32])
     ensures { replica.new.program ≡ replica.old.program }
@@ -81,32 +51,6 @@ fn take<T: Timeline>(rt: &impl Abort, alloc: Global, replica: &mut Replica<T>, n
     for number in numbers {
         assert!(rt; replica.take(alloc, &numbered(rt, *number)).is_ok());
     }
-}
-
-/// Settles a replica. `blank` is the ledger that the ticks are counted in.
-fn settle_in<T: Timeline, L: Ledger>(
-    rt: &impl Abort,
-    alloc: Global,
-    replica: &mut Replica<T>,
-    blank: Blank,
-)
-    requires { IsUnused blank L.name L.parts }
-    ensures settled { IsTrue (T.settled replica.new.timeline) }
-    ensures program { replica.new.program ≡ replica.old.program }
-    ensures records { replica.new.records ≡ replica.old.records }
-{
-    replica
-        .settle(alloc, &mut Idle::<L>::new(blank))
-        .expect(rt, "memory");
-}
-
-/// The same, where nobody counts the ticks.
-fn settle<T: Timeline>(rt: &impl Abort, alloc: Global, replica: &mut Replica<T>)
-    ensures settled { IsTrue (T.settled replica.new.timeline) }
-    ensures program { replica.new.program ≡ replica.old.program }
-    ensures records { replica.new.records ≡ replica.old.records }
-{
-    settle_in::<T, Brand>(rt, alloc, replica, Blank::new(1));
 }
 
 /// Each of the two takes what it lacks of the other's records, and is settled.
@@ -186,8 +130,8 @@ fn go_two_ways(rt: &impl Abort, alloc: Global, one: &mut Replica<Plain>, other: 
 #[test]
 fn replies_alike(rt: HostRuntime) {
     let alloc = rt.alloc();
-    let mut one = replica(&rt, alloc);
-    let mut other = replica(&rt, alloc);
+    let mut one = twice::<Plain>(&rt, alloc);
+    let mut other = twice::<Plain>(&rt, alloc);
     go_two_ways(&rt, alloc, &mut one, &mut other);
 }
 
@@ -207,7 +151,7 @@ fn release(rt: &impl Abort, alloc: Global, one: &mut Replica<Plain>, other: &mut
 #[test]
 fn released_lists(rt: HostRuntime) {
     let alloc = rt.alloc();
-    let mut one = replica(&rt, alloc);
-    let mut other = replica(&rt, alloc);
+    let mut one = twice::<Plain>(&rt, alloc);
+    let mut other = twice::<Plain>(&rt, alloc);
     release(&rt, alloc, &mut one, &mut other);
 }

@@ -5,7 +5,7 @@ use Rattle.warp_record.specs.declared.reply.Refusal.{Refusal}
 use Rattle.warp_table.specs.Records.{set_of, union}
 use Rattle.warp_replica.specs.Merge.{Merges}
 use Rattle.warp_replica.proofs.Mergings.{merged_set}
-use Rattle.warp_world.proofs.convergence_tests.meet.Goals as goal
+use Rattle.warp_trials.proofs.convergence.meet.Goals as goal
 
 again : (x y : Bool) → (x || y) ≡ (y || (x || y))
 again true true = refl
