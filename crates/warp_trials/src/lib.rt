@@ -6,8 +6,14 @@
 #[cfg(test)]
 mod dice;
 #[cfg(test)]
+mod memory;
+#[cfg(test)]
 mod prog;
 #[cfg(test)]
 mod programs;
+#[cfg(test)]
+mod session;
+#[cfg(test)]
+mod stream;
 #[cfg(test)]
 mod twins;
