@@ -7,11 +7,7 @@
 
 mod desk_session;
 mod local_session;
-#[cfg(test)]
-mod memory;
 mod printing;
-#[cfg(test)]
-mod programs;
 mod stream;
 
 pub use desk_session::{SessionEnd, session};

@@ -10,13 +10,19 @@ mod dice;
 #[cfg(test)]
 mod exchange;
 #[cfg(test)]
+mod memory;
+#[cfg(test)]
 mod prog;
 #[cfg(test)]
 mod programs;
 #[cfg(test)]
 mod replica;
 #[cfg(test)]
+mod session;
+#[cfg(test)]
 mod steps;
+#[cfg(test)]
+mod stream;
 #[cfg(test)]
 mod table;
 #[cfg(test)]

@@ -1,5 +1,5 @@
 -- The ledgers of the two streams are the two new ones.
-use Rattle.warp_session.proofs.local_session.tests.run.Given as goal
+use Rattle.warp_trials.proofs.session.run.Given as goal
 
 abbrev pub ghosts-run_in-L-Ledger : goal.ghosts-run_in-L-Ledger
 ghosts-run_in-L-Ledger g a = record { name = a.reads.name; parts = a.reads.parts }
