@@ -4,10 +4,22 @@
 #![tactic(auto)]
 
 #[cfg(test)]
+mod arena;
+#[cfg(test)]
+mod body;
+#[cfg(test)]
 mod dice;
+#[cfg(test)]
+mod line;
 #[cfg(test)]
 mod prog;
 #[cfg(test)]
 mod programs;
+#[cfg(test)]
+mod record;
+#[cfg(test)]
+mod step;
+#[cfg(test)]
+mod tally;
 #[cfg(test)]
 mod twins;

@@ -5,6 +5,7 @@ ghost use Rattle.warp_step.specs.Counter.{IsUnused};
 
 use crate::dice::Dice;
 use crate::programs::{CASCADE, ECHO, LATEST, MIXED};
+use crate::tally::Tally;
 use std::alloc::Global;
 use std::marker::Brand;
 use std::process::Abort;
@@ -14,35 +15,8 @@ use warp_prog::load;
 use warp_record::{Count, Query, Record, Reply};
 use warp_replica::{Replica, Took};
 use warp_run::Warp;
-use warp_step::{Counter, Meter, Out, Program};
+use warp_step::{Out, Program};
 use warp_tag::Tag;
-
-/// A meter whose count can be read.
-#[derive(Drop)]
-struct Tally<L: Ledger> {
-    count: u64,
-    ticks: Counter<L>,
-}
-
-impl<L: Ledger> Tally<L> {
-    fn new(blank: Blank) -> Tally<L>
-        requires { IsUnused blank L.name L.parts }
-    {
-        Tally {
-            count: 0,
-            ticks: Counter::new(blank),
-        }
-    }
-}
-
-impl<L: Ledger> Meter for Tally<L> {
-    ghost ticks = { λ t. t.ticks };
-
-    fn tick(&mut self) {
-        self.ticks.grow();
-        self.count = self.count.wrapping_add(1);
-    }
-}
 
 /// Settles a replica, and answers how many rows that executed. `blank` is the ledger that they are counted in.
 fn settle_in<T: Timeline, L: Ledger>(
