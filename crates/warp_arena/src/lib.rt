@@ -15,8 +15,6 @@ pub mod law;
 mod links;
 mod node;
 mod packed;
-#[cfg(test)]
-mod tests;
 
 pub use arena::Arena;
 pub use node::{MAX_USED, NodeId};

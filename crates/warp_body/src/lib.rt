@@ -13,8 +13,6 @@ mod place;
 mod slots;
 mod stmt;
 mod sum;
-#[cfg(test)]
-mod tests;
 
 pub use code::Code;
 pub use expr::{Expr, eval};

@@ -8,8 +8,6 @@ mod plain;
 mod replay;
 mod rework_law;
 mod table;
-#[cfg(test)]
-mod tests;
 mod timeline;
 
 pub use plain::Plain;

@@ -22,8 +22,6 @@ mod program;
 mod react;
 mod reaction;
 mod state;
-#[cfg(test)]
-mod tests;
 mod twice;
 
 pub use counter::Counter;

@@ -8,8 +8,6 @@
 mod entry;
 mod out;
 mod tag;
-#[cfg(test)]
-mod tests;
 
 pub use entry::Entry;
 pub use out::Out;

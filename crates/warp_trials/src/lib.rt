@@ -4,11 +4,17 @@
 #![tactic(auto)]
 
 #[cfg(test)]
+mod arena;
+#[cfg(test)]
+mod body;
+#[cfg(test)]
 mod convergence;
 #[cfg(test)]
 mod dice;
 #[cfg(test)]
 mod exchange;
+#[cfg(test)]
+mod line;
 #[cfg(test)]
 mod memory;
 #[cfg(test)]
@@ -16,15 +22,21 @@ mod prog;
 #[cfg(test)]
 mod programs;
 #[cfg(test)]
+mod record;
+#[cfg(test)]
 mod replica;
 #[cfg(test)]
 mod session;
+#[cfg(test)]
+mod step;
 #[cfg(test)]
 mod steps;
 #[cfg(test)]
 mod stream;
 #[cfg(test)]
 mod table;
+#[cfg(test)]
+mod tally;
 #[cfg(test)]
 mod twins;
 #[cfg(test)]

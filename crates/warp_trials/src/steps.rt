@@ -3,6 +3,7 @@ ghost use Rattle.std.specs.Prelude.{◌≡◌, IsTrue};
 ghost use Rattle.warp_step.specs.Counter.{IsUnused};
 ghost use Rattle.warp_step.specs.Twice.{twice};
 
+use crate::tally::Tally;
 use std::alloc::Global;
 use std::marker::Brand;
 use std::process::Abort;
@@ -10,35 +11,8 @@ use std::sync::ledger::{Blank, Ledger};
 use warp_line::Timeline;
 use warp_record::{Query, Record, Reply};
 use warp_replica::Replica;
-use warp_step::{Counter, Meter, Program};
+use warp_step::Program;
 use warp_tag::Tag;
-
-/// A meter whose count can be read.
-#[derive(Drop)]
-struct Tally<L: Ledger> {
-    count: u64,
-    ticks: Counter<L>,
-}
-
-impl<L: Ledger> Tally<L> {
-    fn new(blank: Blank) -> Tally<L>
-        requires { IsUnused blank L.name L.parts }
-    {
-        Tally {
-            count: 0,
-            ticks: Counter::new(blank),
-        }
-    }
-}
-
-impl<L: Ledger> Meter for Tally<L> {
-    ghost ticks = { λ t. t.ticks };
-
-    fn tick(&mut self) {
-        self.ticks.grow();
-        self.count = self.count.wrapping_add(1);
-    }
-}
 
 /// Settles a replica, and answers how many rows that executed. `blank` is the ledger that they are counted in.
 fn settle_in<T: Timeline, L: Ledger>(
