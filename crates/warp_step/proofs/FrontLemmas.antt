@@ -1,10 +1,12 @@
 -- The entries at the tag of a step are a front of what is pending; and what their arrival makes present.
-use Rattle.std.proofs.Common.{◌≡◌, ℕ, ℤ, zero, suc, ◌+◌, ◌<◌, Bool, true, false, not, List, [], ◌∷◌, get_or, length, take, drop, filter, IsTrue, refl, sym, ap, ◌∙◌, arith}
+use Rattle.std.proofs.Common.{◌≡◌, ℕ, ℤ, zero, suc, ◌+◌, ◌<◌, Bool, true, false, not, List, [], ◌∷◌, get_or, length, take, drop, filter, IsTrue, refl, sym, ap, ◌∙◌, subst, arith}
 use Rattle.std.specs.Prelude.{slice_get}
 use Rattle.std.specs.List.{list_all}
 use Rattle.std.specs.Option.{option_map_or}
 use Rattle.std.proofs.lemmas.Bool.{and_from, and_parts}
 use Rattle.std.proofs.lemmas.Bool.Decides.{nat_tests}
+use Rattle.std.proofs.lemmas.List.{drop_more}
+use Rattle.std.proofs.lemmas.List.Folds.{list_all_more}
 use Rattle.warp_tag.specs.Moment.{Moment, is_before, is_same}
 use Rattle.warp_body.specs.Presence.{Presence, with_value}
 use Rattle.warp_body.specs.declared.place.Target.{Target}
@@ -30,6 +32,18 @@ arrived_more (w ∷ ws) zero d present lt = refl
 arrived_more (w ∷ ws) (suc i) d present lt =
     let more : suc i + 1 ≡ suc (i + 1) = omega arith in
     rw more (arrived_more ws i d (with_value w.target w.value present) (omega arith))
+
+-- what holds of all that are left holds of the next one, and of those behind it
+pub left_parts : {X : Type 0} (p : X → Bool) (xs : List X) (i : ℕ) (d : X) → i < length xs → IsTrue (list_all p (drop i xs))
+    → IsTrue (p (get_or xs i d)) × IsTrue (list_all p (drop (i + 1) xs))
+left_parts {X} p xs i d lt all =
+    and_parts (p (get_or xs i d)) (list_all p (drop (i + 1) xs)) (subst (λ (ys : List X). IsTrue (list_all p ys)) (drop_more xs i d lt) all)
+
+-- what holds of all so far, and of the next one, holds of all up to it
+pub all_up_to : {X : Type 0} (p : X → Bool) (xs : List X) (i : ℕ) (d : X) → i < length xs → IsTrue (list_all p (take i xs)) → p (get_or xs i d) ≡ true
+    → IsTrue (list_all p (take (i + 1) xs))
+all_up_to p xs i d lt all next =
+    subst IsTrue (sym (list_all_more p xs i d lt)) (and_from (list_all p (take i xs)) (p (get_or xs i d)) all next)
 
 -- an entry after the tag is not at it, nor is one after that
 after_not_same : (t u : Moment) → is_before t u ≡ true → is_same u t ≡ false

@@ -4,7 +4,7 @@ use Rattle.std.specs.Prelude.{pos}
 use Rattle.std.proofs.lemmas.Bool.{cond-false}
 use Rattle.std.proofs.lemmas.List.{get_or-set_other, get_or-set_same, length-replicate}
 use Rattle.warp_tag.specs.Moment.{Moment}
-use Rattle.warp_body.specs.Presence.{Presence, present_at, with_value}
+use Rattle.warp_body.specs.Presence.{Presence, places_of, present_at, with_value}
 use Rattle.warp_body.specs.declared.place.Target.{Target}
 use Rattle.warp_body.specs.declared.place.Target.TheVariants as to
 use Rattle.warp_step.specs.Program.{Program}
@@ -15,6 +15,14 @@ use Rattle.warp_step.specs.declared.given.Given.{Given}
 use Rattle.warp_step.specs.declared.parts.Timer.{Timer}
 use Rattle.warp_step.specs.inner.Due.{AreDue}
 use Rattle.warp_step.proofs.DueLemmas.{none_at, none_due}
+
+-- the places where nothing of a program is present are the program's
+pub absent_places : (P : Program) → places_of (absent P) ≡ program_places P
+absent_places P = λ i. record {
+  timers = length-replicate {A = Option ℤ} (length P.timers) None i;
+  actions = length-replicate {A = Option ℤ} (length P.actions) None i;
+  ports = length-replicate {A = Option ℤ} (length P.ports) None i;
+}
 
 -- what the given inputs make present leaves the timers
 pub arrived_timers : (P : Program) (X : List Given) (present : Presence) → (arrived P X present).timers ≡ present.timers
@@ -80,7 +88,7 @@ pub timer_alone : (P : Program) (t : Moment) (n : ℕ) (v : ℤ) (timer : Timer)
     ≡ (if nat_lt 0 timer.period then landed P t timer.period (to.Timer n) (pos 0) s else s)
 timer_alone P t n v timer s lt is =
     let present = with_value (to.Timer n) v (absent P) in
-    let places : length (absent P).timers ≡ length P.timers = length-replicate (length P.timers) None in
+    let places : length (absent P).timers ≡ length P.timers = length-replicate {A = Option ℤ} (length P.timers) None in
     let own : present_at present (to.Timer n) ≡ Some v = get_or-set_same (absent P).timers n (Some v) None (omega (arith, lt, places)) in
     one_repeats P t present n 0 n P.timers timer s (others_absent P n v) (omega arith) lt is
     ∙ ap (λ (o : Option ℤ). if is_some o && nat_lt 0 timer.period then landed P t timer.period (to.Timer n) (pos 0) s else s) own

@@ -1,9 +1,10 @@
 -- What the parts of a step make, one after another, is the step.
-use Rattle.std.proofs.Common.{◌≡◌, ℕ, zero, suc, replicate, ℤ, ◌+◌, List, [], ◌∷◌, IsTrue, refl, sym, ap, ◌∙◌, subst}
+use Rattle.std.proofs.Common.{◌≡◌, ℕ, zero, suc, replicate, ℤ, ◌+◌, List, [], ◌∷◌, length, Option, None, IsTrue, refl, sym, ap, ◌∙◌, subst}
 use Rattle.std.specs.Prelude.{pos, if◌then◌else◌}
 use Rattle.std.specs.List.{list_all}
+use Rattle.std.proofs.lemmas.List.{length-replicate}
 use Rattle.warp_tag.specs.Moment.{Moment, is_before}
-use Rattle.warp_body.specs.Presence.{Presence, nothing_present}
+use Rattle.warp_body.specs.Presence.{Presence, nothing_present, places_of}
 use Rattle.warp_body.specs.Effect.{wish_fits}
 use Rattle.warp_body.specs.declared.place.Places.{Places}
 use Rattle.warp_body.specs.declared.place.Target.TheVariants as to
@@ -20,6 +21,14 @@ use Rattle.warp_step.proofs.TargetsOfStep.{step_is}
 -- what is cleared, of the program's places and sources, is absent
 pub cleared : (P : Program) (places : Places) (sources : List ℕ) → places ≡ program_places P → sources ≡ sources_of P → nothing_present places sources ≡ absent P
 cleared P places sources h k = rw (h, k) refl
+
+-- what is cleared keeps its places
+pub cleared_places : (present : Presence) → places_of (nothing_present (places_of present) present.sources) ≡ places_of present
+cleared_places present = λ i. record {
+  timers = length-replicate {A = Option ℤ} (length present.timers) None i;
+  actions = length-replicate {A = Option ℤ} (length present.actions) None i;
+  ports = length-replicate {A = Option ℤ} (length present.ports) None i;
+}
 
 -- where no list has a wish, none is entered
 pub none_enter : (P : Program) (t : Moment) (n : ℕ) (s : Snapshot) → with_all_wishes P t (replicate n []) s ≡ s

@@ -4,7 +4,7 @@ use Rattle.warp_body.specs.Presence.{Presence, places_of}
 use Rattle.warp_step.specs.Snapshot.{Snapshot}
 use Rattle.warp_step.specs.Step.{Reacting, lists_of, with_all_wishes, with_links, after_reactions, order_of, no_wishes, arrived, without_entries}
 use Rattle.warp_step.proofs.RepeatLemmas.{arrived_timers, same_repeats}
-use Rattle.warp_step.proofs.StepLemmas.{cleared, repeats_vars, Made, reacts_are, state_is, made_later, made_of}
+use Rattle.warp_step.proofs.StepLemmas.{cleared, cleared_places, repeats_vars, Made, reacts_are, state_is, made_later, made_of}
 use Rattle.warp_step.proofs.one_step.advance.Goals as goal
 
 -- after the clearing nothing of the program is present
@@ -26,6 +26,24 @@ run_reactions-wished-requires-clause-due c = c.arrive.ensures.due c.take_entries
 
 pub run_reactions-wished-requires-clause-sure : goal.run_reactions-wished-requires-clause-sure
 run_reactions-wished-requires-clause-sure c = c.arrive.ensures.sure c.take_entries-taken.ensures.sure
+
+-- the places stay the program's
+pub arrive-requires-clause-places : goal.arrive-requires-clause-places
+arrive-requires-clause-places c = c.take_entries-taken.ensures.places ∙ ap places_of c.clear.ensures ∙ cleared_places c.args.present.now ∙ c.requires.places
+
+pub run_reactions-wished-requires-clause-places : goal.run_reactions-wished-requires-clause-places
+run_reactions-wished-requires-clause-places c =
+    c.arrive.ensures.places ∙ c.take_entries-taken.ensures.places ∙ ap places_of c.clear.ensures ∙ cleared_places c.args.present.now ∙ c.requires.places
+
+pub enter_later-requires-clause-places : goal.enter_later-requires-clause-places
+enter_later-requires-clause-places c =
+    c.run_reactions-wished.ensures.places ∙ c.arrive.ensures.places ∙ c.take_entries-taken.ensures.places ∙ ap places_of c.clear.ensures
+    ∙ cleared_places c.args.present.now ∙ c.requires.places
+
+pub returns-clause-places : goal.returns-clause-places
+returns-clause-places c =
+    c.run_reactions-wished.ensures.places ∙ c.arrive.ensures.places ∙ c.take_entries-taken.ensures.places ∙ ap places_of c.clear.ensures
+    ∙ cleared_places c.args.present.now
 
 -- what the reactions make
 abbrev reacting : goal.After-wishes-2-1 → Reacting

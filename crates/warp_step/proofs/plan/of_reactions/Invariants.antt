@@ -7,6 +7,6 @@ use Rattle.warp_step.proofs.plan.of_reactions.Given as goal
 
 abbrev pub invariant-loop-reaction : goal.invariant-loop-reaction
 invariant-loop-reaction l = record {
-  bodies : map (λ one. one.code) l.all.items ≡ map (λ rule. rule.body) (map rule_of (take l.reaction-index l.reaction-items));
-  after : map (λ one. one.after.word) l.all.items ≡ map (λ rule. marks_of l.program (filter is_port rule.writes)) (map rule_of (take l.reaction-index l.reaction-items));
+  bodies : map (λ one. one.code) l.all.items ≡ map (λ r. (rule_of r).body) (take l.reaction-index l.reaction-items);
+  after : map (λ one. one.after.word) l.all.items ≡ map (λ r. marks_of l.program (filter is_port (rule_of r).writes)) (take l.reaction-index l.reaction-items);
 }

@@ -4,7 +4,7 @@ use Rattle.std.proofs.Common.{◌≡◌, ℕ, replicate, ◌+◌, ◌≤◌, ◌
 use Rattle.std.specs.Prelude.{slice_index_or}
 use Rattle.std.specs.List.{list_all}
 use Rattle.std.proofs.lemmas.Bool.{eqb-true, or_parts}
-use Rattle.std.proofs.lemmas.List.{get_or-map, length-map, length-replicate}
+use Rattle.std.proofs.lemmas.List.{at_drop_all, get_or-map, length-map, length-replicate}
 use Rattle.std.proofs.lemmas.Option.{slice_get-get_or}
 use Rattle.arrayvec.specs.ArrayVec.{ArrayVec}
 use Rattle.warp_tag.specs.Limits.{most_reactions}
@@ -145,3 +145,16 @@ loop-number-preserved c =
       due = due;
       sure = λ h. let no : false ≡ true = h in cc;
     }
+
+pub after-number-requires : goal.after-number-requires
+after-number-requires c =
+    let many = few c.args.program.now c.reactions-reactions.result.now c.valid.ensures c.reactions-reactions.ensures in
+    omega (arith, many, c.loop-number-test.true)
+
+pub returns-clause-effect : goal.returns-clause-effect
+returns-clause-effect c =
+    let P = c.args.program.now in
+    let n = c.loop-number.number in
+    let now : Reacting = record { vars = c.loop-number.vars; present = c.loop-number.present; wishes = lists_of c.loop-number.wishes } in
+    let end : length P.reactions ≤ n = omega (arith, count_is P c.reactions-reactions.result.now c.reactions-reactions.ensures, c.loop-number-test.false) in
+    sym (at_drop_all (λ (rs : List Rule). after_reactions P (numbers n rs) now) P.reactions n end) ∙ c.loop-number.invariant.rest

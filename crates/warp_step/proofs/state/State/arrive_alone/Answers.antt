@@ -2,13 +2,14 @@
 use Rattle.std.proofs.Common.{◌≡◌, ◌<◌, List, IsTrue, length, get_or, w64, ap, sym, ◌∙◌, subst, arith}
 use Rattle.std.proofs.lemmas.Bool.{ltb-true}
 use Rattle.std.proofs.lemmas.Int.{to_z-of_z}
-use Rattle.warp_body.specs.Presence.{Presence, target_fits, with_value}
+use Rattle.warp_body.specs.Presence.{Presence, places_of, target_fits, with_value}
+use Rattle.warp_body.specs.declared.place.Places.{Places}
 use Rattle.warp_body.specs.declared.place.Target.{Target}
 use Rattle.warp_body.specs.declared.place.Target.TheVariants as to
 use Rattle.warp_step.specs.Valid.{program_places}
 use Rattle.warp_step.specs.Step.{absent, with_repeats}
 use Rattle.warp_step.specs.declared.parts.Timer.{Timer}
-use Rattle.warp_step.proofs.RepeatLemmas.{absent_due, other_alone, timer_alone}
+use Rattle.warp_step.proofs.RepeatLemmas.{absent_due, absent_places, other_alone, timer_alone}
 use Rattle.warp_step.proofs.SkipLemmas.{get_or_same}
 use Rattle.warp_step.proofs.ValidLemmas.{timer_period}
 use Rattle.warp_step.proofs.state.State.arrive_alone.Goals as goal
@@ -64,4 +65,24 @@ returns-in_default c =
       sources = put.ensures.sources;
       due = put.ensures.due (absent_due P c.args.present.now _ c.requires.absent);
       sure = put.ensures.sure;
+    }
+
+pub put-requires-clause-places : goal.put-requires-clause-places
+put-requires-clause-places c = ap places_of c.requires.absent ∙ absent_places c.args.program.now
+
+pub put-requires-clause-target : goal.put-requires-clause-target
+put-requires-clause-target c =
+    let P = c.args.program.now in
+    let places = ap places_of c.requires.absent ∙ absent_places P in
+    subst (λ (at : Places). IsTrue (target_fits at (to.Timer c.in-Timer.n))) (sym places)
+    (subst (λ (target : Target). IsTrue (target_fits (program_places P) target)) c.in-Timer.is c.requires.target)
+
+pub put-requires-in_default : goal.put-requires-in_default
+put-requires-in_default c =
+    let places = ap places_of c.requires.absent ∙ absent_places c.args.program.now in
+    record {
+      plan = c.requires.plan;
+      places = places;
+      own = ap (λ (p : Presence). p.sources) c.requires.absent;
+      target = subst (λ (at : Places). IsTrue (target_fits at c.args.target)) (sym places) c.requires.target;
     }

@@ -1,5 +1,6 @@
 -- a valid program's links fit; links that are not marked deliver nothing
-use Rattle.std.proofs.Common.{◌≡◌, ℕ, ◌+◌, ◌-◌, ◌<◌, List, None, IsTrue, length, drop, get_or, ap, sym, ◌∙◌, subst, arith}
+use Rattle.std.proofs.Common.{◌≡◌, ℕ, ◌+◌, ◌-◌, ◌<◌, ◌≤◌, List, None, IsTrue, length, drop, get_or, ap, sym, ◌∙◌, subst, arith}
+use Rattle.std.proofs.lemmas.List.{at_drop_all}
 use Rattle.warp_step.specs.Plan.{link_heeds}
 use Rattle.warp_step.specs.Step.{with_links}
 use Rattle.warp_step.specs.Snapshot.{Snapshot}
@@ -61,3 +62,11 @@ loop-mark-preserved c =
           ∙ sym (links_one_more P t present n link c.loop-mark.self lt is)
           ∙ c.loop-mark.invariant.rest;
     }
+
+pub returns : goal.returns
+returns c =
+    let P = c.args.program.now in
+    let n = c.loop-mark.mark - c.first_link-first.result in
+    let len : length c.links-links.result.now ≡ length P.links = ap length c.links-links.ensures in
+    let end : length P.links ≤ n = omega (arith, len, c.loop-mark-test.false) in
+    sym (at_drop_all (λ (ls : List Link). with_links P c.args.tag c.args.present.now ls c.loop-mark.self) P.links n end) ∙ c.loop-mark.invariant.rest

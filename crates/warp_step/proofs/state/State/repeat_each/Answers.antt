@@ -1,5 +1,6 @@
 -- a timer's period is a delay that lands; timers that are not marked do not repeat
-use Rattle.std.proofs.Common.{◌≡◌, ℕ, ◌+◌, ◌-◌, ◌<◌, List, length, drop, get_or, ap, sym, ◌∙◌, subst, arith}
+use Rattle.std.proofs.Common.{◌≡◌, ℕ, ◌+◌, ◌-◌, ◌<◌, ◌≤◌, List, length, drop, get_or, ap, sym, ◌∙◌, subst, arith}
+use Rattle.std.proofs.lemmas.List.{at_drop_all}
 use Rattle.warp_step.specs.Plan.{timer_heeds}
 use Rattle.warp_step.specs.Step.{with_repeats}
 use Rattle.warp_step.specs.Snapshot.{Snapshot}
@@ -61,3 +62,11 @@ loop-mark-preserved c =
           ∙ sym (timers_one_more P t present n timer c.loop-mark.self lt is)
           ∙ c.loop-mark.invariant.rest;
     }
+
+pub returns : goal.returns
+returns c =
+    let P = c.args.program.now in
+    let n = c.loop-mark.mark - c.first_timer-first.result in
+    let len : length c.timers-timers.result.now ≡ length P.timers = ap length c.timers-timers.ensures in
+    let end : length P.timers ≤ n = omega (arith, len, c.loop-mark-test.false) in
+    sym (at_drop_all (λ (ts : List Timer). with_repeats P c.args.tag c.args.present.now n ts c.loop-mark.self) P.timers n end) ∙ c.loop-mark.invariant.rest

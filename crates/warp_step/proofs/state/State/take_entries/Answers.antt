@@ -1,5 +1,5 @@
 -- where the first entry is not at the tag none is, and where the second is not the first alone is
-use Rattle.std.proofs.Common.{◌≡◌, List, IsTrue, drop, filter, take, rules, refl, sym, ap, ◌∙◌}
+use Rattle.std.proofs.Common.{◌≡◌, ◌<◌, List, IsTrue, drop, filter, length, take, rules, refl, sym, ap, ◌∙◌, subst}
 use Rattle.std.specs.List.{list_all}
 use Rattle.warp_tag.specs.Moment.{is_same}
 use Rattle.warp_body.specs.Presence.{Presence}
@@ -64,3 +64,10 @@ returns-clause-state c =
 
 pub returns-clause-present : goal.returns-clause-present
 returns-clause-present c = (one c).present
+
+pub take_one-requires-clause-some : goal.take_one-requires-clause-some
+take_one-requires-clause-some c =
+    let ws = c.self.inside.pending in
+    let same : ws ≡ c.args.self.now.pending = search rules in
+    let stands = sym (c.is_at.ensures ∙ ap (λ (xs : List Waiting). stands_at c.args.tag xs 0) c.as_slice.ensures.value) ∙ c.if-not-is_at.false in
+    subst (λ (xs : List Waiting). 0 < length xs) same (first_here c.args.tag ws stands).0
