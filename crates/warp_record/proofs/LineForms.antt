@@ -130,8 +130,7 @@ pub name_words : (word a b c : List ℕ) (words : List (List ℕ)) (r : Record) 
     → (origin : ℕ) × (tag : Moment) × (origin < most_origins) × IsInRange tag × (a ≡ decimal origin) × (b ≡ decimal tag.time)
     × (c ≡ decimal tag.microstep)
 name_words word a b c words r fits are =
-    let told = name_of r fits in
-    (
+    let told = name_of r fits in (
       told.0,
       told.1,
       told.2,

@@ -44,8 +44,7 @@ known_words text reply fits are =
 pub refused_words : (text : List ℕ) (reply : Reply) → IsReply reply → codes "refused" ∷ text ∷ [] ≡ reply_words reply
     → (refusal : Refusal) × (refusal_number refusal ≤ most_records) × (text ≡ decimal (refusal_number refusal))
 refused_words text reply fits are =
-    let is : reply ≡ Refused (refusal_of (number_at (codes "refused" ∷ text ∷ []) 1)) = reply_is _ reply fits are in
-    (
+    let is : reply ≡ Refused (refusal_of (number_at (codes "refused" ∷ text ∷ []) 1)) = reply_is _ reply fits are in (
       _,
       omega (arith, refusal_number-le (refusal_of (number_at (codes "refused" ∷ text ∷ []) 1))),
       ap (λ (ws : List (List ℕ)). get_or ws 1 []) (are ∙ ap reply_words is),
@@ -209,8 +208,7 @@ pub middle_count : (word text more : List ℕ) (reply : Reply) → IsReply reply
     → (log : ℕ) × (count : ℕ) × (log ≤ most_records) × (count ≤ greatest_count) × (text ≡ decimal log) × (more ≡ decimal count)
 middle_count word text more reply fits var breach board are =
     let counted : is_counted (word ∷ text ∷ more ∷ []) ≡ true = rw (var, breach, board) refl in
-    let told = counted_words reply fits (sym (ap is_counted are) ∙ counted) in
-    (
+    let told = counted_words reply fits (sym (ap is_counted are) ∙ counted) in (
       told.0,
       told.1,
       told.2,

@@ -263,10 +263,18 @@ fn read_short(word: &[u8], number: &[u8]) -> Option<Reply>
         return Some(Reply::Collected { log: number });
     }
     if is_keyword(word, TAKEN) {
-        return if number > 0 { Some(Reply::Taken(number)) } else { None };
+        return if number > 0 {
+            Some(Reply::Taken(number))
+        } else {
+            None
+        };
     }
     if is_keyword(word, KNOWN) {
-        return if number > 0 { Some(Reply::Known(number)) } else { None };
+        return if number > 0 {
+            Some(Reply::Known(number))
+        } else {
+            None
+        };
     }
     None
 }
