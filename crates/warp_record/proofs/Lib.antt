@@ -1,4 +1,5 @@
 pub mod LineCuts
+pub mod LineForms
 pub mod LineWords
 pub mod Numerals
 pub mod PlainWords
@@ -8,3 +9,4 @@ pub mod ReplyLemmas
 pub mod WordCuts
 pub mod WordFronts
 pub mod WordReadings
+pub mod WordTexts

@@ -35,20 +35,20 @@ abbrev pub number_at : List (List ℕ) → ℕ → ℕ
 number_at words place = digits_value 10 (get_or words place [])
 
 -- the signed number of a word
-abbrev signed_value : List ℕ → ℤ
+abbrev pub signed_value : List ℕ → ℤ
 signed_value word =
     if eqb (get_or word 0 0) 45 then negsuc (digits_value 10 (drop 1 word) - 1) else pos (digits_value 10 word)
 
 -- the tag at a place
-abbrev tag_at : List (List ℕ) → ℕ → Moment
+abbrev pub tag_at : List (List ℕ) → ℕ → Moment
 tag_at words place = record { time = number_at words place; microstep = number_at words (place + 1) }
 
 -- a number is read from its text
-value : (n : ℕ) → n < 2 ^ 64 → digits_value 10 (decimal n) ≡ n
+pub value : (n : ℕ) → n < 2 ^ 64 → digits_value 10 (decimal n) ≡ n
 value n fits = (decimal_is_IsNumeral n fits).1
 
 -- a signed number is read from its text
-signed : (z : ℤ) → FitsSigned w64 z → signed_value (signed_decimal z) ≡ z
+pub signed : (z : ℤ) → FitsSigned w64 z → signed_value (signed_decimal z) ≡ z
 signed (pos n) fits =
     let small : n < 2 ^ 64 = omega (arith, fits.sfits) in
     let numeral = decimal_is_IsNumeral n small in
@@ -96,7 +96,7 @@ record_back (Announce origin tag events withdrawn) fits =
     ) refl
 
 -- the line that the words say
-abbrev line_said : List (List ℕ) → Line
+abbrev pub line_said : List (List ℕ) → Line
 line_said words =
     if is_first words (codes "var") then line.Ask (query.Var (number_at words 1))
     else (if is_first words (codes "outputs") then line.Ask query.Outputs
@@ -111,7 +111,7 @@ line_said words =
     else (if is_first words (codes "row") then line.Look (look.Row (number_at words 1))
     else line.Put (record_said words)))))))))))
 
-line_back : (said : Line) → IsLine said → line_said (line_words said) ≡ said
+pub line_back : (said : Line) → IsLine said → line_said (line_words said) ≡ said
 line_back (line.Put (Event origin tag input z)) fits = ap (λ (r : Record). line.Put r) (record_back (Event origin tag input z) fits)
 line_back (line.Put (Withdraw origin tag)) fits = ap (λ (r : Record). line.Put r) (record_back (Withdraw origin tag) fits)
 line_back (line.Put (Announce origin tag events withdrawn)) fits =
@@ -138,7 +138,7 @@ same_line a b fits_a fits_b same =
 -- ---- replies
 
 -- the refusal with a number
-abbrev refusal_of : ℕ → Refusal
+abbrev pub refusal_of : ℕ → Refusal
 refusal_of n =
     if eqb n 1 then Syntax else (if eqb n 2 then NoOrigin else (if eqb n 3 then PastStop else (if eqb n 4 then NoInput
     else (if eqb n 5 then NotYours else (if eqb n 6 then NoVar else (if eqb n 7 then LogFull else (if eqb n 8 then NoMemory
@@ -158,16 +158,16 @@ refusal_back Busy = refl
 refusal_back NoBoard = refl
 
 -- the flag at a place
-abbrev flag_at : List (List ℕ) → ℕ → Bool
+abbrev pub flag_at : List (List ℕ) → ℕ → Bool
 flag_at words place = bytes_eq (get_or words place []) (codes "1")
 
 -- the output at a place
-abbrev out_at : List (List ℕ) → ℕ → Out
+abbrev pub out_at : List (List ℕ) → ℕ → Out
 out_at words place =
     record { tag = tag_at words place; port = number_at words (place + 2); value = signed_value (get_or words (place + 3) []) }
 
 -- the reply that the words say
-abbrev reply_said : List (List ℕ) → Reply
+abbrev pub reply_said : List (List ℕ) → Reply
 reply_said words =
     if is_first words (codes "taken") then Taken (number_at words 1)
     else (if is_first words (codes "known") then Known (number_at words 1)
@@ -185,7 +185,7 @@ reply_said words =
     else (if is_first words (codes "board") then Board (number_at words 1) (flag_at words 2)
     else Row (out_at words 1))))))))))))))
 
-reply_back : (reply : Reply) → IsReply reply → reply_said (reply_words reply) ≡ reply
+pub reply_back : (reply : Reply) → IsReply reply → reply_said (reply_words reply) ≡ reply
 reply_back (Taken place) fits = rw (value place (omega (arith, fits.1))) refl
 reply_back (Known place) fits = rw (value place (omega (arith, fits.1))) refl
 reply_back (Refused refusal) fits =

@@ -1,14 +1,12 @@
 //! The lines that come in: their type, and reading them. Each has one spelling.
-ghost use Rattle.std.specs.Prelude.{◌≡◌, ◌↔◌, ℕ, ◌≤◌, IfSome, IfNone, IsTrue, decimal, map};
+ghost use Rattle.std.specs.Prelude.{◌≡◌, ℕ, ◌≤◌, [], ◌∷◌, IfSome, IfNone, codes, decimal, map};
 ghost use Rattle.std.specs.List.{slice_split};
-ghost use Rattle.warp_tag.specs.Limits.{last_number};
+ghost use Rattle.warp_tag.specs.Limits.{last_number, most_origins};
 ghost use Rattle.warp_record.specs.declared.line.Line.{Line};
-ghost use Rattle.warp_record.specs.declared.line.Look.{Look};
-ghost use Rattle.warp_record.specs.declared.line.Query.{Query};
 ghost use Rattle.warp_record.specs.declared.record.Record.{Record};
 ghost use Rattle.warp_record.specs.Number.{is_space};
 ghost use Rattle.warp_record.specs.Record.{record_words};
-ghost use Rattle.warp_record.specs.Line.{IsLine, IsLook, IsQuery, line_words, look_words, query_words, spelling};
+ghost use Rattle.warp_record.specs.Line.{IsLine, line_words, spelling};
 
 use crate::number::read_u32;
 use crate::query_text::{behind_output, behind_var, cut_last_index, read_word};
@@ -102,66 +100,73 @@ fn read_index(word: &[u8]) -> Option<u32>
     read_u32(word, u32::MAX)
 }
 
-/// The query in range whose words these are; `None` where there is none.
-fn read_query(words: &[&[u8]]) -> Option<Query>
-    ensures found { IfSome result (λ query. IsQuery query × (map (λ word. word.now) words.now ≡ query_words query)) }
+/// The line in range whose only word this is; `None` where there is none.
+fn line_of_word(word: &[u8]) -> Option<Line>
+    ensures found { IfSome result (λ line. IsLine line × (word.now ∷ [] ≡ line_words line)) }
+    ensures none { IfNone result ((line : Line) → IsLine line → word.now ∷ [] ≡ line_words line → ⊥) }
+{
+    if is_keyword(word, OUTPUTS) {
+        Some(Line::Ask(Query::Outputs))
+    } else if is_keyword(word, HORIZON) {
+        Some(Line::Ask(Query::Horizon))
+    } else if is_keyword(word, RELEASED) {
+        Some(Line::Ask(Query::Released))
+    } else if is_keyword(word, LOST) {
+        Some(Line::Ask(Query::Lost))
+    } else if is_keyword(word, COLLECT) {
+        Some(Line::Collect)
+    } else if is_keyword(word, BOARD) {
+        Some(Line::Look(Look::Board))
+    } else {
+        None
+    }
+}
+
+/// The query for this origin's breach, where there is such an origin.
+fn breach_of(origin: u32) -> Option<Line>
+    ensures found { IfSome result
+        (λ line. IsLine line × (codes "breach" ∷ decimal origin ∷ [] ≡ line_words line)) }
+    ensures none { IfNone result (most_origins ≤ origin) }
+{
+    if origin > LAST_ORIGIN {
+        return None;
+    }
+    Some(Line::Ask(Query::Breach(origin)))
+}
+
+/// The line in range whose words are this one and this number; `None` where there is none.
+fn line_of_number(word: &[u8], number: u32) -> Option<Line>
+    ensures found { IfSome result
+        (λ line. IsLine line × (word.now ∷ decimal number ∷ [] ≡ line_words line)) }
     ensures none { IfNone result
-        ((query : Query) → IsQuery query → map (λ word. word.now) words.now ≡ query_words query → ⊥) }
+        ((line : Line) → IsLine line → word.now ∷ decimal number ∷ [] ≡ line_words line → ⊥) }
 {
-    match words {
-        [word] if is_keyword(word, OUTPUTS) => Some(Query::Outputs),
-        [word] if is_keyword(word, HORIZON) => Some(Query::Horizon),
-        [word] if is_keyword(word, RELEASED) => Some(Query::Released),
-        [word] if is_keyword(word, LOST) => Some(Query::Lost),
-        [word, number] if is_keyword(word, VAR) => Some(Query::Var(read_index(number)?)),
-        [word, number] if is_keyword(word, OUTPUT) => Some(Query::Output(read_index(number)?)),
-        [word, origin] if is_keyword(word, BREACH) => {
-            Some(Query::Breach(read_u32(origin, LAST_ORIGIN)?))
-        }
-        [word, place] if is_keyword(word, LOG) => Some(Query::Log(read_index(place)?)),
-        _ => None,
+    if is_keyword(word, BREACH) {
+        breach_of(number)
+    } else if is_keyword(word, LOG) {
+        Some(Line::Ask(Query::Log(number)))
+    } else if is_keyword(word, ROW) {
+        Some(Line::Look(Look::Row(number)))
+    } else if is_keyword(word, VAR) {
+        Some(Line::Ask(Query::Var(number)))
+    } else if is_keyword(word, OUTPUT) {
+        Some(Line::Ask(Query::Output(number)))
+    } else {
+        None
     }
 }
 
-/// Whether these are the words of a line that collects.
-fn is_collect(words: &[&[u8]]) -> bool
-    ensures { IsTrue result ↔ (map (λ word. word.now) words.now ≡ line_words Line.Collect) }
-{
-    match words {
-        [word] => is_keyword(word, COLLECT),
-        _ => false,
-    }
-}
-
-/// The look in range whose words these are; `None` where there is none.
-fn read_look(words: &[&[u8]]) -> Option<Look>
-    ensures found { IfSome result (λ look. IsLook look × (map (λ word. word.now) words.now ≡ look_words look)) }
-    ensures none { IfNone result
-        ((look : Look) → IsLook look → map (λ word. word.now) words.now ≡ look_words look → ⊥) }
-{
-    match words {
-        [word] if is_keyword(word, BOARD) => Some(Look::Board),
-        [word, number] if is_keyword(word, ROW) => Some(Look::Row(read_index(number)?)),
-        _ => None,
-    }
-}
-
-/// The line in range that is no record whose words these are; `None` where there is none.
+/// The line in range that is no record with these words; `None` where there is none.
 fn line_of(words: &[&[u8]]) -> Option<Line>
     ensures found { IfSome result (λ line. IsLine line × (map (λ word. word.now) words.now ≡ line_words line)) }
-    ensures no_query { IfNone result
-        ((query : Query) → IsQuery query → map (λ word. word.now) words.now ≡ query_words query → ⊥) }
-    ensures no_collect { IfNone result (map (λ word. word.now) words.now ≡ line_words Line.Collect → ⊥) }
-    ensures no_look { IfNone result
-        ((look : Look) → IsLook look → map (λ word. word.now) words.now ≡ look_words look → ⊥) }
+    ensures none { IfNone result ((line : Line) → IsLine line → map (λ word. word.now) words.now ≡ line_words line →
+        (said : Record) × (map (λ word. word.now) words.now ≡ record_words said)) }
 {
-    if let Some(query) = read_query(words) {
-        return Some(Line::Ask(query));
+    match words {
+        [word] => line_of_word(word),
+        [word, number] => line_of_number(word, read_index(number)?),
+        _ => None,
     }
-    if is_collect(words) {
-        return Some(Line::Collect);
-    }
-    Some(Line::Look(read_look(words)?))
 }
 
 /// The line in range that is no record with this spelling; `None` where there is none.

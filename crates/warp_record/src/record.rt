@@ -134,8 +134,6 @@ pub fn read_record(words: &[&[u8]]) -> Option<Record>
             input,
             value,
         })
-    } else if is_keyword(word, WITHDRAW) && operands.is_empty() {
-        Some(Record::Withdraw { origin, tag })
     } else if is_keyword(word, ANNOUNCE) {
         let (events, withdrawn) = read_counts(operands)?;
         Some(Record::Announce {
@@ -144,6 +142,12 @@ pub fn read_record(words: &[&[u8]]) -> Option<Record>
             events,
             withdrawn,
         })
+    } else if is_keyword(word, WITHDRAW) {
+        if operands.is_empty() {
+            Some(Record::Withdraw { origin, tag })
+        } else {
+            None
+        }
     } else {
         None
     }

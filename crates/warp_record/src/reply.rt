@@ -234,79 +234,213 @@ fn read_output(words: &[&[u8]]) -> Option<Out>
     Some(Out { tag, port, value })
 }
 
-/// The reply in range whose words are this keyword and this number alone; `None` where there is none.
-#[tactic(auto, using(crate::proofs::ReplyLemmas::same_number))]
-fn read_short(word: &[u8], number: u32) -> Option<Reply>
-    requires { number ≤ most_records }
-    ensures found { IfSome result (λ reply. IsReply reply × (word.now ∷ decimal number ∷ [] ≡ reply_words reply)) }
-    ensures none { IfNone result ((reply : Reply) → IsReply reply →
-        word.now ∷ decimal number ∷ [] ≡ reply_words reply → ⊥) }
+/// The refusal that this word tells behind `refused`; `None` where there is none.
+fn read_refused(number: &[u8]) -> Option<Reply>
+    ensures found { IfSome result
+        (λ reply. IsReply reply × (codes "refused" ∷ number.now ∷ [] ≡ reply_words reply)) }
+    ensures none { IfNone result
+        ((reply : Reply) → IsReply reply → codes "refused" ∷ number.now ∷ [] ≡ reply_words reply → ⊥) }
 {
-    if is_keyword(word, TAKEN) && number > 0 {
-        Some(Reply::Taken(number))
-    } else if is_keyword(word, KNOWN) && number > 0 {
-        Some(Reply::Known(number))
-    } else if is_keyword(word, REFUSED) {
-        Refusal::from_number(number).map(Reply::Refused)
-    } else if is_keyword(word, NONE) {
-        Some(Reply::Nothing { log: number })
-    } else if is_keyword(word, COLLECTED) {
-        Some(Reply::Collected { log: number })
-    } else {
-        None
-    }
+    let number = read_u32(number, MAX_COUNT)?;
+    let refusal = Refusal::from_number(number)?;
+    Some(Reply::Refused(refusal))
 }
 
-/// The reply in range whose words are this keyword, this number and one word more; `None` where there is none.
-#[tactic(auto, using(crate::proofs::ReplyLemmas::same_number))]
-fn read_middle(word: &[u8], number: u32, field: &[u8]) -> Option<Reply>
-    requires { number ≤ most_records }
-    ensures found { IfSome result (λ reply. IsReply reply ×
-        (word.now ∷ decimal number ∷ field.now ∷ [] ≡ reply_words reply)) }
-    ensures none { IfNone result ((reply : Reply) → IsReply reply →
-        word.now ∷ decimal number ∷ field.now ∷ [] ≡ reply_words reply → ⊥) }
+/// The reply in range whose words are these two; `None` where there is none.
+fn read_short(word: &[u8], number: &[u8]) -> Option<Reply>
+    ensures found { IfSome result (λ reply. IsReply reply × (word.now ∷ number.now ∷ [] ≡ reply_words reply)) }
+    ensures none { IfNone result
+        ((reply : Reply) → IsReply reply → word.now ∷ number.now ∷ [] ≡ reply_words reply → ⊥) }
 {
-    let log = number;
-    if is_keyword(word, VAR) {
-        read_int(field).map(|value| Reply::Var { log, value })
-    } else if is_keyword(word, OUTPUTS) {
-        read_count(field).map(|count| Reply::Outputs { log, count })
-    } else if is_keyword(word, RELEASED) {
-        read_count(field).map(|count| Reply::Released { log, count })
-    } else if is_keyword(word, LOST) {
-        read_count(field).map(|count| Reply::Lost { log, count })
-    } else if is_keyword(word, BREACH) {
-        read_flag(field).map(|broken| Reply::Breach { log, broken })
-    } else if is_keyword(word, BOARD) && number <= MAX_ROWS {
-        let count = number;
-        read_flag(field).map(|frozen| Reply::Board { count, frozen })
-    } else {
-        None
+    if is_keyword(word, REFUSED) {
+        return read_refused(number);
     }
-}
-
-/// The reply in range whose words are this keyword, which is not a row's, this number and two words more or longer;
-/// `None` where there is none.
-#[tactic(auto, using(crate::proofs::ReplyLemmas::not_one_word))]
-fn read_long(word: &[u8], number: u32, fields: &[&[u8]]) -> Option<Reply>
-    requires range { number ≤ most_records }
-    requires fields { 1 < length fields.now }
-    requires no_row { word.now ≢ codes "row" }
-    ensures found { IfSome result (λ reply. IsReply reply ×
-        (word.now ∷ decimal number ∷ map (λ word. word.now) fields.now ≡ reply_words reply)) }
-    ensures none { IfNone result ((reply : Reply) → IsReply reply →
-        word.now ∷ decimal number ∷ map (λ word. word.now) fields.now ≡ reply_words reply → ⊥) }
-{
-    let log = number;
-    if is_keyword(word, HORIZON) {
-        let [time, micro] = fields else {
-            return None;
+    let number = read_u32(number, MAX_COUNT)?;
+    if is_keyword(word, NONE) {
+        return Some(Reply::Nothing { log: number });
+    }
+    if is_keyword(word, COLLECTED) {
+        return Some(Reply::Collected { log: number });
+    }
+    if is_keyword(word, TAKEN) {
+        return if number > 0 {
+            Some(Reply::Taken(number))
+        } else {
+            None
         };
-        read_tag(time, micro).map(|tag| Reply::Horizon { log, tag })
-    } else if is_keyword(word, OUTPUT) {
-        read_output(fields).map(|output| Reply::Output { log, output })
-    } else if is_keyword(word, LOG) {
-        read_record(fields).map(|record| Reply::Log { log, record })
+    }
+    if is_keyword(word, KNOWN) {
+        return if number > 0 {
+            Some(Reply::Known(number))
+        } else {
+            None
+        };
+    }
+    None
+}
+
+/// The value that these words tell behind `var`; `None` where there is none.
+fn read_var(number: &[u8], value: &[u8]) -> Option<Reply>
+    ensures found { IfSome result
+        (λ reply. IsReply reply × (codes "var" ∷ number.now ∷ value.now ∷ [] ≡ reply_words reply)) }
+    ensures none { IfNone result ((reply : Reply) → IsReply reply →
+        codes "var" ∷ number.now ∷ value.now ∷ [] ≡ reply_words reply → ⊥) }
+{
+    let log = read_u32(number, MAX_COUNT)?;
+    let value = read_int(value)?;
+    Some(Reply::Var { log, value })
+}
+
+/// What these words tell behind `breach`; `None` where there is nothing.
+fn read_breach(number: &[u8], flag: &[u8]) -> Option<Reply>
+    ensures found { IfSome result
+        (λ reply. IsReply reply × (codes "breach" ∷ number.now ∷ flag.now ∷ [] ≡ reply_words reply)) }
+    ensures none { IfNone result ((reply : Reply) → IsReply reply →
+        codes "breach" ∷ number.now ∷ flag.now ∷ [] ≡ reply_words reply → ⊥) }
+{
+    let log = read_u32(number, MAX_COUNT)?;
+    let broken = read_flag(flag)?;
+    Some(Reply::Breach { log, broken })
+}
+
+/// What these words tell behind `board`; `None` where there is nothing.
+fn read_board(number: &[u8], flag: &[u8]) -> Option<Reply>
+    ensures found { IfSome result
+        (λ reply. IsReply reply × (codes "board" ∷ number.now ∷ flag.now ∷ [] ≡ reply_words reply)) }
+    ensures none { IfNone result ((reply : Reply) → IsReply reply →
+        codes "board" ∷ number.now ∷ flag.now ∷ [] ≡ reply_words reply → ⊥) }
+{
+    let count = read_u32(number, MAX_ROWS)?;
+    let frozen = read_flag(flag)?;
+    Some(Reply::Board { count, frozen })
+}
+
+/// The reply in range whose words are this one, the length of a log and a count; `None` where there is none.
+fn reply_of_count(word: &[u8], log: u32, count: u64) -> Option<Reply>
+    requires { log ≤ most_records }
+    ensures found { IfSome result
+        (λ reply. IsReply reply × (word.now ∷ decimal log ∷ decimal count ∷ [] ≡ reply_words reply)) }
+    ensures none { IfNone result
+        ((word.now ≢ codes "outputs") × (word.now ≢ codes "released") × (word.now ≢ codes "lost")) }
+{
+    if is_keyword(word, OUTPUTS) {
+        Some(Reply::Outputs { log, count })
+    } else if is_keyword(word, RELEASED) {
+        Some(Reply::Released { log, count })
+    } else if is_keyword(word, LOST) {
+        Some(Reply::Lost { log, count })
+    } else {
+        None
+    }
+}
+
+/// The reply in range whose words are these three; `None` where there is none.
+fn read_middle(word: &[u8], number: &[u8], field: &[u8]) -> Option<Reply>
+    ensures found { IfSome result
+        (λ reply. IsReply reply × (word.now ∷ number.now ∷ field.now ∷ [] ≡ reply_words reply)) }
+    ensures none { IfNone result
+        ((reply : Reply) → IsReply reply → word.now ∷ number.now ∷ field.now ∷ [] ≡ reply_words reply → ⊥) }
+{
+    if is_keyword(word, VAR) {
+        return read_var(number, field);
+    }
+    if is_keyword(word, BREACH) {
+        return read_breach(number, field);
+    }
+    if is_keyword(word, BOARD) {
+        return read_board(number, field);
+    }
+    let log = read_u32(number, MAX_COUNT)?;
+    let count = read_count(field)?;
+    reply_of_count(word, log, count)
+}
+
+/// The horizon that these words tell behind `horizon`; `None` where there is none.
+fn read_horizon(words: &[&[u8]]) -> Option<Reply>
+    ensures found { IfSome result
+        (λ reply. IsReply reply × (codes "horizon" ∷ map (λ word. word.now) words.now ≡ reply_words reply)) }
+    ensures none { IfNone result ((reply : Reply) → IsReply reply →
+        codes "horizon" ∷ map (λ word. word.now) words.now ≡ reply_words reply → ⊥) }
+{
+    let [number, time, micro] = words else {
+        return None;
+    };
+    let log = read_u32(number, MAX_COUNT)?;
+    let tag = read_tag(time, micro)?;
+    Some(Reply::Horizon { log, tag })
+}
+
+/// The row that these words tell behind `row`; `None` where there is none.
+fn read_row(words: &[&[u8]]) -> Option<Reply>
+    ensures found { IfSome result
+        (λ reply. IsReply reply × (codes "row" ∷ map (λ word. word.now) words.now ≡ reply_words reply)) }
+    ensures none { IfNone result ((reply : Reply) → IsReply reply →
+        codes "row" ∷ map (λ word. word.now) words.now ≡ reply_words reply → ⊥) }
+{
+    let output = read_output(words)?;
+    Some(Reply::Row(output))
+}
+
+/// The output that these words tell behind `output`; `None` where there is none.
+fn read_told_output(words: &[&[u8]]) -> Option<Reply>
+    ensures found { IfSome result
+        (λ reply. IsReply reply × (codes "output" ∷ map (λ word. word.now) words.now ≡ reply_words reply)) }
+    ensures none { IfNone result ((reply : Reply) → IsReply reply →
+        codes "output" ∷ map (λ word. word.now) words.now ≡ reply_words reply → ⊥) }
+{
+    let [number, output @ ..] = words else {
+        return None;
+    };
+    let log = read_u32(number, MAX_COUNT)?;
+    let output = read_output(output)?;
+    Some(Reply::Output { log, output })
+}
+
+/// The record that these words tell behind `log`; `None` where there is none.
+fn read_told_record(words: &[&[u8]]) -> Option<Reply>
+    ensures found { IfSome result
+        (λ reply. IsReply reply × (codes "log" ∷ map (λ word. word.now) words.now ≡ reply_words reply)) }
+    ensures none { IfNone result ((reply : Reply) → IsReply reply →
+        codes "log" ∷ map (λ word. word.now) words.now ≡ reply_words reply → ⊥) }
+{
+    let [number, record @ ..] = words else {
+        return None;
+    };
+    let log = read_u32(number, MAX_COUNT)?;
+    let record = read_record(record)?;
+    Some(Reply::Log { log, record })
+}
+
+/// The reply in range whose words are this one and these, which are three or more; `None` where there is none.
+fn read_long(word: &[u8], fields: &[&[u8]]) -> Option<Reply>
+    requires { 2 < length fields.now }
+    ensures found { IfSome result
+        (λ reply. IsReply reply × (word.now ∷ map (λ word. word.now) fields.now ≡ reply_words reply)) }
+    ensures none { IfNone result ((reply : Reply) → IsReply reply →
+        word.now ∷ map (λ word. word.now) fields.now ≡ reply_words reply → ⊥) }
+{
+    if is_keyword(word, ROW) {
+        return read_row(fields);
+    }
+    if is_keyword(word, HORIZON) {
+        return read_horizon(fields);
+    }
+    if is_keyword(word, OUTPUT) {
+        return read_told_output(fields);
+    }
+    if is_keyword(word, LOG) {
+        return read_told_record(fields);
+    }
+    None
+}
+
+/// The reply whose only word this is; `None` where there is none.
+fn read_alone(word: &[u8]) -> Option<Reply>
+    ensures found { IfSome result (λ reply. IsReply reply × (word.now ∷ [] ≡ reply_words reply)) }
+    ensures none { IfNone result ((reply : Reply) → IsReply reply → word.now ∷ [] ≡ reply_words reply → ⊥) }
+{
+    if is_keyword(word, NONE) {
+        Some(Reply::NoRow)
     } else {
         None
     }
@@ -319,12 +453,11 @@ fn read_words(words: &[&[u8]]) -> Option<Reply>
         map (λ word. word.now) words.now ≡ reply_words reply → ⊥) }
 {
     match words {
-        [word] if is_keyword(word, NONE) => Some(Reply::NoRow),
-        [word, output @ ..] if is_keyword(word, ROW) => read_output(output).map(Reply::Row),
-        [word, number] => read_short(word, read_u32(number, MAX_COUNT)?),
-        [word, number, field] => read_middle(word, read_u32(number, MAX_COUNT)?, field),
-        [word, number, fields @ ..] => read_long(word, read_u32(number, MAX_COUNT)?, fields),
-        _ => None,
+        [word] => read_alone(word),
+        [word, number] => read_short(word, number),
+        [word, number, field] => read_middle(word, number, field),
+        [word, fields @ ..] => read_long(word, fields),
+        [] => None,
     }
 }
 

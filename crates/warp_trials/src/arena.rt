@@ -99,7 +99,10 @@ fn walk(rt: &impl Abort, arena: &Arena, alloc: Global) -> Result<Vec<Entry>, Out
     }
     assert_eq!(rt; at, None, "after the last");
     for next in nexts {
-        assert!(rt; next.is_none_or(|own| own.is_none()), "behind the last of an origin");
+        assert!(rt;
+            next.is_none_or(|own| own.is_none()),
+            "behind the last of an origin"
+        );
     }
     Ok(entries)
 }

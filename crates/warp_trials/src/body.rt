@@ -13,7 +13,8 @@ use warp_prog::load;
 use warp_step::Program;
 
 /// What stands in front of a body: variables a and b, inputs p and q, an output y, actions c and d, timers s and t.
-const HEAD: &[u8] = br#"{"version":1,"stop":9,"origins":1,"reactors":[{"name":"r","vars":[["a",0],["b",0]],
+const HEAD: &[u8] =
+    br#"{"version":1,"stop":9,"origins":1,"reactors":[{"name":"r","vars":[["a",0],["b",0]],
 "inputs":["p","q"],"outputs":["y"],"actions":[["c",0],["d",0]],"timers":[["s",0,0],["t",0,0]],"reactions":[
 {"on":["startup","s","t","c","d","p","q"],"writes":["y","c","d"],"body":["#;
 
@@ -85,10 +86,22 @@ fn numbers_that_fit(rt: HostRuntime) {
 /// Bodies, and for how many schedulings each needs room: for all that are written in it.
 const SCHEDULINGS: [(&str, usize); 5] = [
     (r#"["schedule","d",0,7]"#, 1),
-    (r#"["schedule","d",0,7],["set","a",1],["schedule","c",0,7]"#, 2),
-    (r#"["if",1,[["schedule","d",0,7]],[["schedule","d",0,7]]]"#, 2),
-    (r#"["if",1,[["schedule","d",0,7],["schedule","d",1,7]],[]]"#, 2),
-    (r#"["if",1,[],[["schedule","d",0,7],["schedule","d",1,7],["schedule","d",2,7]]]"#, 3),
+    (
+        r#"["schedule","d",0,7],["set","a",1],["schedule","c",0,7]"#,
+        2,
+    ),
+    (
+        r#"["if",1,[["schedule","d",0,7]],[["schedule","d",0,7]]]"#,
+        2,
+    ),
+    (
+        r#"["if",1,[["schedule","d",0,7],["schedule","d",1,7]],[]]"#,
+        2,
+    ),
+    (
+        r#"["if",1,[],[["schedule","d",0,7],["schedule","d",1,7],["schedule","d",2,7]]]"#,
+        3,
+    ),
 ];
 
 #[test]
@@ -230,13 +243,29 @@ fn runs_so(rt: &impl Abort, alloc: Global, body: &[Stmt], is_ready: bool) -> Vec
     let mut vars = Vars::from_vec(values);
     let mut present = places(rt, alloc);
     let mut wishes = Wishes::new();
-    run(rt, alloc, body, is_ready, &mut vars, &mut present, &mut wishes);
+    run(
+        rt,
+        alloc,
+        body,
+        is_ready,
+        &mut vars,
+        &mut present,
+        &mut wishes,
+    );
     assert_eq!(rt; vars.as_slice(), [1, 103].as_slice());
     assert!(rt; wishes.is_empty());
     has(rt, &vars, &present, Target::Port(2), 0, 0);
     put(rt, &mut present, Target::Port(1), 0);
     put(rt, &mut present, Target::Action(0), 7);
-    run(rt, alloc, body, is_ready, &mut vars, &mut present, &mut wishes);
+    run(
+        rt,
+        alloc,
+        body,
+        is_ready,
+        &mut vars,
+        &mut present,
+        &mut wishes,
+    );
     assert_eq!(rt; wishes.as_slice(), WISHES.as_slice());
     has(rt, &vars, &present, Target::Port(1), 1, 0);
     vars.into_vec()

@@ -103,8 +103,18 @@ fn is_so<T: Timeline>(rt: &impl Abort, timeline: &T, count: u64, case: &Case, ch
 {
     assert!(rt; timeline.is_settled());
     let total = timeline.state().vars().first();
-    assert_eq!(rt; total, case.totals.get(changes), "{} at {changes}", case.name);
-    assert_eq!(rt; Some(&count), case.ticks.get(changes), "{} at {changes}", case.name);
+    assert_eq!(rt;
+        total,
+        case.totals.get(changes),
+        "{} at {changes}",
+        case.name
+    );
+    assert_eq!(rt;
+        Some(&count),
+        case.ticks.get(changes),
+        "{} at {changes}",
+        case.name
+    );
 }
 
 /// A settled timeline has the outputs that the case has in the end, at microstep 0.

@@ -1,5 +1,5 @@
-//! Sessions over reads and writes that come in pieces or fail in mid-stream: over a desk that is no replica, and over one
-//! that is.
+//! Sessions over reads and writes that come in pieces or fail in mid-stream: over a desk that is no replica, and over
+//! one that is.
 ghost use Rattle.std.specs.Prelude.{◌<◌};
 ghost use Rattle.warp_step.specs.Counter.{IsUnused};
 

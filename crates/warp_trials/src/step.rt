@@ -147,12 +147,20 @@ fn a_copy_is_the_same_program(rt: HostRuntime) -> Result<(), Fail> {
 }
 
 /// Startup, and an action that comes again at each next microstep; a timer.
-const AGAIN: &[u8] = br#"{"version":1,"stop":9,"origins":1,"reactors":[{"name":"r","vars":[["n",4]],"actions":[["c",0]],
+const AGAIN: &[u8] =
+    br#"{"version":1,"stop":9,"origins":1,"reactors":[{"name":"r","vars":[["n",4]],"actions":[["c",0]],
 "timers":[["t",2,3]],"reactions":[
 {"on":["startup","c"],"writes":["c"],"body":[["set","n",["+","n",1]],["schedule","c",0,1]]}]}]}"#;
 
 /// A state has these parts, and so has a copy of it; it has no others.
-fn has(rt: &impl Abort, alloc: Global, state: &State, vars: &[i64], pending: &[Waiting], lost: u64) {
+fn has(
+    rt: &impl Abort,
+    alloc: Global,
+    state: &State,
+    vars: &[i64],
+    pending: &[Waiting],
+    lost: u64,
+) {
     let copy = state.copy(alloc).expect(rt, "memory");
     assert_eq!(rt; copy.vars(), vars);
     assert_eq!(rt; copy.pending(), pending);
@@ -188,6 +196,8 @@ fn a_copy_is_the_same_state(rt: HostRuntime) -> Result<(), Fail> {
 fn ends_so(rt: &impl Abort, alloc: Global, program: &Program) {
     let mut timeline = Plain::start(alloc, program).expect(rt, "memory");
     let mut meter = Idle::<Brand>::new(Blank::new(1));
-    timeline.settle(alloc, program, &mut meter).expect(rt, "memory");
+    timeline
+        .settle(alloc, program, &mut meter)
+        .expect(rt, "memory");
     has(rt, alloc, timeline.state(), &[20], &[], 1);
 }

@@ -18,8 +18,7 @@ overflow_sub-self-inside-then-self-gt0 c =
 pub invariant_of-self : goal.invariant_of-self
 invariant_of-self c =
     let is = c.self.inside in
-    let count = as_many is.items c.args.self.now is.start is.end (omega (arith, c.self.invariant)) c.self.view_is in
-    (
+    let count = as_many is.items c.args.self.now is.start is.end (omega (arith, c.self.invariant)) c.self.view_is in (
       c.insert_in_front.ensures.len ∙ c.self.invariant.0,
       omega (arith, c.self.invariant),
       c.self.invariant.2,
@@ -35,8 +34,7 @@ insert_behind-requires-clause-within c =
 pub invariant_of-self-then-self-lt-PLACES : goal.invariant_of-self-then-self-lt-PLACES
 invariant_of-self-then-self-lt-PLACES c =
     let is = c.self.inside in
-    let count = as_many is.items c.args.self.now is.start is.end (omega (arith, c.self.invariant)) c.self.view_is in
-    (
+    let count = as_many is.items c.args.self.now is.start is.end (omega (arith, c.self.invariant)) c.self.view_is in (
       c.insert_behind.ensures.len ∙ c.self.invariant.0,
       omega (arith, c.self.invariant),
       omega (arith, c.if-self-lt-PLACES.true),
@@ -52,8 +50,7 @@ insert_moved-requires-clause-within c =
 pub invariant_of-self-2 : goal.invariant_of-self-2
 invariant_of-self-2 c =
     let is = c.self.inside in
-    let count = as_many is.items c.args.self.now is.start is.end (omega (arith, c.self.invariant)) c.self.view_is in
-    (
+    let count = as_many is.items c.args.self.now is.start is.end (omega (arith, c.self.invariant)) c.self.view_is in (
       c.insert_moved.ensures.len ∙ c.self.invariant.0,
       omega arith,
       omega (arith, c.requires.room, count),
