@@ -1,8 +1,9 @@
 -- What the readers of lines and records by their words need: which lines and records begin with a keyword, and which keywords begin them.
-use Rattle.std.proofs.Common.{◌≡◌, ℕ, ◌<◌, ◌≤◌, Bool, true, false, eqb, if◌then◌else◌, List, [], ◌∷◌, length, get_or, codes, decimal, subst, sym, ap, ◌∙◌, refl, arith}
+use Rattle.std.proofs.Common.{◌≡◌, ℕ, ◌<◌, ◌≤◌, Bool, true, false, eqb, if◌then◌else◌, List, [], ◌∷◌, length, get_or, drop, codes, decimal, FitsSigned, w64, ℤ, subst, sym, ap, ◌∙◌, refl, arith}
+use Rattle.std.specs.Fmt.{signed_decimal}
 use Rattle.std.proofs.lemmas.Bool.{true≢false}
 use Rattle.std.proofs.lemmas.Fmt.{decimal_injective}
-use Rattle.warp_tag.specs.Limits.{last_number, most_origins}
+use Rattle.warp_tag.specs.Limits.{last_number, most_inputs, most_origins, most_records}
 use Rattle.warp_tag.specs.Moment.{Moment, IsInRange}
 use Rattle.warp_record.specs.declared.line.Line.{Line}
 use Rattle.warp_record.specs.declared.line.Line.TheVariants as line
@@ -12,6 +13,7 @@ use Rattle.warp_record.specs.declared.record.Record.{Record}
 use Rattle.warp_record.specs.declared.record.Record.TheVariants.{Event, Withdraw, Announce}
 use Rattle.warp_record.specs.Line.{IsLine, line_words}
 use Rattle.warp_record.specs.Record.{IsRecord, record_words}
+use Rattle.warp_record.proofs.RecordTexts.{event_words, announcement_words}
 use Rattle.warp_record.proofs.WordReadings.{number_at, line_said, line_back}
 use Rattle.warp_record.proofs.WordTexts.{is_one}
 
@@ -148,3 +150,20 @@ withdrawal_words a b c words (Event origin tag input value) are =
     absurd (omega (arith, ap (λ (ws : List (List ℕ)). get_or (get_or ws 0 []) 0 0) are))
 withdrawal_words a b c words (Announce origin tag events withdrawn) are =
     absurd (omega (arith, ap (λ (ws : List (List ℕ)). get_or (get_or ws 0 []) 0 0) are))
+
+-- behind the tag of an event stand an input and a value
+pub event_operands : (a b c : List ℕ) (words : List (List ℕ)) (r : Record) → IsRecord r
+    → codes "event" ∷ a ∷ b ∷ c ∷ words ≡ record_words r
+    → (input : ℕ) × (value : ℤ) × (input < most_inputs) × FitsSigned w64 value × (words ≡ decimal input ∷ signed_decimal value ∷ [])
+event_operands a b c words r fits are =
+    let told = event_words (a ∷ b ∷ c ∷ words) r fits are in
+    (told.2, told.3, told.4.input_fits, told.4.value_fits, ap (λ (ws : List (List ℕ)). drop 3 ws) told.5)
+
+-- behind the tag of an announcement stand two counts
+pub announcement_operands : (a b c : List ℕ) (words : List (List ℕ)) (r : Record) → IsRecord r
+    → codes "announce" ∷ a ∷ b ∷ c ∷ words ≡ record_words r
+    → (events : ℕ) × (withdrawn : ℕ) × (events ≤ most_records) × (withdrawn ≤ most_records)
+    × (words ≡ decimal events ∷ decimal withdrawn ∷ [])
+announcement_operands a b c words r fits are =
+    let told = announcement_words (a ∷ b ∷ c ∷ words) r fits are in
+    (told.2, told.3, told.4.events_fit, told.4.withdrawn_fit, ap (λ (ws : List (List ℕ)). drop 3 ws) told.5)

@@ -75,8 +75,3 @@ words_of_reply bytes reply fits is =
 pub IfNone_then : {X P Q : Type 0} (r : Option X) → IfNone r P → (P → Q) → IfNone r Q
 IfNone_then None none then = then none
 IfNone_then (Some x) none then = none
-
--- what follows from what three clauses say of a `None`
-pub IfNone_then_three : {X P Q R S : Type 0} (r : Option X) → IfNone r P → IfNone r Q → IfNone r R → (P → Q → R → S) → IfNone r S
-IfNone_then_three None p q r then = then p q r
-IfNone_then_three (Some x) p q r then = p

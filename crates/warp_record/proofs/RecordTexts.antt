@@ -64,15 +64,6 @@ record_of_line words line.Collect one fits are = absurd (no_record_line words _ 
 record_of_line words (line.Look look.Board) one fits are = absurd (no_record_line words _ one refl are)
 record_of_line words (line.Look (look.Row n)) one fits are = absurd (no_record_line words _ one refl are)
 
--- words that are no query's, not those of a line that collects, and no look's, are a record's, if a line's
-pub record_if_no_other : (words : List (List ℕ)) (said : Line) → IsLine said → words ≡ line_words said
-    → ((q : Query) → IsQuery q → words ≡ query_words q → ⊥) → (words ≡ line_words line.Collect → ⊥)
-    → ((l : Look) → IsLook l → words ≡ look_words l → ⊥) → (r : Record) × (words ≡ record_words r)
-record_if_no_other words (line.Put r) fits are no_query no_collect no_look = (r, are)
-record_if_no_other words (line.Ask q) fits are no_query no_collect no_look = absurd (no_query q fits are)
-record_if_no_other words line.Collect fits are no_query no_collect no_look = absurd (no_collect are)
-record_if_no_other words (line.Look l) fits are no_query no_collect no_look = absurd (no_look l fits are)
-
 -- words that begin with the first word of no record are no record's
 pub no_record : (words : List (List ℕ)) (r : Record) → words ≡ record_words r
     → ((word : List ℕ) (more : List (List ℕ)) → words ≡ codes "event" ∷ word ∷ more → ⊥)

@@ -179,6 +179,25 @@ fn read_other(bytes: &[u8]) -> Option<Line>
     line_of(&words)
 }
 
+/// The line in range that is no record with this spelling, those that clients send most first.
+#[inline(always)]
+fn read_asked(bytes: &[u8]) -> Option<Line>
+    ensures found { IfSome result (λ line. IsLine line × (bytes.now ≡ spelling line)) }
+    ensures none { IfNone result ((line : Line) → IsLine line → bytes.now ≡ spelling line →
+        (said : Record) × (slice_split is_space bytes.now ≡ record_words said)) }
+{
+    if let Some(text) = behind_var(bytes) {
+        return Some(Line::Ask(Query::Var(cut_last_index(text)?)));
+    }
+    if let Some(text) = behind_output(bytes) {
+        return Some(Line::Ask(Query::Output(cut_last_index(text)?)));
+    }
+    if let Some(line) = read_word(bytes) {
+        return Some(line);
+    }
+    read_other(bytes)
+}
+
 /// The line in range with this spelling; `None` where there is none.
 #[inline(always)]
 pub fn read_line(bytes: &[u8]) -> Option<Line>
@@ -194,14 +213,5 @@ pub fn read_line(bytes: &[u8]) -> Option<Line>
     if let Some(text) = behind_announce(bytes) {
         return Some(Line::Put(read_announcement(text)?));
     }
-    if let Some(text) = behind_var(bytes) {
-        return Some(Line::Ask(Query::Var(cut_last_index(text)?)));
-    }
-    if let Some(text) = behind_output(bytes) {
-        return Some(Line::Ask(Query::Output(cut_last_index(text)?)));
-    }
-    if let Some(line) = read_word(bytes) {
-        return Some(line);
-    }
-    read_other(bytes)
+    read_asked(bytes)
 }

@@ -212,10 +212,12 @@ fn read_flag(word: &[u8]) -> Option<bool>
     ensures found { IfSome result (λ flag. word.now ≡ flag_word flag) }
     ensures none { IfNone result ((flag : Bool) → word.now ≡ flag_word flag → ⊥) }
 {
-    match word {
-        b"0" => Some(false),
-        b"1" => Some(true),
-        _ => None,
+    if is_keyword(word, b"0") {
+        Some(false)
+    } else if is_keyword(word, b"1") {
+        Some(true)
+    } else {
+        None
     }
 }
 

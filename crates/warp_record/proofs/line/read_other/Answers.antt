@@ -1,9 +1,7 @@
 use Rattle.std.proofs.Common.{ℕ, Bor, List, map, ◌∙◌, ap, sym, arith}
-use Rattle.std.specs.List.{slice_split, join_with_byte}
+use Rattle.std.specs.List.{join_with_byte}
 use Rattle.std.proofs.lemmas.Option.{IfSome_then}
-use Rattle.warp_record.specs.Number.{is_space}
-use Rattle.warp_record.proofs.LineWords.{words_of_line, IfNone_then_three}
-use Rattle.warp_record.proofs.RecordTexts.{record_if_no_other}
+use Rattle.warp_record.proofs.LineWords.{words_of_line, IfNone_then}
 use Rattle.warp_record.proofs.WordCuts.{joined_words}
 use Rattle.warp_record.proofs.line.read_other.Goals as goal
 
@@ -20,11 +18,8 @@ returns-clause-found c =
 
 pub returns-clause-none : goal.returns-clause-none
 returns-clause-none c =
-    let bytes = c.args.bytes.now in
     let are = ap (map (λ (word : Bor (List ℕ)). word.now)) c.deref.ensures.0 ∙ c.in_ok-words.ensures.found in
-    let told = c.line_of.ensures in
-    IfNone_then_three c.line_of.result told.no_query told.no_collect told.no_look
-    (λ no_query no_collect no_look line fits is.
-    record_if_no_other (slice_split is_space bytes) line fits (words_of_line bytes line fits is).0
-    (λ query query_fits e. no_query query query_fits (are ∙ e)) (λ e. no_collect (are ∙ e))
-    (λ look look_fits e. no_look look look_fits (are ∙ e)))
+    IfNone_then c.line_of.result c.line_of.ensures.none
+    (λ none line fits is.
+    let told = none line fits (are ∙ (words_of_line c.args.bytes.now line fits is).0) in
+    (told.0, sym are ∙ told.1))

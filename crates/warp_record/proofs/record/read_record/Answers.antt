@@ -1,7 +1,6 @@
 use Rattle.std.proofs.Common.{◌≡◌, ℕ, ◌-◌, List, [], ◌∷◌, length, get_or, take, drop, codes, ap, ◌∙◌, sym, refl, arith}
-use Rattle.warp_record.proofs.RecordTexts.{event_words, announcement_words}
 use Rattle.warp_record.proofs.WordTexts.{text_at, texts, as_many, four_first, is_not}
-use Rattle.warp_record.proofs.LineForms.{four_words, name_words, withdrawal_words, no_record_keyword}
+use Rattle.warp_record.proofs.LineForms.{four_words, name_words, event_operands, announcement_operands}
 use Rattle.warp_record.proofs.record.read_record.Goals as goal
 
 pub returns-in_default-clause-none : goal.returns-in_default-clause-none
@@ -31,8 +30,8 @@ returns-in_err-input-clause-none c =
     let words = c.args.words.now in
     let key : text_at words 0 ≡ codes "event" = c.is_keyword.ensures.0 c.if-is_keyword.true in
     let same = sym (four_first words c.in-len4-up.len_at_least) ∙ are in
-    let told = event_words _ said fits (rw key at same) in
-    c.in_err-input.ensures.none told.2 told.3 told.4.input_fits told.4.value_fits (ap (λ (ws : List (List ℕ)). drop 3 ws) told.5))
+    let told = event_operands _ _ _ _ said fits (rw key at same) in
+    c.in_err-input.ensures.none told.0 told.1 told.2 told.3 told.4)
 
 pub returns-in_err-events-clause-none : goal.returns-in_err-events-clause-none
 returns-in_err-events-clause-none c =
@@ -41,5 +40,5 @@ returns-in_err-events-clause-none c =
     let words = c.args.words.now in
     let key : text_at words 0 ≡ codes "announce" = c.is_keyword-else-is_keyword.ensures.0 c.if-is_keyword-2.true in
     let same = sym (four_first words c.in-len4-up.len_at_least) ∙ are in
-    let told = announcement_words _ said fits (rw key at same) in
-    c.in_err-events.ensures.none told.2 told.3 told.4.events_fit told.4.withdrawn_fit (ap (λ (ws : List (List ℕ)). drop 3 ws) told.5))
+    let told = announcement_operands _ _ _ _ said fits (rw key at same) in
+    c.in_err-events.ensures.none told.0 told.1 told.2 told.3 told.4)
