@@ -9,7 +9,7 @@ pub(crate) struct Dice {
 
 impl Dice {
     /// A number below 2 to the power of 31.
-    pub fn roll(&mut self) -> u64 {
+    pub(crate) fn roll(&mut self) -> u64 {
         self.state = self
             .state
             .wrapping_mul(6_364_136_223_846_793_005)

@@ -1,4 +1,5 @@
-//! Tests alone: what no line of the program reaches, and no contract says. Each file has one subject, over public calls.
+//! Tests alone: what no line of the program reaches, and no contract says. Each file has one subject, over public
+//! calls.
 //!
 //! They stand in a crate of their own since a crate with tests is proved twice.
 #![tactic(auto)]

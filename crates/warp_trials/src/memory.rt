@@ -17,7 +17,7 @@ pub struct MemoryReader<'a> {
 
 impl<'a> MemoryReader<'a> {
     /// A reader of these bytes, whose read after `sound` good ones fails, once.
-    pub fn new(bytes: &'a [u8], most: usize, sound: Option<u64>) -> MemoryReader<'a>
+    pub(crate) fn new(bytes: &'a [u8], most: usize, sound: Option<u64>) -> MemoryReader<'a>
         requires { 0 < most }
         ensures { result.left ≡ bytes.entry }
     {
@@ -51,7 +51,7 @@ pub struct PacedReader<'a> {
 
 impl<'a> PacedReader<'a> {
     /// A reader of these texts, which looks at how many bytes were `written`.
-    pub fn new(rows: &'a [(&'a str, usize)], written: &'a Cell<usize>) -> PacedReader<'a> {
+    pub(crate) fn new(rows: &'a [(&'a str, usize)], written: &'a Cell<usize>) -> PacedReader<'a> {
         PacedReader {
             rows,
             next: 0,
@@ -87,7 +87,7 @@ pub struct MemoryWriter<'a> {
 
 impl<'a> MemoryWriter<'a> {
     /// A writer that counts its bytes in `count`, and whose write after `sound` good ones fails, once.
-    pub fn new(
+    pub(crate) fn new(
         alloc: Global,
         count: &'a Cell<usize>,
         most: usize,
@@ -102,7 +102,7 @@ impl<'a> MemoryWriter<'a> {
     }
 
     /// The bytes that were written.
-    pub fn into_written(self) -> Vec<u8> {
+    pub(crate) fn into_written(self) -> Vec<u8> {
         self.written
     }
 }

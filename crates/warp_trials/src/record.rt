@@ -1,5 +1,5 @@
-//! What no line of the program shows of records and replies: a stream that is cut at every place, replies that are read,
-//! and records and replies at ends of their ranges that the program never comes to.
+//! What no line of the program shows of records and replies: a stream that is cut at every place, replies that are
+//! read, and records and replies at ends of their ranges that the program never comes to.
 use std::alloc::Global;
 use std::process::Abort;
 use std::test::Fail;
