@@ -94,7 +94,8 @@ fn take<T: Timeline, M: Meter>(
 {
     timeline.prepare(alloc)?;
     enter(rt, program, timeline, change);
-    timeline.settle(alloc, program, meter)
+    timeline.settle(alloc, program, meter)?;
+    Ok(())
 }
 
 /// A settled timeline has the total and the count that the case has behind so many changes.
@@ -148,9 +149,11 @@ fn play<T: Timeline + Drop, L: Ledger>(
     let mut timeline = T::start(alloc, program)?;
     timeline.settle(alloc, program, &mut tally)?;
     is_so(rt, &timeline, tally.count, case, 0);
-    for (i, change) in case.changes.iter().enumerate() {
+    let mut taken: usize = 0;
+    for change in case.changes {
         take(rt, alloc, program, &mut timeline, *change, &mut tally)?;
-        is_so(rt, &timeline, tally.count, case, i + 1);
+        taken = taken.wrapping_add(1);
+        is_so(rt, &timeline, tally.count, case, taken);
     }
     timeline.settle(alloc, program, &mut tally)?;
     is_so(rt, &timeline, tally.count, case, case.changes.len());
