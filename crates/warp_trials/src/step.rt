@@ -1,8 +1,10 @@
 //! What the program never asks: whether two programs are the same, and for a copy of a state.
+ghost use Rattle.warp_step.specs.Counter.{IsUnused};
+
 use std::alloc::Global;
 use std::marker::Brand;
 use std::process::Abort;
-use std::sync::ledger::Blank;
+use std::sync::ledger::{Blank, Ledger};
 use std::test::Fail;
 use warp_body::Target;
 use warp_line::{Plain, Timeline};
@@ -108,15 +110,22 @@ const PARTS: [&[&str]; 14] = [
     ],
 ];
 
+/// Appends a part of a text.
+fn append(rt: &impl Abort, text: &mut Vec<u8>, part: &str) {
+    text.extend_from_slice(part.as_bytes()).expect(rt, "memory");
+}
+
 /// The program of the base, but that one part is another one.
 fn program(rt: &impl Abort, alloc: Global, place: usize, other: &str) -> Program {
     let mut text = Vec::new(alloc);
     for (i, part) in PARTS.iter().enumerate() {
-        let base = part.first().expect(rt, "a part");
-        let part: &str = if i == place { other } else { base };
-        text.extend_from_slice(part.as_bytes()).expect(rt, "memory");
+        if i == place {
+            append(rt, &mut text, other);
+        } else if let [base, ..] = part {
+            append(rt, &mut text, base);
+        }
     }
-    load(alloc, &text).expect(rt, other)
+    load(alloc, &text).expect(rt, "a program")
 }
 
 /// The base, and each program that has one part in another way.
@@ -192,12 +201,19 @@ fn a_copy_is_the_same_state(rt: HostRuntime) -> Result<(), Fail> {
     Ok(())
 }
 
-/// Sixteen microsteps counted, and the one after them is lost.
-fn ends_so(rt: &impl Abort, alloc: Global, program: &Program) {
+/// Sixteen microsteps counted, and the one after them is lost. `blank` is the ledger that the steps are counted in.
+fn ends_in<L: Ledger>(rt: &impl Abort, alloc: Global, program: &Program, blank: Blank)
+    requires { IsUnused blank L.name L.parts }
+{
     let mut timeline = Plain::start(alloc, program).expect(rt, "memory");
-    let mut meter = Idle::<Brand>::new(Blank::new(1));
+    let mut meter = Idle::<L>::new(blank);
     timeline
         .settle(alloc, program, &mut meter)
         .expect(rt, "memory");
     has(rt, alloc, timeline.state(), &[20], &[], 1);
+}
+
+/// The same, in a ledger of its own.
+fn ends_so(rt: &impl Abort, alloc: Global, program: &Program) {
+    ends_in::<Brand>(rt, alloc, program, Blank::new(1));
 }
