@@ -1,5 +1,5 @@
 //! What a table tells of names, which no line of the program asks for.
-ghost use Rattle.std.specs.Prelude.{◌<◌};
+ghost use Rattle.std.specs.Prelude.{◌≡◌, ◌<◌};
 ghost use Rattle.warp_table.specs.Names.{origin_of};
 
 use std::process::Abort;
