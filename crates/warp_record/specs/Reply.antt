@@ -90,3 +90,7 @@ reply_words NoRow = codes "none" ∷ []
 -- a reply's text, without its line feed: its words, with one space between two
 abbrev pub reply_spelling : Reply → List ℕ
 reply_spelling reply = join_with_byte 32 (reply_words reply)
+
+-- a reply as it is written, with its line feed
+abbrev pub reply_line : Reply → List ℕ
+reply_line reply = reply_spelling reply ++ 10 ∷ []

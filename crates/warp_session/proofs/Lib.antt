@@ -1,4 +1,3 @@
 pub mod Fronts
 pub mod TurnsLemmas
 pub mod LocalSessions
-pub mod Printings

@@ -15,7 +15,8 @@ use Rattle.warp_record.specs.declared.feed.Fed.{Fed}
 use Rattle.warp_record.specs.Lines.{Piece, is_end, IsOneLine, ended, unended, lines_of, first_end, kept_of, piece_of}
 use Rattle.warp_record.proofs.LineCuts.{lines_of-ended, lines_of-unended, one_line_before, one_line_more}
 use Rattle.warp_session.proofs.Fronts.{more_of_rest}
-use Rattle.warp_session.specs.Session.{GivesPiece, GivesAll, GivesText, Transcribes, reply_line}
+use Rattle.warp_record.specs.Reply.{reply_line}
+use Rattle.warp_session.specs.Session.{GivesPiece, GivesAll, GivesText, Transcribes}
 use Rattle.warp_session.specs.inner.Turns.{At, AreCutOff, Answered, Taken, Takes, Ends, pieces_fed}
 
 -- ---- whole lines

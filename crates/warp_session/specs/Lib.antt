@@ -1,5 +1,4 @@
 pub mod Stream
 pub mod Session
 pub mod LocalSession
-pub mod Play
 pub mod inner

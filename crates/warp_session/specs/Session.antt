@@ -9,7 +9,7 @@ use Rattle.warp_record.specs.declared.reply.Reply.TheVariants.{Refused}
 use Rattle.warp_record.specs.declared.reply.Refusal.TheVariants.{Syntax, TooLong}
 use Rattle.warp_record.specs.Line.{IsLine, spelling}
 use Rattle.warp_record.specs.Lines.{Piece, Whole, Long, Torn, IsOneLine, lines_of}
-use Rattle.warp_record.specs.Reply.{reply_spelling}
+use Rattle.warp_record.specs.Reply.{reply_line}
 
 -- the bytes spell this line
 abbrev pub Spells : List ℕ → Line → Type 0
@@ -31,10 +31,6 @@ GivesAll {S} gives s (piece ∷ pieces) (reply ∷ replies) s' =
     (mid : S) × GivesPiece gives s piece reply mid × GivesAll gives mid pieces replies s'
 GivesAll gives s [] (reply ∷ replies) s' = ⊥
 GivesAll gives s (piece ∷ pieces) [] s' = ⊥
-
--- a reply as it is written, with its line feed
-abbrev pub reply_line : Reply → List ℕ
-reply_line reply = reply_spelling reply ++ 10 ∷ []
 
 -- the pieces may give this text, and leave this state
 abbrev pub GivesText : {S : Type 0} → (S → Line → Reply → S → Type 0) → S → List Piece → List ℕ → S → Type 0

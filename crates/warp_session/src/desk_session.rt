@@ -8,7 +8,8 @@ ghost use Rattle.warp_tag.specs.Limits.{most_reads};
 ghost use Rattle.warp_step.specs.Counter.{IsUnused};
 ghost use Rattle.warp_record.specs.Lines.{piece_of};
 ghost use Rattle.warp_record.specs.Lines.Piece.{Whole};
-ghost use Rattle.warp_session.specs.Session.{GivesPiece, Transcribes, TranscribesLines, reply_line};
+ghost use Rattle.warp_record.specs.Reply.{reply_line};
+ghost use Rattle.warp_session.specs.Session.{GivesPiece, Transcribes, TranscribesLines};
 ghost use Rattle.warp_session.specs.Stream.{Counts};
 ghost use Rattle.warp_session.specs.inner.Turns.{Answered, Turn, Takes, Ends, at, nothing, pieces_fed};
 

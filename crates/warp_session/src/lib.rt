@@ -1,5 +1,4 @@
-//! Sessions: lines come in as bytes, from anywhere, and their replies go out as bytes. And what playing a schedule
-//! prints, as bytes too.
+//! Sessions: lines come in as bytes, from anywhere, and their replies go out as bytes.
 //!
 //! A session knows neither who answers its lines, a desk, nor where bytes come from and go to, a `Source` and a
 //! `Sink`. There is no file here, and no command line.
@@ -7,10 +6,8 @@
 
 mod desk_session;
 mod local_session;
-mod printing;
 mod stream;
 
 pub use desk_session::{SessionEnd, session};
 pub use local_session::run_session;
-pub use printing::play_text;
 pub use stream::{Failed, Sink, Source, Stream, write_all};

@@ -9,3 +9,4 @@ pub mod ScheduleLines
 pub mod OneSchedule
 pub mod ReleasedByTwo
 pub mod LogsOfFronts
+pub mod Printings

@@ -2,3 +2,5 @@ pub mod World
 pub mod Moves
 pub mod Schedule
 pub mod Replicas
+pub mod Play
+pub mod inner

@@ -2,13 +2,14 @@
 //!
 //! A schedule is a list of moves: a record is made at a replica, an entry of one log is carried to another replica, a
 //! replica is collected, settled or restarted. `play` plays one; contracts see the replicas' logs, which are those of
-//! `world_after`.
+//! `world_after`. `play_text` reads a schedule, plays it, and gives the text of what its replicas then answer.
 #![tactic(auto)]
 
 mod convergence;
 mod fault;
 mod front_law;
 mod moves;
+mod printing;
 mod schedule;
 mod schedule_law;
 mod world;
@@ -18,6 +19,7 @@ pub use convergence::{releases, replies};
 pub use fault::ScheduleFault;
 pub use front_law::{equal_sets, released_fronts};
 pub use moves::Move;
+pub use printing::play_text;
 pub use schedule::{MAX_REPLICAS, MAX_SCHEDULE, read_schedule};
 pub use schedule_law::one_schedule;
 pub use world::{World, play};

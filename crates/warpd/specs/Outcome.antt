@@ -15,7 +15,7 @@ use Rattle.warp_world.specs.Schedule.{IsFault}
 use Rattle.warp_world.specs.declared.fault.ScheduleFault.{ScheduleFault}
 use Rattle.warp_world.specs.declared.fault.ScheduleFault.TheVariants as schedule_fault
 use Rattle.warp_session.specs.LocalSession.{TranscribesAll, TranscribesSoFar}
-use Rattle.warp_session.specs.Play.{PlaysSchedule}
+use Rattle.warp_world.specs.Play.{PlaysSchedule}
 use Rattle.warp_words.specs.Words.{Task, RunProgram, PlaySchedule, task_in, warpd_command}
 use Rattle.warp_session.specs.declared.desk_session.SessionEnd.{SessionEnd}
 use Rattle.warp_session.specs.declared.desk_session.SessionEnd.TheVariants.{End, ReadFault, WriteFault, TooManyReads, NoMemory}

@@ -29,9 +29,11 @@ use std::marker::{Brand, Model};
 use std::process::ExitCode;
 use std::sync::ledger::{Blank, Ledger};
 use std::{env, io};
-use warp_session::{SessionEnd, Sink, Source, Stream, play_text, run_session, write_all};
+use warp_run::Warp;
+use warp_session::{SessionEnd, Sink, Source, Stream, run_session, write_all};
 use warp_step::Program;
 use warp_words::{Job, words};
+use warp_world::play_text;
 
 fn main(rt: HostRuntime) -> ExitCode {
     start::<Brand, Brand>(&rt, Blank::new(1), Blank::new(1))
@@ -264,7 +266,7 @@ fn play_bytes<R: Source, W: Sink>(
 ) -> Outcome
     ensures { PlaysBytes program.now schedule.now streams.old streams.new result }
 {
-    match play_text(alloc, program, schedule) {
+    match play_text::<Warp>(alloc, program, schedule) {
         Ok(text) => print(&text, streams),
         Err(fault) => outcome_of_fault(fault),
     }

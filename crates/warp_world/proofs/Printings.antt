@@ -19,9 +19,9 @@ use Rattle.warp_replica.specs.Gives.{GivesQuery, reply_to}
 use Rattle.warp_replica.specs.Replica.{ReplicaState}
 use Rattle.warp_world.specs.Replicas.{RunAll, logs_of}
 use Rattle.warp_world.proofs.SoundLogs.{All_at}
-use Rattle.warp_session.specs.Play.{Prints, replica_lines}
-use Rattle.warp_session.specs.Session.{reply_line}
-use Rattle.warp_session.specs.inner.Printing.{Adds, count_lines, count_replies, title_line, value_lines, variable_lines}
+use Rattle.warp_world.specs.Play.{Prints, replica_lines}
+use Rattle.warp_record.specs.Reply.{reply_line}
+use Rattle.warp_world.specs.inner.Printing.{Adds, count_lines, count_replies, title_line, value_lines, variable_lines}
 
 -- what is left of a list at an element begins with it
 drop_at : {X : Type 0} (xs : List X) (i : ℕ) (x : X) → slice_get xs i ≡ Some x → drop i xs ≡ x ∷ drop (i + 1) xs

@@ -1,8 +1,8 @@
 -- A log of a valid program has answers, and each line is that of theirs.
 use Rattle.std.proofs.Common.{◌<◌, subst}
 use Rattle.warp_step.proofs.ValidLemmas.{validity}
-use Rattle.warp_session.proofs.Printings.{replica_added}
-use Rattle.warp_session.proofs.printing.append_replica.Goals as goal
+use Rattle.warp_world.proofs.Printings.{replica_added}
+use Rattle.warp_world.proofs.printing.append_replica.Goals as goal
 
 pub returns : goal.returns
 returns g c =

@@ -1,8 +1,8 @@
 -- A line for each variable, up to the last.
 use Rattle.std.proofs.Common.{◌≡◌, ◌∙◌, ◌<◌, ◌≤◌, ap, length, subst}
 use Rattle.warp_table.specs.Records.{set_of}
-use Rattle.warp_session.proofs.Printings.{all_variables, one_variable_more}
-use Rattle.warp_session.proofs.printing.append_variables.Goals as goal
+use Rattle.warp_world.proofs.Printings.{all_variables, one_variable_more}
+use Rattle.warp_world.proofs.printing.append_variables.Goals as goal
 
 pub loop-number-preserved : goal.loop-number-preserved
 loop-number-preserved g c =

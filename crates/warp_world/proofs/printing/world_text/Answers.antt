@@ -1,7 +1,7 @@
 -- Replica by replica, up to the last.
 use Rattle.std.proofs.Common.{arith}
-use Rattle.warp_session.proofs.Printings.{all_replicas, one_replica_more}
-use Rattle.warp_session.proofs.printing.world_text.Goals as goal
+use Rattle.warp_world.proofs.Printings.{all_replicas, one_replica_more}
+use Rattle.warp_world.proofs.printing.world_text.Goals as goal
 
 pub loop-number-preserved : goal.loop-number-preserved
 loop-number-preserved g c =

@@ -3,8 +3,8 @@ use Rattle.std.proofs.Common.{◌≡◌, ◌∙◌, ap, subst}
 use Rattle.warp_world.specs.Replicas.{logs_of}
 use Rattle.warp_world.specs.World.{world_after}
 use Rattle.warp_world.proofs.Replacing.{run_kept}
-use Rattle.warp_session.specs.Play.{Prints}
-use Rattle.warp_session.proofs.printing.play_text.Goals as goal
+use Rattle.warp_world.specs.Play.{Prints}
+use Rattle.warp_world.proofs.printing.play_text.Goals as goal
 
 pub returns-clause-text : goal.returns-clause-text
 returns-clause-text c =

@@ -1,6 +1,6 @@
 -- The replicas before this number have their lines.
-use Rattle.warp_session.proofs.Printings.{PrintsSoFar}
-use Rattle.warp_session.proofs.printing.world_text.Given as goal
+use Rattle.warp_world.proofs.Printings.{PrintsSoFar}
+use Rattle.warp_world.proofs.printing.world_text.Given as goal
 
 abbrev pub invariant-loop-number : goal.invariant-loop-number
 invariant-loop-number g l = PrintsSoFar l.world l.number l.text.items

@@ -10,7 +10,7 @@ use Rattle.warp_replica.specs.Answers.{Answers, AreAnswers}
 use Rattle.warp_world.specs.declared.moves.Move.{Move}
 use Rattle.warp_world.specs.Schedule.{SpellsSchedule}
 use Rattle.warp_world.specs.World.{world_after}
-use Rattle.warp_session.specs.Session.{reply_line}
+use Rattle.warp_record.specs.Reply.{reply_line}
 
 -- the replies that are printed of a replica: its horizon, how many outputs there are and how many are released, how much was lost,
 -- and each variable

@@ -5,24 +5,25 @@ ghost use Rattle.warp_replica.specs.Answers.{Answers, AreAnswers};
 ghost use Rattle.warp_replica.specs.Gives.{reply_to};
 ghost use Rattle.warp_world.specs.Replicas.{RunAll, logs_of};
 ghost use Rattle.warp_world.specs.Schedule.{IsFault};
-ghost use Rattle.warp_session.specs.Play.{PlaysSchedule, Prints, replica_lines};
-ghost use Rattle.warp_session.specs.Session.{reply_line};
-ghost use Rattle.warp_session.specs.inner.Printing.{Adds, count_lines, title_line, variable_lines};
+ghost use Rattle.warp_world.specs.Play.{PlaysSchedule, Prints, replica_lines};
+ghost use Rattle.warp_record.specs.Reply.{reply_line};
+ghost use Rattle.warp_world.specs.inner.Printing.{Adds, count_lines, title_line, variable_lines};
 
+use crate::fault::ScheduleFault;
+use crate::schedule::read_schedule;
+use crate::world::{World, play};
 use itoa::Buffer;
 use std::alloc::Global;
 use warp_line::Timeline;
 use warp_record::{Query, REPLY_ROOM, Reply, write_reply};
 use warp_replica::{Replica, one_answer};
-use warp_run::Warp;
 use warp_step::Program;
 use warp_tag::OutOfMemory;
-use warp_world::{ScheduleFault, World, play, read_schedule};
 
 /// What is printed of a schedule: for each replica, after all moves and settled, its number, its horizon, how many
 /// outputs there are and how many are released, how much was lost, and its variables. `Err` says at which line the
 /// schedule is refused, or that memory was wanting.
-pub fn play_text(
+pub fn play_text<T: Timeline>(
     alloc: Global,
     program: &Program,
     schedule: &[u8],
@@ -31,7 +32,7 @@ pub fn play_text(
     ensures refused { IfErr result (IsFault schedule.now) }
 {
     let (count, moves) = read_schedule(alloc, schedule)?;
-    let mut world = play::<Warp>(alloc, program, count, &moves)?;
+    let mut world = play::<T>(alloc, program, count, &moves)?;
     world.settle(alloc)?;
     let text = world_text(alloc, &world)?;
     Ok(text)

@@ -1,6 +1,6 @@
 -- What is told is the reply by any answers of the set.
-use Rattle.warp_session.proofs.Printings.{told_line}
-use Rattle.warp_session.proofs.printing.append_answer.Goals as goal
+use Rattle.warp_world.proofs.Printings.{told_line}
+use Rattle.warp_world.proofs.printing.append_answer.Goals as goal
 
 pub returns : goal.returns
 returns g c =

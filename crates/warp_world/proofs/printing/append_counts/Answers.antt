@@ -1,6 +1,6 @@
 -- Four lines, one behind the other.
-use Rattle.warp_session.proofs.Printings.{four_lines}
-use Rattle.warp_session.proofs.printing.append_counts.Goals as goal
+use Rattle.warp_world.proofs.Printings.{four_lines}
+use Rattle.warp_world.proofs.printing.append_counts.Goals as goal
 
 pub returns : goal.returns
 returns g c =

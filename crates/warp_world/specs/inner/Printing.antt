@@ -6,7 +6,7 @@ use Rattle.warp_record.specs.declared.reply.Reply.{Reply}
 use Rattle.warp_record.specs.declared.reply.Reply.TheVariants.{Horizon, Outputs, Released, Lost, Var}
 use Rattle.warp_table.specs.Records.{Records}
 use Rattle.warp_replica.specs.Answers.{Answers, AreAnswers}
-use Rattle.warp_session.specs.Session.{reply_line}
+use Rattle.warp_record.specs.Reply.{reply_line}
 
 -- the text grew by these lines of the program's answers over the set
 abbrev pub Adds : Program → Records → (Answers → List ℕ) → List ℕ → List ℕ → Type 0

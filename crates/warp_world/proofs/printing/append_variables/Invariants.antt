@@ -1,7 +1,7 @@
 -- The variables before this number have their lines.
 use Rattle.warp_table.specs.Records.{set_of}
-use Rattle.warp_session.proofs.Printings.{VariablesSoFar}
-use Rattle.warp_session.proofs.printing.append_variables.Given as goal
+use Rattle.warp_world.proofs.Printings.{VariablesSoFar}
+use Rattle.warp_world.proofs.printing.append_variables.Given as goal
 
 abbrev pub invariant-loop-number : goal.invariant-loop-number
 invariant-loop-number g l =
