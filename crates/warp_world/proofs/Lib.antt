@@ -3,6 +3,7 @@ pub mod Takings
 pub mod Playing
 pub mod SoundLogs
 pub mod GrowingLogs
+pub mod LogEntries
 pub mod MoveWords
 pub mod MoveReadings
 pub mod ScheduleLines

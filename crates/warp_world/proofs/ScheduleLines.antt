@@ -1,7 +1,7 @@
 -- The lines of a schedule's text: where bytes begin with one, its words and what is behind it.
 use Rattle.std.proofs.Common.{◌≡◌, ℕ, ◌<◌, true, List, [], ◌∷◌, ◌++◌, length, sym, ap, ◌∙◌, refl, arith, append_assoc}
 use Rattle.std.specs.List.{All, slice_split, join_with_byte}
-use Rattle.std.proofs.lemmas.List.{flat_map_more}
+use Rattle.std.proofs.lemmas.List.{append-nil, flat_map_more}
 use Rattle.std.proofs.lemmas.List.Elements.{All-append, All-cons}
 use Rattle.std.proofs.lemmas.List.Splits.{slice_split_at, slice_split_none, length-slice_split}
 use Rattle.warp_record.specs.Lines.{is_end, IsOneLine}
@@ -70,3 +70,9 @@ one_more bytes count moves next rest behind fit fits text first =
           ∙ sym (append_assoc before (text_of next) behind)
           ∙ ap (λ (front : List ℕ). front ++ behind) more,
     )
+
+-- what stands before an end
+pub at_end : (bytes : List ℕ) (count : ℕ) (moves : List Move) (rest : List ℕ) → length rest ≡ 0
+    → bytes ≡ schedule_text count moves ++ rest → bytes ≡ schedule_text count moves
+at_end bytes count moves [] empty text = text ∙ append-nil (schedule_text count moves)
+at_end bytes count moves (byte ∷ rest) empty text = absurd (omega (arith, empty))

@@ -1,17 +1,19 @@
 -- What a log is once a record was taken: it has the record as its last one where the log takes it in, and else is as before.
-use Rattle.std.proofs.Common.{◌≡◌, ℕ, ◌-◌, ◌<◌, Bool, true, false, not, ◌&&◌, nat_lt, List, [], ◌∷◌, ◌++◌, length, Ok, Contains, if◌then◌else◌, inl, inr, sym, ap, ◌∙◌}
+use Rattle.std.proofs.Common.{◌≡◌, ◌≢◌, ◌⊎◌, ℕ, ◌-◌, ◌<◌, Bool, true, false, not, ◌&&◌, nat_lt, List, [], ◌∷◌, ◌++◌, length, Option, Some, Result, Ok, Err, Contains, if◌then◌else◌, inl, inr, sym, ap, ◌∙◌, refl, arith}
 use Rattle.std.specs.Option.{is_none}
 use Rattle.std.proofs.Math.Bool.{and-false}
-use Rattle.std.proofs.lemmas.Bool.{and_from, cases_Bool, lt-ltb}
+use Rattle.std.proofs.lemmas.Bool.{and_from, cases_Bool, le-ltb, lt-ltb}
 use Rattle.std.proofs.lemmas.Option.{get_or_from_slice_get, slice_get_within}
 use Rattle.warp_tag.specs.Limits.{most_records}
 use Rattle.warp_step.specs.Program.{Program}
 use Rattle.warp_record.specs.declared.record.Record.{Record}
+use Rattle.warp_record.specs.declared.reply.Refusal.{Refusal}
+use Rattle.warp_record.specs.declared.reply.Refusal.TheVariants.{Syntax, NoOrigin, PastStop, NoInput, NotYours, NoVar, LogFull, NoMemory, TooLong, Busy, NoBoard}
 use Rattle.warp_table.specs.Check.{refusal_of}
 use Rattle.warp_table.specs.Log.{IsAt}
 use Rattle.warp_table.specs.Records.{set_of}
 use Rattle.warp_table.proofs.Sets.{in_set}
-use Rattle.warp_replica.specs.Gives.{IsNew, Takes}
+use Rattle.warp_replica.specs.Gives.{IsNew, LacksRoom, Takes}
 use Rattle.warp_replica.specs.declared.took.Took.{Took}
 use Rattle.warp_replica.specs.declared.took.Took.TheVariants.{New, Known}
 use Rattle.warp_world.specs.World.{takes_in}
@@ -19,6 +21,24 @@ use Rattle.warp_world.specs.World.{takes_in}
 -- what a log is where its taking in is decided
 abbrev pub log_with : Program → List Record → Record → List Record
 log_with P log said = if takes_in P log said then log ++ said ∷ [] else log
+
+-- why a log other than a full one lacks room
+full : (log : List Record) (refusal : Refusal) → LacksRoom log refusal → refusal ≢ NoMemory → (refusal ≡ LogFull) × (length log ≡ most_records)
+full log LogFull lacks other = (refl, lacks)
+full log NoMemory lacks other = absurd (other refl)
+full log Syntax lacks other = absurd lacks
+full log NoOrigin lacks other = absurd lacks
+full log PastStop lacks other = absurd lacks
+full log NoInput lacks other = absurd lacks
+full log NotYours lacks other = absurd lacks
+full log NoVar lacks other = absurd lacks
+full log TooLong lacks other = absurd lacks
+full log Busy lacks other = absurd lacks
+full log NoBoard lacks other = absurd lacks
+
+-- that a record was refused
+abbrev refused : Refusal → Result Took Refusal
+refused refusal = Err refusal
 
 module _ (P : Program) (log : List Record) (said : Record) where
   decided : (taken : Bool) → takes_in P log said ≡ taken → log_with P log said ≡ (if taken then log ++ said ∷ [] else log)
@@ -45,3 +65,15 @@ module _ (P : Program) (log : List Record) (said : Record) where
   pub taken_ok : (took : Took) (after : List Record) → Takes P log said (Ok took) after → after ≡ log_with P log said
   taken_ok (New place) after h = h.3 ∙ sym (decided true (new_in h.0 h.1))
   taken_ok (Known place) after h = h.2 ∙ sym (decided false (known_out place h.1))
+
+  -- one that is refused for another reason than want of memory is not taken in either
+  refused_out : (refusal : Refusal) → refusal ≢ NoMemory → (refusal_of P said ≡ Some refusal) ⊎ (IsNew P log said × LacksRoom log refusal)
+      → takes_in P log said ≡ false
+  refused_out refusal other (inl reason) = ap (λ (o : Option Refusal). is_none o && (not (set_of log said) && nat_lt (length log) most_records)) reason
+  refused_out refusal other (inr lacks) =
+      let within : nat_lt (length log) most_records ≡ false = le-ltb (length log) most_records (omega (arith, (full log refusal lacks.1 other).1)) in
+      rw (within, and-false (not (set_of log said))) (and-false (is_none (refusal_of P said)))
+
+  pub taken : (answer : Result Took Refusal) (after : List Record) → answer ≢ Err NoMemory → Takes P log said answer after → after ≡ log_with P log said
+  taken (Ok took) after other h = taken_ok took after h
+  taken (Err refusal) after other h = h.1 ∙ sym (decided false (refused_out refusal (λ is. other (ap refused is)) h.0))

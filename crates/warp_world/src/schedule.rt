@@ -1,6 +1,9 @@
 //! Schedule files, read: a line with the number of replicas, and a line for each move. Each schedule has one text.
-ghost use Rattle.std.specs.Prelude.{◌≡◌, ◌≢◌, ℕ, ◌<◌, List, ◌∷◌, ◌++◌, IfSome, IfNone, IfOk, IfErr, decimal, map};
+ghost use Rattle.std.specs.Prelude.{◌≡◌, ◌≢◌, ℕ, ◌<◌, List, [], ◌∷◌, ◌++◌, IfSome, IfNone, IfOk, IfErr, codes, decimal};
+ghost use Rattle.std.specs.Prelude.{length, map};
+ghost use Rattle.std.specs.List.{slice_split};
 ghost use Rattle.warp_record.specs.Lines.{IsOneLine};
+ghost use Rattle.warp_record.specs.Number.{is_space};
 ghost use Rattle.warp_world.specs.Moves.{IsMove, most_replicas, move_words};
 ghost use Rattle.warp_world.specs.Schedule.{IsCount, IsFault, SpellsSchedule, count_words, line};
 ghost use Rattle.warp_world.specs.declared.moves.Move.{Move};
@@ -74,26 +77,101 @@ fn count_of(words: &[&[u8]]) -> Option<usize>
     }
 }
 
+/// The move that these words tell behind `make`; `None` where there is none.
+fn read_make(words: &[&[u8]]) -> Option<Move>
+    ensures found { IfSome result
+        (λ next. IsMove next × (codes "make" ∷ map (λ word. word.now) words.now ≡ move_words next)) }
+    ensures none { IfNone result
+        ((next : Move) → IsMove next → codes "make" ∷ map (λ word. word.now) words.now ≢ move_words next) }
+{
+    let [replica, said @ ..] = words else {
+        return None;
+    };
+    let replica = read_replica(replica)?;
+    let record = read_record(said)?;
+    Some(Move::Make { replica, record })
+}
+
+/// The move that these words tell behind `carry`; `None` where there is none.
+fn read_carry(words: &[&[u8]]) -> Option<Move>
+    ensures found { IfSome result
+        (λ next. IsMove next × (codes "carry" ∷ map (λ word. word.now) words.now ≡ move_words next)) }
+    ensures none { IfNone result
+        ((next : Move) → IsMove next → codes "carry" ∷ map (λ word. word.now) words.now ≢ move_words next) }
+{
+    let [from, place, to] = words else {
+        return None;
+    };
+    let from = read_replica(from)?;
+    let place = read_u32(place, MAX_COUNT)?;
+    let to = read_replica(to)?;
+    Some(Move::Carry { from, place, to })
+}
+
+/// The move in range whose words are this one and these, which are two or more; `None` where there is none.
+fn read_long(word: &[u8], fields: &[&[u8]]) -> Option<Move>
+    requires { 1 < length fields.now }
+    ensures found { IfSome result
+        (λ next. IsMove next × (word.now ∷ map (λ word. word.now) fields.now ≡ move_words next)) }
+    ensures none { IfNone result
+        ((next : Move) → IsMove next → word.now ∷ map (λ word. word.now) fields.now ≢ move_words next) }
+{
+    if is_keyword(word, MAKE) {
+        return read_make(fields);
+    }
+    if is_keyword(word, CARRY) {
+        return read_carry(fields);
+    }
+    None
+}
+
+/// The move in range whose words are these two; `None` where there is none.
+fn read_short(word: &[u8], replica: &[u8]) -> Option<Move>
+    ensures found { IfSome result (λ next. IsMove next × (word.now ∷ replica.now ∷ [] ≡ move_words next)) }
+    ensures none { IfNone result
+        ((next : Move) → IsMove next → word.now ∷ replica.now ∷ [] ≢ move_words next) }
+{
+    let replica = read_replica(replica)?;
+    if is_keyword(word, COLLECT) {
+        return Some(Move::Collect(replica));
+    }
+    if is_keyword(word, SETTLE) {
+        return Some(Move::Settle(replica));
+    }
+    if is_keyword(word, RESTART) {
+        return Some(Move::Restart(replica));
+    }
+    None
+}
+
 /// The move in range whose words these are; `None` where there is none.
 fn move_of(words: &[&[u8]]) -> Option<Move>
     ensures found { IfSome result (λ next. IsMove next × (map (λ word. word.now) words.now ≡ move_words next)) }
     ensures none { IfNone result ((next : Move) → IsMove next → map (λ word. word.now) words.now ≢ move_words next) }
 {
     match words {
-        [word, replica, said @ ..] if is_keyword(word, MAKE) => Some(Move::Make {
-            replica: read_replica(replica)?,
-            record: read_record(said)?,
-        }),
-        [word, from, place, to] if is_keyword(word, CARRY) => Some(Move::Carry {
-            from: read_replica(from)?,
-            place: read_u32(place, MAX_COUNT)?,
-            to: read_replica(to)?,
-        }),
-        [word, replica] if is_keyword(word, COLLECT) => Some(Move::Collect(read_replica(replica)?)),
-        [word, replica] if is_keyword(word, SETTLE) => Some(Move::Settle(read_replica(replica)?)),
-        [word, replica] if is_keyword(word, RESTART) => Some(Move::Restart(read_replica(replica)?)),
-        _ => None,
+        [] | [_] => None,
+        [word, replica] => read_short(word, replica),
+        [word, fields @ ..] => read_long(word, fields),
     }
+}
+
+/// The number of replicas that the text of a line spells; `None` where it spells none.
+fn count_in(text: &[u8]) -> Option<usize>
+    ensures found { IfSome result (λ count. IsCount count × (slice_split is_space text.now ≡ count_words count)) }
+    ensures none { IfNone result ((count : ℕ) → IsCount count → slice_split is_space text.now ≢ count_words count) }
+{
+    let words = split_words(text)?;
+    count_of(&words)
+}
+
+/// The move that the text of a line spells; `None` where it spells none.
+fn move_in(text: &[u8]) -> Option<Move>
+    ensures found { IfSome result (λ next. IsMove next × (slice_split is_space text.now ≡ move_words next)) }
+    ensures none { IfNone result ((next : Move) → IsMove next → slice_split is_space text.now ≢ move_words next) }
+{
+    let words = split_words(text)?;
+    move_of(&words)
 }
 
 /// The number of replicas that the first line spells, and the bytes behind the line; `None` where it spells none.
@@ -103,8 +181,8 @@ fn read_count(bytes: &[u8]) -> Option<(usize, &[u8])>
         ((count : ℕ) (rest : List ℕ) → IsCount count → bytes.now ≢ line (count_words count) ++ rest) }
 {
     let (text, rest) = split_line(bytes)?;
-    let words = split_words(text)?;
-    Some((count_of(&words)?, rest))
+    let count = count_in(text)?;
+    Some((count, rest))
 }
 
 /// The move that the first line spells, and the bytes behind the line; `None` where it spells none.
@@ -114,8 +192,8 @@ fn read_move(bytes: &[u8]) -> Option<(Move, &[u8])>
         ((next : Move) (rest : List ℕ) → IsMove next → bytes.now ≢ line (move_words next) ++ rest) }
 {
     let (text, rest) = split_line(bytes)?;
-    let words = split_words(text)?;
-    Some((move_of(&words)?, rest))
+    let next = move_in(text)?;
+    Some((next, rest))
 }
 
 /// How many replicas a schedule file names, 1 to `MAX_REPLICAS`, and its moves. `Err` says at which line it is

@@ -1,9 +1,10 @@
 //! Several replicas of one program, and what happens to them.
-ghost use Rattle.std.specs.Prelude.{◌≡◌, ◌<◌, ◌≤◌, List, [], ◌∷◌, ◌++◌, All, IfNone, IfOk, IfSome, IsTrue, OnOk, Some};
+ghost use Rattle.std.specs.Prelude.{◌≡◌, ◌≢◌, ◌<◌, ◌≤◌, List, [], ◌∷◌, ◌++◌, All, IfNone, IfOk, IfSome, IsTrue, OnOk, Err, Some};
 ghost use Rattle.std.specs.Prelude.{length, map, slice_get, slice_set, if◌then◌else◌};
 ghost use Rattle.warp_step.specs.Program.{Program};
 ghost use Rattle.warp_step.specs.Counter.{IsUnused};
 ghost use Rattle.warp_record.specs.declared.record.Record.{Record};
+ghost use Rattle.warp_record.specs.declared.reply.Refusal.TheVariants.{NoMemory};
 ghost use Rattle.warp_table.specs.Records.{Records};
 ghost use Rattle.warp_world.specs.Moves.{most_replicas};
 ghost use Rattle.warp_world.specs.Replicas.{RunAll, logs_of, world_of};
@@ -16,7 +17,7 @@ use std::marker::{Brand, Model};
 use std::sync::ledger::{Blank, Ledger};
 use warp_line::Timeline;
 use warp_record::{Record, Refusal};
-use warp_replica::{Idle, Replica};
+use warp_replica::{Idle, Replica, Took};
 use warp_step::Program;
 use warp_tag::OutOfMemory;
 
@@ -92,8 +93,7 @@ impl<T: Timeline> World<T> {
     {
         let mut replicas = Vec::with_capacity(alloc, count)?;
         for _ in 0..count {
-            let replica = Replica::new(alloc, program.copy(alloc)?)?;
-            replicas.push(replica)?;
+            replicas.push(new_replica(alloc, program)?)?;
         }
         Ok(World { replicas })
     }
@@ -123,7 +123,7 @@ impl<T: Timeline> World<T> {
     fn entry(&self, replica: u32, place: u32) -> Option<Record>
         ensures { (made : Records) → result ≡ entry_of (world_of made self.now) replica place }
     {
-        self.replicas.get(replica as usize)?.entry(place)
+        self.replica(replica as usize)?.entry(place)
     }
 
     /// Lets a replica take a record, if there is such a replica. Where it is refused, nothing happens; an `Err` says
@@ -170,10 +170,45 @@ impl<T: Timeline> World<T> {
         ensures programs { RunAll program.now self.old → RunAll program.now self.new }
     {
         let number = replica as usize;
-        if number < self.len() {
-            self.replicas[number] = Replica::new(alloc, program.copy(alloc)?)?;
-        }
-        Ok(())
+        let Some(replica) = self.replicas.get_mut(number) else {
+            return Ok(());
+        };
+        renew(alloc, program, replica)
+    }
+}
+
+/// A new replica of this program, with an empty log.
+fn new_replica<T: Timeline + Drop>(
+    alloc: Global,
+    program: &Program,
+) -> Result<Replica<T>, OutOfMemory>
+    ensures program { IfOk result (λ r. r.program ≡ program.now) }
+    ensures records { IfOk result (λ r. r.records ≡ []) }
+{
+    let copy = program.copy(alloc)?;
+    Replica::new(alloc, copy)
+}
+
+/// Puts a new replica of this program in the place of a replica. An `Err` leaves it as it was.
+fn renew<T: Timeline + Drop>(
+    alloc: Global,
+    program: &Program,
+    replica: &mut Replica<T>,
+) -> Result<(), OutOfMemory>
+    ensures program { replica.old.program ≡ program.now → replica.new.program ≡ program.now }
+    ensures records { OnOk result (replica.new.records ≡ []) }
+{
+    *replica = new_replica(alloc, program)?;
+    Ok(())
+}
+
+/// `Err` where memory was wanting for the taking of a record.
+fn memory_of(answer: Result<Took, Refusal>) -> Result<(), OutOfMemory>
+    ensures { OnOk result (answer ≢ Err NoMemory) }
+{
+    match answer {
+        Err(Refusal::NoMemory) => Err(OutOfMemory),
+        _ => Ok(()),
     }
 }
 
@@ -188,10 +223,7 @@ fn take_in<T: Timeline>(
         (if takes_in replica.old.program log «record».now then log ++ «record».now ∷ [] else log)) }
     ensures program { replica.new.program ≡ replica.old.program }
 {
-    match replica.take(alloc, record) {
-        Err(Refusal::NoMemory) => Err(OutOfMemory),
-        _ => Ok(()),
-    }
+    memory_of(replica.take(alloc, record))
 }
 
 /// Collects a replica, which is settled first.
