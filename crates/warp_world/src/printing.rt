@@ -23,7 +23,7 @@ use warp_tag::OutOfMemory;
 /// What is printed of a schedule: for each replica, after all moves and settled, its number, its horizon, how many
 /// outputs there are and how many are released, how much was lost, and its variables. `Err` says at which line the
 /// schedule is refused, or that memory was wanting.
-pub fn play_text<T: Timeline>(
+pub fn play_text<T: Timeline + Drop>(
     alloc: Global,
     program: &Program,
     schedule: &[u8],
