@@ -217,8 +217,22 @@ fn text<'a>(found: &ArgMatches<'a>, id: &str) -> Option<&'a str>
 fn command<'a>(alloc: Global) -> Result<Command<'a>, AllocError>
     ensures { IfOk result (λ c. app_of c ≡ warpd_command) }
 {
-    let play = play(alloc)?;
-    with_run(alloc)?.subcommand(play)
+    let command = with_run(alloc)?;
+    with_play(command, play(alloc))
+}
+
+/// The command with this subcommand `play` too, if there was memory for it.
+fn with_play<'a>(
+    command: Command<'a>,
+    play: Result<Command<'a>, AllocError>,
+) -> Result<Command<'a>, AllocError>
+    requires { IfOk play (λ c. (app_of c ≡ play_command) × ((fields_of c).has_globals ≡ false)) }
+    ensures { IfOk result (λ c. app_of c ≡ with_subcommand (app_of command.entry) play_command.top) }
+{
+    match play {
+        Ok(play) => command.subcommand(play),
+        Err(error) => Err(error),
+    }
 }
 
 /// `warpd` with `run` alone.
