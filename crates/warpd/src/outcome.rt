@@ -11,7 +11,7 @@ use warp_world::ScheduleFault;
 pub const LONGEST_LINE: usize = 64;
 
 /// How a run of `warpd` ended.
-#[derive(Clone, Copy, Debug, PartialEq, Eq)]
+#[derive(Clone, Copy)]
 pub enum Outcome {
     /// All was done, or help was asked for and shown.
     Done,
