@@ -7,7 +7,7 @@ use Rattle.warp_world.specs.Play.{Prints}
 use Rattle.warp_world.proofs.printing.play_text.Goals as goal
 
 pub returns-clause-text : goal.returns-clause-text
-returns-clause-text c =
+returns-clause-text g c =
     let P = c.args.program.now in
     let count = c.in_ok-count.count in
     let moves = c.in_ok-count.moves.items in
