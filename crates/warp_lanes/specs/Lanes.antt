@@ -1,0 +1,73 @@
+-- What the two ends of a lane have sent and received.
+use Rattle.std.specs.Prelude.{◌≡◌, ℕ, List, refl}
+use Rattle.std.specs.Coded.{Coded, code_by, coded×, coded_ℕ}
+use denote.RawPtr.{Ptr, coded_ptr}
+use Rattle.warp_record.specs.declared.line.Line.{Line}
+use Rattle.warp_record.specs.declared.reply.Reply.{Reply}
+use Rattle.warp_record.specs.declared.reply.Reply.TheVariants.{Taken, Known, Refused, Var, Outputs, Output, Nothing, Horizon, Released, Lost, Breach, Log, Collected, Board, Row, NoRow}
+use Rattle.warp_record.specs.Reply.{IsReply}
+use Rattle.warp_lanes.specs.declared.answer.Answer.{Answer}
+
+-- how many commands, and how many answers, a lane has places for
+abbrev pub places : ℕ
+places = 64
+
+-- how many answers of a port may be missing: as many as both rings have places for
+abbrev pub most_missing : ℕ
+most_missing = 128
+
+-- which ring it is
+pub record RingId : Type 0 where
+  pub words : Ptr
+  pub slots : Ptr
+  pub names : ℕ × (ℕ × ℕ)
+
+-- which lane it is: the ring of its commands, and that of its answers
+abbrev pub LaneId : Type 0
+LaneId = RingId × RingId
+
+-- how the two are stored
+abbrev pub ring_id_code : Coded RingId
+ring_id_code =
+    code_by (Ptr × (Ptr × (ℕ × (ℕ × ℕ)))) (coded× coded_ptr (coded× coded_ptr (coded× coded_ℕ (coded× coded_ℕ coded_ℕ))))
+    (λ r. (r.words, (r.slots, r.names)))
+    (λ p. record { words = p.0; slots = p.1.0; names = p.1.1 })
+    (λ _. refl)
+
+abbrev pub lane_id_code : Coded LaneId
+lane_id_code = coded× ring_id_code ring_id_code
+
+-- the length of a log that a reply says, if it says one, is this
+abbrev pub SaysLength : ℕ → Reply → Type 0
+SaysLength len (Taken place) = place ≡ len
+SaysLength len (Known place) = Unit {0}
+SaysLength len (Refused refusal) = Unit {0}
+SaysLength len (Var log value) = log ≡ len
+SaysLength len (Outputs log count) = log ≡ len
+SaysLength len (Output log out) = log ≡ len
+SaysLength len (Nothing log) = log ≡ len
+SaysLength len (Horizon log tag) = log ≡ len
+SaysLength len (Released log count) = log ≡ len
+SaysLength len (Lost log count) = log ≡ len
+SaysLength len (Breach log broken) = log ≡ len
+SaysLength len (Log log said) = log ≡ len
+SaysLength len (Collected log) = log ≡ len
+SaysLength len (Board count frozen) = Unit {0}
+SaysLength len (Row out) = Unit {0}
+SaysLength len NoRow = Unit {0}
+
+-- an answer that a lane may carry: a reply in range, and the length that it says
+abbrev pub IsAnswer : Answer → Type 0
+IsAnswer answer = IsReply answer.reply × SaysLength answer.len answer.reply
+
+-- the lane of a port, the lines that it sent, and the answers that it fetched, each in order
+pub record PortState : Type 0 where
+  pub lane : LaneId
+  pub sent : List Line
+  pub fetched : List Answer
+
+-- a lane, the commands that it received, and the answers that it sent, each in order
+pub record LaneState : Type 0 where
+  pub lane : LaneId
+  pub commands : List Line
+  pub answers : List Answer

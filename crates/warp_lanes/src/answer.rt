@@ -1,0 +1,22 @@
+//! Answers, and what a lane lets an answer be.
+use rtrb::Protocol;
+use warp_record::Reply;
+
+/// A reply, and the log's length at which it was given.
+#[derive(Clone, Copy, Debug)]
+pub struct Answer {
+    /// The length of the log, at most 100,000.
+    pub len: u32,
+    /// The reply.
+    pub reply: Reply,
+}
+
+/// The rule of the ring of answers: each reply is in its range, and the length of a log that it says is its answer's `len`.
+#[derive(Clone, Copy)]
+pub struct SaysLength;
+
+impl Protocol<Answer> for SaysLength {
+    ghost use Rattle.warp_lanes.specs.Lanes.{IsAnswer};
+
+    ghost allows = { λ _ answer. IsAnswer answer };
+}

@@ -1,0 +1,31 @@
+//! A lane is made with its port.
+ghost use Rattle.std.specs.Prelude.{◌≡◌, [], IfOk};
+
+use crate::answer::SaysLength;
+use crate::executor_end::Lane;
+use crate::port::Port;
+use rtrb::RingBuffer;
+use std::alloc::Global;
+use warp_tag::OutOfMemory;
+
+/// How many commands, and how many answers, a lane has places for.
+const PLACES: usize = 64;
+
+/// A new lane: the end for a thread that sends lines, and the end for the one that answers them. `Err` only for want of memory.
+pub fn lane(alloc: Global) -> Result<(Port, Lane), OutOfMemory>
+    ensures port { IfOk result (λ ends. (ends.0.sent ≡ []) × (ends.0.fetched ≡ [])) }
+    ensures lane { IfOk result (λ ends. ends.1 ≡ record { lane = ends.0.lane; commands = []; answers = [] }) }
+{
+    let (commands_in, commands_out) = RingBuffer::new(alloc, PLACES)?;
+    let (answers_in, answers_out) = RingBuffer::with_protocol::<Global, SaysLength>(alloc, PLACES)?;
+    let port = Port {
+        commands: commands_in,
+        answers: answers_out,
+        missing: 0,
+    };
+    let lane = Lane {
+        commands: commands_out,
+        answers: answers_in,
+    };
+    Ok((port, lane))
+}

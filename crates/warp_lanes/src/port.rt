@@ -1,0 +1,137 @@
+//! The end of a lane in a thread that sends lines.
+ghost use Rattle.std.specs.Prelude.{◌≡◌, ◌+◌, ◌≤◌, ◌<◌, ◌++◌, [], ◌∷◌, IfSome, IfNone, IfErr, IsOk, OnOk, length};
+ghost use Rattle.warp_lanes.specs.Lanes.{IsAnswer, most_missing, places};
+
+use crate::answer::{Answer, SaysLength};
+use rtrb::{Consumer, Finished, Producer, PushError};
+use std::alloc::Global;
+use std::marker::Model;
+use warp_record::Line;
+
+/// How many answers may be missing: as many as both rings have places for.
+const MOST_MISSING: u8 = 128;
+
+/// Sends lines, and fetches their answers. It takes no memory and never waits.
+#[derive(Drop)]
+pub struct Port {
+    pub(crate) commands: Producer<Line, Global>,
+    pub(crate) answers: Consumer<Answer, Global, SaysLength>,
+    pub(crate) missing: u8,
+}
+
+impl Model for Port {
+    ghost use Rattle.std.specs.Prelude.{◌≡◌, ◌+◌, ◌≤◌, length};
+    ghost use Rattle.rtrb.specs.Ring.{known_free, sent, received};
+    ghost use Rattle.warp_lanes.specs.Lanes.{PortState, most_missing, places};
+
+    ghost Value = { PortState };
+
+    ghost view = { λ p.
+        record {
+          lane = (
+            record { words = p.commands.end.words; slots = p.commands.end.slots; names = p.commands.end.names },
+            record { words = p.answers.end.words; slots = p.answers.end.slots; names = p.answers.end.names },
+          );
+          sent = sent p.commands;
+          fetched = received p.answers;
+        } };
+
+    ghost invariant = { λ p.
+        (length (sent p.commands) ≡ length (received p.answers) + p.missing)
+        × (p.missing ≤ most_missing)
+        × (places ≤ known_free p.commands + length (sent p.commands)) };
+}
+
+impl Port {
+    /// Sends a line. It comes back where the ring of commands has no place, or 128 answers are missing, which is where both
+    /// rings are full; of the first 64 lines none does.
+    pub fn send(&mut self, line: Line) -> Result<(), Line>
+        ensures ok { OnOk result (self.new ≡ record self.old { sent = self.old.sent ++ «line» ∷ [] }) }
+        ensures err { IfErr result (λ back. (back ≡ «line») × (self.new ≡ self.old)) }
+        ensures first { length self.old.sent < places → IsOk result }
+    {
+        if self.missing == MOST_MISSING {
+            return Err(line);
+        }
+        match self.commands.push(line) {
+            Ok(()) => {
+                self.missing += 1;
+                Ok(())
+            }
+            Err(PushError::Full(back)) => Err(back),
+        }
+    }
+
+    /// The next answer, if one is missing and is found. It is that of the first line whose answer was not fetched.
+    pub fn reply(&mut self) -> Option<Answer>
+        ensures some { IfSome result
+            (λ answer. IsAnswer answer × (self.new ≡ record self.old { fetched = self.old.fetched ++ answer ∷ [] })
+            × (length self.old.fetched < length self.old.sent)) }
+        ensures none { IfNone result (self.new ≡ self.old) }
+    {
+        if self.missing == 0 {
+            return None;
+        }
+        match self.answers.pop() {
+            Ok(answer) => {
+                self.missing -= 1;
+                Some(answer)
+            }
+            Err(_) => None,
+        }
+    }
+
+    /// How many answers are missing, at most 128.
+    pub fn waiting(&self) -> usize
+        ensures count { length self.now.sent ≡ length self.now.fetched + result }
+        ensures most { result ≤ most_missing }
+    {
+        usize::from(self.missing)
+    }
+
+    /// Ends the port, and gives what its lane may be drained with; `None` where the other end was dropped before.
+    pub fn finish(self) -> Option<PortEnd>
+        ensures { IfSome result (λ end. end ≡ self) }
+    {
+        let Port {
+            commands,
+            answers,
+            missing,
+        } = self;
+        let commands = commands.finish()?;
+        Some(PortEnd {
+            commands,
+            answers,
+            missing,
+        })
+    }
+}
+
+/// A port that has ended: nothing more is sent through it.
+#[derive(Drop)]
+pub struct PortEnd {
+    pub(crate) commands: Finished<Line, Global>,
+    pub(crate) answers: Consumer<Answer, Global, SaysLength>,
+    pub(crate) missing: u8,
+}
+
+impl Model for PortEnd {
+    ghost use Rattle.std.specs.Prelude.{◌≡◌, ◌+◌, ◌≤◌, length};
+    ghost use Rattle.rtrb.specs.Ring.{all_sent, received};
+    ghost use Rattle.warp_lanes.specs.Lanes.{PortState, most_missing};
+
+    ghost Value = { PortState };
+
+    ghost view = { λ p.
+        record {
+          lane = (
+            record { words = p.commands.end.words; slots = p.commands.end.slots; names = p.commands.end.names },
+            record { words = p.answers.end.words; slots = p.answers.end.slots; names = p.answers.end.names },
+          );
+          sent = all_sent p.commands;
+          fetched = received p.answers;
+        } };
+
+    ghost invariant = { λ p.
+        (length (all_sent p.commands) ≡ length (received p.answers) + p.missing) × (p.missing ≤ most_missing) };
+}
