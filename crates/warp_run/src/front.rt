@@ -19,8 +19,8 @@ use warp_tag::{OutOfMemory, Tag};
 const SPACING: usize = 16;
 
 /// After how many rows a checkpoint stands where rows of the program are executed: four where it has at most four
-/// variables, eight where it has at most eight, and else sixteen. So a checkpoint costs a row about as much in a small
-/// program as in a large one, and a small one goes back over fewer rows.
+/// variables, eight where it has at most eight, and else sixteen. The fewer values a checkpoint has, the closer they
+/// stand.
 fn spacing_of(program: &Program) -> usize
     ensures { result ≤ spacing }
 {
@@ -295,6 +295,7 @@ impl Front {
         ensures others { self.new ≡ record self.old { aside = self.new.aside } }
         ensures kept { (P : Program) (E : List Event) (done : List Row) → IsAt P E self.old done →
             GoesBack P E tag done self.new }
+        ensures room { KeepsRoom self.old self.new }
     {
         self.aside.let_go_before(tag);
     }
