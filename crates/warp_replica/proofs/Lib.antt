@@ -7,3 +7,4 @@ pub mod Replies
 pub mod ReleasedLists
 pub mod Takings
 pub mod PulledRecords
+pub mod Lengths

@@ -4,3 +4,4 @@ pub mod Release
 pub mod Gives
 pub mod Merge
 pub mod Desk
+pub mod Length

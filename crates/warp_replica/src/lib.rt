@@ -6,6 +6,7 @@
 //! released stays (`released_stays`, `released_agree`).
 #![tactic(auto)]
 
+mod asking;
 mod idle;
 mod law;
 mod local;
