@@ -5,3 +5,4 @@ pub mod Gives
 pub mod Merge
 pub mod Desk
 pub mod Length
+pub mod Settling
