@@ -6,3 +6,4 @@ pub mod Merge
 pub mod Desk
 pub mod Length
 pub mod Settling
+pub mod Chain
