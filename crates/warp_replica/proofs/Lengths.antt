@@ -1,5 +1,5 @@
 -- Each length that a reply of a replica says is that of the log which it leaves.
-use Rattle.std.proofs.Common.{◌≡◌, ℕ, suc, ◌+◌, List, [], ◌∷◌, ◌++◌, length, refl, sym, ap, subst, arith, length-append, Option, Some, None, Result, Ok, Err, Bool, true, false, inl, inr}
+use Rattle.std.proofs.Common.{ℕ, List, length, refl, sym, subst, arith, length-append, Option, Some, None, Result, Ok, Err, Bool, true, false, inl, inr}
 use Rattle.std.specs.Prelude.{slice_get, if◌then◌else◌}
 use Rattle.std.specs.Option.{option_map, unwrap_or}
 use Rattle.warp_step.specs.Program.{Program}
@@ -11,12 +11,11 @@ use Rattle.warp_record.specs.declared.line.Line.{Line}
 use Rattle.warp_record.specs.declared.line.Line.TheVariants as line
 use Rattle.warp_record.specs.declared.reply.Refusal.{Refusal}
 use Rattle.warp_record.specs.declared.reply.Reply.{Reply}
-use Rattle.warp_record.specs.declared.reply.Reply.TheVariants as reply
 use Rattle.warp_table.specs.Log.{EachOnce}
 use Rattle.warp_table.specs.Records.{set_of}
 use Rattle.warp_table.proofs.Sets.{one_size}
-use Rattle.warp_replica.specs.Answers.{Answers, AreAnswers}
-use Rattle.warp_replica.specs.Gives.{Gives, GivesQuery, Takes, told, reply_to, record_at}
+use Rattle.warp_replica.specs.Answers.{Answers}
+use Rattle.warp_replica.specs.Gives.{Gives, Takes, told, reply_to, record_at}
 use Rattle.warp_replica.specs.Length.{SaysLength}
 use Rattle.warp_replica.specs.declared.took.Took.{Took}
 use Rattle.warp_replica.specs.declared.took.Took.TheVariants.{New, Known}

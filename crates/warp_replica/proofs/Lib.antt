@@ -8,3 +8,4 @@ pub mod ReleasedLists
 pub mod Takings
 pub mod PulledRecords
 pub mod Lengths
+pub mod Chains

@@ -5,3 +5,5 @@ pub mod Gives
 pub mod Merge
 pub mod Desk
 pub mod Length
+pub mod Settling
+pub mod Chain

@@ -1,6 +1,6 @@
 //! A replica: a program, the table of the records that it took, and the timeline that runs them.
 ghost use Rattle.std.specs.Prelude.{◌≡◌, ◌↔◌, ℕ, ◌+◌, ◌-◌, ◌<◌, ◌≤◌, [], ◌∷◌, ◌++◌, false, None, Ok, length, List};
-ghost use Rattle.std.specs.Prelude.{Contains, IsTrue, IfSome, IfNone, IsOk, IfOk, IfErr, OnOk, OnErr};
+ghost use Rattle.std.specs.Prelude.{All, Contains, IsTrue, IfSome, IfNone, IsOk, IfOk, IfErr, OnOk, OnErr};
 ghost use Rattle.warp_tag.specs.Limits.{most_outputs, most_records};
 ghost use Rattle.warp_record.specs.declared.line.Query.{Query};
 ghost use Rattle.warp_record.specs.declared.record.Record.{Record};
@@ -323,13 +323,16 @@ impl<T: Timeline> Replica<T> {
         }
     }
 
-    /// The released outputs, in order: those before the horizon. These are the first of all outputs.
+    /// The released outputs, in order: those before the horizon. These are the first of all outputs. The port of each
+    /// is 0 to 63.
     pub fn released(&self) -> &[Out]
         requires { IsTrue (T.settled self.now.timeline) }
-        ensures { IsReleased self.now.program (set_of self.now.records) result.now }
+        ensures released { IsReleased self.now.program (set_of self.now.records) result.now }
+        ensures ports { All (λ out. out.port < most_outputs) result.now }
     {
-        // Each record is there once, and so they can be counted.
+        // Each record is there once, and so they can be counted; each program is valid, and so has few outputs.
         self.valid();
+        self.program.valid();
         let horizon = self.table.horizon(&self.program);
         let outputs = self.timeline.outputs();
         let count = outputs.partition_point(|output| output.tag.is_before(horizon));
