@@ -1,6 +1,6 @@
 //! The front of a run that is executed: its state, its outputs, and the checkpoints to which it can go back.
 ghost use Rattle.std.specs.Prelude.{◌≡◌, ◌+◌, ◌<◌, ◌≤◌, ◌↔◌, ◌++◌, ◌∷◌, false, true, IsTrue, List, [], Some, length};
-ghost use Rattle.std.specs.Prelude.{IfOk, OnOk, OnErr, vec_len, vec_capacity};
+ghost use Rattle.std.specs.Prelude.{IfOk, IsOk, OnOk, OnErr, vec_len, vec_capacity};
 ghost use Rattle.warp_tag.specs.Limits.{most_names};
 ghost use Rattle.warp_tag.specs.Table.{Event};
 ghost use Rattle.warp_step.specs.Program.{Program};
@@ -44,6 +44,7 @@ fn reserve_outputs(
     ensures room { OnOk result (vec_len outputs.new + more ≤ vec_capacity outputs.new) }
     ensures covered { OnOk result
         (vec_capacity outputs.old ≤ aside.old.room → vec_capacity outputs.new ≤ aside.new.room) }
+    ensures fits { vec_len outputs.old + more ≤ vec_capacity outputs.old → IsOk result }
 {
     if more <= outputs.capacity() - outputs.len() {
         return Ok(());
@@ -127,11 +128,14 @@ impl Front {
 
     /// Makes room for one more row: where the newest checkpoint is as far back as they stand apart, it makes one, and
     /// it makes room for the row's outputs. What is executed and what is aside stay as they were, also at an `Err`.
+    /// Where there is room for a checkpoint and for the outputs, there is none.
     #[inline(always)]
     pub fn get_ready(&mut self, program: &Program) -> Result<(), OutOfMemory>
         requires { (E : List Event) × (done : List Row) × IsAt program.now E self.old done }
         ensures same { IsSame self.old self.new }
         ensures room { OnOk result (IsRoom program.now self.new) }
+        ensures fits { HasRoomFor self.old.history self.old.state →
+            vec_len self.old.outputs + length program.now.outputs ≤ vec_capacity self.old.outputs → IsOk result }
     {
         self.save_if_due()?;
         reserve_outputs(&mut self.outputs, &mut self.aside, program.outputs().len())
@@ -174,6 +178,7 @@ impl Front {
         ensures kept { (P : Program) (E : List Event) (done : List Row) → IsAt P E self.old done →
             IsAt P E self.new done }
         ensures room { OnOk result (self.new.rows + 1 ≤ reach self.new.history.saves) }
+        ensures fits { HasRoomFor self.old.history self.old.state → IsOk result }
     {
         if self.rows < self.due {
             return Ok(());
@@ -191,6 +196,7 @@ impl Front {
         ensures kept { (P : Program) (E : List Event) (done : List Row) → IsAt P E self.old done →
             IsAt P E self.new done }
         ensures room { OnOk result (self.new.rows + more ≤ reach self.new.history.saves) }
+        ensures fits { HasRoomFor self.old.history self.old.state → IsOk result }
     {
         if self.is_near(more) {
             return Ok(());
@@ -208,6 +214,7 @@ impl Front {
         ensures kept { (P : Program) (E : List Event) (done : List Row) → IsAt P E self.old done →
             IsAt P E self.new done }
         ensures room { OnOk result (self.new.rows + spacing ≤ reach self.new.history.saves) }
+        ensures fits { HasRoomFor self.old.history self.old.state → IsOk result }
     {
         if self.add_in_room() {
             return Ok(());
