@@ -9,3 +9,4 @@ pub mod Takings
 pub mod PulledRecords
 pub mod Lengths
 pub mod Chains
+pub mod MergeChains

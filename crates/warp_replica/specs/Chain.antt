@@ -1,5 +1,6 @@
 -- Chains of takings: records that are put to a replica one after another.
-use Rattle.std.specs.Prelude.{◌≡◌, ℕ, false, IsTrue, List, [], ◌∷◌, Result}
+use Rattle.std.specs.Prelude.{◌≡◌, ℕ, false, IsTrue, List, [], ◌∷◌, map, Result}
+use Rattle.warp_tag.specs.Lists.{StartsWith}
 use Rattle.warp_tag.specs.Moment.{Moment, is_before}
 use Rattle.warp_tag.specs.Table.{live}
 use Rattle.warp_step.specs.Run.{Row}
@@ -34,6 +35,12 @@ abbrev pub TakeAll : {T : Type 0} → (T → Standing → Type 0) → ℕ → Re
 TakeAll stands_for slack r [] last = last ≡ r
 TakeAll stands_for slack r (taking ∷ more) last =
     TakesIn stands_for slack r taking × TakeAll stands_for slack taking.after more last
+
+-- takings of the first records of a log, in its order
+abbrev pub TakeFirst : {T : Type 0} → (T → Standing → Type 0) → ℕ → ReplicaState T → List Record → ReplicaState T → Type 0
+TakeFirst {T} stands_for slack r log last =
+    (takings : List (Taking T)) × TakeAll stands_for slack r takings last
+    × StartsWith log (map (λ (taking : Taking T). taking.said) takings)
 
 -- each record that changed the live events is at a tag that is not before this one
 abbrev pub ChangeFrom : {T : Type 0} → Moment → ReplicaState T → List (Taking T) → Type 0

@@ -14,6 +14,7 @@ ghost use Rattle.warp_table.specs.Table.{with_record};
 ghost use Rattle.warp_table.specs.Check.{refusal_of};
 ghost use Rattle.warp_table.specs.Records.{set_of};
 ghost use Rattle.warp_replica.specs.Answers.{IsReleased};
+ghost use Rattle.warp_replica.specs.Chain.{TakeFirst};
 ghost use Rattle.warp_replica.specs.Merge.{Merges};
 ghost use Rattle.warp_replica.specs.Replica.{AreAllowed, standing_of, Stands};
 ghost use Rattle.warp_replica.specs.Gives.{GivesQuery, Takes, came_in, tag_of, told};
@@ -415,7 +416,7 @@ impl<T: Timeline> Replica<T> {
 
     /// Takes the records of another replica of the same program, in the order of its log, and gives how many these
     /// are. An `Err` says how many of them are in, and why the next one is not: the log is full, or no memory was to
-    /// be had.
+    /// be had. What stays done is what taking them one by one leaves.
     pub fn merge<U: Timeline>(
         &mut self,
         alloc: Global,
@@ -424,6 +425,7 @@ impl<T: Timeline> Replica<T> {
         requires { self.old.program ≡ other.now.program }
         ensures merges { Merges self.old.records other.now.records result self.new.records }
         ensures program { self.new.program ≡ self.old.program }
+        ensures chain { TakeFirst T.stands_for T.SLACK self.old other.now.records self.new }
         ensures kept { self.new.records ≡ self.old.records → (done : List Row) → Stands T.stands_for self.old done →
             Stands T.stands_for self.new done }
         ensures settled { self.new.records ≡ self.old.records →
