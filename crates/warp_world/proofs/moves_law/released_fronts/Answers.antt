@@ -3,7 +3,7 @@ use Rattle.warp_table.specs.Records.{set_of}
 use Rattle.warp_replica.proofs.ReleasedLists.{released_agree, released_stays}
 use Rattle.warp_world.specs.World.{world_after}
 use Rattle.warp_world.proofs.LogsOfFronts.{early_within, front_within, made_taken}
-use Rattle.warp_world.proofs.front_law.released_fronts.Goals as goal
+use Rattle.warp_world.proofs.moves_law.released_fronts.Goals as goal
 
 pub returns-clause-agree : goal.returns-clause-agree
 returns-clause-agree c P count moves i j one other left right a b honest at_left at_right h k =

@@ -2,7 +2,7 @@
 use Rattle.std.proofs.Common.{◌∙◌, ap}
 use Rattle.warp_replica.specs.Desk.{local_state}
 use Rattle.warp_session.proofs.LocalSessions.{from_empty, lines_from_empty}
-use Rattle.warp_session.proofs.local_session.run_session.Goals as goal
+use Rattle.warp_session.proofs.local_session.run_over.Goals as goal
 
 pub returns-in-Ok-clause-bytes : goal.returns-in-Ok-clause-bytes
 returns-in-Ok-clause-bytes g c = λ ended.
