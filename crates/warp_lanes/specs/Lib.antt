@@ -1,1 +1,4 @@
 pub mod Lanes
+pub mod History
+pub mod Engine
+pub mod Codes
