@@ -95,9 +95,9 @@ weaker : (m n : ℕ) → m ≤ n → (answers : List Answer) → AllByRecursion 
 weaker m n le [] all = tt
 weaker m n le (a ∷ answers) all = (omega (arith, le, all.0), weaker m n le answers all.1)
 
-take_all : (log : List Record) → take (length log) log ≡ log
+pub take_all : {X : Type 0} (log : List X) → take (length log) log ≡ log
 take_all [] = refl
-take_all (r ∷ log) = ap (λ (l : List Record). r ∷ l) (take_all log)
+take_all (r ∷ log) = ap (λ l. r ∷ l) (take_all log)
 
 told_here : (place other : ℕ) → other ≡ place → told_at place (reply.Taken other) ≡ 1
 told_here place other e = grind (e, nat_tests, arith)

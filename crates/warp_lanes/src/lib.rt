@@ -11,6 +11,7 @@ mod executor_end;
 mod law;
 mod making;
 mod port;
+mod publish;
 #[cfg(test)]
 mod tests;
 mod turn;
@@ -21,4 +22,5 @@ pub use executor_end::Lane;
 pub use law::taken_is_there;
 pub use making::lane;
 pub use port::{Port, PortEnd};
+pub use publish::Published;
 pub use turn::Turn;

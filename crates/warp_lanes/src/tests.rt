@@ -2,13 +2,13 @@
 ghost use Rattle.std.specs.Prelude.{◌≡◌, [], ◌∷◌};
 ghost use Rattle.warp_lanes.specs.Engine.{IsFresh};
 
-use crate::{Engine, Lane, Port, Turn, lane};
+use crate::{Engine, Lane, Port, Published, Turn, lane};
 use std::alloc::Global;
 use std::process::Abort;
 use std::test::Fail;
-use warp_board::board;
+use warp_board::{Board, board};
 use warp_line::Plain;
-use warp_record::{Line, Query};
+use warp_record::{Line, Query, Reply};
 use warp_replica::Replica;
 use warp_step::{Parts, Program};
 
@@ -100,4 +100,30 @@ fn a_turn_without_a_place_stalls(rt: HostRuntime) {
     fill(&rt, alloc, &mut engine, &mut port);
     stall(&rt, alloc, &mut engine, &mut port);
     assert_eq!(rt; (engine.began(), engine.replica().len()), (0, 0));
+}
+
+/// Publishes, which the replica is settled for.
+fn publish(rt: &impl Abort, board: &Board, engine: &mut Engine<Plain>) -> Published
+    requires { engine.old.writer.board ≡ board.now }
+    ensures { engine.new.writer.board ≡ board.now }
+{
+    let is_settled = engine.replica().is_settled();
+    assert!(rt; is_settled);
+    engine.publish(board)
+}
+
+#[test]
+fn a_program_of_nothing_publishes_nothing(rt: HostRuntime) {
+    let alloc = rt.alloc();
+    let mut replica = Replica::<Plain>::new(alloc, nothing(alloc)).expect(&rt, "memory");
+    assert_eq!(rt;
+        replica.ask(alloc, LINE),
+        Reply::Outputs { log: 0, count: 0 }
+    );
+    let (board, writer, _) = board(alloc, 2).expect(&rt, "memory");
+    let mut engine = Engine::new(replica, Vec::new(alloc), writer);
+    engine.valid();
+    assert_eq!(rt; engine.lane_count(), 0);
+    assert_eq!(rt; publish(&rt, &board, &mut engine), Published::Rows(0));
+    assert_eq!(rt; publish(&rt, &board, &mut engine), Published::Rows(0));
 }

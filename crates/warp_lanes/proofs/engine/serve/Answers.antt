@@ -1,9 +1,10 @@
 use Rattle.std.proofs.Common.{◌++◌, ◌∷◌, [], ap, ◌∙◌}
 use Rattle.warp_lanes.specs.declared.answer.Answer.{Answer}
+use Rattle.warp_lanes.proofs.Publishing.{has_news}
 use Rattle.warp_lanes.proofs.engine.serve.Goals as goal
 
-pub returns : goal.returns
-returns g c =
+pub returns-clause-turns : goal.returns-clause-turns
+returns-clause-turns g c =
     let f = c.is_full.ensures.looked in
     let p = c.in-Ok.ensures in
     let q = c.push_reserved.ensures in
@@ -26,3 +27,6 @@ returns g c =
             }),
       ),
     )
+
+pub returns-clause-news : goal.returns-clause-news
+returns-clause-news g c = rw c.news.ensures (has_news _ _ _ _ _ c.ask-reply.ensures.gives)
