@@ -1,5 +1,4 @@
-//! The checkpoints of a run, in lists that they share, so that each costs what is in use, and going back cuts the
-//! lists.
+//! The checkpoints of a run, in lists that they share: one more is appended to each, and going back cuts them.
 ghost use Rattle.std.specs.Prelude.{◌≡◌, ◌+◌, ◌<◌, ◌≤◌, ◌-◌, ◌↔◌, List, [], ◌∷◌, ◌++◌, length, take, drop, IsTrue};
 ghost use Rattle.std.specs.Prelude.{if◌then◌else◌, OnOk, vec_len, vec_capacity};
 ghost use Rattle.warp_tag.specs.Limits.{most_pending};

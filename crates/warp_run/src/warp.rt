@@ -24,8 +24,8 @@ use warp_step::{Given, Meter, Out, Program, State};
 use warp_tag::{OutOfMemory, Tag};
 
 /// The timeline that executes at once what it has, and after a change at a tag that is executed already goes back to
-/// the newest checkpoint before that tag. Where the run is then again in a state that it was in, what was executed
-/// behind that stands.
+/// the newest checkpoint before that tag. Where the run is then again in a state that it was in, it can go on over what
+/// was executed behind that.
 #[derive(Drop)]
 pub struct Warp {
     arena: Arena,
