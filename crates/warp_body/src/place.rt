@@ -113,14 +113,14 @@ impl Model for Vars {
 }
 
 impl Vars {
-    /// Variables with these values. It takes no memory.
+    /// Variables with these values.
     pub fn from_vec(values: Vec<i64>) -> Vars
         ensures { result ≡ values.items }
     {
         Vars { values }
     }
 
-    /// The values. It takes no memory.
+    /// The values.
     pub fn into_vec(self) -> Vec<i64>
         ensures { result.items ≡ self }
     {

@@ -204,7 +204,7 @@ pub(crate) fn append_record(out: &mut Vec<u8>, record: &Record)
     }
 }
 
-/// Appends the record's spelling, for which there is room, and leaves room for a line feed. It takes no memory.
+/// Appends the record's spelling, for which there is room, and leaves room for a line feed.
 pub fn write_record(out: &mut Vec<u8>, record: &Record)
     requires { vec_len out.old + REPLY_ROOM ≤ vec_capacity out.old }
     ensures items { out.new.items ≡ out.old.items ++ record_spelling «record».now }

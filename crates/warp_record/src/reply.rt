@@ -622,7 +622,7 @@ fn append_any(out: &mut Vec<u8>, reply: &Reply)
     }
 }
 
-/// Appends the reply's spelling, for which there is room, and leaves room for a line feed. It takes no memory.
+/// Appends the reply's spelling, for which there is room, and leaves room for a line feed.
 #[inline(always)]
 pub fn write_reply(out: &mut Vec<u8>, reply: &Reply)
     requires { vec_len out.old + REPLY_ROOM ≤ vec_capacity out.old }

@@ -37,7 +37,7 @@ impl Model for Program {
 impl Program {
     ghost use Rattle.warp_step.specs.Step.{port_of};
 
-    /// The program with these parts, which fit together. It takes no memory.
+    /// The program with these parts, which fit together.
     pub fn new(parts: Parts) -> Program
         requires { IsTrue (is_valid (program_of parts)) }
         ensures { result ≡ program_of parts }

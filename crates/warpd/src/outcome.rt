@@ -53,7 +53,7 @@ pub fn status(outcome: Outcome) -> u8
     }
 }
 
-/// The line of standard error with its line feed; nothing for `Done` and `Words`. It takes no memory.
+/// The line of standard error with its line feed; nothing for `Done` and `Words`.
 pub fn say(outcome: Outcome) -> ArrayString<LONGEST_LINE>
     ensures { result.bytes ≡ told_line outcome }
 {
