@@ -1,3 +1,4 @@
 pub mod Growing
 pub mod Serving
 pub mod Publishing
+pub mod SentEngines

@@ -12,6 +12,7 @@ mod law;
 mod making;
 mod port;
 mod publish;
+mod sending;
 #[cfg(test)]
 mod tests;
 mod turn;
@@ -23,4 +24,5 @@ pub use law::taken_is_there;
 pub use making::lane;
 pub use port::{Port, PortEnd};
 pub use publish::Published;
+pub use sending::may_be_sent;
 pub use turn::Turn;

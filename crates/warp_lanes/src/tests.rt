@@ -2,7 +2,7 @@
 ghost use Rattle.std.specs.Prelude.{◌≡◌, [], ◌∷◌};
 ghost use Rattle.warp_lanes.specs.Engine.{IsFresh};
 
-use crate::{Engine, Lane, Port, Published, Turn, lane};
+use crate::{Engine, Lane, Port, Published, Turn, lane, may_be_sent};
 use std::alloc::Global;
 use std::process::Abort;
 use std::test::Fail;
@@ -121,7 +121,7 @@ fn a_program_of_nothing_publishes_nothing(rt: HostRuntime) {
         Reply::Outputs { log: 0, count: 0 }
     );
     let (board, writer, _) = board(alloc, 2).expect(&rt, "memory");
-    let mut engine = Engine::new(replica, Vec::new(alloc), writer);
+    let mut engine = may_be_sent(Engine::new(replica, Vec::new(alloc), writer));
     engine.valid();
     assert_eq!(rt; engine.lane_count(), 0);
     assert_eq!(rt; publish(&rt, &board, &mut engine), Published::Rows(0));
