@@ -1,16 +1,15 @@
-//! Two replicas that took the same records in other orders, with repeats, a merge, settling and collecting between,
-//! reply alike; and a replica of fewer records has released the first of the outputs. Over `Plain` and the program
-//! `twice`.
+//! Two replicas, one with rollback and its slow twin, that took the same records in other orders, with repeats, a
+//! merge, settling and collecting between, reply alike; and one of fewer records has released the first of the outputs.
 ghost use Rattle.std.specs.Prelude.{◌≡◌, IsTrue};
 ghost use Rattle.warp_table.specs.Records.{set_of};
 
-use crate::steps::{at, event, settle, twice, withdrawal};
+use crate::steps::{at, event, has_total, settle, twice, withdrawal};
 use std::alloc::Global;
 use std::process::Abort;
 use warp_line::{Plain, Timeline};
 use warp_record::{Count, Query, Record, Reply};
 use warp_replica::Replica;
-use warp_step::Out;
+use warp_run::Warp;
 use warp_world::{releases, replies};
 
 /// That one event comes before time 10, and so many withdrawals.
@@ -32,15 +31,6 @@ fn numbered(rt: &impl Abort, number: u32) -> Record {
         3 => announce(rt, 0, 0),
         4 => announce(rt, 1, 1),
         _ => event(rt, 0, 12, 1),
-    }
-}
-
-/// The first output.
-fn first_output(rt: &impl Abort) -> Out {
-    Out {
-        tag: at(rt, 5),
-        port: 0,
-        value: 3,
     }
 }
 
@@ -71,87 +61,95 @@ fn meet<T: Timeline, U: Timeline>(
     settle(rt, alloc, other);
 }
 
-/// Both reply to each query what is expected.
-fn reply_as_expected<T: Timeline, U: Timeline>(
-    rt: &impl Abort,
-    one: &Replica<T>,
-    other: &Replica<U>,
-)
+/// Queries of which none asks for a place of the log.
+const QUERIES: [Query; 8] = [
+    Query::Var(0),
+    Query::Outputs,
+    Query::Output(0),
+    Query::Horizon,
+    Query::Released,
+    Query::Lost,
+    Query::Breach(0),
+    Query::Breach(1),
+];
+
+/// Both reply alike to each query.
+fn reply_alike<T: Timeline, U: Timeline>(rt: &impl Abort, one: &Replica<T>, other: &Replica<U>)
     requires settled { IsTrue (T.settled one.now.timeline) × IsTrue (U.settled other.now.timeline) }
     requires program { one.now.program ≡ other.now.program }
     requires records { set_of one.now.records ≡ set_of other.now.records }
 {
-    let log = 6;
-    let rows = [
-        (Query::Var(0), Reply::Var { log, value: 7 }),
-        (Query::Outputs, Reply::Outputs { log, count: 2 }),
-        (
-            Query::Output(0),
-            Reply::Output {
-                log,
-                output: first_output(rt),
-            },
-        ),
-        (
-            Query::Horizon,
-            Reply::Horizon {
-                log,
-                tag: at(rt, 10),
-            },
-        ),
-        (Query::Released, Reply::Released { log, count: 1 }),
-        (Query::Lost, Reply::Lost { log, count: 0 }),
-        (Query::Breach(0), Reply::Breach { log, broken: false }),
-        (Query::Breach(1), Reply::Breach { log, broken: false }),
-    ];
-    for (query, reply) in rows {
+    for query in QUERIES {
         let (first, second) = replies(one, other, query);
-        assert!(rt; first == reply && second == reply, "{query:?}");
+        assert!(rt; first == second, "{query:?}");
     }
 }
 
-/// The two take the same records in other orders, and meet.
-fn go_two_ways(rt: &impl Abort, alloc: Global, one: &mut Replica<Plain>, other: &mut Replica<Plain>)
-    requires { one.old.program ≡ other.old.program }
+/// The two release so many outputs.
+fn release<T: Timeline, U: Timeline>(
+    rt: &impl Abort,
+    one: &Replica<T>,
+    other: &Replica<U>,
+    counts: (usize, usize),
+)
+    requires settled { IsTrue (T.settled one.now.timeline) × IsTrue (U.settled other.now.timeline) }
+    requires program { one.now.program ≡ other.now.program }
 {
-    take(rt, alloc, one, &[0, 1, 2, 1]);
+    let (first, second) = releases(one, other);
+    assert_eq!(rt; (first.len(), second.len()), counts);
+}
+
+/// The numbers of all records, some of them twice; of some of them, in another order; and of others.
+const ALL: &[u32] = &[0, 1, 2, 1, 3, 4, 0, 5];
+
+const SOME: &[u32] = &[5, 2, 5, 4];
+
+const MORE: &[u32] = &[3, 2, 1];
+
+/// The one takes all records, and some of them again; the other takes some in another order, and collects. It has not
+/// all announcements, and so releases nothing.
+fn go_two_ways<T: Timeline, U: Timeline>(
+    rt: &impl Abort,
+    alloc: Global,
+    one: &mut Replica<T>,
+    other: &mut Replica<U>,
+)
+    requires { one.old.program ≡ other.old.program }
+    ensures { one.new.program ≡ other.new.program }
+{
+    take(rt, alloc, one, ALL);
+    take(rt, alloc, other, SOME);
     settle(rt, alloc, one);
-    take(rt, alloc, one, &[3, 4, 0, 5]);
-    take(rt, alloc, other, &[5, 2, 5, 4]);
     settle(rt, alloc, other);
     assert_eq!(rt; other.collect(), Reply::Collected { log: 3 });
-    take(rt, alloc, other, &[3, 2, 1]);
-    meet(rt, alloc, one, other);
-    reply_as_expected(rt, one, other);
-    // They took the records in other orders.
-    assert_ne!(rt; one.entry(1), other.entry(1));
+    release(rt, one, other, (1, 0));
 }
 
-#[test]
-fn replies_alike(rt: HostRuntime) {
-    let alloc = rt.alloc();
-    let mut one = twice::<Plain>(&rt, alloc);
-    let mut other = twice::<Plain>(&rt, alloc);
-    go_two_ways(&rt, alloc, &mut one, &mut other);
-}
-
-/// The one takes all records, the other some of them, and each releases its first outputs.
-fn release(rt: &impl Abort, alloc: Global, one: &mut Replica<Plain>, other: &mut Replica<Plain>)
+/// The other takes more records, and the two meet.
+fn come_together<T: Timeline, U: Timeline>(
+    rt: &impl Abort,
+    alloc: Global,
+    one: &mut Replica<T>,
+    other: &mut Replica<U>,
+)
     requires { one.old.program ≡ other.old.program }
 {
-    take(rt, alloc, one, &[0, 1, 2, 3, 4, 5]);
-    take(rt, alloc, other, &[0, 3, 4]);
-    settle(rt, alloc, one);
-    settle(rt, alloc, other);
-    let (all, some) = releases(one, other);
-    assert!(rt; all == [first_output(rt)].as_slice());
-    assert!(rt; some.is_empty());
+    take(rt, alloc, other, MORE);
+    meet(rt, alloc, one, other);
+    reply_alike(rt, one, other);
+    release(rt, one, other, (1, 1));
+    has_total(rt, one, 7);
+}
+
+/// Two new replicas do both.
+fn go_and_come<T: Timeline + Drop, U: Timeline + Drop>(rt: &impl Abort, alloc: Global) {
+    let mut one = twice::<T>(rt, alloc);
+    let mut other = twice::<U>(rt, alloc);
+    go_two_ways(rt, alloc, &mut one, &mut other);
+    come_together(rt, alloc, &mut one, &mut other);
 }
 
 #[test]
-fn released_lists(rt: HostRuntime) {
-    let alloc = rt.alloc();
-    let mut one = twice::<Plain>(&rt, alloc);
-    let mut other = twice::<Plain>(&rt, alloc);
-    release(&rt, alloc, &mut one, &mut other);
+fn two_ways(rt: HostRuntime) {
+    go_and_come::<Warp, Plain>(&rt, rt.alloc());
 }

@@ -5,10 +5,6 @@
 #![tactic(auto)]
 
 #[cfg(test)]
-mod arena;
-#[cfg(test)]
-mod body;
-#[cfg(test)]
 mod convergence;
 #[cfg(test)]
 mod dice;
@@ -34,8 +30,6 @@ mod step;
 mod steps;
 #[cfg(test)]
 mod stream;
-#[cfg(test)]
-mod table;
 #[cfg(test)]
 mod tally;
 #[cfg(test)]

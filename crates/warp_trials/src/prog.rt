@@ -1,18 +1,10 @@
 //! Program files by the calls of their crate: the numbers that a loaded program has inside, and what an error tells.
-use crate::programs::{ECHO, PAIR};
+use crate::programs::{ECHO, PAIR, TWICE};
 use std::alloc::{AllocError, Global};
 use std::process::Abort;
 use std::test::Fail;
 use warp_prog::{LoadError, load};
 use warp_step::{Link, Port, Program, ProgramInput};
-
-/// The built-in program as a file.
-const TWICE: &str =
-    r#"{"version":1,"stop":100,"origins":2,"reactors":[{"name":"r","vars":[["total",0]],
-"inputs":["a","b"],"outputs":["y"],"reactions":[
-{"on":["a"],"writes":["y"],"body":[["set","total",["+",["*",2,"total"],"a"]],["put","y","total"]]},
-{"on":["b"],"writes":["y"],"body":[["set","total",["-","total","b"]],["put","y","total"]]}]}],
-"inputs":[[0,"r.a"],[1,"r.b"]],"outputs":["r.y"]}"#;
 
 /// A reaction that names each thing once.
 const ONCE: &str =
@@ -94,13 +86,17 @@ const ERRORS: [(LoadError, u8, &str); 8] = [
     (LoadError::Memory, 8, "out of memory"),
 ];
 
+/// An error has this number and this text.
+fn is_told(rt: &impl Abort, alloc: Global, error: LoadError, number: u8, text: &str) {
+    assert_eq!(rt; error.number(), number);
+    let told = format!(in alloc; "{error}").expect(rt, "memory");
+    assert_eq!(rt; told.as_str(), text);
+}
+
 #[test]
-fn errors_have_a_number_and_a_text(rt: HostRuntime) -> Result<(), Fail> {
+fn errors_have_a_number_and_a_text(rt: HostRuntime) {
     for &(error, number, text) in &ERRORS {
-        assert_eq!(rt; error.number(), number);
-        let told = format!(in rt.alloc(); "{error}")?;
-        assert_eq!(rt; told.as_str(), text);
+        is_told(&rt, rt.alloc(), error, number, text);
     }
     assert_eq!(rt; LoadError::from(AllocError), LoadError::Memory);
-    Ok(())
 }

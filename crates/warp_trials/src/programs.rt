@@ -1,5 +1,20 @@
 //! Program files that tests share.
 
+/// The built-in program as a file.
+pub(crate) const TWICE: &str =
+    r#"{"version":1,"stop":100,"origins":2,"reactors":[{"name":"r","vars":[["total",0]],
+"inputs":["a","b"],"outputs":["y"],"reactions":[
+{"on":["a"],"writes":["y"],"body":[["set","total",["+",["*",2,"total"],"a"]],["put","y","total"]]},
+{"on":["b"],"writes":["y"],"body":[["set","total",["-","total","b"]],["put","y","total"]]}]}],
+"inputs":[[0,"r.a"],[1,"r.b"]],"outputs":["r.y"]}"#;
+
+/// A program that beats: at startup, at times 2, 5 and 8 by a timer, and at each event of its input it counts one more
+/// and puts the count.
+pub(crate) const BEAT: &str = r#"{"version":1,"stop":10,"origins":1,"reactors":[
+{"name":"r","vars":[["n",0]],"inputs":["a"],"outputs":["y"],"timers":[["t",2,3]],"reactions":[
+{"on":["startup","t","a"],"writes":["y"],"body":[["set","n",["+","n",1]],["put","y","n"]]}]}],
+"inputs":[[0,"r.a"]],"outputs":["r.y"]}"#;
+
 /// An action that lands at the next microstep.
 pub(crate) const ECHO: &str =
     r#"{"version":1,"stop":100,"origins":1,"reactors":[{"name":"e","vars":[["n",0]],
@@ -16,27 +31,6 @@ pub(crate) const PAIR: &str = r#"{"version":1,"stop":100,"origins":2,"reactors":
 {"on":["x","b"],"writes":["z"],"body":[
 ["set","k",["+",["+","k","x"],["*",100,["present","b"]]]],["put","z","k"]]}]}],
 "links":[["f.y","g.x"]],"inputs":[[0,"f.a"],[1,"g.b"]],"outputs":["g.z"]}"#;
-
-/// Startup, a timer and a link with a delay.
-pub(crate) const PULSE: &str = r#"{"version":1,"stop":10,"origins":1,"reactors":[
-{"name":"p","vars":[["k",10]],"outputs":["y"],"timers":[["t",2,3]],"reactions":[
-{"on":["startup"],"body":[["set","k",100]]},
-{"on":["t"],"writes":["y"],"body":[["set","k",["+","k",1]],["put","y","k"]]}]},
-{"name":"q","vars":[["s",0]],"inputs":["a"],"outputs":["z"],"reactions":[
-{"on":["a"],"writes":["z"],"body":[["set","s",["+","s","a"]],["put","z","s"]]}]}],
-"links":[["p.y","q.a",4]],"outputs":["p.y","q.z"]}"#;
-
-/// More pending entries than there may be.
-pub(crate) const FLOOD: &str =
-    r#"{"version":1,"stop":2000,"origins":1,"reactors":[{"name":"w","vars":[["n",0]],
-"inputs":["a"],"actions":[["c",0]],"reactions":[
-{"on":["a"],"writes":["c"],"body":[
-["schedule","c",100,1],["schedule","c",200,1],["schedule","c",300,1],["schedule","c",400,1],
-["schedule","c",500,1],["schedule","c",600,1],["schedule","c",700,1],["schedule","c",800,1],
-["schedule","c",900,1],["schedule","c",1000,1],["schedule","c",1100,1],["schedule","c",1200,1],
-["schedule","c",1300,1],["schedule","c",1400,1],["schedule","c",1500,1],["schedule","c",1600,1]]},
-{"on":["c"],"body":[["set","n",["+","n",1]]]}]}],
-"inputs":[[0,"w.a"]]}"#;
 
 /// Two origins, an action, a timer and a link with a delay; each step puts an output.
 pub(crate) const MIXED: &str = r#"{"version":1,"stop":60,"origins":2,"reactors":[

@@ -1,88 +1,11 @@
-//! What no line of the program shows of records and replies: a stream that is cut at every place, replies that are
-//! read, and records and replies at ends of their ranges that the program never comes to.
+//! What no line of the program shows of records and replies: that replies are read, and records and replies at ends of
+//! their ranges that the program never comes to.
 use std::alloc::Global;
 use std::process::Abort;
-use std::test::Fail;
 use warp_record::{
-    Count, Fed, Feed, Line, Record, Refusal, Reply, read_line, read_reply, write_record,
-    write_reply,
+    Count, Line, Record, Refusal, Reply, read_line, read_reply, write_record, write_reply,
 };
 use warp_tag::{Out, Tag};
-
-/// Two lines and an empty one, and lines of 129 and of 128 bytes.
-const STREAM: &[u8] = b"event 00 5 0 0 3\n\nevent 0 5 0 1 3\n\
-xxxxxxxxxxxxxxxxxxxxxxxxxxxxxxxxxxxxxxxxxxxxxxxxxxxxxxxxxxxxxxxxxxxxxxxxxxxxxxxxxxxxxxxxxxxxxxxxxxxx\
-xxxxxxxxxxxxxxxxxxxxxxxxxxxxx\n\
-xxxxxxxxxxxxxxxxxxxxxxxxxxxxxxxxxxxxxxxxxxxxxxxxxxxxxxxxxxxxxxxxxxxxxxxxxxxxxxxxxxxxxxxxxxxxxxxxxxxx\
-xxxxxxxxxxxxxxxxxxxxxxxxxxxx\n";
-
-/// What is fed of them, each as a line.
-const FED: &[u8] = b"event 00 5 0 0 3\n\nevent 0 5 0 1 3\n(too long)\n\
-xxxxxxxxxxxxxxxxxxxxxxxxxxxxxxxxxxxxxxxxxxxxxxxxxxxxxxxxxxxxxxxxxxxxxxxxxxxxxxxxxxxxxxxxxxxxxxxxxxxx\
-xxxxxxxxxxxxxxxxxxxxxxxxxxxx\n";
-
-/// What stands behind the last line feed, and what is fed of it at the end.
-const LAST: [(&[u8], &[u8]); 3] = [
-    (b"var", b"(torn)\n"),
-    (b"", b""),
-    (&[b'x'; 129], b"(too long)\n"),
-];
-
-/// Appends a line that was fed, as a text of one line.
-fn append(out: &mut Vec<u8>, fed: Option<Fed>) -> Result<(), Fail> {
-    match fed {
-        None => {}
-        Some(Fed::Text(line)) => {
-            out.extend_from_slice(line.as_slice())?;
-            out.push(b'\n')?;
-        }
-        Some(Fed::TooLong) => out.extend_from_slice(b"(too long)\n")?,
-        Some(Fed::Torn) => out.extend_from_slice(b"(torn)\n")?,
-    }
-    Ok(())
-}
-
-/// Feeds all of a piece, and appends what is fed.
-fn feed_piece(feed: &mut Feed, out: &mut Vec<u8>, piece: &[u8]) -> Result<(), Fail> {
-    let mut rest = piece;
-    for _ in 0..piece.len() {
-        let (taken, fed) = feed.push(rest);
-        append(out, fed)?;
-        rest = &rest[taken..];
-    }
-    Ok(())
-}
-
-/// What is fed of the bytes, which come in two pieces.
-fn fed_in_two(alloc: Global, bytes: &[u8], cut: usize) -> Result<Vec<u8>, Fail> {
-    let cut = cut.min(bytes.len());
-    let mut feed = Feed::new();
-    let mut out = Vec::new(alloc);
-    feed_piece(&mut feed, &mut out, &bytes[..cut])?;
-    feed_piece(&mut feed, &mut out, &bytes[cut..])?;
-    append(&mut out, feed.end())?;
-    Ok(out)
-}
-
-/// These texts, one behind the other.
-fn joined(alloc: Global, a: &[u8], b: &[u8]) -> Result<Vec<u8>, Fail> {
-    let mut all = Vec::from_slice(alloc, a)?;
-    all.extend_from_slice(b)?;
-    Ok(all)
-}
-
-#[test]
-fn cut_at_every_place(rt: HostRuntime) -> Result<(), Fail> {
-    for (last, end) in LAST {
-        let bytes = joined(rt.alloc(), STREAM, last)?;
-        let wanted = joined(rt.alloc(), FED, end)?;
-        for cut in 0..bytes.len() {
-            let fed = fed_in_two(rt.alloc(), &bytes, cut)?;
-            assert_eq!(rt; fed.as_slice(), wanted.as_slice(), "cut at {cut}");
-        }
-    }
-    Ok(())
-}
 
 /// The first or the last tag.
 fn tag(rt: &impl Abort, is_last: bool) -> Tag {
@@ -95,14 +18,29 @@ fn count(rt: &impl Abort, is_most: bool) -> Count {
     Count::new(if is_most { 100_000 } else { 0 }).expect(rt, "a count")
 }
 
-/// Records at the ends of their ranges, in the order of their lines.
-const RECORDS: [&[u8]; 6] = [
-    b"event 0 0 0 0 -9223372036854775808",
-    b"event 31 1000001 15 63 9223372036854775807",
-    b"withdraw 0 0 0",
-    b"withdraw 31 1000001 15",
-    b"announce 0 0 0 0 100000",
-    b"announce 31 1000001 15 100000 0",
+/// Records at the ends of their ranges: the line of each, and the reply by which a log tells it.
+const RECORDS: [(&[u8], &[u8]); 6] = [
+    (
+        b"event 0 0 0 0 -9223372036854775808",
+        b"log 100000 event 0 0 0 0 -9223372036854775808",
+    ),
+    (
+        b"event 31 1000001 15 63 9223372036854775807",
+        b"log 100000 event 31 1000001 15 63 9223372036854775807",
+    ),
+    (b"withdraw 0 0 0", b"log 100000 withdraw 0 0 0"),
+    (
+        b"withdraw 31 1000001 15",
+        b"log 100000 withdraw 31 1000001 15",
+    ),
+    (
+        b"announce 0 0 0 0 100000",
+        b"log 100000 announce 0 0 0 0 100000",
+    ),
+    (
+        b"announce 31 1000001 15 100000 0",
+        b"log 100000 announce 31 1000001 15 100000 0",
+    ),
 ];
 
 /// An event at an end of all of its ranges.
@@ -137,45 +75,34 @@ fn record(rt: &impl Abort, number: usize) -> Record {
     }
 }
 
-/// A record is written as its line and read from it, and so it is as a record of a log.
-fn record_comes_back(
-    rt: &impl Abort,
-    alloc: Global,
-    record: &Record,
-    text: &[u8],
-) -> Result<(), Fail> {
-    let mut out = Vec::with_capacity(alloc, 128)?;
+/// A record is written as its line and read from it.
+fn line_comes_back(rt: &impl Abort, alloc: Global, record: &Record, line: &[u8]) {
+    let mut out = Vec::with_capacity(alloc, 128).expect(rt, "memory");
     write_record(&mut out, record);
-    assert_eq!(rt; out.as_slice(), text);
-    assert_eq!(rt; read_line(text), Some(Line::Put(*record)));
-    let reply = Reply::Log {
-        log: 100_000,
-        record: *record,
-    };
-    let text = joined(alloc, b"log 100000 ", text)?;
-    comes_back(rt, alloc, &reply, &text)
-}
-
-#[test]
-fn records_come_back(rt: HostRuntime) -> Result<(), Fail> {
-    for (number, text) in RECORDS.iter().enumerate() {
-        let record = record(&rt, number);
-        record_comes_back(&rt, rt.alloc(), &record, text)?;
-    }
-    Ok(())
+    assert_eq!(rt; out.as_slice(), line);
+    assert_eq!(rt; read_line(line), Some(Line::Put(*record)));
 }
 
 /// A reply is written as its text and read from it.
-fn comes_back(rt: &impl Abort, alloc: Global, reply: &Reply, text: &[u8]) -> Result<(), Fail> {
-    let mut out = Vec::with_capacity(alloc, 128)?;
+fn comes_back(rt: &impl Abort, alloc: Global, reply: &Reply, text: &[u8]) {
+    let mut out = Vec::with_capacity(alloc, 128).expect(rt, "memory");
     write_reply(&mut out, reply);
     assert_eq!(rt; out.as_slice(), text);
     assert_eq!(rt; read_reply(text), Some(*reply));
-    Ok(())
+}
+
+#[test]
+fn records_come_back(rt: HostRuntime) {
+    for (number, (line, text)) in RECORDS.iter().enumerate() {
+        let record = record(&rt, number);
+        line_comes_back(&rt, rt.alloc(), &record, line);
+        let log = 100_000;
+        comes_back(&rt, rt.alloc(), &Reply::Log { log, record }, text);
+    }
 }
 
 /// Replies that name no tag, at both ends of their ranges.
-const PLAIN: [(Reply, &[u8]); 22] = [
+const PLAIN: [(Reply, &[u8]); 23] = [
     (Reply::Taken(1), b"taken 1"),
     (Reply::Taken(100_000), b"taken 100000"),
     (Reply::Known(1), b"known 1"),
@@ -252,6 +179,7 @@ const PLAIN: [(Reply, &[u8]); 22] = [
         },
         b"board 4096 1",
     ),
+    (Reply::NoRow, b"none"),
 ];
 
 /// Replies with a tag, at both ends of their ranges.
@@ -282,15 +210,17 @@ fn tagged(rt: &impl Abort, number: usize) -> Reply {
 }
 
 #[test]
-fn replies_come_back(rt: HostRuntime) -> Result<(), Fail> {
+fn replies_come_back(rt: HostRuntime) {
     for (reply, text) in &PLAIN {
-        comes_back(&rt, rt.alloc(), reply, text)?;
+        comes_back(&rt, rt.alloc(), reply, text);
     }
+}
+
+#[test]
+fn replies_with_a_tag_come_back(rt: HostRuntime) {
     for (number, text) in TAGGED.iter().enumerate() {
-        let reply = tagged(&rt, number);
-        comes_back(&rt, rt.alloc(), &reply, text)?;
+        comes_back(&rt, rt.alloc(), &tagged(&rt, number), text);
     }
-    comes_back(&rt, rt.alloc(), &Reply::NoRow, b"none")
 }
 
 /// No reply has one of these texts.

@@ -1,5 +1,4 @@
 //! Readers and writers of std as a source and a sink: reads and writes in pieces, ones that fail, and what is out then.
-ghost use Rattle.std.specs.Prelude.{◌<◌};
 ghost use Rattle.warp_step.specs.Counter.{IsUnused};
 
 use crate::memory::{MemoryReader, MemoryWriter};
@@ -38,52 +37,16 @@ fn six_reads<L: Ledger>(
     Ok((given, answers))
 }
 
-#[test]
-fn reads_in_pieces_and_after_a_failure(rt: HostRuntime) {
-    let alloc = rt.alloc();
-    reads_so(
-        &rt,
-        alloc,
-        100,
-        100,
-        None,
-        &[Ok(5), Ok(0), Ok(0), Ok(0), Ok(0), Ok(0)],
-    );
-    reads_so(
-        &rt,
-        alloc,
-        2,
-        100,
-        None,
-        &[Ok(2), Ok(2), Ok(1), Ok(0), Ok(0), Ok(0)],
-    );
-    reads_so(
-        &rt,
-        alloc,
-        100,
-        4,
-        Some(0),
-        &[BAD, Ok(4), Ok(1), Ok(0), Ok(0), Ok(0)],
-    );
-    reads_so(
-        &rt,
-        alloc,
-        2,
-        3,
-        Some(2),
-        &[Ok(2), Ok(2), BAD, Ok(1), Ok(0), Ok(0)],
-    );
-    reads_so(
-        &rt,
-        alloc,
-        5,
-        5,
-        Some(1),
-        &[Ok(5), BAD, Ok(0), Ok(0), Ok(0), Ok(0)],
-    );
-}
+/// How many bytes are read at most, into how much room, how many reads are good, and what six reads answer.
+const READS: [(usize, usize, Option<u64>, [Result<usize, Failed>; 6]); 5] = [
+    (100, 100, None, [Ok(5), Ok(0), Ok(0), Ok(0), Ok(0), Ok(0)]),
+    (2, 100, None, [Ok(2), Ok(2), Ok(1), Ok(0), Ok(0), Ok(0)]),
+    (100, 4, Some(0), [BAD, Ok(4), Ok(1), Ok(0), Ok(0), Ok(0)]),
+    (2, 3, Some(2), [Ok(2), Ok(2), BAD, Ok(1), Ok(0), Ok(0)]),
+    (5, 5, Some(1), [Ok(5), BAD, Ok(0), Ok(0), Ok(0), Ok(0)]),
+];
 
-/// Six reads of at most `most` bytes into this much room give the text and answer so, where so many are good.
+/// Six reads give the text, and answer so.
 fn reads_so(
     rt: &impl Abort,
     alloc: Global,
@@ -91,15 +54,21 @@ fn reads_so(
     room: usize,
     sound: Option<u64>,
     wanted: &[Result<usize, Failed>],
-)
-    requires { 0 < most }
-{
+) {
+    assert!(rt; 0 < most);
     let reader = MemoryReader::new(TEXT, most, sound);
     let (given, answers) = six_reads::<Brand>(alloc, reader, room, Blank::new(1)).expect(
         rt, "memory",
     );
     assert_eq!(rt; given.as_slice(), TEXT);
     assert_eq!(rt; answers.as_slice(), wanted);
+}
+
+#[test]
+fn reads_in_pieces_and_after_a_failure(rt: HostRuntime) {
+    for (most, room, sound, wanted) in &READS {
+        reads_so(&rt, rt.alloc(), *most, *room, *sound, wanted);
+    }
 }
 
 /// Six writes of what is left of the text: what was written, and what each answered.
@@ -123,37 +92,15 @@ fn six_writes<L: Ledger>(
     Ok((sink.into_inner().into_written(), answers))
 }
 
-#[test]
-fn writes_in_pieces_and_fails_where_nothing_is_taken(rt: HostRuntime) {
-    let alloc = rt.alloc();
-    writes_so(
-        &rt,
-        alloc,
-        100,
-        None,
-        TEXT,
-        &[Ok(5), Ok(0), Ok(0), Ok(0), Ok(0), Ok(0)],
-    );
-    writes_so(
-        &rt,
-        alloc,
-        2,
-        None,
-        TEXT,
-        &[Ok(2), Ok(2), Ok(1), Ok(0), Ok(0), Ok(0)],
-    );
-    writes_so(
-        &rt,
-        alloc,
-        4,
-        Some(1),
-        TEXT,
-        &[Ok(4), BAD, Ok(1), Ok(0), Ok(0), Ok(0)],
-    );
-    writes_so(&rt, alloc, 0, None, b"", &[BAD, BAD, BAD, BAD, BAD, BAD]);
-}
+/// How many bytes are written at most, how many writes are good, what is written, and what six writes answer.
+const WRITES: [(usize, Option<u64>, &[u8], [Result<usize, Failed>; 6]); 4] = [
+    (100, None, TEXT, [Ok(5), Ok(0), Ok(0), Ok(0), Ok(0), Ok(0)]),
+    (2, None, TEXT, [Ok(2), Ok(2), Ok(1), Ok(0), Ok(0), Ok(0)]),
+    (4, Some(1), TEXT, [Ok(4), BAD, Ok(1), Ok(0), Ok(0), Ok(0)]),
+    (0, None, b"", [BAD, BAD, BAD, BAD, BAD, BAD]),
+];
 
-/// Six writes of at most `most` bytes write this text and answer so, where so many are good.
+/// Six writes write this text, and answer so.
 fn writes_so(
     rt: &impl Abort,
     alloc: Global,
@@ -167,6 +114,13 @@ fn writes_so(
     let (written, answers) = six_writes::<Brand>(alloc, writer, Blank::new(1)).expect(rt, "memory");
     assert_eq!(rt; written.as_slice(), text);
     assert_eq!(rt; answers.as_slice(), wanted);
+}
+
+#[test]
+fn writes_in_pieces_and_fails_where_nothing_is_taken(rt: HostRuntime) {
+    for (most, sound, text, wanted) in &WRITES {
+        writes_so(&rt, rt.alloc(), *most, *sound, text, wanted);
+    }
 }
 
 /// All bytes of the text are written: what was written, and whether it was all.
@@ -185,16 +139,15 @@ fn send<L: Ledger>(
 /// What is printed of one replica of the program `twice`.
 const PRINTED: &str = "replica 0\nhorizon 0 0 0\noutputs 0 0\nreleased 0 0\nlost 0 0\nvar 0 0\n";
 
-#[test]
-fn a_front_is_out_before_a_write_that_fails(rt: HostRuntime) {
-    let alloc = rt.alloc();
-    sends_so(&rt, alloc, 7, None, Ok(()), PRINTED);
-    sends_so(&rt, alloc, 7, Some(0), Err(Failed), "");
-    sends_so(&rt, alloc, 7, Some(1), Err(Failed), "replica");
-    sends_so(&rt, alloc, 0, None, Err(Failed), "");
-}
+/// Of that text: how many bytes are written at most, how many writes are good, what is told, and what is written.
+const SENDS: [(usize, Option<u64>, Result<(), Failed>, &str); 4] = [
+    (7, None, Ok(()), PRINTED),
+    (7, Some(0), Err(Failed), ""),
+    (7, Some(1), Err(Failed), "replica"),
+    (0, None, Err(Failed), ""),
+];
 
-/// Of that text this is written, in writes of at most `most` bytes, of which so many are good, and that is told.
+/// That is told, and this is written.
 fn sends_so(
     rt: &impl Abort,
     alloc: Global,
@@ -208,4 +161,11 @@ fn sends_so(
     let (written, sent) = send::<Brand>(writer, PRINTED.as_bytes(), Blank::new(1));
     assert_eq!(rt; sent, wanted);
     assert_eq!(rt; written.as_slice(), text.as_bytes());
+}
+
+#[test]
+fn a_front_is_out_before_a_write_that_fails(rt: HostRuntime) {
+    for (most, sound, wanted, text) in SENDS {
+        sends_so(&rt, rt.alloc(), most, sound, wanted, text);
+    }
 }

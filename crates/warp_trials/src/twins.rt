@@ -4,15 +4,14 @@ ghost use Rattle.std.specs.Prelude.{◌≡◌, IsTrue};
 
 use crate::dice::Dice;
 use crate::programs::{CASCADE, ECHO, LATEST, MIXED};
-use crate::steps::{event, is_total, replica, settle, twice, withdrawal};
+use crate::steps::{event, has_total, loaded, record, settle, takes_rows, twice};
 use std::alloc::Global;
 use std::process::Abort;
 use warp_line::{Plain, Timeline};
-use warp_prog::load;
 use warp_record::{Count, Query, Record};
 use warp_replica::Replica;
 use warp_run::Warp;
-use warp_step::{Out, Program};
+use warp_step::Out;
 use warp_tag::Tag;
 
 /// Both answer the same to a query.
@@ -27,18 +26,29 @@ fn agree<T: Timeline, U: Timeline>(
     assert!(rt; one.answer(query) == other.answer(query), "{query:?}");
 }
 
+/// Queries that both are asked, beside their outputs.
+const QUERIES: [Query; 13] = [
+    Query::Outputs,
+    Query::Horizon,
+    Query::Released,
+    Query::Lost,
+    Query::Var(0),
+    Query::Var(1),
+    Query::Var(2),
+    Query::Breach(0),
+    Query::Breach(1),
+    Query::Breach(2),
+    Query::Log(0),
+    Query::Log(1),
+    Query::Log(2),
+];
+
 /// Both answer the same to every query.
 fn agree_in_all<T: Timeline, U: Timeline>(rt: &impl Abort, one: &Replica<T>, other: &Replica<U>)
     requires { IsTrue (T.settled one.now.timeline) × IsTrue (U.settled other.now.timeline) }
 {
-    agree(rt, one, other, Query::Outputs);
-    agree(rt, one, other, Query::Horizon);
-    agree(rt, one, other, Query::Released);
-    agree(rt, one, other, Query::Lost);
-    for number in 0..3 {
-        agree(rt, one, other, Query::Var(number));
-        agree(rt, one, other, Query::Breach(number));
-        agree(rt, one, other, Query::Log(number));
+    for query in QUERIES {
+        agree(rt, one, other, query);
     }
     assert!(rt; one.timeline().outputs().len() <= 1_000);
     for number in 0..1_000 {
@@ -102,11 +112,6 @@ fn count(rt: &impl Abort, number: u32) -> Count {
     Count::new(number).expect(rt, "a count")
 }
 
-/// A program with this text.
-fn program(rt: &impl Abort, alloc: Global, text: &str) -> Program {
-    load(alloc, text.as_bytes()).expect(rt, "a program")
-}
-
 /// Both take a record, with the same answer.
 fn take<T: Timeline, U: Timeline>(
     rt: &impl Abort,
@@ -152,30 +157,37 @@ fn answer_alike<T: Timeline, U: Timeline>(
     alloc: Global,
     one: &mut Replica<T>,
     twin: &mut Replica<U>,
-    dice: &mut Dice,
+    seed: u64,
 ) {
+    let mut dice = Dice { state: seed };
     settle(rt, alloc, one);
     settle(rt, alloc, twin);
     for _ in 0..400 {
-        let record = drawn(rt, dice);
+        let record = drawn(rt, &mut dice);
         take(rt, alloc, one, twin, &record);
         settle_both(rt, alloc, one, twin, changed_tag(&record));
     }
 }
 
 /// A replica of this program and its slow twin answer the same after each record that is drawn from this seed.
-fn answer_alike_over(rt: &impl Abort, alloc: Global, program: Program, seed: u64) {
-    let copy = program.copy(alloc).expect(rt, "memory");
-    let mut warp = replica::<Warp>(rt, alloc, program);
-    let mut plain = replica::<Plain>(rt, alloc, copy);
-    answer_alike(rt, alloc, &mut warp, &mut plain, &mut Dice { state: seed });
+fn answer_alike_over<T: Timeline + Drop, U: Timeline + Drop>(
+    rt: &impl Abort,
+    alloc: Global,
+    text: &str,
+    seed: u64,
+) {
+    let mut one = loaded::<T>(rt, alloc, text);
+    let mut twin = loaded::<U>(rt, alloc, text);
+    answer_alike(rt, alloc, &mut one, &mut twin, seed);
 }
+
+/// Seeds and programs.
+const DRAWS: [(u64, &str); 4] = [(1, MIXED), (2, CASCADE), (3, ECHO), (5, LATEST)];
 
 #[test]
 fn answers_after_each_record(rt: HostRuntime) {
-    let alloc = rt.alloc();
-    for (seed, text) in [(1, MIXED), (2, CASCADE), (3, ECHO), (5, LATEST)] {
-        answer_alike_over(&rt, alloc, program(&rt, alloc, text), seed);
+    for (seed, text) in DRAWS {
+        answer_alike_over::<Warp, Plain>(&rt, rt.alloc(), text, seed);
     }
 }
 
@@ -241,7 +253,7 @@ fn merge_alike<T: Timeline, U: Timeline>(
     peer: &mut Replica<T>,
 ) {
     let mut dice = Dice { state: 4 };
-    let mut least = None;
+    let mut least = Some(Tag::beginning_of(0));
     for _ in 0..1_000 {
         let turn = take_turn(rt, alloc, one, twin, peer, &mut dice, &mut least);
         if turn % 4 == 1 {
@@ -252,50 +264,59 @@ fn merge_alike<T: Timeline, U: Timeline>(
             least = None;
         }
     }
+    assert!(rt; one.len() > 500);
+}
+
+/// A replica of the program, its slow twin and a peer do so.
+fn merge_alike_over<T: Timeline + Drop, U: Timeline + Drop>(
+    rt: &impl Abort,
+    alloc: Global,
+    text: &str,
+) {
+    let mut one = loaded::<T>(rt, alloc, text);
+    let mut twin = loaded::<U>(rt, alloc, text);
+    let mut peer = loaded::<T>(rt, alloc, text);
+    merge_alike(rt, alloc, &mut one, &mut twin, &mut peer);
 }
 
 #[test]
 fn answers_after_merges(rt: HostRuntime) {
-    let alloc = rt.alloc();
-    let mut warp = replica::<Warp>(&rt, alloc, program(&rt, alloc, MIXED));
-    let mut plain = replica::<Plain>(&rt, alloc, program(&rt, alloc, MIXED));
-    let mut peer = replica::<Warp>(&rt, alloc, program(&rt, alloc, MIXED));
-    settle(&rt, alloc, &mut warp);
-    settle(&rt, alloc, &mut plain);
-    merge_alike(&rt, alloc, &mut warp, &mut plain, &mut peer);
-    assert!(rt; warp.len() > 500);
+    merge_alike_over::<Warp, Plain>(&rt, rt.alloc(), MIXED);
 }
 
-/// Takes a record and settles: that executes so many rows.
-fn takes_rows<T: Timeline>(
-    rt: &impl Abort,
-    alloc: Global,
-    replica: &mut Replica<T>,
-    record: &Record,
-    rows: u64,
-)
-    ensures { IsTrue (T.settled replica.new.timeline) }
-{
-    assert!(rt; replica.take(alloc, record).is_ok());
-    let executed = settle(rt, alloc, replica);
-    assert_eq!(rt; executed, rows, "{record:?}");
+/// An event at microstep 0 of its origin's input, or where it has no value the withdrawal of its name.
+type Change = (u32, u64, Option<i64>);
+
+/// Records after forty events, and how many rows each costs. The newest checkpoint before time 32 stands after row 28.
+const AFTER_FORTY: [(Change, u64); 4] = [
+    ((1, 32, Some(1)), 12),
+    ((1, 32, Some(1)), 0),
+    ((0, 41, None), 0),
+    ((0, 40, Some(0)), 0),
+];
+
+/// Takes forty events, each of which costs a row, and then those records.
+fn take_forty<T: Timeline>(rt: &impl Abort, alloc: Global, replica: &mut Replica<T>) {
+    for time in 1..=40 {
+        takes_rows(rt, alloc, replica, &event(rt, 0, time, 1), 1);
+    }
+    for ((origin, time, value), rows) in AFTER_FORTY {
+        takes_rows(rt, alloc, replica, &record(rt, origin, time, value), rows);
+        has_total(rt, replica, 1_099_511_627_519);
+    }
+}
+
+/// A new replica does so.
+fn start_and_take_forty<T: Timeline + Drop>(rt: &impl Abort, alloc: Global) {
+    let mut replica = twice::<T>(rt, alloc);
+    take_forty(rt, alloc, &mut replica);
 }
 
 /// After forty events a tardy one costs what is after it, and at most sixteen more; what changes no live event costs
 /// nothing.
 #[test]
 fn rework_is_bounded(rt: HostRuntime) {
-    let alloc = rt.alloc();
-    let mut replica = twice::<Warp>(&rt, alloc);
-    for time in 1..=40 {
-        takes_rows(&rt, alloc, &mut replica, &event(&rt, 0, time, 1), 1);
-    }
-    // The newest checkpoint before time 32 stands after row 28.
-    takes_rows(&rt, alloc, &mut replica, &event(&rt, 1, 32, 1), 12);
-    is_total(&rt, &replica, 41, 1_099_511_627_519);
-    takes_rows(&rt, alloc, &mut replica, &event(&rt, 1, 32, 1), 0);
-    takes_rows(&rt, alloc, &mut replica, &withdrawal(&rt, 0, 41), 0);
-    takes_rows(&rt, alloc, &mut replica, &event(&rt, 0, 40, 0), 0);
+    start_and_take_forty::<Warp>(&rt, rt.alloc());
 }
 
 /// Both take four hundred events, and the one settles after each.
@@ -327,23 +348,42 @@ fn take_tardy<T: Timeline, U: Timeline>(
     agree_in_all(rt, one, twin);
 }
 
+/// Tardy events, their withdrawals, and another value.
+const TARDY: [Change; 5] = [
+    (0, 15, Some(7)),
+    (1, 2_000, Some(8)),
+    (0, 15, None),
+    (0, 20, Some(9)),
+    (0, 2_560, None),
+];
+
+/// Both take many events, and then tardy ones.
+fn take_all<T: Timeline, U: Timeline>(
+    rt: &impl Abort,
+    alloc: Global,
+    one: &mut Replica<T>,
+    twin: &mut Replica<U>,
+) {
+    take_many(rt, alloc, one, twin);
+    for (origin, time, value) in TARDY {
+        take_tardy(rt, alloc, one, twin, &record(rt, origin, time, value));
+    }
+}
+
+/// A replica of the program and its slow twin do so.
+fn take_all_over<T: Timeline + Drop, U: Timeline + Drop>(
+    rt: &impl Abort,
+    alloc: Global,
+    text: &str,
+) {
+    let mut one = loaded::<T>(rt, alloc, text);
+    let mut twin = loaded::<U>(rt, alloc, text);
+    take_all(rt, alloc, &mut one, &mut twin);
+}
+
 /// After four hundred events of a program that keeps the last value alone, a tardy one costs few rows, and so do its
 /// withdrawal and another value: where the state is again what it was, what was executed stands.
 #[test]
 fn what_is_forgotten_costs_little(rt: HostRuntime) {
-    let alloc = rt.alloc();
-    let mut warp = replica::<Warp>(&rt, alloc, program(&rt, alloc, LATEST));
-    let mut plain = replica::<Plain>(&rt, alloc, program(&rt, alloc, LATEST));
-    take_many(&rt, alloc, &mut warp, &mut plain);
-    take_tardy(&rt, alloc, &mut warp, &mut plain, &event(&rt, 0, 15, 7));
-    take_tardy(&rt, alloc, &mut warp, &mut plain, &event(&rt, 1, 2_000, 8));
-    take_tardy(&rt, alloc, &mut warp, &mut plain, &withdrawal(&rt, 0, 15));
-    take_tardy(&rt, alloc, &mut warp, &mut plain, &event(&rt, 0, 20, 9));
-    take_tardy(
-        &rt,
-        alloc,
-        &mut warp,
-        &mut plain,
-        &withdrawal(&rt, 0, 2_560),
-    );
+    take_all_over::<Warp, Plain>(&rt, rt.alloc(), LATEST);
 }

@@ -1,106 +1,71 @@
-//! Worlds over the slow timeline: logs after moves, in their order, and that a move really settles or collects.
-use crate::steps::{event, is_total};
+//! Worlds over the slow timeline: that moves and settling really settle, which no answer shows, and the texts of
+//! faults of schedules, for which the program has its own.
+use crate::steps::event;
 use std::alloc::Global;
 use std::process::Abort;
-use std::test::Fail;
-use warp_line::Plain;
-use warp_record::Record;
+use warp_line::{Plain, Timeline};
 use warp_step::Program;
 use warp_world::{Move, ScheduleFault, World, play};
 
-/// The world of two replicas of `twice` after these moves.
-fn played(rt: &impl Abort, alloc: Global, moves: &[Move]) -> World<Plain> {
+/// The second replica of two is settled.
+fn is_settled<T: Timeline>(rt: &impl Abort, world: &World<T>) -> bool {
+    let replica = world.replica(1).expect(rt, "a replica");
+    assert_eq!(rt; (replica.len(), replica.program().origins()), (1, 2));
+    assert!(rt; replica.entry(1).is_some() && replica.entry(2).is_none());
+    replica.is_settled()
+}
+
+/// The world of two replicas of `twice` after a record that is made at the second, and this move.
+fn played<T: Timeline + Drop>(rt: &impl Abort, alloc: Global, last: Move) -> World<T> {
     let program = Program::twice(alloc).expect(rt, "memory");
-    play(alloc, &program, 2, moves).expect(rt, "memory")
+    let record = event(rt, 0, 5, 3);
+    let moves = [Move::Make { replica: 1, record }, last];
+    play(alloc, &program, 2, &moves).expect(rt, "memory")
 }
 
-/// The replica with this number has just these two records, in their order.
-fn has_log(rt: &impl Abort, world: &World<Plain>, number: usize, records: [Record; 2]) {
-    let replica = world.replica(number).expect(rt, "a replica");
-    assert_eq!(rt; replica.len(), 2);
-    assert_eq!(rt; replica.entry(1), Some(records[0]));
-    assert_eq!(rt; replica.entry(2), Some(records[1]));
-}
-
-/// What a replica of so many records says of its first variable: it is settled.
-fn total(rt: &impl Abort, world: &World<Plain>, number: usize, log: u32, value: i64) {
-    let replica = world.replica(number).expect(rt, "a replica");
-    assert!(rt; replica.is_settled());
-    is_total(rt, replica, log, value);
-}
-
-/// An event of origin 0, which is the first of the two that are exchanged.
-fn first(rt: &impl Abort) -> Record {
-    event(rt, 0, 5, 3)
-}
-
-/// An event of origin 1, which is the second of them.
-fn second(rt: &impl Abort) -> Record {
-    event(rt, 1, 2, 4)
-}
-
-/// A record is made at a replica.
-fn make(replica: u32, record: Record) -> Move {
-    Move::Make { replica, record }
-}
-
-/// The first record of a replica's log is carried to another.
-fn carry(from: u32, to: u32) -> Move {
-    Move::Carry { from, place: 1, to }
-}
-
-/// A record is made at each of two replicas, and each is carried to the other.
-fn exchange(rt: &impl Abort) -> [Move; 4] {
-    [
-        make(0, first(rt)),
-        make(1, second(rt)),
-        carry(1, 0),
-        carry(0, 1),
-    ]
-}
-
-/// Settles all replicas: both say the same.
-fn settle(rt: &impl Abort, alloc: Global, world: &mut World<Plain>) {
+/// The second replica is settled, or not; settling all settles it.
+fn settles<T: Timeline>(rt: &impl Abort, alloc: Global, world: &mut World<T>, is_done: bool) {
+    assert!(rt; world.len() == 2 && world.replica(2).is_none());
+    assert_eq!(rt; is_settled(rt, world), is_done);
     assert!(rt; world.settle(alloc).is_ok());
-    for number in 0..2 {
-        total(rt, world, number, 2, -5);
-    }
+    assert!(rt; is_settled(rt, world));
 }
 
-#[test]
-fn exchanged(rt: HostRuntime) {
-    let alloc = rt.alloc();
-    let mut world = played(&rt, alloc, &exchange(&rt));
-    assert_eq!(rt; world.len(), 2);
-    assert!(rt; world.replica(2).is_none());
-    has_log(&rt, &world, 0, [first(&rt), second(&rt)]);
-    has_log(&rt, &world, 1, [second(&rt), first(&rt)]);
-    // Settling again changes nothing.
-    settle(&rt, alloc, &mut world);
-    settle(&rt, alloc, &mut world);
+/// This move settles the second replica, or not.
+fn settles_after<T: Timeline + Drop>(rt: &impl Abort, alloc: Global, last: Move, is_done: bool) {
+    let mut world = played::<T>(rt, alloc, last);
+    settles(rt, alloc, &mut world, is_done);
 }
 
-/// A record is made at the second replica, and then this move settles it.
-fn settles(rt: &impl Abort, alloc: Global, last: Move) {
-    let world = played(rt, alloc, &[make(1, first(rt)), last]);
-    total(rt, &world, 1, 1, 3);
-}
+/// Moves, and whether each settles the second replica.
+const MOVES: [(Move, bool); 3] = [
+    (Move::Collect(1), true),
+    (Move::Settle(1), true),
+    (Move::Settle(0), false),
+];
 
 #[test]
 fn settled_moves(rt: HostRuntime) {
-    settles(&rt, rt.alloc(), Move::Collect(1));
-    settles(&rt, rt.alloc(), Move::Settle(1));
+    for (last, is_done) in MOVES {
+        settles_after::<Plain>(&rt, rt.alloc(), last, is_done);
+    }
 }
 
-/// The texts of faults of schedules, for which the program has its own.
+/// Faults and their texts.
+const FAULTS: [(ScheduleFault, &str); 2] = [
+    (ScheduleFault::Line(7), "refused at line 7"),
+    (ScheduleFault::NoMemory, "out of memory"),
+];
+
+/// A fault has this text.
+fn is_told(rt: &impl Abort, alloc: Global, fault: ScheduleFault, text: &str) {
+    let told = format!(in alloc; "{fault}").expect(rt, "memory");
+    assert_eq!(rt; told.as_str(), text);
+}
+
 #[test]
-fn texts_of_faults(rt: HostRuntime) -> Result<(), Fail> {
-    for (fault, expected) in [
-        (ScheduleFault::Line(7), "refused at line 7"),
-        (ScheduleFault::NoMemory, "out of memory"),
-    ] {
-        let text = format!(in rt.alloc(); "{fault}")?;
-        assert_eq!(rt; text.as_str(), expected);
+fn texts_of_faults(rt: HostRuntime) {
+    for (fault, text) in FAULTS {
+        is_told(&rt, rt.alloc(), fault, text);
     }
-    Ok(())
 }
