@@ -12,14 +12,12 @@ use warp_tag::{Entry, OutOfMemory, Tag};
 /// number of its origins, its places (a handle and its entry) in order, the number of its free nodes, and its room: for
 /// how many nodes in all memory was taken.
 ///
-/// Only `start` and `reserve_one` take memory.
+/// `reserve_one` alone changes the room.
 ///
-/// For a name, `find`, `insert` and `enter` walk back along its origin's list: from the entry of the origin that was
-/// touched last (that came in, or got an event or a withdrawal), where that is after the name, and else from the
-/// list's end. Where the name comes in, a walk back along the tag list follows: from the origin's first entry after
-/// the name, or from the end where there is none. It passes entries of other origins alone. So where names come in
-/// order of tags no walk takes a hop. Where an origin's come newest first, the first takes one, and the other one for
-/// each entry that lies between.
+/// How it seeks a name, of which no clause speaks: `find`, `insert` and `enter` walk back along the list of its origin,
+/// from the entry of the origin that was touched last (that came in, or got an event or a withdrawal), where that is
+/// after the name, and else from the list's end. Where the name comes in, a walk back along the tag list follows, from
+/// the origin's first entry after the name, or from the end where there is none.
 #[derive(Drop)]
 pub struct Arena {
     nodes: Vec<Node>,
@@ -92,9 +90,7 @@ impl Arena {
         Ok(())
     }
 
-    /// The handle of this name, or none where the arena does not hold it. It walks the list of the origin alone, back
-    /// from the node touched last where that is after the tag, and else from its end, to the first that is not after
-    /// it.
+    /// The handle of this name, or none where the arena does not hold it.
     pub fn find(&self, origin: u32, tag: Tag) -> Option<NodeId>
         ensures handle { result ≡ node_of origin tag self.now.places }
         ensures named { IfSome result
@@ -141,7 +137,7 @@ impl Arena {
     }
 
     /// The handle of this name, which comes in where the arena does not hold it: what `find` answers, and else
-    /// `insert`. It walks the list of the origin once.
+    /// `insert`.
     pub fn enter(&mut self, origin: u32, tag: Tag) -> NodeId
         requires origin { origin < self.old.origins }
         requires reserved { 0 < self.old.free }

@@ -5,9 +5,9 @@
 //! these links: they see the entries in order, each with the handle that names it, how many nodes are free, and for how
 //! many memory was taken.
 //!
-//! A name is looked for from the end of a list back. So that names that come newest first do not walk the whole list
-//! each time, the arena keeps for each origin the node touched last, and the walk along the origin's list starts
-//! there where that is after the name; the walk along the tag list starts at the origin's next node.
+//! A name is looked for from the end of a list back. For names that come newest first the arena keeps for each origin
+//! the node touched last: the walk along the origin's list starts there where that is after the name, and the walk
+//! along the tag list at the origin's next node. No clause speaks of that.
 #![tactic(auto)]
 
 mod arena;

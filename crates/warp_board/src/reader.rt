@@ -1,5 +1,6 @@
 //! The readers of a board.
-ghost use Rattle.std.specs.Prelude.{◌≡◌, ◌≤◌, true, ◌||◌, ◌↔◌, IsNone, IsOk, MatchResult, slice_get, length};
+ghost use Rattle.std.specs.Prelude.{◌≡◌, ◌<◌, ◌≤◌, true, ◌||◌, ◌↔◌, IfSome, IsNone, IsOk, MatchResult, slice_get, length};
+ghost use Rattle.warp_tag.specs.Limits.{most_outputs, most_rows};
 ghost use Rattle.warp_tag.specs.Lists.{StartsWith};
 ghost use Rattle.warp_board.specs.Board.{room_of};
 
@@ -34,13 +35,14 @@ impl Model for Reader {
 }
 
 impl Reader {
-    /// Loads how many rows there are, which the reader knows from then on.
+    /// Loads how many rows there are, 0 to 4,096, which the reader knows from then on.
     pub fn count(&mut self, board: &Board) -> u64
         requires { self.old.board ≡ board.now }
         ensures count { result ≡ length self.new.rows }
         ensures rows { StartsWith self.new.rows self.old.rows }
         ensures least { length self.old.rows ≤ result }
         ensures most { result ≤ room_of board.now }
+        ensures bound { result ≤ most_rows }
         ensures others { self.new ≡ record self.old { rows = self.new.rows } }
     {
         let count = board.table.shared.load::<LoadCount>(&mut self.seat, 0);
@@ -58,11 +60,12 @@ impl Reader {
         board.table.shared.load::<LoadFlag>(&mut self.seat, 1) == 1
     }
 
-    /// Row i, counted from 0; `None` exactly where i is not below the count that the reader knows.
+    /// Row i, counted from 0; `None` exactly where i is not below the count that the reader knows. Its port is 0 to 63.
     pub fn row(&mut self, board: &Board, i: u64) -> Option<Out>
         requires { self.old.board ≡ board.now }
         ensures row { result ≡ slice_get self.old.rows i }
         ensures none { IsNone result ↔ (length self.old.rows ≤ i) }
+        ensures port { IfSome result (λ row. row.port < most_outputs) }
         ensures same { self.new ≡ self.old }
     {
         if i >= self.count {

@@ -1,5 +1,5 @@
 //! The one writer of a board.
-ghost use Rattle.std.specs.Prelude.{◌≡◌, ◌<◌, ◌++◌, [], ◌∷◌, true, IsOk, IsErr, OnOk, OnErr, ◌↔◌, length};
+ghost use Rattle.std.specs.Prelude.{◌≡◌, ◌<◌, ◌≤◌, ◌++◌, [], ◌∷◌, true, IsOk, IsErr, OnOk, OnErr, ◌↔◌, length};
 ghost use Rattle.warp_tag.specs.Limits.{most_outputs};
 ghost use Rattle.warp_tag.specs.Lists.{StartsWith};
 ghost use Rattle.warp_board.specs.Board.{room_of};
@@ -69,9 +69,10 @@ impl Writer {
         self.frozen = true;
     }
 
-    /// All rows of the board, in their order.
+    /// All rows of the board, in their order: at most as many as it has room for.
     pub fn rows(&self) -> &[Out]
-        ensures { result.now ≡ self.now.rows }
+        ensures rows { result.now ≡ self.now.rows }
+        ensures room { length result.now ≤ room_of self.now.board }
     {
         self.rows.as_slice()
     }

@@ -1,11 +1,10 @@
 -- What the two ends of a lane have sent and received.
-use Rattle.std.specs.Prelude.{◌≡◌, ℕ, List, refl}
+use Rattle.std.specs.Prelude.{ℕ, List, refl}
 use Rattle.std.specs.Coded.{Coded, code_by, coded×, coded_ℕ}
 use denote.RawPtr.{Ptr, coded_ptr}
 use Rattle.warp_record.specs.declared.line.Line.{Line}
-use Rattle.warp_record.specs.declared.reply.Reply.{Reply}
-use Rattle.warp_record.specs.declared.reply.Reply.TheVariants.{Taken, Known, Refused, Var, Outputs, Output, Nothing, Horizon, Released, Lost, Breach, Log, Collected, Board, Row, NoRow}
 use Rattle.warp_record.specs.Reply.{IsReply}
+use Rattle.warp_replica.specs.Length.{SaysLength}
 use Rattle.warp_lanes.specs.declared.answer.Answer.{Answer}
 
 -- how many commands, and how many answers, a lane has places for
@@ -36,25 +35,6 @@ ring_id_code =
 
 abbrev pub lane_id_code : Coded LaneId
 lane_id_code = coded× ring_id_code ring_id_code
-
--- the length of a log that a reply says, if it says one, is this
-abbrev pub SaysLength : ℕ → Reply → Type 0
-SaysLength len (Taken place) = place ≡ len
-SaysLength len (Known place) = Unit {0}
-SaysLength len (Refused refusal) = Unit {0}
-SaysLength len (Var log value) = log ≡ len
-SaysLength len (Outputs log count) = log ≡ len
-SaysLength len (Output log out) = log ≡ len
-SaysLength len (Nothing log) = log ≡ len
-SaysLength len (Horizon log tag) = log ≡ len
-SaysLength len (Released log count) = log ≡ len
-SaysLength len (Lost log count) = log ≡ len
-SaysLength len (Breach log broken) = log ≡ len
-SaysLength len (Log log said) = log ≡ len
-SaysLength len (Collected log) = log ≡ len
-SaysLength len (Board count frozen) = Unit {0}
-SaysLength len (Row out) = Unit {0}
-SaysLength len NoRow = Unit {0}
 
 -- an answer that a lane may carry: a reply in range, and the length that it says
 abbrev pub IsAnswer : Answer → Type 0

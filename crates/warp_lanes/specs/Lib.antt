@@ -1,1 +1,5 @@
 pub mod Lanes
+pub mod History
+pub mod Publish
+pub mod Engine
+pub mod Codes

@@ -1,16 +1,26 @@
 //! Lanes: one thread's lines to a replica that another thread holds, and the answers back, through two rings of 64 places.
 //!
-//! A `Port` sends lines and fetches their answers; a `Lane` is the other end. Neither waits for the other: where a ring has no
-//! place or no item, the call says so. What a port knows it knows of itself: what it sent, and what it fetched.
+//! A `Port` sends lines and fetches their answers; a `Lane` is the other end, and an `Engine` serves it. None waits for another: where
+//! a ring has no place or no item, the call says so. What a port knows it knows of itself: what it sent, and what it fetched. What an
+//! engine received and sent on all its lanes is a linear history of its replica's program and log.
 #![tactic(auto)]
 
 mod answer;
+mod engine;
 mod executor_end;
+mod law;
 mod making;
 mod port;
+mod publish;
+#[cfg(test)]
 mod tests;
+mod turn;
 
 pub use answer::{Answer, SaysLength};
+pub use engine::Engine;
 pub use executor_end::Lane;
+pub use law::taken_is_there;
 pub use making::lane;
 pub use port::{Port, PortEnd};
+pub use publish::Published;
+pub use turn::Turn;

@@ -7,3 +7,4 @@ pub mod NextLemmas
 pub mod TableLemmas
 pub mod ReworkLemmas
 pub mod Begins
+pub mod Rooms

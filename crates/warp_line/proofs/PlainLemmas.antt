@@ -119,3 +119,11 @@ note_stands p q m f origin tag true h is ordered same differs fits settled state
     changed_stands p q m f origin tag h is ordered (differs refl) fits (settled ∙ and-false p.settled)
 note_stands p q m f origin tag false h is ordered same differs fits settled state outputs =
     same_stands p q m f origin tag h is ordered (same refl) (settled ∙ and-true p.settled) state outputs
+
+-- where the live events are those that they were, it stays settled
+pub stays_settled : (p : Plain) (items : List Entry) (settled : Bool) (m : Standing) (f : Entry → Entry) (origin : ℕ) (tag : Moment) (changes : Bool)
+    → StandsFor p m → items ≡ changed f origin tag p.entries.items → (changes ≡ true → live items ≡ live p.entries.items → ⊥)
+    → settled ≡ (p.settled && not changes) → live (changed f origin tag m.table) ≡ live m.table → settled ≡ p.settled
+stays_settled p items settled m f origin tag true h is differs made same =
+    absurd (differs refl (ap live (is ∙ ap (changed f origin tag) h.table) ∙ same ∙ ap live (sym h.table)))
+stays_settled p items settled m f origin tag false h is differs made same = made ∙ and-true p.settled

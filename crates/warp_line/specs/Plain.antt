@@ -1,5 +1,5 @@
 -- What a `Plain` stands for.
-use Rattle.std.specs.Prelude.{◌≡◌, ◌<◌, IsTrue, MatchBool, [], vec_len, vec_capacity}
+use Rattle.std.specs.Prelude.{◌≡◌, ℕ, ◌<◌, IsTrue, MatchBool, List, [], ◌∷◌, vec_len, vec_capacity}
 use Rattle.std.specs.List.{list_all}
 use Rattle.warp_tag.specs.Table.{IsTable, live}
 use Rattle.warp_step.specs.Valid.{is_valid}
@@ -22,6 +22,10 @@ pub record StandsFor (p : Plain) (m : Standing) : Type 0 where
   pub ordered : IsTable m.table
   pub events : IsTrue (list_all (event_fits m.program) (live m.table))
   pub rows : MatchBool p.settled (IsRun p m) (m.done ≡ [])
+
+-- the room of its table and of its outputs
+abbrev pub room_in : Plain → List ℕ
+room_in p = vec_capacity p.entries ∷ vec_capacity p.outputs ∷ []
 
 -- there is room for a name
 abbrev pub HasRoom : Plain → Type 0

@@ -1,5 +1,5 @@
 -- What a timeline stands for, and what its calls do to that.
-use Rattle.std.specs.Prelude.{◌≡◌, ℕ, ◌+◌, ◌≤◌, List, length, count_by, if◌then◌else◌}
+use Rattle.std.specs.Prelude.{◌≡◌, ℕ, ◌+◌, ◌≤◌, List, [], ◌∷◌, length, count_by, if◌then◌else◌}
 use Rattle.warp_tag.specs.Lists.{StartsWith}
 use Rattle.warp_tag.specs.Moment.{Moment, is_before}
 use Rattle.warp_tag.specs.Table.{live}
@@ -49,3 +49,10 @@ pub record Settles {T : Type 0} (stands_for : T → Standing → Type 0) (value 
   pub stands : stands_for value (record old { done = done })
   pub kept : length old.done ≤ length done
   pub bound : (trace : List Row) → Run old.program (live old.table) trace → ticks + length old.done ≤ length trace
+
+-- no list has more room than it had
+abbrev pub TakesNoRoom : List ℕ → List ℕ → Type 0
+TakesNoRoom [] [] = Unit {0}
+TakesNoRoom [] (new ∷ news) = ⊥
+TakesNoRoom (old ∷ olds) [] = ⊥
+TakesNoRoom (old ∷ olds) (new ∷ news) = (new ≤ old) × TakesNoRoom olds news

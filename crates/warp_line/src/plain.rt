@@ -17,11 +17,13 @@ pub struct Plain {
 
 impl Timeline for Plain {
     ghost use Rattle.warp_tag.specs.Limits.{most_names};
-    ghost use Rattle.warp_line.specs.Plain.{StandsFor, HasRoom};
+    ghost use Rattle.warp_line.specs.Plain.{StandsFor, HasRoom, room_in};
 
     ghost stands_for = { StandsFor };
 
     ghost is_prepared = { HasRoom };
+
+    ghost room = { room_in };
 
     ghost settled = { λ p. p.settled };
 

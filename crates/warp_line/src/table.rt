@@ -31,6 +31,7 @@ fn enter(entries: &mut Vec<Entry>, origin: u32, tag: Tag) -> usize
         slice_set entries.new.items result
         (change (unwrap_or (known origin tag entries.old.items) (fresh origin tag))) ≡
         changed change origin tag entries.old.items }
+    ensures capacity { vec_capacity entries.new ≡ vec_capacity entries.old }
 {
     let at = place(entries, origin, tag);
     if at == entries.len() || !entries[at].is_of(origin, tag) {
@@ -55,6 +56,7 @@ pub(crate) fn note_event(
     ensures ordered { IsTable entries.new.items }
     ensures same { result ≡ false → live entries.new.items ≡ live entries.old.items }
     ensures changes { IsTrue result → live entries.new.items ≡ live entries.old.items → ⊥ }
+    ensures capacity { vec_capacity entries.new ≡ vec_capacity entries.old }
 {
     let at = enter(entries, origin, tag);
     entries[at].note_event(input, value)
@@ -68,6 +70,7 @@ pub(crate) fn note_withdrawal(entries: &mut Vec<Entry>, origin: u32, tag: Tag) -
     ensures ordered { IsTable entries.new.items }
     ensures same { result ≡ false → live entries.new.items ≡ live entries.old.items }
     ensures changes { IsTrue result → live entries.new.items ≡ live entries.old.items → ⊥ }
+    ensures capacity { vec_capacity entries.new ≡ vec_capacity entries.old }
 {
     let at = enter(entries, origin, tag);
     entries[at].withdraw()

@@ -15,13 +15,16 @@ pub trait Timeline: Sized {
     ghost use Rattle.warp_step.specs.Run.{Row, state_at_end, outputs_of};
     ghost use Rattle.warp_step.specs.Snapshot.{start_state};
     ghost use Rattle.warp_step.specs.Events.{IsEventOf, IsNameOf};
-    ghost use Rattle.warp_line.specs.Timeline.{Standing, IsDone, IsFront, NowStands, Settles};
+    ghost use Rattle.warp_line.specs.Timeline.{Standing, IsDone, IsFront, NowStands, Settles, TakesNoRoom};
 
     /// Whether a value stands for this program, table and done rows.
     ghost stands_for: { Self → Standing → Type 0 };
 
     /// Whether there is room for one more name.
     ghost is_prepared: { Self → Type 0 };
+
+    /// For how many elements each of its lists has taken memory, in an order of its own.
+    ghost room: { Self → List ℕ };
 
     /// Whether all rows are done and their state and outputs are at hand.
     ghost settled: { Self → Bool };
@@ -36,27 +39,38 @@ pub trait Timeline: Sized {
         ensures { IfOk result (λ t. stands_for t (record { program = program.now; table = []; done = [] })) };
 
     /// Makes room for one name more than the fewer than 4,000,000,000 that are there. An `Err` changes nothing, and
-    /// keeps the room that was there.
+    /// keeps the room that was there; where there is room already, there is none.
     fn prepare(&mut self, alloc: Global) -> Result<(), OutOfMemory>
         requires { (m : Standing) × stands_for self.old m × (length m.table < most_names) }
         ensures stands { (m : Standing) → stands_for self.old m → stands_for self.new m }
         ensures settled { settled self.new ≡ settled self.old }
         ensures kept { is_prepared self.old → is_prepared self.new }
-        ensures prepared { OnOk result (is_prepared self.new) };
+        ensures prepared { OnOk result (is_prepared self.new) }
+        ensures again { is_prepared self.old → IsOk result };
 
-    /// Takes an event: of several payloads of one name the greatest counts. It takes no memory.
+    /// Takes an event: of several payloads of one name the greatest counts. Where no live event changes, a settled
+    /// value stays settled. The room of each list stays as it is.
     fn put(&mut self, origin: u32, tag: Tag, input: u32, value: i64)
         requires prepared { is_prepared self.old }
         requires event { (m : Standing) × stands_for self.old m × IsEventOf m.program origin tag input }
-        ensures { (m : Standing) → stands_for self.old m → IsEventOf m.program origin tag input →
-            NowStands stands_for SLACK tag self.new m (changed (with_event input value) origin tag m.table) };
+        ensures stands { (m : Standing) → stands_for self.old m → IsEventOf m.program origin tag input →
+            NowStands stands_for SLACK tag self.new m (changed (with_event input value) origin tag m.table) }
+        ensures settled { (m : Standing) → stands_for self.old m → IsEventOf m.program origin tag input →
+            live (changed (with_event input value) origin tag m.table) ≡ live m.table →
+            settled self.new ≡ settled self.old }
+        ensures room { room self.new ≡ room self.old };
 
-    /// Takes a withdrawal: no event of the name counts, whether it came before or comes later. It takes no memory.
+    /// Takes a withdrawal: no event of the name counts, whether it came before or comes later. Where no live event
+    /// changes, a settled value stays settled. The room of each list stays as it is.
     fn withdraw(&mut self, origin: u32, tag: Tag)
         requires prepared { is_prepared self.old }
         requires name { (m : Standing) × stands_for self.old m × IsNameOf m.program origin tag }
-        ensures { (m : Standing) → stands_for self.old m → IsNameOf m.program origin tag →
-            NowStands stands_for SLACK tag self.new m (changed with_withdrawal origin tag m.table) };
+        ensures stands { (m : Standing) → stands_for self.old m → IsNameOf m.program origin tag →
+            NowStands stands_for SLACK tag self.new m (changed with_withdrawal origin tag m.table) }
+        ensures settled { (m : Standing) → stands_for self.old m → IsNameOf m.program origin tag →
+            live (changed with_withdrawal origin tag m.table) ≡ live m.table →
+            settled self.new ≡ settled self.old }
+        ensures room { room self.new ≡ room self.old };
 
     /// Executes what is not done. At an `Err` it stands done through some tag, whole, says that it is not settled, and
     /// may be settled later.
@@ -94,12 +108,13 @@ pub trait Timeline: Sized {
         ensures { (m : Standing) → stands_for self.now m → IsDone m × (result.now ≡ outputs_of m.done) };
 
     /// Lets go of what is not needed for tags from `below` on: the caller says that nothing changes before it any
-    /// more. It changes no answer, leaves the done rows as they are, takes no memory, and cannot fail.
+    /// more. It changes no answer, leaves the done rows as they are, and cannot fail. No list gets more room.
     fn collect(&mut self, below: Tag)
         requires { IsTrue (settled self.old) }
         ensures stands { (m : Standing) → stands_for self.old m → stands_for self.new m }
         ensures settled { IsTrue (settled self.new) }
-        ensures kept { is_prepared self.old → is_prepared self.new };
+        ensures kept { is_prepared self.old → is_prepared self.new }
+        ensures room { TakesNoRoom (room self.old) (room self.new) };
 
     /// What is done is a front of the run.
     ghost done_is_front: { (value : Self) (m : Standing) → stands_for value m → IsFront m };

@@ -19,3 +19,4 @@ pub mod ReadingLemmas
 pub mod RoomLemmas
 pub mod LoadLemmas
 pub mod StatementLemmas
+pub mod ReadLemmas

@@ -1,12 +1,12 @@
 -- Statements: which rows a list of values has, and statements one after another.
-use Rattle.std.proofs.Common.{◌≡◌, List, ◌∷◌, [], ◌++◌, ◌<◌, ◌≤◌, arith, length, Option, None, option_map, map, drop, ◌+◌, Some, true, false, not, true≢false, Bool, Bor, ℕ, get_or, codes, bytes_eq, sym, ◌∙◌, refl, ap}
+use Rattle.std.proofs.Common.{◌≡◌, List, ◌∷◌, [], ◌++◌, ◌<◌, ◌≤◌, arith, length, Option, None, option_map, map, drop, ◌+◌, Some, true, false, not, true≢false, Bool, ℕ, get_or, codes, bytes_eq, sym, ◌∙◌, refl, ap}
 use Rattle.std.proofs.lemmas.List.{map-append, at_drop_more, drop_all}
 use Rattle.serde_json.specs.View.{view, items_view}
-use Rattle.serde_json.specs.Find.{as_str}
 use Rattle.serde_json.specs.declared.value.Value.{Value}
 use Rattle.serde_json.specs.Data.{Data, array, Items, item}
 use Rattle.warp_prog.specs.File.{NamedStatement, NamedBody, NamedDone, NamedThen}
 use Rattle.warp_prog.specs.Statements.{statement_of, statements_of, body_of, choice_of}
+use Rattle.warp_prog.specs.inner.Read.{first_word}
 use Rattle.warp_prog.specs.View.{body_tree, statement_tree}
 use Rattle.warp_prog.specs.declared.file.Statement.{Statement}
 
@@ -67,25 +67,18 @@ was_true true e = refl
 was_true false e = absurd (true≢false (sym e))
 
 -- the row of `if`, of what a match on four items knows
-pub choice_row : (vs : List Value) (w x y z : Value) → 4 ≤ length vs → length vs < 5
-    → w ≡ get_or vs 0 w → x ≡ get_or vs 1 x → y ≡ get_or vs 2 y → z ≡ get_or vs 3 z
-    → (o : Option (Bor (List ℕ))) (word : Bor (List ℕ)) → option_map (λ s. s.now) o ≡ as_str (view w) → o ≡ Some word → false ≡ not (bytes_eq word.now (codes "if"))
+pub choice_row : (vs : List Value) (w : List ℕ) (x y z : Value) → 4 ≤ length vs → length vs < 5 → first_word (items_view vs) ≡ Some w
+    → x ≡ get_or vs 1 x → y ≡ get_or vs 2 y → z ≡ get_or vs 3 z → false ≡ not (bytes_eq w (codes "if"))
     → statement_of (array (items_view vs)) ≡ choice_of (view x) (body_of (view y)) (body_of (view z))
-choice_row [] w x y z few many at_w at_x at_y at_z o word text is_word is_if = absurd (omega (arith, few))
-choice_row (a ∷ []) w x y z few many at_w at_x at_y at_z o word text is_word is_if = absurd (omega (arith, few))
-choice_row (a ∷ (b ∷ [])) w x y z few many at_w at_x at_y at_z o word text is_word is_if = absurd (omega (arith, few))
-choice_row (a ∷ (b ∷ (c ∷ []))) w x y z few many at_w at_x at_y at_z o word text is_word is_if = absurd (omega (arith, few))
-choice_row (a ∷ (b ∷ (c ∷ (d ∷ [])))) w x y z few many at_w at_x at_y at_z o word text is_word is_if =
-    let found : as_str (view a) ≡ Some word.now = ap (λ v. as_str (view v)) (sym at_w) ∙ sym text ∙ ap (option_map (λ s. s.now)) is_word in
-    rw (at_x, at_y, at_z, found, was_true _ is_if) refl
-choice_row (a ∷ (b ∷ (c ∷ (d ∷ (e ∷ vs))))) w x y z few many at_w at_x at_y at_z o word text is_word is_if = absurd (omega (arith, many))
+choice_row [] w x y z few many word at_x at_y at_z is_if = absurd (omega (arith, few))
+choice_row (a ∷ []) w x y z few many word at_x at_y at_z is_if = absurd (omega (arith, few))
+choice_row (a ∷ (b ∷ [])) w x y z few many word at_x at_y at_z is_if = absurd (omega (arith, few))
+choice_row (a ∷ (b ∷ (c ∷ []))) w x y z few many word at_x at_y at_z is_if = absurd (omega (arith, few))
+choice_row (a ∷ (b ∷ (c ∷ (d ∷ [])))) w x y z few many word at_x at_y at_z is_if = rw (at_x, at_y, at_z, word, was_true _ is_if) refl
+choice_row (a ∷ (b ∷ (c ∷ (d ∷ (e ∷ vs))))) w x y z few many word at_x at_y at_z is_if = absurd (omega (arith, many))
 
--- a choice whose first list, or whose second, is no body
-pub no_first : (x : Data) (a b : Option NamedBody) → a ≡ None → choice_of x a b ≡ None
-unfolding choice_of
-no_first x a b e = rw e refl
-
-pub no_second : (x : Data) (a b : Option NamedBody) → b ≡ None → choice_of x a b ≡ None
-unfolding choice_of
-no_second x None b e = refl
-no_second x (Some a) b e = rw e refl
+-- the item at this place is no statement
+pub none_read : (done : List NamedStatement) (vs : List Value) (i : ℕ) (v : Value) → i < length vs → v ≡ get_or vs i v → statement_of (view v) ≡ None
+    → and_then done (statements_of (items_view (drop i vs))) ≡ None
+none_read done vs i v within here e =
+    at_drop_more (λ xs. and_then done (statements_of (items_view xs))) vs i v within ∙ rw (ap (λ x. statement_of (view x)) (sym here) ∙ e) refl

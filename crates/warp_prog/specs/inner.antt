@@ -1,3 +1,4 @@
 pub mod Kind
 pub mod Rule
 pub mod Room
+pub mod Read

@@ -4,7 +4,7 @@ use crate::name::Name;
 use warp_body::{BinaryOperator, UnaryOperator};
 
 /// A reference to a port, `REACTOR.PORT` in the file.
-#[derive(Debug, Drop)]
+#[derive(Drop)]
 pub struct PortName {
     /// The name of the reactor.
     pub reactor: Name,
@@ -13,7 +13,7 @@ pub struct PortName {
 }
 
 /// A variable.
-#[derive(Debug, Drop)]
+#[derive(Drop)]
 pub struct VariablePart {
     /// Its name.
     pub name: Name,
@@ -22,7 +22,7 @@ pub struct VariablePart {
 }
 
 /// An action.
-#[derive(Debug, Drop)]
+#[derive(Drop)]
 pub struct ActionPart {
     /// Its name.
     pub name: Name,
@@ -31,7 +31,7 @@ pub struct ActionPart {
 }
 
 /// A timer.
-#[derive(Debug, Drop)]
+#[derive(Drop)]
 pub struct TimerPart {
     /// Its name.
     pub name: Name,
@@ -42,7 +42,7 @@ pub struct TimerPart {
 }
 
 /// A link from an output to an input.
-#[derive(Debug, Drop)]
+#[derive(Drop)]
 pub struct LinkPart {
     /// Where it begins.
     pub source: PortName,
@@ -53,7 +53,7 @@ pub struct LinkPart {
 }
 
 /// A program input.
-#[derive(Debug, Drop)]
+#[derive(Drop)]
 pub struct InputPart {
     /// The number of its origin, as the file has it.
     pub origin: i64,
@@ -62,7 +62,7 @@ pub struct InputPart {
 }
 
 /// An expression.
-#[derive(Debug, Drop)]
+#[derive(Drop)]
 pub enum Expression {
     /// This number.
     Number(i64),
@@ -79,7 +79,7 @@ pub enum Expression {
 }
 
 /// A statement.
-#[derive(Debug, Drop)]
+#[derive(Drop)]
 pub enum Statement {
     /// The variable of this name has the value of the expression.
     Set(Name, Expression),
@@ -92,7 +92,7 @@ pub enum Statement {
 }
 
 /// A reaction.
-#[derive(Debug, Drop)]
+#[derive(Drop)]
 pub struct Reaction {
     /// What it is on.
     pub triggers: Vec<Name>,
@@ -105,7 +105,7 @@ pub struct Reaction {
 }
 
 /// A reactor.
-#[derive(Debug, Drop)]
+#[derive(Drop)]
 pub struct Reactor {
     /// Its name.
     pub name: Name,
@@ -124,7 +124,7 @@ pub struct Reactor {
 }
 
 /// A program file. Its numbers are as the file has them.
-#[derive(Debug, Drop)]
+#[derive(Drop)]
 pub struct ProgramFile {
     /// The version of its format.
     pub version: i64,

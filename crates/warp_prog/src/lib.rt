@@ -6,6 +6,7 @@
 #![tactic(auto)]
 
 mod backward;
+mod both;
 mod error;
 mod file;
 mod limits;

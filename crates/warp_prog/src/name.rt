@@ -9,7 +9,7 @@ use std::marker::Model;
 const LONGEST_NAME: usize = 32;
 
 /// A name: a text of at most 32 bytes, which takes no memory of its own. Contracts see it as its bytes.
-#[derive(Debug, Drop)]
+#[derive(Drop)]
 pub struct Name {
     text: ArrayString<32>,
 }

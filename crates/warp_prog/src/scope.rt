@@ -1,7 +1,7 @@
 //! Where a reactor stands in a file: how much stands before it, which gives the numbers of its names.
 
 /// How many reactors, variables, ports, actions and timers stand before a reactor in the file.
-#[derive(Clone, Copy, Debug, PartialEq, Eq)]
+#[derive(Clone, Copy)]
 pub(crate) struct Before {
     /// Reactors.
     pub reactors: usize,

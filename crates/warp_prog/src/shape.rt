@@ -3,7 +3,8 @@ ghost use Rattle.std.specs.Prelude.{◌≡◌, List, Some, None, IfOk, Err, opti
 ghost use Rattle.serde_json.specs.Find.{get};
 ghost use Rattle.serde_json.specs.View.{view};
 ghost use Rattle.warp_prog.specs.Word.{integer_at};
-ghost use Rattle.warp_prog.specs.Shape.{file_of};
+ghost use Rattle.warp_prog.specs.Json.{has_only};
+ghost use Rattle.warp_prog.specs.Shape.{file_keys, file_of};
 ghost use Rattle.warp_prog.specs.View.{file_tree};
 
 mod expression;
@@ -29,21 +30,34 @@ fn number(value: &Value, key: &str) -> Option<i64>
     integer_at(value.get(key)?)
 }
 
+/// Whether a value is an object whose keys are all among those of a file.
+fn has_file_keys(value: &Value) -> bool
+    ensures { result ≡ has_only file_keys (view value.now) }
+{
+    let keys = [
+        "version", "stop", "origins", "reactors", "links", "inputs", "outputs",
+    ];
+    has_only(value, &keys)
+}
+
 /// The file that a value is: each key and each value is one of its table, and those that must be there are there.
 #[tactic(auto, unfolding(crate::specs::Shape::file_of))]
 pub(crate) fn file(alloc: Global, value: &Value) -> Result<ProgramFile, Misread>
     ensures ok { IfOk result (λ f. file_of (view value.now) ≡ Some (file_tree f)) }
     ensures err { result ≡ Err Misread.Shape → file_of (view value.now) ≡ None }
 {
-    let keys = [
-        "version", "stop", "origins", "reactors", "links", "inputs", "outputs",
-    ];
-    if !has_only(value, &keys) {
+    if !has_file_keys(value) {
         return Err(Misread::Shape);
     }
-    let version = number(value, "version").ok_or(Misread::Shape)?;
-    let stop = number(value, "stop").ok_or(Misread::Shape)?;
-    let origins = number(value, "origins").ok_or(Misread::Shape)?;
+    let Some(version) = number(value, "version") else {
+        return Err(Misread::Shape);
+    };
+    let Some(stop) = number(value, "stop") else {
+        return Err(Misread::Shape);
+    };
+    let Some(origins) = number(value, "origins") else {
+        return Err(Misread::Shape);
+    };
     let reactors = reactors(alloc, value)?;
     let links = list(alloc, value, "links")?;
     let inputs = list(alloc, value, "inputs")?;

@@ -1,9 +1,9 @@
 -- What a settled replica answers: the program's answers over the set of its records.
-use Rattle.std.proofs.Common.{◌≡◌, ◌↔◌, ℕ, zero, suc, ℤ, ◌<◌, ◌≤◌, ◌-◌, Bool, true, false, if◌then◌else◌, IsTrue, List, length, slice_get, Option, Some, None, refl, sym, ap, ◌∙◌, subst, arith}
+use Rattle.std.proofs.Common.{◌≡◌, ◌↔◌, ℕ, zero, suc, ℤ, ◌<◌, ◌≤◌, ◌-◌, Bool, true, false, if◌then◌else◌, IsTrue, List, All, get_or, length, slice_get, Option, Some, None, refl, sym, ap, ◌∙◌, subst, arith}
 use Rattle.std.specs.Option.{option_map, unwrap_or}
 use Rattle.std.proofs.lemmas.Bool.{le-ltb}
 use Rattle.std.proofs.lemmas.Bool.Decides.{Decides-ltb, same_from_decides}
-use Rattle.std.proofs.lemmas.Option.{get_or_from_slice_get, slice_get_within}
+use Rattle.std.proofs.lemmas.Option.{get_or_from_slice_get, slice_get-get_or, slice_get_within}
 use Rattle.warp_tag.specs.Limits.{most_outputs}
 use Rattle.warp_tag.specs.Moment.{Moment}
 use Rattle.warp_tag.specs.Table.{Event, live}
@@ -140,6 +140,12 @@ few_outputs P E done run i out valid found =
     let within = output_within P E done i out run found in
     let limit = (validity P valid).limits.outputs in
     omega arith
+
+-- and so the ports of a list that has them all
+pub few_ports : (P : Program) (E : List Event) (done : List Row) → Run P E done → IsTrue (is_valid P) → (outs : List Out)
+    → outs ≡ outputs_of done → All (λ (out : Out). out.port < most_outputs) outs
+few_ports P E done run valid outs is k d below =
+    few_outputs P E done run k (get_or outs k d) valid (ap (λ (l : List Out). slice_get l k) (sym is) ∙ slice_get-get_or outs k d below)
 
 -- the record at a place of a list, and none where no record stands there
 pub at_place : (records : List Record) (place : ℕ) (said : Record) → IsAt records place said → record_at records place ≡ Some said

@@ -7,3 +7,6 @@ pub mod Replies
 pub mod ReleasedLists
 pub mod Takings
 pub mod PulledRecords
+pub mod Lengths
+pub mod Chains
+pub mod MergeChains

@@ -4,3 +4,6 @@ pub mod Release
 pub mod Gives
 pub mod Merge
 pub mod Desk
+pub mod Length
+pub mod Settling
+pub mod Chain

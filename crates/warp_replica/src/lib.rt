@@ -3,14 +3,17 @@
 //! `Replica` takes records, settles its timeline and answers queries; contracts see its program, the list of its
 //! records and the timeline. `Local` is a replica without peers as a desk, which answers lines. What a query gives
 //! follows from the set of the records (`one_answer`, `same_replies`). While no origin breaks an announcement, what was
-//! released stays (`released_stays`, `released_agree`).
+//! released stays (`released_stays`, `released_agree`). What settling costs after records came is bounded
+//! (`rework_after_takes`).
 #![tactic(auto)]
 
+mod asking;
 mod idle;
 mod law;
 mod local;
 mod release_law;
 mod replica;
+mod rework_law;
 mod took;
 
 pub use idle::Idle;
@@ -23,4 +26,5 @@ pub use release_law::{
     same_release,
 };
 pub use replica::Replica;
+pub use rework_law::rework_after_takes;
 pub use took::Took;

@@ -1,6 +1,6 @@
 //! A replica: a program, the table of the records that it took, and the timeline that runs them.
 ghost use Rattle.std.specs.Prelude.{◌≡◌, ◌↔◌, ℕ, ◌+◌, ◌-◌, ◌<◌, ◌≤◌, [], ◌∷◌, ◌++◌, false, None, Ok, length, List};
-ghost use Rattle.std.specs.Prelude.{Contains, IsTrue, IfSome, IfNone, IsOk, IfOk, IfErr, OnOk, OnErr};
+ghost use Rattle.std.specs.Prelude.{All, Contains, IsTrue, IfSome, IfNone, IsOk, IfOk, IfErr, OnOk, OnErr};
 ghost use Rattle.warp_tag.specs.Limits.{most_outputs, most_records};
 ghost use Rattle.warp_record.specs.declared.line.Query.{Query};
 ghost use Rattle.warp_record.specs.declared.record.Record.{Record};
@@ -14,6 +14,7 @@ ghost use Rattle.warp_table.specs.Table.{with_record};
 ghost use Rattle.warp_table.specs.Check.{refusal_of};
 ghost use Rattle.warp_table.specs.Records.{set_of};
 ghost use Rattle.warp_replica.specs.Answers.{IsReleased};
+ghost use Rattle.warp_replica.specs.Chain.{TakeFirst};
 ghost use Rattle.warp_replica.specs.Merge.{Merges};
 ghost use Rattle.warp_replica.specs.Replica.{AreAllowed, standing_of, Stands};
 ghost use Rattle.warp_replica.specs.Gives.{GivesQuery, Takes, came_in, tag_of, told};
@@ -323,13 +324,16 @@ impl<T: Timeline> Replica<T> {
         }
     }
 
-    /// The released outputs, in order: those before the horizon. These are the first of all outputs.
+    /// The released outputs, in order: those before the horizon. These are the first of all outputs. The port of each
+    /// is 0 to 63.
     pub fn released(&self) -> &[Out]
         requires { IsTrue (T.settled self.now.timeline) }
-        ensures { IsReleased self.now.program (set_of self.now.records) result.now }
+        ensures released { IsReleased self.now.program (set_of self.now.records) result.now }
+        ensures ports { All (λ out. out.port < most_outputs) result.now }
     {
-        // Each record is there once, and so they can be counted.
+        // Each record is there once, and so they can be counted; each program is valid, and so has few outputs.
         self.valid();
+        self.program.valid();
         let horizon = self.table.horizon(&self.program);
         let outputs = self.timeline.outputs();
         let count = outputs.partition_point(|output| output.tag.is_before(horizon));
@@ -412,7 +416,7 @@ impl<T: Timeline> Replica<T> {
 
     /// Takes the records of another replica of the same program, in the order of its log, and gives how many these
     /// are. An `Err` says how many of them are in, and why the next one is not: the log is full, or no memory was to
-    /// be had.
+    /// be had. What stays done is what taking them one by one leaves.
     pub fn merge<U: Timeline>(
         &mut self,
         alloc: Global,
@@ -421,6 +425,7 @@ impl<T: Timeline> Replica<T> {
         requires { self.old.program ≡ other.now.program }
         ensures merges { Merges self.old.records other.now.records result self.new.records }
         ensures program { self.new.program ≡ self.old.program }
+        ensures chain { TakeFirst T.stands_for T.SLACK self.old other.now.records self.new }
         ensures kept { self.new.records ≡ self.old.records → (done : List Row) → Stands T.stands_for self.old done →
             Stands T.stands_for self.new done }
         ensures settled { self.new.records ≡ self.old.records →

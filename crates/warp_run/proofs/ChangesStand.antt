@@ -1,6 +1,7 @@
 -- What a `Warp` stands for after a change of one name.
-use Rattle.std.proofs.Common.{◌≡◌, inl, inr, ℕ, ◌≤◌, true, false, IsTrue, IsSomeAnd, List, length, take, ap, sym, subst, ◌∙◌, refl, arith, Some, unwrap_or}
+use Rattle.std.proofs.Common.{◌≡◌, inl, inr, ℕ, ◌≤◌, true, false, IsTrue, IsSomeAnd, List, [], ◌∷◌, length, take, ap, sym, subst, ◌∙◌, refl, arith, Some, unwrap_or}
 use Rattle.std.specs.List.{list_all}
+use Rattle.std.specs.Prelude.{vec_capacity}
 use Rattle.std.specs.Option.{option_map}
 use Rattle.std.proofs.lemmas.List.{length-take-le}
 use Rattle.warp_tag.specs.Moment.{Moment}
@@ -16,10 +17,11 @@ use Rattle.warp_step.specs.Events.{event_fits}
 use Rattle.warp_arena.specs.Places.{Contents, Reaches, entries_of, entry_of, with_change}
 use Rattle.warp_arena.proofs.Handles.{entry_of-with_change_same}
 use Rattle.warp_line.specs.Timeline.{Standing, NowStands}
-use Rattle.warp_run.specs.Front.{GoesBack, IsAt}
+use Rattle.warp_run.specs.Front.{GoesBack, IsAt, KeepsRoom}
 use Rattle.warp_run.specs.History.{spacing}
 use Rattle.warp_run.specs.Walk.{AreThrough, ahead}
-use Rattle.warp_run.specs.Warp.{NamesAt, StandsFor, latest_with}
+use Rattle.warp_run.specs.Warp.{NamesAt, StandsFor, latest_with, room_in}
+use Rattle.warp_run.specs.declared.front.Front.{Front}
 use Rattle.warp_run.specs.declared.warp.Warp.{Warp}
 use Rattle.warp_run.proofs.ChangesEvents.{early_stay, known_tag, late_stay}
 use Rattle.warp_run.proofs.ChangesPlaces.{ahead_stays}
@@ -90,6 +92,10 @@ module _ (f : Entry → Entry) (names : KeepsNames f) {origin : ℕ} {tag : Mome
               (λ same. absurd (differs (ap live_event after ∙ live_shows_at f origin tag m.table e change_from same))),
         )
 
+    -- where what counts of it changed, the live events are not those that they were
+    pub never_same : (live_event d ≡ live_event e → ⊥) → live (changed f origin tag m.table) ≡ live m.table → ⊥
+    never_same differs same = differs (ap live_event after ∙ live_shows_at f origin tag m.table e change_from same)
+
     -- where it stayed, what was done stays done
     pub same_stands : live_event d ≡ live_event e → NowStands StandsFor spacing tag (record new { arena = arena }) m (changed f origin tag m.table)
     same_stands same =
@@ -109,3 +115,17 @@ module _ (f : Entry → Entry) (names : KeepsNames f) {origin : ℕ} {tag : Mome
           keeps_done m tag (changed f origin tag m.table) m.done (early_stay f names origin tag m.table) (omega arith) (inl refl)
               (λ kept. omega arith),
         )
+
+-- ---- room
+
+-- nothing has other room than itself
+pub keeps_room : (x : Front) → KeepsRoom x x
+keeps_room x = record { history = refl; outputs = refl; aside = refl; aside_outputs = refl }
+
+-- what has the same room in each part
+pub same_room : (w v : Warp) → v.arena.room ≡ w.arena.room → KeepsRoom w.front v.front → v.given ≡ w.given → room_in v ≡ room_in w
+same_room w v arena front given = λ i.
+    arena i
+    ∷ (front.history i).marks ∷ (front.history i).values ∷ (front.history i).entries ∷ front.outputs i
+    ∷ (front.aside i).marks ∷ (front.aside i).values ∷ (front.aside i).entries ∷ front.aside_outputs i
+    ∷ vec_capacity (given i) ∷ []

@@ -1,14 +1,14 @@
 -- Checkpoints in lists that they share: one more, and the newest.
-use Rattle.std.proofs.Common.{◌≡◌, ℕ, ℤ, ◌+◌, ◌-◌, ◌≤◌, List, [], ◌∷◌, ◌++◌, length, take, drop, Some, ap, sym, subst, ◌∙◌, refl, arith}
+use Rattle.std.proofs.Common.{◌≡◌, ℕ, ℤ, ◌+◌, ◌-◌, ◌<◌, ◌≤◌, List, [], ◌∷◌, ◌++◌, length, take, drop, Some, ap, sym, subst, ◌∙◌, refl, arith}
 use Rattle.std.proofs.Common.{append_assoc, take-append-drop, length-append, length-drop}
 use Rattle.std.specs.Prelude.{slice_get}
 use Rattle.std.proofs.lemmas.List.{take_at, drop_at, take_all, take_more, length-take-le, take_rest, take-append-le, drop-append-le, nil_from_length}
 use Rattle.std.proofs.lemmas.Option.{slice_get_within, get_or_from_slice_get}
 use Rattle.warp_tag.specs.Limits.{most_pending}
-use Rattle.warp_step.specs.Snapshot.{AreInOrder}
+use Rattle.warp_step.specs.Snapshot.{AreInOrder, Snapshot}
 use Rattle.warp_step.specs.declared.pending.Waiting.{Waiting}
 use Rattle.warp_run.specs.declared.history.Mark.{Mark}
-use Rattle.warp_run.specs.History.{Saved, AreKept, saved_at, saves_of}
+use Rattle.warp_run.specs.History.{Saved, Saves, Room, AreKept, HasRoomFor, entries_in, saved_at, saves_of, values_in}
 
 -- the checkpoint of a mark, with these values and entries
 abbrev pub save_of : Mark → List ℤ → List Waiting → Saved
@@ -223,3 +223,51 @@ length-saves_of width saves (m ∷ ms) values entries =
     let rest = length-saves_of width (save_of m (take width values) (take m.pending entries) ∷ saves) ms
     (drop width values) (drop m.pending entries) in
     omega arith
+
+-- ---- room
+
+-- they have as many values and entries as the lists hold
+values_kept : (width : ℕ) (saves : List Saved) (ms : List Mark) (values : List ℤ) (entries : List Waiting) → AreKept width ms values entries
+    → values_in (saves_of width saves ms values entries) ≡ length values + values_in saves
+values_kept width saves [] values entries h = let none = ap length h.0 in omega arith
+values_kept width saves (m ∷ ms) values entries h =
+    let rest = values_kept width (save_of m (take width values) (take m.pending entries) ∷ saves) ms
+    (drop width values) (drop m.pending entries) h.4 in
+    let first = length-take-le width values h.0 in
+    let left = length-drop width values in
+    let within = h.0 in
+    omega arith
+
+entries_kept : (width : ℕ) (saves : List Saved) (ms : List Mark) (values : List ℤ) (entries : List Waiting) → AreKept width ms values entries
+    → entries_in (saves_of width saves ms values entries) ≡ length entries + entries_in saves
+entries_kept width saves [] values entries h = let none = ap length h.1 in omega arith
+entries_kept width saves (m ∷ ms) values entries h =
+    let rest = entries_kept width (save_of m (take width values) (take m.pending entries) ∷ saves) ms
+    (drop width values) (drop m.pending entries) h.4 in
+    let first = length-take-le m.pending entries h.1 in
+    let left = length-drop m.pending entries in
+    let within = h.1 in
+    omega arith
+
+-- so there is room for one more where each list has it, and only there
+module _ (width : ℕ) (marks : List Mark) (values : List ℤ) (entries : List Waiting) (room : Room) (s : Snapshot) (h : AreKept width marks values entries)
+    {all : Saves} (is : record { width = width; saves = saves_of width [] marks values entries; room = room } ≡ all) where
+  pub room_for : length marks < room.marks → length values + length s.vars ≤ room.values → length entries + length s.pending ≤ room.entries
+      → HasRoomFor all s
+  room_for more_marks more_values more_entries =
+      let all_marks = length-saves_of width [] marks values entries in
+      let all_values = values_kept width [] marks values entries h in
+      let all_entries = entries_kept width [] marks values entries h in
+      subst (λ (z : Saves). HasRoomFor z s) is (record { marks = omega arith; values = omega arith; entries = omega arith })
+
+  pub room_of : HasRoomFor all s
+      → (length marks < room.marks) × (length values + length s.vars ≤ room.values) × (length entries + length s.pending ≤ room.entries)
+  room_of has =
+      let r = subst (λ (z : Saves). HasRoomFor z s) (sym is) has in
+      let few_marks = r.marks in
+      let few_values = r.values in
+      let few_entries = r.entries in
+      let all_marks = length-saves_of width [] marks values entries in
+      let all_values = values_kept width [] marks values entries h in
+      let all_entries = entries_kept width [] marks values entries h in
+      (omega arith, omega arith, omega arith)

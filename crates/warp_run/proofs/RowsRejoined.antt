@@ -10,9 +10,9 @@ use Rattle.warp_step.specs.Snapshot.{Snapshot, start_state}
 use Rattle.warp_step.specs.Run.{Row, is_after, state_at_end, outputs_of}
 use Rattle.warp_tag.specs.declared.out.Out.{Out}
 use Rattle.warp_line.specs.Begin.{BeginFrom, last_after}
-use Rattle.warp_run.specs.Aside.{AreAside, IsFrom, IsMet, Leads, SetAside, outputs_between, since}
+use Rattle.warp_run.specs.Aside.{AreAside, IsFrom, IsMet, IsSameAside, Leads, SetAside, outputs_between, since}
 use Rattle.warp_run.specs.Front.{AreSaved, GoesBack, GoesOn, IsAt}
-use Rattle.warp_run.specs.History.{IsOfState, IsReady, Saved, newest, reach, spacing}
+use Rattle.warp_run.specs.History.{IsOfState, IsReady, Saved, Saves, newest, reach, spacing}
 use Rattle.warp_run.specs.declared.front.Front.{Front}
 use Rattle.warp_run.specs.declared.history.Done.{Done}
 use Rattle.warp_run.proofs.RowsAside.{aside_since, from_since}
@@ -105,28 +105,34 @@ goes_further x y z h k = λ P E done at.
     let second = k P E (done ++ first.0) first.1 in
     (first.0 ++ second.0, subst (IsAt P E z) (append_assoc done first.0 second.0) second.1)
 
--- no row is gone over, by a front that differs in the room for outputs and for what is set aside alone
-pub goes_none : (P : Program) (E : List Event) (x y : Front) (done : List Row) → y ≡ record x { outputs = y.outputs; aside = y.aside }
-    → y.outputs.items ≡ x.outputs.items → y.aside ≡ x.aside → IsAt P E x done → (rows : List Row) × IsAt P E y (done ++ rows)
-goes_none P E x y done is same aside h = (
-  [],
-  subst (IsAt P E y) (sym (append-nil done)) (record {
-    begin = h.begin;
-    rows = ap (λ (f : Front). f.rows) is ∙ h.rows;
-    last = ap (λ (f : Front). f.last) is ∙ h.last;
-    state = ap (λ (f : Front). f.state) is ∙ h.state;
-    outputs = same ∙ h.outputs;
-    ready = subst (λ (f : Front). IsReady P f.last f.state) (sym is) h.ready;
-    width = ap (λ (f : Front). f.history.width) is ∙ h.width;
-    saved = subst (λ (f : Front). AreSaved P done f.history.saves) (sym is) h.saved;
-    near = subst (λ (f : Front). f.rows ≤ reach f.history.saves) (sym is) h.near;
-    every = subst (λ (f : Front). f.every ≤ spacing) (sym is) h.every;
-    due = subst (λ (f : Front). f.due ≤ reach f.history.saves) (sym is) h.due;
-    aside_width = ap (λ (a : SetAside). a.history.width) aside ∙ h.aside_width;
-    aside = subst (λ (a : SetAside). AreAside P E a.first a.outputs a.history.saves) (sym aside) h.aside;
-    scratch = ap (λ (f : Front). f.scratch) is ∙ h.scratch;
-  }),
-)
+-- a front that differs in room alone is of the same rows
+pub same_rows : (P : Program) (E : List Event) (x y : Front) (done : List Row)
+    → y ≡ record x { outputs = y.outputs; history = y.history; aside = y.aside } → y.outputs.items ≡ x.outputs.items
+    → y.history ≡ record x.history { room = y.history.room } → IsSameAside x.aside y.aside → IsAt P E x done → IsAt P E y done
+same_rows P E x y done is same history aside h = record {
+  begin = h.begin;
+  rows = ap (λ (f : Front). f.rows) is ∙ h.rows;
+  last = ap (λ (f : Front). f.last) is ∙ h.last;
+  state = ap (λ (f : Front). f.state) is ∙ h.state;
+  outputs = same ∙ h.outputs;
+  ready = subst (λ (f : Front). IsReady P f.last f.state) (sym is) h.ready;
+  width = ap (λ (z : Saves). z.width) history ∙ h.width;
+  saved = subst (λ (z : Saves). AreSaved P done z.saves) (sym history) h.saved;
+  near = subst (λ (z : Saves). y.rows ≤ reach z.saves) (sym history) (subst (λ (f : Front). f.rows ≤ reach x.history.saves) (sym is) h.near);
+  every = subst (λ (f : Front). f.every ≤ spacing) (sym is) h.every;
+  due = subst (λ (z : Saves). y.due ≤ reach z.saves) (sym history) (subst (λ (f : Front). f.due ≤ reach x.history.saves) (sym is) h.due);
+  aside_width = ap (λ (a : SetAside). a.history.width) aside ∙ h.aside_width;
+  aside = subst (λ (a : SetAside). AreAside P E a.first a.outputs a.history.saves) (sym aside) h.aside;
+  scratch = ap (λ (f : Front). f.scratch) is ∙ h.scratch;
+}
+
+-- so by it no row is gone over
+pub goes_none : (P : Program) (E : List Event) (x y : Front) (done : List Row)
+    → y ≡ record x { outputs = y.outputs; history = y.history; aside = y.aside } → y.outputs.items ≡ x.outputs.items
+    → y.history ≡ record x.history { room = y.history.room } → IsSameAside x.aside y.aside → IsAt P E x done
+    → (rows : List Row) × IsAt P E y (done ++ rows)
+goes_none P E x y done is same history aside h =
+    ([], subst (IsAt P E y) (sym (append-nil done)) (same_rows P E x y done is same history aside h))
 
 -- from a front that is at one checkpoint to one at the next
 pub record Jumps (x y : Front) (c d : Saved) : Type 0 where
@@ -137,7 +143,7 @@ pub record Jumps (x y : Front) (c d : Saved) : Type 0 where
   pub new_last : y.last ≡ d.done.last
   pub new_state : y.state ≡ d.state
   pub new_outputs : y.outputs.items ≡ x.outputs.items ++ outputs_between x.aside.first x.aside.outputs c.done.outputs d.done.outputs
-  pub new_aside : y.aside ≡ x.aside
+  pub new_aside : IsSameAside x.aside y.aside
   pub every : y.every ≡ x.every
   pub due : y.due ≡ x.due
   pub history : y.history ≡ x.history

@@ -9,11 +9,17 @@ use Rattle.warp_tag.specs.declared.out.Out.{Out}
 use Rattle.warp_line.specs.Begin.{BeginFrom, last_after}
 use Rattle.warp_run.specs.History.{IsReady, Saved, Saves, newest, spacing}
 
--- the checkpoints, the earliest first, how many outputs were before those that are kept, and those
+-- the checkpoints, the earliest first, how many outputs were before those that are kept, those, and for how many memory
+-- was taken
 pub record SetAside : Type 0 where
   pub history : Saves
   pub first : ℕ
   pub outputs : List Out
+  pub room : ℕ
+
+-- the same is aside, whatever room there is
+abbrev pub IsSameAside : SetAside → SetAside → Type 0
+IsSameAside x y = y ≡ record x { history = record x.history { room = y.history.room }; room = y.room }
 
 -- the outputs behind so many up to so many, of those behind the first so many
 abbrev pub outputs_between : ℕ → List Out → ℕ → ℕ → List Out

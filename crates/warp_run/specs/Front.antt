@@ -11,7 +11,7 @@ use Rattle.warp_step.specs.Run.{Row, Run, is_after, state_at_end, outputs_of}
 use Rattle.warp_step.specs.declared.given.Given.{Given}
 use Rattle.warp_line.specs.Timeline.{rows_before}
 use Rattle.warp_line.specs.Begin.{Begin, last_after}
-use Rattle.warp_run.specs.Aside.{AreAside, IsFrom}
+use Rattle.warp_run.specs.Aside.{AreAside, IsFrom, IsSameAside}
 use Rattle.warp_run.specs.History.{IsReady, Saved, reach, spacing}
 use Rattle.warp_run.specs.declared.front.Front.{Front}
 
@@ -79,8 +79,15 @@ pub record IsSame (x y : Front) : Type 0 where
   pub state : y.state ≡ x.state
   pub rows : y.rows ≡ x.rows
   pub outputs : y.outputs.items ≡ x.outputs.items
-  pub aside : y.aside ≡ x.aside
+  pub aside : IsSameAside x.aside y.aside
   pub kept : (P : Program) (E : List Event) (done : List Row) → IsAt P E x done → IsAt P E y done
+
+-- each list has the room that it had
+pub record KeepsRoom (x y : Front) : Type 0 where
+  pub history : y.history.room ≡ x.history.room
+  pub outputs : vec_capacity y.outputs ≡ vec_capacity x.outputs
+  pub aside : y.aside.history.room ≡ x.aside.history.room
+  pub aside_outputs : y.aside.room ≡ x.aside.room
 
 -- there is room for one more row: a checkpoint is near enough, and the row's outputs need no memory
 pub record IsRoom (P : Program) (x : Front) : Type 0 where

@@ -1,5 +1,5 @@
 -- Checkpoints: what they hold, and how they stand in lists that they share.
-use Rattle.std.specs.Prelude.{◌≡◌, ℕ, ℤ, ◌+◌, ◌≤◌, IsTrue, List, [], ◌∷◌, length, take, drop, Option, Some, None, if◌then◌else◌}
+use Rattle.std.specs.Prelude.{◌≡◌, ℕ, ℤ, ◌+◌, ◌<◌, ◌≤◌, IsTrue, List, [], ◌∷◌, length, take, drop, Option, Some, None, if◌then◌else◌}
 use Rattle.std.specs.List.{list_all}
 use Rattle.warp_tag.specs.Limits.{most_pending}
 use Rattle.warp_tag.specs.Moment.{Moment}
@@ -15,10 +15,43 @@ pub record Saved : Type 0 where
   pub done : Done
   pub state : Snapshot
 
--- of how many variables each has values, and the checkpoints, the newest first
+-- for how many checkpoints, values of variables and pending entries memory was taken
+pub record Room : Type 0 where
+  pub marks : ℕ
+  pub values : ℕ
+  pub entries : ℕ
+
+-- of how many variables each has values, the checkpoints, the newest first, and the room for them
 pub record Saves : Type 0 where
   pub width : ℕ
   pub saves : List Saved
+  pub room : Room
+
+-- no checkpoint, and no room
+abbrev pub no_saves : ℕ → Saves
+no_saves width = record { width = width; saves = []; room = record { marks = 0; values = 0; entries = 0 } }
+
+-- how many values all of these have
+abbrev pub values_in : List Saved → ℕ
+values_in [] = 0
+values_in (c ∷ cs) = length c.state.vars + values_in cs
+
+-- how many entries are pending in all of these
+abbrev pub entries_in : List Saved → ℕ
+entries_in [] = 0
+entries_in (c ∷ cs) = length c.state.pending + entries_in cs
+
+-- there is room for one more checkpoint, of this state: for its values and its entries
+pub record HasRoomFor (h : Saves) (s : Snapshot) : Type 0 where
+  pub marks : length h.saves < h.room.marks
+  pub values : values_in h.saves + length s.vars ≤ h.room.values
+  pub entries : entries_in h.saves + length s.pending ≤ h.room.entries
+
+-- there is as much room, or more
+pub record IsAtLeast (least room : Room) : Type 0 where
+  pub marks : least.marks ≤ room.marks
+  pub values : least.values ≤ room.values
+  pub entries : least.entries ≤ room.entries
 
 -- after how many rows a checkpoint stands
 abbrev pub spacing : ℕ

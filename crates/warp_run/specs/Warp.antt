@@ -1,5 +1,5 @@
 -- What a `Warp` stands for.
-use Rattle.std.specs.Prelude.{◌≡◌, ℕ, ◌<◌, ◌≤◌, ◌++◌, IsTrue, List, length, Option, Some, unwrap_or, if◌then◌else◌}
+use Rattle.std.specs.Prelude.{◌≡◌, ℕ, ◌<◌, ◌≤◌, ◌++◌, IsTrue, List, [], ◌∷◌, length, Option, Some, unwrap_or, vec_capacity, if◌then◌else◌}
 use Rattle.std.specs.List.{list_all}
 use Rattle.warp_tag.specs.Moment.{Moment}
 use Rattle.warp_tag.specs.Table.{fresh, known, changed, live}
@@ -44,6 +44,15 @@ pub record NamesAt (old new : Warp) (origin : ℕ) (tag : Moment) (node : ℕ) :
 -- a tag after which no event is, with one more tag
 abbrev pub latest_with : Moment → Option Moment → Option Moment
 latest_with tag latest = if is_after latest tag then Some tag else latest
+
+-- the room of each of its lists: the arena's, those of what is executed, those of what is aside, and that of what is given
+-- to a step
+abbrev pub room_in : Warp → List ℕ
+room_in w =
+    w.arena.room
+    ∷ w.front.history.room.marks ∷ w.front.history.room.values ∷ w.front.history.room.entries ∷ vec_capacity w.front.outputs
+    ∷ w.front.aside.history.room.marks ∷ w.front.aside.history.room.values ∷ w.front.aside.history.room.entries ∷ w.front.aside.room
+    ∷ vec_capacity w.given ∷ []
 
 -- a node is free
 abbrev pub HasRoom : Warp → Type 0

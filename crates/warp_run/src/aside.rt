@@ -2,10 +2,10 @@
 //! comes to the tag of one of them in the same state, it is the run that was: it can go on over them.
 ghost use Rattle.std.specs.Prelude.{◌≡◌, ◌+◌, ◌<◌, ◌≤◌, ◌↔◌, ◌⊎◌, ◌∷◌, ◌++◌, IsTrue, IsSomeAnd, List, [], length, drop};
 ghost use Rattle.std.specs.Prelude.{OnErr, OnOk, Some};
-ghost use Rattle.warp_run.specs.Aside.{KeepsFrom, outputs_between, set_aside, since};
-ghost use Rattle.warp_run.specs.History.{IsOfState, Saved, before, newest};
+ghost use Rattle.warp_run.specs.Aside.{IsSameAside, KeepsFrom, outputs_between, set_aside, since};
+ghost use Rattle.warp_run.specs.History.{IsAtLeast, IsOfState, Saved, before, newest, no_saves};
 
-use crate::history::{Done, History};
+use crate::history::{Done, History, append};
 use std::alloc::Global;
 use std::marker::Model;
 use warp_step::{Out, State};
@@ -34,13 +34,16 @@ impl Model for Aside {
 
     ghost Value = { SetAside };
 
-    ghost view = { λ a. record { history = a.history; first = a.first; outputs = a.outputs.items } };
+    ghost use Rattle.std.specs.Vec.{vec_capacity};
+
+    ghost view = { λ a.
+        record { history = a.history; first = a.first; outputs = a.outputs.items; room = vec_capacity a.outputs } };
 }
 
 impl Aside {
     /// Nothing is aside, of a program with so many variables.
     pub fn new(alloc: Global, width: usize) -> Aside
-        ensures { result ≡ record { history = record { width = width; saves = [] }; first = 0; outputs = [] } }
+        ensures { result ≡ record { history = no_saves width; first = 0; outputs = []; room = 0 } }
     {
         Aside {
             history: History::new(alloc, width),
@@ -50,24 +53,26 @@ impl Aside {
         }
     }
 
-    /// Makes room for as many checkpoints as there is room for among these.
+    /// Makes at least as much room for checkpoints as there is among these.
     pub fn reserve_for(&mut self, history: &History) -> Result<(), OutOfMemory>
-        ensures { self.new ≡ self.old }
+        ensures same { IsSameAside self.old self.new }
+        ensures room { OnOk result (IsAtLeast history.now.room self.new.history.room) }
     {
         self.history.reserve_for(history)
     }
 
     /// Makes room for so many outputs in all.
     pub fn reserve_outputs(&mut self, outputs: usize) -> Result<(), OutOfMemory>
-        ensures { self.new ≡ self.old }
+        ensures same { IsSameAside self.old self.new }
+        ensures room { OnOk result (outputs ≤ self.new.room) }
     {
         let more = outputs.saturating_sub(self.outputs.len());
         self.outputs.try_reserve(more)
     }
 
     /// Sets the checkpoints aside whose last row is not before the tag, in the place of all that was, with their
-    /// outputs, of which these are all. Where there is no room, or it was in vain too often, nothing is aside. It takes
-    /// no memory.
+    /// outputs, of which these are all. Where there is no room, or it was in vain too often, nothing is aside. The room
+    /// stays as it is.
     #[inline(always)]
     pub fn take_from(&mut self, tag: Tag, history: &mut History, outputs: &[Out])
         requires { self.old.history.width ≡ history.old.width }
@@ -75,6 +80,7 @@ impl Aside {
         ensures width { self.new.history.width ≡ self.old.history.width }
         ensures aside { (self.new.history.saves ≡ []) ⊎
             KeepsFrom (set_aside tag history.old.saves []) outputs.now self.new }
+        ensures room { (self.new.history.room ≡ self.old.history.room) × (self.new.room ≡ self.old.room) }
     {
         self.unmet = self.unmet.wrapping_add(1);
         if self.unmet > PATIENCE && self.unmet % PAUSE != 0 {
@@ -94,6 +100,7 @@ impl Aside {
         ensures width { self.new.history.width ≡ self.old.history.width }
         ensures aside { (self.new.history.saves ≡ []) ⊎
             KeepsFrom (set_aside tag history.old.saves []) outputs.now self.new }
+        ensures room { (self.new.history.room ≡ self.old.history.room) × (self.new.room ≡ self.old.room) }
     {
         history.set_aside(tag, &mut self.history);
         self.outputs.clear();
@@ -102,8 +109,7 @@ impl Aside {
         };
         match outputs.get(earliest.outputs..) {
             Some(kept) if kept.len() <= self.outputs.capacity() => {
-                // There is room, so nothing can be refused.
-                let _ = self.outputs.extend_from_slice(kept);
+                append(&mut self.outputs, kept);
                 self.first = earliest.outputs;
             }
             _ => self.history.clear(),
@@ -171,7 +177,7 @@ impl Aside {
         outputs.extend_from_slice(&self.outputs[from - self.first..to - self.first])
     }
 
-    /// Gives a state back as it was at the earliest checkpoint, if there is one. It takes no memory.
+    /// Gives a state back as it was at the earliest checkpoint, if there is one.
     pub fn restore(&self, state: &mut State)
         requires { length state.old.vars ≡ self.now.history.width }
         ensures { (earliest : Saved) (others : List Saved) → self.now.history.saves ≡ earliest ∷ others →

@@ -1,13 +1,13 @@
 //! The front of a run that is executed: its state, its outputs, and the checkpoints to which it can go back.
 ghost use Rattle.std.specs.Prelude.{◌≡◌, ◌+◌, ◌<◌, ◌≤◌, ◌↔◌, ◌++◌, ◌∷◌, false, true, IsTrue, List, [], Some, length};
-ghost use Rattle.std.specs.Prelude.{IfOk, OnOk, OnErr, vec_len, vec_capacity};
+ghost use Rattle.std.specs.Prelude.{IfOk, IsOk, OnOk, OnErr, vec_len, vec_capacity};
 ghost use Rattle.warp_tag.specs.Limits.{most_names};
 ghost use Rattle.warp_tag.specs.Table.{Event};
 ghost use Rattle.warp_step.specs.Program.{Program};
 ghost use Rattle.warp_step.specs.Run.{Row, IsNext, given_at, is_after};
-ghost use Rattle.warp_run.specs.Aside.{IsMet};
-ghost use Rattle.warp_run.specs.Front.{AreFew, CanGive, GoesBack, GoesOn, IsAt, IsRoom, IsSame};
-ghost use Rattle.warp_run.specs.History.{reach, spacing};
+ghost use Rattle.warp_run.specs.Aside.{IsMet, IsSameAside};
+ghost use Rattle.warp_run.specs.Front.{AreFew, CanGive, GoesBack, GoesOn, IsAt, IsRoom, IsSame, KeepsRoom};
+ghost use Rattle.warp_run.specs.History.{HasRoomFor, IsAtLeast, reach, spacing};
 
 use crate::aside::Aside;
 use crate::history::{Done, History};
@@ -19,8 +19,8 @@ use warp_tag::{OutOfMemory, Tag};
 const SPACING: usize = 16;
 
 /// After how many rows a checkpoint stands where rows of the program are executed: four where it has at most four
-/// variables, eight where it has at most eight, and else sixteen. So a checkpoint costs a row about as much in a small
-/// program as in a large one, and a small one goes back over fewer rows.
+/// variables, eight where it has at most eight, and else sixteen. The fewer values a checkpoint has, the closer they
+/// stand.
 fn spacing_of(program: &Program) -> usize
     ensures { result ≤ spacing }
 {
@@ -31,7 +31,8 @@ fn spacing_of(program: &Program) -> usize
     }
 }
 
-/// Makes room for so many outputs more. Where this takes memory, it makes as much room for setting all aside.
+/// Makes room for so many outputs more. Where there was at least as much room for outputs that are aside, there is so
+/// still.
 #[inline(always)]
 fn reserve_outputs(
     outputs: &mut Vec<Out>,
@@ -39,8 +40,11 @@ fn reserve_outputs(
     more: usize,
 ) -> Result<(), OutOfMemory>
     ensures items { outputs.new.items ≡ outputs.old.items }
-    ensures aside { aside.new ≡ aside.old }
+    ensures aside { IsSameAside aside.old aside.new }
     ensures room { OnOk result (vec_len outputs.new + more ≤ vec_capacity outputs.new) }
+    ensures covered { OnOk result
+        (vec_capacity outputs.old ≤ aside.old.room → vec_capacity outputs.new ≤ aside.new.room) }
+    ensures fits { vec_len outputs.old + more ≤ vec_capacity outputs.old → IsOk result }
 {
     if more <= outputs.capacity() - outputs.len() {
         return Ok(());
@@ -48,7 +52,7 @@ fn reserve_outputs(
     take_room_for_outputs(outputs, aside, more)
 }
 
-/// Takes memory for so many outputs more, and as much for setting all aside.
+/// Takes memory for so many outputs more, and makes at least as much room for outputs that are aside.
 #[inline(never)]
 fn take_room_for_outputs(
     outputs: &mut Vec<Out>,
@@ -56,8 +60,9 @@ fn take_room_for_outputs(
     more: usize,
 ) -> Result<(), OutOfMemory>
     ensures items { outputs.new.items ≡ outputs.old.items }
-    ensures aside { aside.new ≡ aside.old }
+    ensures aside { IsSameAside aside.old aside.new }
     ensures room { OnOk result (vec_len outputs.new + more ≤ vec_capacity outputs.new) }
+    ensures covered { OnOk result (vec_capacity outputs.new ≤ aside.new.room) }
 {
     outputs.try_reserve(more)?;
     aside.reserve_outputs(outputs.capacity())
@@ -122,13 +127,15 @@ impl Front {
     }
 
     /// Makes room for one more row: where the newest checkpoint is as far back as they stand apart, it makes one, and
-    /// it takes memory for the row's outputs where they need it. What is executed and what is aside stay as they were,
-    /// also at an `Err`.
+    /// it makes room for the row's outputs. What is executed and what is aside stay as they were, also at an `Err`.
+    /// Where there is room for a checkpoint and for the outputs, there is none.
     #[inline(always)]
     pub fn get_ready(&mut self, program: &Program) -> Result<(), OutOfMemory>
         requires { (E : List Event) × (done : List Row) × IsAt program.now E self.old done }
         ensures same { IsSame self.old self.new }
         ensures room { OnOk result (IsRoom program.now self.new) }
+        ensures fits { HasRoomFor self.old.history self.old.state →
+            vec_len self.old.outputs + length program.now.outputs ≤ vec_capacity self.old.outputs → IsOk result }
     {
         self.save_if_due()?;
         reserve_outputs(&mut self.outputs, &mut self.aside, program.outputs().len())
@@ -165,10 +172,13 @@ impl Front {
     #[inline(always)]
     fn save_if_due(&mut self) -> Result<(), OutOfMemory>
         requires { (P : Program) × (E : List Event) × (done : List Row) × IsAt P E self.old done }
-        ensures others { self.new ≡ record self.old { due = self.new.due; history = self.new.history } }
+        ensures others { self.new ≡
+            record self.old { due = self.new.due; history = self.new.history; aside = self.new.aside } }
+        ensures aside { IsSameAside self.old.aside self.new.aside }
         ensures kept { (P : Program) (E : List Event) (done : List Row) → IsAt P E self.old done →
             IsAt P E self.new done }
         ensures room { OnOk result (self.new.rows + 1 ≤ reach self.new.history.saves) }
+        ensures fits { HasRoomFor self.old.history self.old.state → IsOk result }
     {
         if self.rows < self.due {
             return Ok(());
@@ -180,10 +190,13 @@ impl Front {
     fn save_for(&mut self, more: usize) -> Result<(), OutOfMemory>
         requires at { (P : Program) × (E : List Event) × (done : List Row) × IsAt P E self.old done }
         requires few { more ≤ spacing }
-        ensures others { self.new ≡ record self.old { due = self.new.due; history = self.new.history } }
+        ensures others { self.new ≡
+            record self.old { due = self.new.due; history = self.new.history; aside = self.new.aside } }
+        ensures aside { IsSameAside self.old.aside self.new.aside }
         ensures kept { (P : Program) (E : List Event) (done : List Row) → IsAt P E self.old done →
             IsAt P E self.new done }
         ensures room { OnOk result (self.new.rows + more ≤ reach self.new.history.saves) }
+        ensures fits { HasRoomFor self.old.history self.old.state → IsOk result }
     {
         if self.is_near(more) {
             return Ok(());
@@ -195,10 +208,13 @@ impl Front {
     #[inline(never)]
     fn add_checkpoint(&mut self) -> Result<(), OutOfMemory>
         requires { (P : Program) × (E : List Event) × (done : List Row) × IsAt P E self.old done }
-        ensures others { self.new ≡ record self.old { due = self.new.due; history = self.new.history } }
+        ensures others { self.new ≡
+            record self.old { due = self.new.due; history = self.new.history; aside = self.new.aside } }
+        ensures aside { IsSameAside self.old.aside self.new.aside }
         ensures kept { (P : Program) (E : List Event) (done : List Row) → IsAt P E self.old done →
             IsAt P E self.new done }
         ensures room { OnOk result (self.new.rows + spacing ≤ reach self.new.history.saves) }
+        ensures fits { HasRoomFor self.old.history self.old.state → IsOk result }
     {
         if self.add_in_room() {
             return Ok(());
@@ -206,24 +222,26 @@ impl Front {
         self.add_with_room()
     }
 
-    /// Makes room for a checkpoint and for setting all aside, and makes the checkpoint.
+    /// Makes room for a checkpoint, and at least as much room for checkpoints that are aside, and makes the checkpoint.
     #[inline(never)]
     fn add_with_room(&mut self) -> Result<(), OutOfMemory>
         requires { (P : Program) × (E : List Event) × (done : List Row) × IsAt P E self.old done }
-        ensures others { self.new ≡ record self.old { due = self.new.due; history = self.new.history } }
+        ensures others { self.new ≡
+            record self.old { due = self.new.due; history = self.new.history; aside = self.new.aside } }
+        ensures aside { IsSameAside self.old.aside self.new.aside }
         ensures kept { (P : Program) (E : List Event) (done : List Row) → IsAt P E self.old done →
             IsAt P E self.new done }
         ensures room { OnOk result (self.new.rows + spacing ≤ reach self.new.history.saves) }
+        ensures covered { OnOk result (IsAtLeast self.new.history.room self.new.aside.history.room) }
     {
         self.history.reserve(&self.state)?;
         self.aside.reserve_for(&self.history)?;
-        if !self.add_in_room() {
-            return Err(OutOfMemory);
-        }
+        // There is room, so it is made.
+        self.add_in_room();
         Ok(())
     }
 
-    /// Makes a checkpoint, if there is room for it, and answers whether there is. It takes no memory.
+    /// Makes a checkpoint, if there is room for it, and answers whether there is. The room stays as it is.
     #[inline(always)]
     fn add_in_room(&mut self) -> bool
         requires { (P : Program) × (E : List Event) × (done : List Row) × IsAt P E self.old done }
@@ -231,6 +249,8 @@ impl Front {
         ensures kept { (P : Program) (E : List Event) (done : List Row) → IsAt P E self.old done →
             IsAt P E self.new done }
         ensures room { IsTrue result → self.new.rows + spacing ≤ reach self.new.history.saves }
+        ensures fits { HasRoomFor self.old.history self.old.state → IsTrue result }
+        ensures capacity { self.new.history.room ≡ self.old.history.room }
     {
         let done = Done {
             rows: self.rows,
@@ -257,13 +277,14 @@ impl Front {
     }
 
     /// Goes back to the newest checkpoint before a tag that is not after the last row, and sets those after it aside.
-    /// It takes no memory.
+    /// The room of each list stays as it is.
     #[inline(never)]
     pub fn go_back(&mut self, tag: Tag)
         requires at { (P : Program) × (E : List Event) × (done : List Row) × IsAt P E self.old done }
         requires late { is_after self.old.last tag ≡ false }
-        ensures { (P : Program) (E : List Event) (done : List Row) → IsAt P E self.old done →
+        ensures back { (P : Program) (E : List Event) (done : List Row) → IsAt P E self.old done →
             GoesBack P E tag done self.new }
+        ensures room { KeepsRoom self.old self.new }
     {
         self.aside.take_from(tag, &mut self.history, &self.outputs);
         if let Some(done) = self.history.newest() {
@@ -281,6 +302,7 @@ impl Front {
         ensures others { self.new ≡ record self.old { aside = self.new.aside } }
         ensures kept { (P : Program) (E : List Event) (done : List Row) → IsAt P E self.old done →
             GoesBack P E tag done self.new }
+        ensures room { KeepsRoom self.old self.new }
     {
         self.aside.let_go_before(tag);
     }

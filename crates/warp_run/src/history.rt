@@ -1,11 +1,10 @@
-//! The checkpoints of a run, in lists that they share, so that each costs what is in use, and going back cuts the
-//! lists.
+//! The checkpoints of a run, in lists that they share: one more is appended to each, and going back cuts them.
 ghost use Rattle.std.specs.Prelude.{◌≡◌, ◌+◌, ◌<◌, ◌≤◌, ◌-◌, ◌↔◌, List, [], ◌∷◌, ◌++◌, length, take, drop, IsTrue};
-ghost use Rattle.std.specs.Prelude.{if◌then◌else◌, vec_len, vec_capacity};
+ghost use Rattle.std.specs.Prelude.{if◌then◌else◌, OnOk, vec_len, vec_capacity};
 ghost use Rattle.warp_tag.specs.Limits.{most_pending};
 ghost use Rattle.warp_step.specs.Snapshot.{AreInOrder, Snapshot};
 ghost use Rattle.warp_run.specs.Aside.{set_aside, since};
-ghost use Rattle.warp_run.specs.History.{IsOfState, Saved, before, newest, saved_at};
+ghost use Rattle.warp_run.specs.History.{HasRoomFor, IsAtLeast, IsOfState, Saved, before, newest, no_saves, saved_at};
 
 use std::alloc::Global;
 use std::marker::Model;
@@ -61,7 +60,8 @@ struct Mark {
 #[inline(always)]
 fn append_values(list: &mut Vec<i64>, values: &[i64])
     requires { vec_len list.old + length values.now ≤ vec_capacity list.old }
-    ensures { list.new.items ≡ list.old.items ++ values.now }
+    ensures items { list.new.items ≡ list.old.items ++ values.now }
+    ensures capacity { vec_capacity list.new ≡ vec_capacity list.old }
 {
     if let [value] = values {
         list.push_reserved(*value);
@@ -74,7 +74,8 @@ fn append_values(list: &mut Vec<i64>, values: &[i64])
 #[inline(always)]
 fn append_entries(list: &mut Vec<Waiting>, entries: &[Waiting])
     requires { vec_len list.old + length entries.now ≤ vec_capacity list.old }
-    ensures { list.new.items ≡ list.old.items ++ entries.now }
+    ensures items { list.new.items ≡ list.old.items ++ entries.now }
+    ensures capacity { vec_capacity list.new ≡ vec_capacity list.old }
 {
     if !entries.is_empty() {
         append(list, entries);
@@ -83,12 +84,14 @@ fn append_entries(list: &mut Vec<Waiting>, entries: &[Waiting])
 
 /// Appends items to a list that has room for them, apart from where mostly none are copied.
 #[inline(never)]
-fn append<T: Copy>(list: &mut Vec<T>, items: &[T])
+pub(crate) fn append<T: Copy>(list: &mut Vec<T>, items: &[T])
     requires { vec_len list.old + length items.now ≤ vec_capacity list.old }
-    ensures { list.new.items ≡ list.old.items ++ items.now }
+    ensures items { list.new.items ≡ list.old.items ++ items.now }
+    ensures capacity { vec_capacity list.new ≡ vec_capacity list.old }
 {
-    // There is room, so nothing can be refused.
-    let _ = list.extend_from_slice(items);
+    for item in items {
+        list.push_reserved(*item);
+    }
 }
 
 /// The checkpoints of one run. Contracts see them as a list, the newest first.
@@ -109,8 +112,17 @@ impl Model for History {
 
     ghost Value = { Saves };
 
-    ghost view = { λ h.
-        record { width = h.width; saves = saves_of h.width [] h.marks.items h.values.items h.entries.items } };
+    ghost use Rattle.std.specs.Vec.{vec_capacity};
+
+    ghost view = { λ h. record {
+      width = h.width;
+      saves = saves_of h.width [] h.marks.items h.values.items h.entries.items;
+      room = record {
+        marks = vec_capacity h.marks;
+        values = vec_capacity h.values;
+        entries = vec_capacity h.entries;
+      };
+    } };
 
     ghost invariant = { λ h. AreKept h.width h.marks.items h.values.items h.entries.items };
 }
@@ -118,7 +130,7 @@ impl Model for History {
 impl History {
     /// No checkpoint of a program with so many variables.
     pub fn new(alloc: Global, width: usize) -> History
-        ensures { result ≡ record { width = width; saves = [] } }
+        ensures { result ≡ no_saves width }
     {
         History {
             width,
@@ -129,12 +141,13 @@ impl History {
     }
 
     /// Makes a checkpoint of the state that is reached so far, if there is room for it, and answers whether there is.
-    /// It takes no memory.
+    /// The room stays as it is.
     #[inline(always)]
     pub fn save(&mut self, done: Done, state: &State) -> bool
         requires { length state.now.vars ≡ self.old.width }
-        ensures { self.new ≡
+        ensures saves { self.new ≡
             (if result then record self.old { saves = saved_at done state.now ∷ self.old.saves } else self.old) }
+        ensures room { IsTrue result ↔ HasRoomFor self.old state.now }
     {
         state.valid();
         let lost = state.lost();
@@ -143,7 +156,8 @@ impl History {
 
     /// Makes room for one more checkpoint, of this state.
     pub fn reserve(&mut self, state: &State) -> Result<(), OutOfMemory>
-        ensures { self.new ≡ self.old }
+        ensures same { self.new ≡ record self.old { room = self.new.room } }
+        ensures room { OnOk result (HasRoomFor self.new state.now) }
     {
         self.marks.try_reserve(1)?;
         self.values.try_reserve(state.vars().len())?;
@@ -173,7 +187,8 @@ impl History {
 
     /// Makes room for as much as another history has room for.
     pub fn reserve_for(&mut self, other: &History) -> Result<(), OutOfMemory>
-        ensures { self.new ≡ self.old }
+        ensures same { self.new ≡ record self.old { room = self.new.room } }
+        ensures room { OnOk result (IsAtLeast other.now.room self.new.room) }
     {
         let marks = other.marks.capacity().saturating_sub(self.marks.len());
         let values = other.values.capacity().saturating_sub(self.values.len());
@@ -184,7 +199,7 @@ impl History {
         Ok(())
     }
 
-    /// Drops all checkpoints, and keeps the room for them.
+    /// Drops all checkpoints. The room stays as it is.
     pub fn clear(&mut self)
         ensures { self.new ≡ record self.old { saves = [] } }
     {
@@ -194,8 +209,7 @@ impl History {
     }
 
     /// Moves the checkpoints whose last row is not before the tag, the newest first, to another history in the place of
-    /// those there. Where that has no room it is left with none. It takes no memory, and answers whether there was
-    /// room.
+    /// those there, and answers whether it did: else that is left with none. The rooms of both stay as they are.
     pub fn set_aside(&mut self, tag: Tag, aside: &mut History) -> bool
         requires { aside.old.width ≡ self.old.width }
         ensures left { self.new ≡ record self.old { saves = before tag self.old.saves } }
@@ -216,7 +230,7 @@ impl History {
     }
 
     /// Moves the newest checkpoint in front of those of another history, if that has room for it, and answers whether
-    /// it has. It takes no memory.
+    /// it did. The rooms of both stay as they are.
     fn move_newest(&mut self, other: &mut History) -> bool
         requires width { other.old.width ≡ self.old.width }
         requires some { 0 < length self.old.saves }
@@ -237,15 +251,17 @@ impl History {
     }
 
     /// Adds a checkpoint with these values and entries and this loss, if there is room for it, and answers whether
-    /// there is. It takes no memory.
+    /// there is. The room stays as it is.
     #[inline(always)]
     fn add(&mut self, done: Done, values: &[i64], entries: &[Waiting], lost: u64) -> bool
         requires values { length values.now ≡ self.old.width }
         requires entries { (length entries.now ≤ most_pending) × AreInOrder entries.now }
-        ensures { self.new ≡ (if result
+        ensures saves { self.new ≡ (if result
             then record self.old {
               saves = saved_at done (record { vars = values.now; pending = entries.now; lost = lost }) ∷ self.old.saves;
             } else self.old) }
+        ensures room { IsTrue result ↔
+            HasRoomFor self.old (record { vars = values.now; pending = entries.now; lost = lost }) }
     {
         if self.marks.len() == self.marks.capacity() {
             return false;
@@ -300,7 +316,7 @@ impl History {
         }
     }
 
-    /// Gives a state back as it was at the newest checkpoint, if there is one. It takes no memory.
+    /// Gives a state back as it was at the newest checkpoint, if there is one.
     pub fn restore(&self, state: &mut State)
         requires { length state.old.vars ≡ self.now.width }
         ensures { (newest : Saved) (others : List Saved) → self.now.saves ≡ newest ∷ others → state.new ≡ newest.state }

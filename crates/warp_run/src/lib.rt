@@ -4,7 +4,7 @@
 //! run: its state, its outputs, and checkpoints, one before the first row and one at most sixteen rows after each. A
 //! change of the live events at a tag that is executed already goes back to the newest checkpoint before that tag, and
 //! sets those after it aside (Jefferson 1985). Where the run comes to the tag of one of these in the same state, it
-//! goes on over them, with no row executed.
+//! can go on over them, with no row executed.
 #![tactic(auto)]
 
 mod aside;

@@ -8,7 +8,7 @@ ghost use Rattle.warp_step.specs.Run.{Row, IsNext, is_after};
 ghost use Rattle.warp_arena.specs.Places.{Reaches, entry_of};
 ghost use Rattle.warp_line.specs.Timeline.{Standing, IsDone};
 ghost use Rattle.warp_run.specs.Walk.{IsAhead, IsAtFirst, ahead, tag_of_next};
-ghost use Rattle.warp_run.specs.Front.{GoesBack, IsAt};
+ghost use Rattle.warp_run.specs.Front.{GoesBack, IsAt, KeepsRoom};
 ghost use Rattle.warp_run.specs.Warp.{Goes, HasRoom, NamesAt, StandsFor, latest_with};
 
 use crate::front::Front;
@@ -24,8 +24,8 @@ use warp_step::{Given, Meter, Out, Program, State};
 use warp_tag::{OutOfMemory, Tag};
 
 /// The timeline that executes at once what it has, and after a change at a tag that is executed already goes back to
-/// the newest checkpoint before that tag. Where the run is then again in a state that it was in, what was executed
-/// behind that stands.
+/// the newest checkpoint before that tag. Where the run is then again in a state that it was in, it can go on over what
+/// was executed behind that.
 #[derive(Drop)]
 pub struct Warp {
     arena: Arena,
@@ -40,11 +40,13 @@ pub struct Warp {
 }
 
 impl Timeline for Warp {
-    ghost use Rattle.warp_run.specs.Warp.{HasRoom, StandsFor};
+    ghost use Rattle.warp_run.specs.Warp.{HasRoom, StandsFor, room_in};
 
     ghost stands_for = { StandsFor };
 
     ghost is_prepared = { HasRoom };
+
+    ghost room = { room_in };
 
     ghost settled = { λ w. w.settled };
 
@@ -288,7 +290,8 @@ impl Warp {
     fn node(&mut self, origin: u32, tag: Tag) -> NodeId
         requires room { HasRoom self.old }
         requires name { (m : Standing) × StandsFor self.old m × IsNameOf m.program origin tag }
-        ensures { NamesAt self.old self.new origin tag result }
+        ensures names { NamesAt self.old self.new origin tag result }
+        ensures room { self.new.arena.room ≡ self.old.arena.room }
     {
         finds_known(&self.arena, origin, tag);
         changes_found(&self.arena, origin, tag);
@@ -316,6 +319,7 @@ impl Warp {
         ensures latest { self.new.latest ≡ latest_with tag self.old.latest }
         ensures unsettled { self.new.settled ≡ false }
         ensures given { self.new.given ≡ self.old.given }
+        ensures room { KeepsRoom self.old.front self.new.front }
         // A change after the last row leaves what is executed.
         ensures ahead { is_after self.old.front.last tag ≡ true →
             self.new.front ≡ record self.old.front { aside = self.new.front.aside } }

@@ -1,5 +1,5 @@
 -- Lemmas on how far a session has come.
-use Rattle.std.proofs.Common.{◌≡◌, ℕ, ◌+◌, ◌-◌, ◌<◌, ◌≤◌, List, [], ◌∷◌, ◌++◌, length, take, drop, length-append, length-take-le, get_or, Option, Some, None, false, true≢false, not, min, IsSome, IfSome, IfNone, OnSome, ◌↔◌, inr, refl, sym, ap, subst, ◌∙◌, append_assoc, append-nil, arith}
+use Rattle.std.proofs.Common.{◌≡◌, ℕ, ◌+◌, ◌-◌, ◌<◌, ◌≤◌, List, [], ◌∷◌, ◌++◌, length, take, drop, length-append, length-take-le, get_or, Option, Some, None, false, true≢false, not, min, IsSome, IfSome, IfNone, OnSome, ◌↔◌, inl, inr, refl, sym, ap, subst, ◌∙◌, append_assoc, append-nil, arith}
 use Rattle.std.specs.List.{flat_map, before_first}
 use Rattle.std.specs.Option.{option_map, option_to_list}
 use Rattle.std.specs.Io.KnownBytes.{Appends, Consumes, IsAtEnd}
@@ -17,7 +17,7 @@ use Rattle.warp_record.proofs.LineCuts.{lines_of-ended, lines_of-unended, one_li
 use Rattle.warp_session.proofs.Fronts.{more_of_rest}
 use Rattle.warp_record.specs.Reply.{reply_line}
 use Rattle.warp_session.specs.Session.{GivesPiece, GivesAll, GivesText, Transcribes}
-use Rattle.warp_session.specs.inner.Turns.{At, AreCutOff, Answered, Taken, Takes, Ends, pieces_fed}
+use Rattle.warp_session.specs.inner.Turns.{At, AreCutOff, Answered, Taken, TakesBytes, Ends, pieces_fed}
 
 -- ---- whole lines
 
@@ -129,23 +129,36 @@ module _ {S : Type 0} (gives : S → Line → Reply → S → Type 0) where
 
   -- ---- bytes that were taken
 
+  -- none yet
+  pub Taken-nil : (a : At S) → a.held.kept ≡ kept_of [] → Taken gives [] a a
+  Taken-nil a fresh = record {
+    lines = [];
+    line = [];
+    cut = refl;
+    whole = inl refl;
+    cut_off = λ more. refl;
+    one_line = All-nil (λ (byte : ℕ). is_end byte ≡ false);
+    kept = fresh;
+    answers = Answered-nil a;
+  }
+
   -- bytes, and then more of them
-  Takes-append : (xs ys : List ℕ) (a b c : At S) → Takes gives xs a b → Takes gives ys b c → Takes gives (xs ++ ys) a c
-  Takes-append xs ys a b c first second start seen was =
+  TakesBytes-append : (xs ys : List ℕ) (a b c : At S) → TakesBytes gives xs a b → TakesBytes gives ys b c → TakesBytes gives (xs ++ ys) a c
+  TakesBytes-append xs ys a b c first second start seen was =
       subst (λ (l : List ℕ). Taken gives l start c) (append_assoc seen xs ys) (second start (seen ++ xs) (first start seen was))
 
   -- a front of the bytes, and then some of the rest
-  pub Takes-more : (bytes : List ℕ) (front n : ℕ) (a b c : At S) → Takes gives (take front bytes) a b
-      → Takes gives (take n (take (length bytes - front) (drop front bytes))) b c → Takes gives (take (front + n) bytes) a c
-  Takes-more bytes front n a b c first second =
-      subst (λ (l : List ℕ). Takes gives l a c) (more_of_rest bytes front n)
-      (Takes-append (take front bytes) (take n (take (length bytes - front) (drop front bytes))) a b c first second)
+  pub TakesBytes-more : (bytes : List ℕ) (front n : ℕ) (a b c : At S) → TakesBytes gives (take front bytes) a b
+      → TakesBytes gives (take n (take (length bytes - front) (drop front bytes))) b c → TakesBytes gives (take (front + n) bytes) a c
+  TakesBytes-more bytes front n a b c first second =
+      subst (λ (l : List ℕ). TakesBytes gives l a c) (more_of_rest bytes front n)
+      (TakesBytes-append (take front bytes) (take n (take (length bytes - front) (drop front bytes))) a b c first second)
 
   -- a line feed ended the unfinished line, which was answered
-  pub Takes-line : (a b : At S) (piece : List ℕ) (given : Piece) → first_end piece < length piece
+  pub TakesBytes-line : (a b : At S) (piece : List ℕ) (given : Piece) → first_end piece < length piece
       → ((line : List ℕ) → a.held.kept ≡ kept_of line → given ≡ ended (line ++ before_first is_end piece))
-      → b.held.kept ≡ kept_of [] → Answered gives (given ∷ []) a b → Takes gives (take (first_end piece + 1) piece) a b
-  Takes-line a b piece given some is_line fresh answers start seen was =
+      → b.held.kept ≡ kept_of [] → Answered gives (given ∷ []) a b → TakesBytes gives (take (first_end piece + 1) piece) a b
+  TakesBytes-line a b piece given some is_line fresh answers start seen was =
       let before : List ℕ = before_first is_end piece in
       let line : List ℕ = was.line ++ before in
       let one : IsOneLine line = All-append (λ (byte : ℕ). is_end byte ≡ false) was.line before was.one_line (one_line_before piece) in
@@ -166,10 +179,10 @@ module _ {S : Type 0} (gives : S → Line → Reply → S → Type 0) where
       }
 
   -- bytes without a line feed went on with the line
-  Takes-rest : (a b : At S) (piece : List ℕ) → first_end piece ≡ length piece
+  TakesBytes-rest : (a b : At S) (piece : List ℕ) → first_end piece ≡ length piece
       → ((line : List ℕ) → a.held.kept ≡ kept_of line → b.held.kept ≡ kept_of (line ++ piece))
-      → Answered gives [] a b → Takes gives piece a b
-  Takes-rest a b piece none keeps answers start seen was = record {
+      → Answered gives [] a b → TakesBytes gives piece a b
+  TakesBytes-rest a b piece none keeps answers start seen was = record {
     lines = was.lines;
     line = was.line ++ piece;
     cut = ap (λ (l : List ℕ). l ++ piece) was.cut ∙ append_assoc was.lines was.line piece;
@@ -182,30 +195,30 @@ module _ {S : Type 0} (gives : S → Line → Reply → S → Type 0) where
   }
 
   -- a push into the feed, and the answer to the line that it gave, if it gave one
-  pub Takes-pushed : (a b : At S) (kept : Option (List ℕ)) (piece : List ℕ) (n : ℕ) (fed : Option Fed) → n ≡ min (first_end piece + 1) (length piece)
+  pub TakesBytes-pushed : (a b : At S) (kept : Option (List ℕ)) (piece : List ℕ) (n : ℕ) (fed : Option Fed) → n ≡ min (first_end piece + 1) (length piece)
       → IsSome fed ↔ (first_end piece < length piece)
       → IfSome fed (λ given. (line : List ℕ) → a.held.kept ≡ kept_of line → piece_of given ≡ ended (line ++ before_first is_end piece))
       → OnSome fed (kept ≡ kept_of [])
       → IfNone fed ((line : List ℕ) → a.held.kept ≡ kept_of line → kept ≡ kept_of (line ++ piece))
       → b.held.kept ≡ kept → Answered gives (pieces_fed fed) (record a { held = record { kept = kept; gathered = a.held.gathered } }) b
-      → Takes gives (take n piece) a b
-  Takes-pushed a b kept piece n (Some given) count some is_line fresh keeps same answers =
+      → TakesBytes gives (take n piece) a b
+  TakesBytes-pushed a b kept piece n (Some given) count some is_line fresh keeps same answers =
       let here : first_end piece < length piece = some.0 refl in
       let all : n ≡ first_end piece + 1 = omega arith in
-      subst (λ (m : ℕ). Takes gives (take m piece) a b) (sym all)
-      (Takes-line a b piece (piece_of given) here is_line (same ∙ fresh) (Answered-from (piece_of given ∷ []) a b kept answers))
-  Takes-pushed a b kept piece n None count some is_line fresh keeps same answers =
+      subst (λ (m : ℕ). TakesBytes gives (take m piece) a b) (sym all)
+      (TakesBytes-line a b piece (piece_of given) here is_line (same ∙ fresh) (Answered-from (piece_of given ∷ []) a b kept answers))
+  TakesBytes-pushed a b kept piece n None count some is_line fresh keeps same answers =
       let within : first_end piece ≤ length piece = prefix_len-le-length (λ (byte : ℕ). not (is_end byte)) piece in
       let past : first_end piece < length piece → ⊥ = λ here. true≢false (sym (some.1 here)) in
       let all : first_end piece ≡ length piece = omega arith in
       let whole : take n piece ≡ piece = take_all n piece (omega arith) in
-      subst (λ (l : List ℕ). Takes gives l a b) (sym whole)
-      (Takes-rest a b piece all (λ line is. same ∙ keeps line is) (Answered-from [] a b kept answers))
+      subst (λ (l : List ℕ). TakesBytes gives l a b) (sym whole)
+      (TakesBytes-rest a b piece all (λ line is. same ∙ keeps line is) (Answered-from [] a b kept answers))
 
   -- all bytes, and then all that was gathered went out
-  pub Takes-flushed : (bytes : List ℕ) (front : ℕ) (a b c : At S) → length bytes ≤ front → Takes gives (take front bytes) a b
-      → c.state ≡ b.state → c.held.gathered ≡ [] → c.held.kept ≡ b.held.kept → Appends b.written c.written b.held.gathered → Takes gives bytes a c
-  Takes-flushed bytes front a b c over takes same empty kept out start seen was =
+  pub TakesBytes-flushed : (bytes : List ℕ) (front : ℕ) (a b c : At S) → length bytes ≤ front → TakesBytes gives (take front bytes) a b
+      → c.state ≡ b.state → c.held.gathered ≡ [] → c.held.kept ≡ b.held.kept → Appends b.written c.written b.held.gathered → TakesBytes gives bytes a c
+  TakesBytes-flushed bytes front a b c over takes same empty kept out start seen was =
       let t : Taken gives (seen ++ bytes) start b = subst (λ (l : List ℕ). Taken gives (seen ++ l) start b) (take_all front bytes over) (takes start seen was) in
       record {
         lines = t.lines;

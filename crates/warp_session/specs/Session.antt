@@ -1,6 +1,6 @@
 -- The transcript of a session over any desk: what its bytes give, line by line. A desk is in a state of `S`, and
 -- `gives s line reply s'` says that in the state s a line may get this reply and leave the state s'.
-use Rattle.std.specs.Prelude.{◌≡◌, ◌⊎◌, ℕ, List, [], ◌∷◌, ◌++◌, Option, IfSome}
+use Rattle.std.specs.Prelude.{◌≡◌, ◌⊎◌, ℕ, ◌+◌, List, [], ◌∷◌, ◌++◌, Option, IfSome}
 use Rattle.std.specs.Io.KnownBytes.{Appends, Consumes}
 use Rattle.std.specs.List.{flat_map}
 use Rattle.warp_record.specs.declared.line.Line.{Line}
@@ -10,17 +10,19 @@ use Rattle.warp_record.specs.declared.reply.Refusal.TheVariants.{Syntax, TooLong
 use Rattle.warp_record.specs.Line.{IsLine, spelling}
 use Rattle.warp_record.specs.Lines.{Piece, Whole, Long, Torn, IsOneLine, lines_of}
 use Rattle.warp_record.specs.Reply.{reply_line}
+use Rattle.warp_session.specs.declared.desk_session.SessionEnd.{SessionEnd}
+use Rattle.warp_session.specs.declared.desk_session.SessionEnd.TheVariants.{End, ReadFault, WriteFault, TooManyReads, NoMemory}
 
 -- the bytes spell this line
-abbrev pub Spells : List ℕ → Line → Type 0
-Spells bytes line = IsLine line × (bytes ≡ spelling line)
+abbrev pub SpellsLine : List ℕ → Line → Type 0
+SpellsLine bytes line = IsLine line × (bytes ≡ spelling line)
 
 -- What a piece of the bytes gives: a whole line what the line that it spells gives, or refusal 1 where it spells none;
 -- a torn one refusal 1, a long one refusal 9. A refusal leaves the state as it was.
 abbrev pub GivesPiece : {S : Type 0} → (S → Line → Reply → S → Type 0) → S → Piece → Reply → S → Type 0
 GivesPiece {S} gives s (Whole bytes) reply s' =
-    ((line : Line) × Spells bytes line × gives s line reply s')
-    ⊎ (((line : Line) → ¬ Spells bytes line) × (reply ≡ Refused Syntax) × (s' ≡ s))
+    ((line : Line) × SpellsLine bytes line × gives s line reply s')
+    ⊎ (((line : Line) → ¬ SpellsLine bytes line) × (reply ≡ Refused Syntax) × (s' ≡ s))
 GivesPiece gives s Torn reply s' = (reply ≡ Refused Syntax) × (s' ≡ s)
 GivesPiece gives s Long reply s' = (reply ≡ Refused TooLong) × (s' ≡ s)
 
@@ -57,3 +59,12 @@ abbrev pub TranscribesLines : {S : Type 0} → (S → Line → Reply → S → T
 TranscribesLines gives s left left-after written written-after s' =
     (lines : List ℕ) × (line : List ℕ) × Consumes left left-after (lines ++ line) × AreWholeLines lines × IsOneLine line
     × ((text : List ℕ) × Session gives s lines text s' × Appends written written-after text)
+
+-- the counts of failed reads and of failed writes, before and after a session that ended so: one of them grew by one where it
+-- ended for that, and else none did
+abbrev pub FailsSo : SessionEnd → ℕ → ℕ → ℕ → ℕ → Type 0
+FailsSo End reads reads-after writes writes-after = (reads-after ≡ reads) × (writes-after ≡ writes)
+FailsSo ReadFault reads reads-after writes writes-after = (reads-after ≡ reads + 1) × (writes-after ≡ writes)
+FailsSo WriteFault reads reads-after writes writes-after = (reads-after ≡ reads) × (writes-after ≡ writes + 1)
+FailsSo TooManyReads reads reads-after writes writes-after = (reads-after ≡ reads) × (writes-after ≡ writes)
+FailsSo NoMemory reads reads-after writes writes-after = (reads-after ≡ reads) × (writes-after ≡ writes)

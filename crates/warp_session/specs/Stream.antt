@@ -28,6 +28,6 @@ Writes written written-after r piece =
     MatchResult r (λ n. Appends written written-after (take n piece)) (λ _. Keeps written written-after)
 
 -- the count of failures grows by one at Err, and only there
-abbrev pub Counts : {T E : Type 0} → ℕ → ℕ → Result T E → Type 0
-Counts failures failures-after r =
+abbrev pub CountsFailures : {T E : Type 0} → ℕ → ℕ → Result T E → Type 0
+CountsFailures failures failures-after r =
     MatchResult r (λ _. failures-after ≡ failures) (λ _. failures-after ≡ failures + 1)

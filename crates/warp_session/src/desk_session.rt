@@ -1,17 +1,17 @@
 //! A session: lines come in as bytes, in any pieces, and their replies go out as bytes.
 //!
 //! It knows neither who answers them, a `Desk`, nor where bytes come from and go to, a `Source` and a `Sink`.
-ghost use Rattle.std.specs.Prelude.{◌≡◌, ℕ, ◌+◌, ◌<◌, ◌≤◌, List, [], ◌∷◌, ◌++◌, Option, IfOk, OnOk, IfSome, length};
-ghost use Rattle.std.specs.Prelude.{take, vec_len};
+ghost use Rattle.std.specs.Prelude.{◌≡◌, ◌≢◌, ℕ, ◌<◌, ◌≤◌, List, [], ◌∷◌, ◌++◌, Option, IfOk, OnOk, IfSome};
+ghost use Rattle.std.specs.Prelude.{length, take, vec_len};
 ghost use Rattle.std.specs.Io.KnownBytes.{Appends};
 ghost use Rattle.warp_tag.specs.Limits.{most_reads};
 ghost use Rattle.warp_step.specs.Counter.{IsUnused};
 ghost use Rattle.warp_record.specs.Lines.{piece_of};
 ghost use Rattle.warp_record.specs.Lines.Piece.{Whole};
 ghost use Rattle.warp_record.specs.Reply.{reply_line};
-ghost use Rattle.warp_session.specs.Session.{GivesPiece, Transcribes, TranscribesLines};
-ghost use Rattle.warp_session.specs.Stream.{Counts};
-ghost use Rattle.warp_session.specs.inner.Turns.{Answered, Turn, Takes, Ends, at, nothing, pieces_fed};
+ghost use Rattle.warp_session.specs.Session.{FailsSo, GivesPiece, Transcribes, TranscribesLines};
+ghost use Rattle.warp_session.specs.Stream.{CountsFailures};
+ghost use Rattle.warp_session.specs.inner.Turns.{Answered, Turn, TakesBytes, Ends, at, nothing_held, pieces_fed};
 
 use crate::stream::{Failed, Sink, Source, write_all};
 use std::alloc::{AllocError, Global};
@@ -77,7 +77,7 @@ impl Model for Transcriber {
 impl Transcriber {
     /// Nothing was taken yet.
     fn new(alloc: Global) -> Result<Transcriber, AllocError>
-        ensures { IfOk result (λ made. made ≡ nothing) }
+        ensures { IfOk result (λ made. made ≡ nothing_held) }
     {
         let gathered = Vec::with_capacity(alloc, ROOM)?;
         Ok(Transcriber {
@@ -91,7 +91,7 @@ impl Transcriber {
         ensures written { OnOk result (Appends (W.written sink.old) (W.written sink.new) self.old.gathered) }
         ensures empty { OnOk result (self.new.gathered ≡ []) }
         ensures kept { self.new.kept ≡ self.old.kept }
-        ensures failures { Counts (W.failures sink.old) (W.failures sink.new) result }
+        ensures failures { CountsFailures (W.failures sink.old) (W.failures sink.new) result }
     {
         write_all(sink, &self.gathered)?;
         self.gathered.clear();
@@ -104,7 +104,7 @@ impl Transcriber {
         ensures gathered { OnOk result ((sent : List ℕ) × Appends (W.written sink.old) (W.written sink.new) sent
             × (sent ++ self.new.gathered ≡ self.old.gathered ++ reply_line «reply».now)) }
         ensures kept { self.new.kept ≡ self.old.kept }
-        ensures failures { Counts (W.failures sink.old) (W.failures sink.new) result }
+        ensures failures { CountsFailures (W.failures sink.old) (W.failures sink.new) result }
     {
         let is_full = self.gathered.len() + REPLY_ROOM > ROOM;
         if is_full {
@@ -127,7 +127,7 @@ impl Transcriber {
             (at (D.state desk.old) self.old (W.written sink.old) (W.failures sink.old))
             (at (D.state desk.new) self.new (W.written sink.new) (W.failures sink.new))) }
         ensures kept { self.new.kept ≡ self.old.kept }
-        ensures failures { Counts (W.failures sink.old) (W.failures sink.new) result }
+        ensures failures { CountsFailures (W.failures sink.old) (W.failures sink.new) result }
     {
         let reply = reply_to_text(desk, text);
         self.gather(sink, &reply)?;
@@ -170,7 +170,7 @@ impl Transcriber {
     ) -> Result<usize, Failed>
         requires { 0 < length bytes.now }
         ensures count { IfOk result (λ n. (0 < n) × (n ≤ length bytes.now)) }
-        ensures turn { Turn (λ n. Takes D.gives (take n bytes.now))
+        ensures turn { Turn (λ n. TakesBytes D.gives (take n bytes.now))
             (at (D.state desk.old) self.old (W.written sink.old) (W.failures sink.old))
             (at (D.state desk.new) self.new (W.written sink.new) (W.failures sink.new)) result }
     {
@@ -191,7 +191,7 @@ impl Transcriber {
         sink: &mut W,
         bytes: &[u8],
     ) -> Result<(), Failed>
-        ensures turn { Turn (λ _. Takes D.gives bytes.now)
+        ensures turn { Turn (λ _. TakesBytes D.gives bytes.now)
             (at (D.state desk.old) self.old (W.written sink.old) (W.failures sink.old))
             (at (D.state desk.new) self.new (W.written sink.new) (W.failures sink.new)) result }
         ensures empty { OnOk result (self.new.gathered ≡ []) }
@@ -215,12 +215,52 @@ impl Transcriber {
         self.flush(sink)?;
         Ok(())
     }
+
+    /// Reads lines to the end of `source` by way of `buffer`, and writes to `sink` what `desk` replies to each.
+    fn answer_all<R: Source, W: Sink, D: Desk>(
+        &mut self,
+        source: &mut R,
+        sink: &mut W,
+        desk: &mut D,
+        buffer: &mut [u8],
+    ) -> SessionEnd
+        requires room { 0 < length buffer.old }
+        requires new { self.old ≡ nothing_held }
+        ensures bytes { result ≡ SessionEnd.End →
+            Transcribes D.gives (D.state desk.old) (R.left source.old)
+            (W.written sink.old) (W.written sink.new) (D.state desk.new) }
+        ensures lines { result ≡ SessionEnd.ReadFault →
+            TranscribesLines D.gives (D.state desk.old) (R.left source.old) (R.left source.new)
+            (W.written sink.old) (W.written sink.new) (D.state desk.new) }
+        ensures failures { FailsSo result (R.failures source.old) (R.failures source.new)
+            (W.failures sink.old) (W.failures sink.new) }
+        ensures many { result ≡ SessionEnd.TooManyReads →
+            IfSome (R.left source.old) (λ input. most_reads ≤ length input) }
+        ensures memory { result ≢ SessionEnd.NoMemory }
+    {
+        'reads: for _read in 0..MAX_READS {
+            let Ok(count) = source.read(buffer) else {
+                return SessionEnd::ReadFault;
+            };
+            let has_ended = count == 0;
+            if has_ended {
+                let Ok(()) = self.finish(desk, sink) else {
+                    return SessionEnd::WriteFault;
+                };
+                return SessionEnd::End;
+            }
+            let Ok(()) = self.take(desk, sink, &buffer[..count]) else {
+                return SessionEnd::WriteFault;
+            };
+        }
+        SessionEnd::TooManyReads
+    }
 }
 
 /// The buffer for a read, and the session's beginning.
 fn begin(alloc: Global) -> Result<(Vec<u8>, Transcriber), AllocError>
     ensures piece { IfOk result (λ made. 0 < vec_len made.0) }
-    ensures empty { IfOk result (λ made. made.1 ≡ nothing) }
+    ensures empty { IfOk result (λ made. made.1 ≡ nothing_held) }
 {
     let buffer = vec![in alloc; 0; PIECE]?;
     let transcriber = Transcriber::new(alloc)?;
@@ -240,12 +280,13 @@ pub fn session<R: Source, W: Sink, D: Desk>(
     ensures bytes { result ≡ SessionEnd.End →
         Transcribes D.gives (D.state desk.old) (R.left source.old)
         (W.written sink.old) (W.written sink.new) (D.state desk.new) }
-    ensures read_fault { result ≡ SessionEnd.ReadFault → R.failures source.old < R.failures source.new }
     // Before a failed read the lines so far were answered, and no torn one.
     ensures lines { result ≡ SessionEnd.ReadFault →
         TranscribesLines D.gives (D.state desk.old) (R.left source.old) (R.left source.new)
         (W.written sink.old) (W.written sink.new) (D.state desk.new) }
-    ensures write_fault { result ≡ SessionEnd.WriteFault → W.failures sink.old < W.failures sink.new }
+    // One read has failed, or one write, where it ended for that, and else none.
+    ensures failures { FailsSo result (R.failures source.old) (R.failures source.new)
+        (W.failures sink.old) (W.failures sink.new) }
     ensures many { result ≡ SessionEnd.TooManyReads → IfSome (R.left source.old) (λ input. most_reads ≤ length input) }
     // Without memory nothing was read or written.
     ensures memory { result ≡ SessionEnd.NoMemory →
@@ -254,21 +295,5 @@ pub fn session<R: Source, W: Sink, D: Desk>(
     let Ok((mut buffer, mut transcriber)) = begin(alloc) else {
         return SessionEnd::NoMemory;
     };
-    let buffer = buffer.as_mut_slice();
-    'reads: for _read in 0..MAX_READS {
-        let Ok(count) = source.read(buffer) else {
-            return SessionEnd::ReadFault;
-        };
-        let has_ended = count == 0;
-        if has_ended {
-            let Ok(()) = transcriber.finish(desk, sink) else {
-                return SessionEnd::WriteFault;
-            };
-            return SessionEnd::End;
-        }
-        let Ok(()) = transcriber.take(desk, sink, &buffer[..count]) else {
-            return SessionEnd::WriteFault;
-        };
-    }
-    SessionEnd::TooManyReads
+    transcriber.answer_all(source, sink, desk, buffer.as_mut_slice())
 }

@@ -1,12 +1,14 @@
 //! A session of one replica without peers.
-ghost use Rattle.std.specs.Prelude.{◌≡◌, ◌<◌, ◌≤◌, IfSome, length};
+ghost use Rattle.std.specs.Prelude.{◌≡◌, ◌≤◌, IfSome, length};
 ghost use Rattle.warp_tag.specs.Limits.{most_reads};
 ghost use Rattle.warp_step.specs.Counter.{IsUnused};
 ghost use Rattle.warp_session.specs.LocalSession.{TranscribesAll, TranscribesSoFar};
+ghost use Rattle.warp_session.specs.Session.{FailsSo};
 
 use crate::desk_session::{SessionEnd, session};
 use crate::stream::{Sink, Source};
 use std::alloc::Global;
+use warp_line::Timeline;
 use warp_replica::{Local, Replica};
 use warp_run::Warp;
 use warp_step::Program;
@@ -21,16 +23,36 @@ pub fn run_session<R: Source, W: Sink>(
     // At the end all bytes were read, and their transcript from the empty log was written.
     ensures bytes { result ≡ SessionEnd.End →
         TranscribesAll program (R.left source.old) (W.written sink.old) (W.written sink.new) }
-    ensures read_fault { result ≡ SessionEnd.ReadFault → R.failures source.old < R.failures source.new }
     // Before a failed read the lines so far were answered, and no torn one.
     ensures lines { result ≡ SessionEnd.ReadFault →
         TranscribesSoFar program (R.left source.old) (R.left source.new) (W.written sink.old) (W.written sink.new) }
-    ensures write_fault { result ≡ SessionEnd.WriteFault → W.failures sink.old < W.failures sink.new }
+    // One read has failed, or one write, where it ended for that, and else none.
+    ensures failures { FailsSo result (R.failures source.old) (R.failures source.new)
+        (W.failures sink.old) (W.failures sink.new) }
     ensures many { result ≡ SessionEnd.TooManyReads → IfSome (R.left source.old) (λ input. most_reads ≤ length input) }
     // Without memory nothing was read or written.
     ensures memory { result ≡ SessionEnd.NoMemory → (source.new ≡ source.old) × (sink.new ≡ sink.old) }
 {
-    match Replica::<Warp>::new(alloc, program) {
+    run_over::<Warp, R, W>(alloc, program, source, sink)
+}
+
+/// The same over any timeline.
+fn run_over<T: Timeline + Drop, R: Source, W: Sink>(
+    alloc: Global,
+    program: Program,
+    source: &mut R,
+    sink: &mut W,
+) -> SessionEnd
+    ensures bytes { result ≡ SessionEnd.End →
+        TranscribesAll program (R.left source.old) (W.written sink.old) (W.written sink.new) }
+    ensures lines { result ≡ SessionEnd.ReadFault →
+        TranscribesSoFar program (R.left source.old) (R.left source.new) (W.written sink.old) (W.written sink.new) }
+    ensures failures { FailsSo result (R.failures source.old) (R.failures source.new)
+        (W.failures sink.old) (W.failures sink.new) }
+    ensures many { result ≡ SessionEnd.TooManyReads → IfSome (R.left source.old) (λ input. most_reads ≤ length input) }
+    ensures memory { result ≡ SessionEnd.NoMemory → (source.new ≡ source.old) × (sink.new ≡ sink.old) }
+{
+    match Replica::<T>::new(alloc, program) {
         Ok(replica) => session(alloc, source, sink, &mut Local::new(alloc, replica)),
         Err(_) => SessionEnd::NoMemory,
     }

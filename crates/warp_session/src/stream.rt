@@ -4,7 +4,7 @@
 ghost use Rattle.std.specs.Prelude.{◌≡◌, ℕ, ◌+◌, ◌<◌, ◌≤◌, IfOk, OnOk, List, Option, length};
 ghost use Rattle.std.specs.Io.KnownBytes.{Appends};
 ghost use Rattle.warp_step.specs.Counter.{IsUnused};
-ghost use Rattle.warp_session.specs.Stream.{Counts, Reads, Writes};
+ghost use Rattle.warp_session.specs.Stream.{CountsFailures, Reads, Writes};
 
 use std::io::{Read, Write};
 use std::marker::Model;
@@ -28,7 +28,7 @@ pub trait Source {
     fn read(&mut self, buffer: &mut [u8]) -> Result<usize, Failed>
         ensures bound { IfOk result (λ n. n ≤ length buffer.new) }
         ensures bytes { Reads (left self.old) (left self.new) result buffer.new }
-        ensures failures { Counts (failures self.old) (failures self.new) result };
+        ensures failures { CountsFailures (failures self.old) (failures self.new) result };
 }
 
 /// Takes bytes in order.
@@ -45,13 +45,13 @@ pub trait Sink {
         ensures bound { IfOk result (λ n. n ≤ length piece.now) }
         ensures some { IfOk result (λ n. 0 < length piece.now → 0 < n) }
         ensures bytes { Writes (written self.old) (written self.new) result piece.now }
-        ensures failures { Counts (failures self.old) (failures self.new) result };
+        ensures failures { CountsFailures (failures self.old) (failures self.new) result };
 }
 
 /// Writes all of the bytes, in as many writes as it takes.
 pub fn write_all<W: Sink>(sink: &mut W, bytes: &[u8]) -> Result<(), Failed>
     ensures bytes { OnOk result (Appends (W.written sink.old) (W.written sink.new) bytes.now) }
-    ensures failures { Counts (W.failures sink.old) (W.failures sink.new) result }
+    ensures failures { CountsFailures (W.failures sink.old) (W.failures sink.new) result }
 {
     let mut sent = 0;
     while sent < bytes.len() {

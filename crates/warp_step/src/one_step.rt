@@ -141,7 +141,7 @@ pub fn step<M: Meter>(
     ensures of_program { IsStateOf program.now state.new }
     ensures later { IsTrue (list_all (λ w. is_before tag w.tag) state.new.pending) }
     ensures scratch { scratch.new ≡ scratch.old }
-    ensures capacity { vec_capacity out.old ≤ vec_capacity out.new }
+    ensures capacity { vec_capacity out.new ≡ vec_capacity out.old }
     ensures ticks { M.ticks meter.new ≡ M.ticks meter.old + 1 }
 {
     meter.tick();

@@ -213,7 +213,7 @@ pub(crate) fn put_outputs(
     requires due { AreDue program.now present.now due.word }
     requires room { vec_len out.old + length program.now.outputs ≤ vec_capacity out.old }
     ensures outputs { out.new.items ≡ out.old.items ++ outputs_from 0 tag present.now program.now.outputs }
-    ensures capacity { vec_capacity out.old ≤ vec_capacity out.new }
+    ensures capacity { vec_capacity out.new ≡ vec_capacity out.old }
 {
     program.valid();
     let ports = program.outputs();
@@ -232,7 +232,7 @@ fn put_due_outputs(program: &Program, tag: Tag, due: Marks, present: &Present, o
     requires due { AreDue program.now present.now due.word }
     requires room { vec_len out.old + length program.now.outputs ≤ vec_capacity out.old }
     ensures outputs { out.new.items ≡ out.old.items ++ outputs_from 0 tag present.now program.now.outputs }
-    ensures capacity { vec_capacity out.old ≤ vec_capacity out.new }
+    ensures capacity { vec_capacity out.new ≡ vec_capacity out.old }
 {
     program.valid();
     let ports = program.outputs();
@@ -254,7 +254,7 @@ fn put_output(number: u32, port: u32, tag: Tag, present: &Present, out: &mut Vec
     ensures outputs { out.new.items ≡ out.old.items ++
         with_output number tag (present_at present.now (to.Port port)) [] }
     ensures len { vec_len out.new ≤ vec_len out.old + 1 }
-    ensures capacity { vec_capacity out.old ≤ vec_capacity out.new }
+    ensures capacity { vec_capacity out.new ≡ vec_capacity out.old }
 {
     if let Some(value) = present.get(Target::Port(port)) {
         out.push_reserved(Out {

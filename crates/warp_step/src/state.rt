@@ -1,5 +1,5 @@
 //! The state of a program between two steps.
-ghost use Rattle.std.specs.Prelude.{◌≡◌, ◌≤◌, ◌+◌, ◌++◌, ◌↔◌, ℕ, pos, length, map, IfOk, IsTrue, vec_len, vec_capacity};
+ghost use Rattle.std.specs.Prelude.{◌≡◌, ◌≤◌, ◌+◌, ◌↔◌, ℕ, pos, length, map, IfOk, IsTrue};
 ghost use Rattle.std.specs.List.{list_any};
 ghost use Rattle.warp_tag.specs.Limits.{longest_delay, most_pending, most_variables};
 ghost use Rattle.warp_step.specs.Program.{rule_of};
@@ -153,21 +153,6 @@ impl State {
             pending: self.pending.copy(),
             lost: self.lost,
         })
-    }
-
-    /// Appends the values of the variables and the pending entries to lists that have room for them. It takes no
-    /// memory.
-    pub fn append_to(&self, values: &mut Vec<i64>, entries: &mut Vec<Waiting>)
-        requires values { vec_len values.old + length self.now.vars ≤ vec_capacity values.old }
-        requires entries { vec_len entries.old + length self.now.pending ≤ vec_capacity entries.old }
-        ensures values { values.new.items ≡ values.old.items ++ self.now.vars }
-        ensures entries { entries.new.items ≡ entries.old.items ++ self.now.pending }
-        ensures values_room { vec_capacity values.old ≤ vec_capacity values.new }
-        ensures entries_room { vec_capacity entries.old ≤ vec_capacity entries.new }
-    {
-        // There is room, so nothing can be refused.
-        let _ = values.extend_from_slice(self.vars.as_slice());
-        let _ = entries.extend_from_slice(self.pending.as_slice());
     }
 
     /// Becomes the state with these values of the variables, by number, these pending entries, at most 256 and in

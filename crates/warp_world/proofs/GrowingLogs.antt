@@ -12,7 +12,7 @@ use Rattle.warp_record.specs.declared.record.Record.{Record}
 use Rattle.warp_table.specs.Announced.{IsWithin}
 use Rattle.warp_table.specs.Records.{Records, set_of, union}
 use Rattle.warp_table.proofs.Members.{Contains-here, Contains-there}
-use Rattle.warp_world.specs.World.{World, after_carry, after_make, entry_of, happens, log_of, takes_in, with_log}
+use Rattle.warp_world.specs.World.{World, after_carry, after_make, log_entry, happens, log_of, takes_in, with_log}
 use Rattle.warp_world.specs.declared.moves.Move.{Move}
 use Rattle.warp_world.specs.declared.moves.Move.TheVariants.{Make, Carry, Collect, Settle, Restart}
 
@@ -54,7 +54,7 @@ module _ (P : Program) (w : World) where
   -- each move
   follows_happens : (m : Move) → Follows w (happens P w m)
   follows_happens (Make replica said) = follows_make replica said (log_of w replica)
-  follows_happens (Carry from place to) = follows_carry to (entry_of w from place) (log_of w to)
+  follows_happens (Carry from place to) = follows_carry to (log_entry w from place) (log_of w to)
   follows_happens (Collect replica) = follows_same w
   follows_happens (Settle replica) = follows_same w
   follows_happens (Restart replica) = follows_with w replica [] w.made (λ other h. h)
@@ -137,7 +137,7 @@ module _ (P : Program) (replica : ℕ) (w : World) where
   -- each move but a restart
   front_happens : (m : Move) → m ≢ Restart replica → KeepsFront replica w (happens P w m)
   front_happens (Make number said) stays = front_make number said (log_of w number) refl
-  front_happens (Carry from place to) stays = front_carry to (entry_of w from place) (log_of w to) refl
+  front_happens (Carry from place to) stays = front_carry to (log_entry w from place) (log_of w to) refl
   front_happens (Collect number) stays = front_same replica w
   front_happens (Settle number) stays = front_same replica w
   front_happens (Restart number) stays = front_with replica number w w.made [] (λ same. absurd (stays (ap Restart same)))

@@ -8,7 +8,7 @@ use Rattle.warp_table.specs.Records.{Records}
 use Rattle.warp_replica.specs.Gives.{record_at}
 use Rattle.warp_replica.specs.Replica.{ReplicaState}
 use Rattle.warp_world.specs.Replicas.{world_of}
-use Rattle.warp_world.specs.World.{entry_of}
+use Rattle.warp_world.specs.World.{log_entry}
 
 -- the place behind an index
 at_index : (log : List Record) (index : ℕ) → slice_get log (suc index - 1) ≡ slice_get log index
@@ -41,9 +41,9 @@ behind_look xs i place found is =
 -- an entry of a replica that is there
 pub entry_is : {T : Type 0} (made : Records) (xs : List (ReplicaState T)) (i place : ℕ) (r : ReplicaState T) (said : Option Record) → slice_get xs i ≡ Some r
     → IfSome said (λ one. IsAt r.records place one) → IfNone said ((one : Record) → ¬ IsAt r.records place one)
-    → said ≡ entry_of (world_of made xs) i place
+    → said ≡ log_entry (world_of made xs) i place
 entry_is made xs i place r said is found none = at_place r.records place said found none ∙ behind_look xs i place (Some r) is
 
 -- and of one that is not
-pub no_entry : {T : Type 0} (made : Records) (xs : List (ReplicaState T)) (i place : ℕ) → length xs ≤ i → None ≡ entry_of (world_of made xs) i place
+pub no_entry : {T : Type 0} (made : Records) (xs : List (ReplicaState T)) (i place : ℕ) → length xs ≤ i → None ≡ log_entry (world_of made xs) i place
 no_entry made xs i place past = behind_look xs i place None (slice_get_past xs i past)

@@ -8,7 +8,7 @@ use Rattle.warp_record.specs.declared.record.Record.{Record}
 use Rattle.warp_table.specs.Records.{Records, set_of, union}
 use Rattle.warp_replica.specs.Replica.{ReplicaState}
 use Rattle.warp_world.specs.Replicas.{RunAll, logs_of, world_of}
-use Rattle.warp_world.specs.World.{World, after_carry, after_make, entry_of, happens, log_of, new_world, takes_in, with_log, world_after}
+use Rattle.warp_world.specs.World.{World, after_carry, after_make, log_entry, happens, log_of, new_world, takes_in, with_log, world_after}
 use Rattle.warp_world.specs.declared.moves.Move.{Move}
 use Rattle.warp_world.specs.declared.moves.Move.TheVariants.{Make, Carry}
 use Rattle.warp_world.proofs.Takings.{log_with}
@@ -58,7 +58,7 @@ module _ (P : Program) (w : World) (m : Move) (logs : List (List Record)) where
   made_in i said is brought = brought ∙ as_carried i said (log_of w i) ∙ ap (λ (n : Move). (happens P w n).logs) (sym is)
 
   -- or is carried, if it was found
-  pub carried_in : (from place to : ℕ) (said : Option Record) → m ≡ Carry from place to → said ≡ entry_of w from place
+  pub carried_in : (from place to : ℕ) (said : Option Record) → m ≡ Carry from place to → said ≡ log_entry w from place
       → logs ≡ (after_carry P to w said (log_of w to)).logs → logs ≡ (happens P w m).logs
   carried_in from place to said is found brought =
       brought ∙ ap (λ (s : Option Record). (after_carry P to w s (log_of w to)).logs) found ∙ ap (λ (n : Move). (happens P w n).logs) (sym is)

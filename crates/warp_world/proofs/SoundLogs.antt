@@ -18,7 +18,7 @@ use Rattle.warp_tag.proofs.Lists.{some_not_none}
 use Rattle.warp_table.proofs.Members.{Contains-cases, Contains-here, Contains-nil}
 use Rattle.warp_table.proofs.Sets.{in_set, set_append}
 use Rattle.warp_replica.specs.Gives.{record_at}
-use Rattle.warp_world.specs.World.{World, after_carry, after_make, entry_of, happens, log_of, new_world, takes_in, with_log, world_after}
+use Rattle.warp_world.specs.World.{World, after_carry, after_make, log_entry, happens, log_of, new_world, takes_in, with_log, world_after}
 use Rattle.warp_world.specs.declared.moves.Move.{Move}
 use Rattle.warp_world.specs.declared.moves.Move.TheVariants.{Make, Carry, Collect, Settle, Restart}
 
@@ -169,7 +169,7 @@ module _ (P : Program) (w : World) (s : IsSound P w) where
   pub sound_happens : (m : Move) → IsSound P (happens P w m)
   sound_happens (Make replica said) = sound_make replica said (log_of w replica) refl
   sound_happens (Carry from place to) =
-      sound_carry to (entry_of w from place) (log_of w to) (λ said found. made_entry from place (log_of w from) said refl found) refl
+      sound_carry to (log_entry w from place) (log_of w to) (λ said found. made_entry from place (log_of w from) said refl found) refl
   sound_happens (Collect replica) = s
   sound_happens (Settle replica) = s
   sound_happens (Restart replica) = sound_with replica [] (sound_empty w.made)

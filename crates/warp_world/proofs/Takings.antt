@@ -1,15 +1,18 @@
 -- What a log is once a record was taken: it has the record as its last one where the log takes it in, and else is as before.
-use Rattle.std.proofs.Common.{◌≡◌, ◌≢◌, ◌⊎◌, ℕ, ◌-◌, ◌<◌, Bool, true, false, not, ◌&&◌, nat_lt, List, [], ◌∷◌, ◌++◌, length, Option, Some, Result, Ok, Err, Contains, if◌then◌else◌, inl, inr, sym, ap, ◌∙◌, refl, arith}
+use Rattle.std.proofs.Common.{◌≡◌, ◌≢◌, ◌⊎◌, ℕ, ◌-◌, ◌<◌, Bool, true, false, not, ◌&&◌, nat_lt, List, [], ◌∷◌, ◌++◌, length, Option, Some, None, Result, Ok, Err, Contains, if◌then◌else◌, inl, inr, sym, ap, subst, ◌∙◌, refl, true≢false, arith}
 use Rattle.std.specs.Option.{is_none}
 use Rattle.std.proofs.Math.Bool.{and-false}
 use Rattle.std.proofs.lemmas.Bool.{and_from, cases_Bool, le-ltb, lt-ltb}
 use Rattle.std.proofs.lemmas.Option.{get_or_from_slice_get, slice_get_within}
 use Rattle.warp_tag.specs.Limits.{most_records}
+use Rattle.warp_tag.specs.Moment.{is_before}
 use Rattle.warp_step.specs.Program.{Program}
+use Rattle.warp_step.specs.Events.{is_declared, is_in_time, has_input, owns_input}
 use Rattle.warp_record.specs.declared.record.Record.{Record}
+use Rattle.warp_record.specs.declared.record.Record.TheVariants.{Event, Withdraw, Announce}
 use Rattle.warp_record.specs.declared.reply.Refusal.{Refusal}
 use Rattle.warp_record.specs.declared.reply.Refusal.TheVariants.{Syntax, NoOrigin, PastStop, NoInput, NotYours, NoVar, LogFull, NoMemory, TooLong, Busy, NoBoard}
-use Rattle.warp_table.specs.Check.{refusal_of}
+use Rattle.warp_table.specs.Check.{end_of, refusal_of}
 use Rattle.warp_table.specs.Log.{IsAt}
 use Rattle.warp_table.specs.Records.{set_of}
 use Rattle.warp_table.proofs.Sets.{in_set}
@@ -35,6 +38,25 @@ full log NoVar lacks other = absurd lacks
 full log TooLong lacks other = absurd lacks
 full log Busy lacks other = absurd lacks
 full log NoBoard lacks other = absurd lacks
+
+-- that memory was wanting
+abbrev is_memory : Option Refusal → Bool
+is_memory (Some NoMemory) = true
+is_memory _ = false
+
+either : (b : Bool) (x y : Option Refusal) → is_memory x ≡ false → is_memory y ≡ false → is_memory (if b then x else y) ≡ false
+either true x y first second = first
+either false x y first second = second
+
+-- it is no reason of a program
+no_reason : (P : Program) (said : Record) → is_memory (refusal_of P said) ≡ false
+no_reason P (Event origin tag input value) =
+    either (is_declared P origin) _ _
+    (either (is_in_time P tag) _ _ (either (has_input P input) _ _ (either (owns_input P origin input) None (Some NotYours) refl refl) refl) refl)
+    refl
+no_reason P (Withdraw origin tag) = either (is_declared P origin) _ _ (either (is_in_time P tag) None (Some PastStop) refl refl) refl
+no_reason P (Announce origin tag events withdrawn) =
+    either (is_declared P origin) _ _ (either (is_before (end_of P) tag) (Some PastStop) None refl refl) refl
 
 -- that a record was refused
 abbrev refused : Refusal → Result Took Refusal
@@ -77,3 +99,12 @@ module _ (P : Program) (log : List Record) (said : Record) where
   pub taken : (answer : Result Took Refusal) (after : List Record) → answer ≢ Err NoMemory → Takes P log said answer after → after ≡ log_with P log said
   taken (Ok took) after other h = taken_ok took after h
   taken (Err refusal) after other h = h.1 ∙ sym (decided false (refused_out refusal (λ is. other (ap refused is)) h.0))
+
+  -- one for which memory was wanting would have been
+  would : (refusal_of P said ≡ Some NoMemory) ⊎ (IsNew P log said × LacksRoom log NoMemory) → takes_in P log said ≡ true
+  would (inl reason) = absurd (true≢false (sym (ap is_memory reason) ∙ no_reason P said))
+  would (inr lacks) = new_in lacks.0 lacks.1
+
+  pub wanted : (answer : Result Took Refusal) (after : List Record) → answer ≡ Err NoMemory → Takes P log said answer after
+      → (takes_in P log said ≡ true) × (after ≡ log)
+  wanted answer after is h = let lacks = subst (λ a. Takes P log said a after) is h in (would lacks.0, lacks.1)

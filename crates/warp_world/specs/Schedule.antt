@@ -45,7 +45,7 @@ IsRefusedAt bytes (suc (suc number)) =
     × (bytes ≡ schedule_text count moves ++ rest) × (rest ≢ [])
     × ((move : Move) (after : List ℕ) → IsMove move → rest ≢ line (move_words move) ++ after))
 
--- Why a schedule is refused: at the line that is named there. A growth may be refused over any bytes.
+-- Why a schedule is refused: at the line that is named there; or memory was wanting, which is never said of bytes that are too many.
 abbrev pub IsFault : List ℕ → ScheduleFault → Type 0
 IsFault bytes (Line number) = IsRefusedAt bytes number
-IsFault bytes NoMemory = Unit {0}
+IsFault bytes NoMemory = length bytes ≤ longest_schedule

@@ -49,13 +49,13 @@ after_carry P to w (Some said) None = w
 after_carry P to w (Some said) (Some log) = if takes_in P log said then with_log to (log ++ said ∷ []) w else w
 
 -- the record at this place of a replica's log, from 1, if there is such a replica and such a place
-abbrev pub entry_of : World → ℕ → ℕ → Option Record
-entry_of w replica place = option_and_then (λ log. record_at log place) (log_of w replica)
+abbrev pub log_entry : World → ℕ → ℕ → Option Record
+log_entry w replica place = option_and_then (λ log. record_at log place) (log_of w replica)
 
 -- What a move does to the world. Collecting and settling change no log; a replica that is restarted has an empty log.
 abbrev pub happens : Program → World → Move → World
 happens P w (Make replica said) = after_make P replica said w (log_of w replica)
-happens P w (Carry from place to) = after_carry P to w (entry_of w from place) (log_of w to)
+happens P w (Carry from place to) = after_carry P to w (log_entry w from place) (log_of w to)
 happens P w (Collect replica) = w
 happens P w (Settle replica) = w
 happens P w (Restart replica) = with_log replica [] w

@@ -7,8 +7,8 @@
 
 mod convergence;
 mod fault;
-mod front_law;
 mod moves;
+mod moves_law;
 mod printing;
 mod schedule;
 mod schedule_law;
@@ -17,8 +17,8 @@ mod world_law;
 
 pub use convergence::{releases, replies};
 pub use fault::ScheduleFault;
-pub use front_law::{equal_sets, released_fronts};
 pub use moves::Move;
+pub use moves_law::{equal_sets, released_fronts};
 pub use printing::play_text;
 pub use schedule::{MAX_REPLICAS, MAX_SCHEDULE, read_schedule};
 pub use schedule_law::one_schedule;

@@ -1,6 +1,6 @@
 //! Several replicas of one program, and what happens to them.
-ghost use Rattle.std.specs.Prelude.{◌≡◌, ◌≢◌, ◌<◌, ◌≤◌, List, [], ◌∷◌, ◌++◌, All, IfNone, IfOk, IfSome, IsTrue, OnOk, Err, Some};
-ghost use Rattle.std.specs.Prelude.{length, map, slice_get, slice_set, if◌then◌else◌};
+ghost use Rattle.std.specs.Prelude.{◌≡◌, ◌≢◌, ◌<◌, ◌≤◌, List, [], ◌∷◌, ◌++◌, All, IfNone, IfOk, IfSome, IsTrue, OnErr, OnOk, Err};
+ghost use Rattle.std.specs.Prelude.{Some, length, map, slice_get, slice_set, if◌then◌else◌};
 ghost use Rattle.warp_step.specs.Program.{Program};
 ghost use Rattle.warp_step.specs.Counter.{IsUnused};
 ghost use Rattle.warp_record.specs.declared.record.Record.{Record};
@@ -8,7 +8,7 @@ ghost use Rattle.warp_record.specs.declared.reply.Refusal.TheVariants.{NoMemory}
 ghost use Rattle.warp_table.specs.Records.{Records};
 ghost use Rattle.warp_world.specs.Moves.{most_replicas};
 ghost use Rattle.warp_world.specs.Replicas.{RunAll, logs_of, world_of};
-ghost use Rattle.warp_world.specs.World.{after_carry, entry_of, happens, log_of, new_world, takes_in, world_after};
+ghost use Rattle.warp_world.specs.World.{after_carry, log_entry, happens, log_of, new_world, takes_in, world_after};
 ghost use Rattle.warp_world.specs.declared.moves.Move.{Move};
 
 use crate::moves::Move;
@@ -121,7 +121,7 @@ impl<T: Timeline> World<T> {
 
     /// The record at a place of a replica's log; `None` where there is no such replica or place.
     fn entry(&self, replica: u32, place: u32) -> Option<Record>
-        ensures { (made : Records) → result ≡ entry_of (world_of made self.now) replica place }
+        ensures { (made : Records) → result ≡ log_entry (world_of made self.now) replica place }
     {
         self.replica(replica as usize)?.entry(place)
     }
@@ -202,9 +202,10 @@ fn renew<T: Timeline + Drop>(
     Ok(())
 }
 
-/// `Err` where memory was wanting for the taking of a record.
+/// `Err` where memory was wanting for the taking of a record, and only there.
 fn memory_of(answer: Result<Took, Refusal>) -> Result<(), OutOfMemory>
-    ensures { OnOk result (answer ≢ Err NoMemory) }
+    ensures ok { OnOk result (answer ≢ Err NoMemory) }
+    ensures err { OnErr result (answer ≡ Err NoMemory) }
 {
     match answer {
         Err(Refusal::NoMemory) => Err(OutOfMemory),
@@ -212,7 +213,8 @@ fn memory_of(answer: Result<Took, Refusal>) -> Result<(), OutOfMemory>
     }
 }
 
-/// Lets a replica take a record. Where it is refused, nothing happens; an `Err` says that memory was wanting.
+/// Lets a replica take a record. Where the program refuses it, or the log has it or is full, nothing happens; an `Err`
+/// says that memory was wanting for one that the log would take in, and then the log is as it was.
 fn take_in<T: Timeline>(
     alloc: Global,
     replica: &mut Replica<T>,
@@ -221,6 +223,8 @@ fn take_in<T: Timeline>(
     ensures records { OnOk result (let log = replica.old.records in
         replica.new.records ≡
         (if takes_in replica.old.program log «record».now then log ++ «record».now ∷ [] else log)) }
+    ensures memory { OnErr result (IsTrue (takes_in replica.old.program replica.old.records «record».now)
+        × (replica.new.records ≡ replica.old.records)) }
     ensures program { replica.new.program ≡ replica.old.program }
 {
     memory_of(replica.take(alloc, record))

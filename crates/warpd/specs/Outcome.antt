@@ -1,5 +1,5 @@
 -- How a run of the program ends.
-use Rattle.std.specs.Prelude.{◌≡◌, ◌≢◌, ◌⊎◌, ◌<◌, ◌≤◌, ℕ, List, [], ◌++◌, Option, Some, IfSome, codes, decimal, length, take}
+use Rattle.std.specs.Prelude.{◌≡◌, ◌≢◌, ◌⊎◌, ◌+◌, ◌≤◌, ℕ, List, [], ◌++◌, Option, Some, IfSome, codes, decimal, length, take}
 use Rattle.std.specs.Io.KnownBytes.{Appends}
 use Rattle.clap.specs.Words.{IsAmong, Text, fault_of}
 use Rattle.clap.specs.declared.error.kind.ErrorKind.{ErrorKind}
@@ -15,6 +15,7 @@ use Rattle.warp_world.specs.Schedule.{IsFault}
 use Rattle.warp_world.specs.declared.fault.ScheduleFault.{ScheduleFault}
 use Rattle.warp_world.specs.declared.fault.ScheduleFault.TheVariants as schedule_fault
 use Rattle.warp_session.specs.LocalSession.{TranscribesAll, TranscribesSoFar}
+use Rattle.warp_session.specs.Session.{FailsSo}
 use Rattle.warp_world.specs.Play.{PlaysSchedule}
 use Rattle.warp_words.specs.Words.{Task, RunProgram, PlaySchedule, task_in, warpd_command}
 use Rattle.warp_session.specs.declared.desk_session.SessionEnd.{SessionEnd}
@@ -38,19 +39,19 @@ status_of Listen = 6
 status_of Accept = 6
 
 -- the line on standard error with its line feed, or nothing
-abbrev pub line_of : Outcome → List ℕ
-line_of Done = []
-line_of Words = []
-line_of TooManyLanes = codes "too many lanes\n"
-line_of (Program refusal) = codes "program refused " ++ decimal refusal ++ codes "\n"
-line_of (Schedule line) = codes "schedule refused at line " ++ decimal line ++ codes "\n"
-line_of NoProgram = codes "cannot read the program\n"
-line_of NoSchedule = codes "cannot read the schedule\n"
-line_of Input = codes "input failed\n"
-line_of Output = codes "output failed\n"
-line_of Memory = codes "no memory\n"
-line_of Listen = codes "cannot listen\n"
-line_of Accept = codes "cannot accept\n"
+abbrev pub told_line : Outcome → List ℕ
+told_line Done = []
+told_line Words = []
+told_line TooManyLanes = codes "too many lanes\n"
+told_line (Program refusal) = codes "program refused " ++ decimal refusal ++ codes "\n"
+told_line (Schedule line) = codes "schedule refused at line " ++ decimal line ++ codes "\n"
+told_line NoProgram = codes "cannot read the program\n"
+told_line NoSchedule = codes "cannot read the schedule\n"
+told_line Input = codes "input failed\n"
+told_line Output = codes "output failed\n"
+told_line Memory = codes "no memory\n"
+told_line Listen = codes "cannot listen\n"
+told_line Accept = codes "cannot accept\n"
 
 -- what the end of a session makes of the run
 abbrev pub end_outcome : SessionEnd → Outcome
@@ -75,14 +76,22 @@ pub record Seen : Type 0 where
   pub failed_reads : ℕ
   pub failed_writes : ℕ
 
--- what a session of this program did by the time that it ended so
+-- what is known of the streams before a run over them, of the bytes that are left and those that are written
+abbrev pub untouched : Option (List ℕ) → Option (List ℕ) → Seen
+untouched left written = record { left = left; written = written; failed_reads = 0; failed_writes = 0 }
+
+-- what a session of this program read and wrote by the time that it ended so
+abbrev pub WritesSo : ReactorProgram → Seen → Seen → SessionEnd → Type 0
+WritesSo P before after End = TranscribesAll P before.left before.written after.written
+WritesSo P before after ReadFault = TranscribesSoFar P before.left after.left before.written after.written
+WritesSo P before after WriteFault = Unit {0}
+WritesSo P before after TooManyReads = IfSome before.left (λ input. most_reads ≤ length input)
+WritesSo P before after NoMemory = after ≡ before
+
+-- a session of this program ended so, and one read or write has failed where it ended for that, and else none
 abbrev pub EndsSo : ReactorProgram → Seen → Seen → SessionEnd → Type 0
-EndsSo P before after End = TranscribesAll P before.left before.written after.written
-EndsSo P before after ReadFault =
-    (before.failed_reads < after.failed_reads) × TranscribesSoFar P before.left after.left before.written after.written
-EndsSo P before after WriteFault = before.failed_writes < after.failed_writes
-EndsSo P before after TooManyReads = IfSome before.left (λ input. most_reads ≤ length input)
-EndsSo P before after NoMemory = after ≡ before
+EndsSo P before after end =
+    WritesSo P before after end × FailsSo end before.failed_reads after.failed_reads before.failed_writes after.failed_writes
 
 -- these bytes begin what a reader tells, if it tells it: all of it, or the first `most` bytes
 abbrev pub IsFrontOf : ℕ → Option (List ℕ) → List ℕ → Type 0
@@ -111,12 +120,12 @@ Runs name before after outcome =
     ((P : ReactorProgram) × IsNamed name P × ((end : SessionEnd) × (outcome ≡ end_outcome end) × EndsSo P before after end))
     ⊎ (IsNone name outcome × (after ≡ before))
 
--- The text was written behind what the sink tells, and the run is done; or a write failed. Nothing was read.
+-- The text was written behind what the sink tells, and the run is done; or one write failed. Nothing was read.
 abbrev pub IsPrinted : List ℕ → Seen → Seen → Outcome → Type 0
 IsPrinted text before after outcome =
     (after.left ≡ before.left) × (after.failed_reads ≡ before.failed_reads)
-    × (((outcome ≡ Done) × Appends before.written after.written text)
-    ⊎ ((outcome ≡ Output) × (before.failed_writes < after.failed_writes)))
+    × (((outcome ≡ Done) × Appends before.written after.written text × (after.failed_writes ≡ before.failed_writes))
+    ⊎ ((outcome ≡ Output) × (after.failed_writes ≡ before.failed_writes + 1)))
 
 -- the outcome where a schedule was refused so: the line where it was, but for want of memory
 abbrev pub fault_outcome : ScheduleFault → Outcome

@@ -23,12 +23,12 @@ pub(crate) fn first_bytes<R: Read + Drop>(
     let mut front = reader.take(most);
     match front.read_to_end(&mut bytes) {
         Ok(_) => Ok(bytes),
-        Err(error) => Err(lost(&error, unread)),
+        Err(error) => Err(without_file(&error, unread)),
     }
 }
 
 /// How the run ends where a file couldn't be opened or read for this error: for want of memory, or as `unread` says.
-pub(crate) fn lost(error: &io::Error, unread: Outcome) -> Outcome
+pub(crate) fn without_file(error: &io::Error, unread: Outcome) -> Outcome
     ensures memory { error_kind error.now ≡ OutOfMemory → result ≡ Outcome.Memory }
     ensures file { error_kind error.now ≢ OutOfMemory → result ≡ unread }
     ensures either { (result ≡ unread) ⊎ (result ≡ Outcome.Memory) }

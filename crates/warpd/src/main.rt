@@ -14,8 +14,8 @@ ghost use Rattle.std.specs.declared.io.ErrorKind.TheVariants.{OutOfMemory};
 ghost use Rattle.clap.specs.Words.{kind_of};
 ghost use Rattle.warp_step.specs.Counter.{IsUnused};
 ghost use Rattle.warpd.specs.Outcome.{Does, EndsSo, IsPrinted, IsShown, Obeys, Plays, PlaysBytes, PlaysOver, Runs};
-ghost use Rattle.warpd.specs.Outcome.{Seen};
-ghost use Rattle.warpd.specs.Outcome.{line_of, status_of};
+ghost use Rattle.warpd.specs.Outcome.{Seen, untouched};
+ghost use Rattle.warpd.specs.Outcome.{told_line, status_of};
 ghost use Rattle.warp_words.specs.Words.{task_of};
 
 use clap::error::ErrorKind;
@@ -24,7 +24,7 @@ use program_file::program_named;
 use schedule_file::schedule_bytes;
 use std::alloc::{AllocError, Global};
 use std::fs::Files;
-use std::io::{Eprint, Print, Write};
+use std::io::{Eprint, Print, Read, Write};
 use std::marker::{Brand, Model};
 use std::process::ExitCode;
 use std::sync::ledger::{Blank, Ledger};
@@ -36,27 +36,50 @@ use warp_words::{Job, words};
 use warp_world::play_text;
 
 fn main(rt: HostRuntime) -> ExitCode {
-    start::<Brand, Brand>(&rt, Blank::new(1), Blank::new(1))
+    start::<Brand, Brand, _, _, _, _>(
+        &rt,
+        rt.alloc(),
+        arguments(&rt),
+        (rt.stdin(), rt.stdout()),
+        &mut rt.stderr(),
+        (Blank::new(1), Blank::new(1)),
+    )
 }
 
-/// The run over the words of the command line and the standard streams. The failures of standard input and output
-/// are counted in these ledgers.
-fn start<L: Ledger, M: Ledger>(rt: &HostRuntime, reads: Blank, writes: Blank) -> ExitCode
-    requires reads { IsUnused reads L.name L.parts }
-    requires writes { IsUnused writes M.name M.parts }
+/// The run over the words of the command line, or for the reason that there are none, over standard input and output.
+/// The failures of both are counted in these ledgers. The outcome is told on `errors`; its exit status comes back.
+fn start<
+    L: Ledger,
+    M: Ledger,
+    P: Print + Eprint + Files,
+    R: Read + Drop,
+    W: Write + Drop,
+    E: Write,
+>(
+    rt: &P,
+    alloc: Global,
+    arguments: Result<Vec<String>, Outcome>,
+    standard: (R, W),
+    errors: &mut E,
+    blanks: (Blank, Blank),
+) -> ExitCode
+    requires reads { IsUnused blanks.0 L.name L.parts }
+    requires writes { IsUnused blanks.1 M.name M.parts }
+    ensures { let before = untouched (R.remaining standard.0) (W.contents standard.1) in
+        (outcome : Outcome) × (after : Seen)
+        × MatchResult arguments
+        (λ words. Obeys (map (λ word. string_bytes word) words.items) before after outcome)
+        (λ reason. (outcome ≡ reason) × (after ≡ before))
+        × (exit_status result ≡ status_of outcome) }
 {
+    let (input, output) = standard;
+    let (reads, writes) = blanks;
     let mut streams = Streams {
-        source: Stream::<_, L>::new(rt.stdin(), reads),
-        sink: Stream::<_, M>::new(rt.stdout(), writes),
+        source: Stream::<_, L>::new(input, reads),
+        sink: Stream::<_, M>::new(output, writes),
     };
-    perform(
-        rt,
-        rt.alloc(),
-        arguments(rt),
-        &mut streams,
-        &mut rt.stderr(),
-    )
-    .0
+    let (status, _told) = perform(rt, alloc, arguments, &mut streams, errors);
+    status
 }
 
 /// Standard input and output, or what stands for them.
@@ -120,18 +143,18 @@ fn perform<P: Print + Eprint + Files, R: Source, W: Sink, E: Write>(
         (λ words. Obeys (map (λ word. string_bytes word) words.items) streams.old streams.new outcome)
         (λ reason. (outcome ≡ reason) × (streams.new ≡ streams.old))
         × (exit_status result.0 ≡ status_of outcome)
-        × OnOk result.1 (Appends (E.contents errors.old) (E.contents errors.new) (line_of outcome)) }
+        × OnOk result.1 (Appends (E.contents errors.old) (E.contents errors.new) (told_line outcome)) }
 {
     match arguments {
-        Ok(arguments) => end(obey(rt, alloc, arguments.as_slice(), streams), errors),
-        Err(outcome) => end(outcome, errors),
+        Ok(arguments) => tell(obey(rt, alloc, arguments.as_slice(), streams), errors),
+        Err(outcome) => tell(outcome, errors),
     }
 }
 
 /// Tells how the run ended on `errors`, and gives its exit status. The second part says whether it could be told.
-fn end<E: Write>(outcome: Outcome, errors: &mut E) -> (ExitCode, io::Result<()>)
+fn tell<E: Write>(outcome: Outcome, errors: &mut E) -> (ExitCode, io::Result<()>)
     ensures status { exit_status result.0 ≡ status_of outcome }
-    ensures told { OnOk result.1 (Appends (E.contents errors.old) (E.contents errors.new) (line_of outcome)) }
+    ensures told { OnOk result.1 (Appends (E.contents errors.old) (E.contents errors.new) (told_line outcome)) }
 {
     let line = say(outcome);
     let told = errors.write_all(line.as_str().as_bytes());
@@ -192,10 +215,18 @@ fn show<P: Print + Eprint>(rt: &P, error: &clap::Error) -> Outcome
     let printed = error.print(rt);
     if error.use_stderr() {
         Outcome::Words
-    } else if printed.is_err() {
-        Outcome::Output
     } else {
-        Outcome::Done
+        written(printed)
+    }
+}
+
+/// How the run ends whose output was written, or not.
+fn written<E: Drop>(answer: Result<(), E>) -> Outcome
+    ensures { MatchResult answer (λ _. result ≡ Outcome.Done) (λ _. result ≡ Outcome.Output) }
+{
+    match answer {
+        Ok(()) => Outcome::Done,
+        Err(_) => Outcome::Output,
     }
 }
 
@@ -276,8 +307,5 @@ fn play_bytes<R: Source, W: Sink>(
 fn print<R: Source, W: Sink>(text: &[u8], streams: &mut Streams<R, W>) -> Outcome
     ensures { IsPrinted text.now streams.old streams.new result }
 {
-    match write_all(&mut streams.sink, text) {
-        Ok(()) => Outcome::Done,
-        Err(_) => Outcome::Output,
-    }
+    written(write_all(&mut streams.sink, text))
 }

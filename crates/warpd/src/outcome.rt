@@ -1,6 +1,6 @@
 //! How a run of the program ends: its exit status, and the line that it says on standard error.
 ghost use Rattle.std.specs.Prelude.{◌≡◌, ◌+◌, ◌++◌, ◌≤◌, [], ◌∷◌, decimal, length};
-ghost use Rattle.warpd.specs.Outcome.{end_outcome, fault_outcome, line_of, status_of};
+ghost use Rattle.warpd.specs.Outcome.{end_outcome, fault_outcome, told_line, status_of};
 
 use arrayvec::ArrayString;
 use itoa::Buffer;
@@ -55,13 +55,13 @@ pub fn status(outcome: Outcome) -> u8
 
 /// The line of standard error with its line feed; nothing for `Done` and `Words`. It takes no memory.
 pub fn say(outcome: Outcome) -> ArrayString<LONGEST_LINE>
-    ensures { result.bytes ≡ line_of outcome }
+    ensures { result.bytes ≡ told_line outcome }
 {
     match outcome {
         Outcome::Done | Outcome::Words => ArrayString::new(),
         Outcome::TooManyLanes => plain("too many lanes\n"),
-        Outcome::Program(refusal) => numbered("program refused ", refusal as u64),
-        Outcome::Schedule(line) => numbered("schedule refused at line ", line),
+        Outcome::Program(refusal) => with_number("program refused ", refusal as u64),
+        Outcome::Schedule(line) => with_number("schedule refused at line ", line),
         Outcome::NoProgram => plain("cannot read the program\n"),
         Outcome::NoSchedule => plain("cannot read the schedule\n"),
         Outcome::Input => plain("input failed\n"),
@@ -83,7 +83,7 @@ fn plain(words: &str) -> ArrayString<LONGEST_LINE>
 }
 
 /// The words, the number in decimal and a line feed.
-fn numbered(words: &str, number: u64) -> ArrayString<LONGEST_LINE>
+fn with_number(words: &str, number: u64) -> ArrayString<LONGEST_LINE>
     requires { length words.now + 21 ≤ LONGEST_LINE }
     ensures { result.bytes ≡ words.now ++ decimal number ++ 10 ∷ [] }
 {

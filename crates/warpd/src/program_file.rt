@@ -5,7 +5,7 @@ ghost use Rattle.warp_prog.specs.Load.{IsLoaded, IsRefused};
 ghost use Rattle.warp_prog.specs.Reading.{longest_file};
 ghost use Rattle.warpd.specs.Outcome.{IsFrontOf, IsNamed, IsNone, refused_outcome};
 
-use crate::file_bytes::{first_bytes, lost};
+use crate::file_bytes::{first_bytes, without_file};
 use crate::outcome::Outcome;
 use std::alloc::Global;
 use std::fs::{self, Files};
@@ -30,7 +30,7 @@ pub(crate) fn program_named<F: Files>(
     }
     match fs::open(files, name) {
         Ok(file) => loaded(alloc, file),
-        Err(error) => Err(lost(&error, Outcome::NoProgram)),
+        Err(error) => Err(without_file(&error, Outcome::NoProgram)),
     }
 }
 
@@ -55,7 +55,18 @@ fn loaded<R: Read + Drop>(alloc: Global, reader: R) -> Result<Program, Outcome>
         × ((error : LoadError) × IsRefused bytes error × (outcome ≡ refused_outcome error)))) }
 {
     let bytes = first_bytes(alloc, reader, ENOUGH, Outcome::NoProgram)?;
-    match load(alloc, &bytes) {
+    let program = spelled_program(alloc, &bytes)?;
+    Ok(program)
+}
+
+/// The program that these bytes spell. Where they are refused, the run ends with the number of the reason, or for want
+/// of memory.
+fn spelled_program(alloc: Global, bytes: &[u8]) -> Result<Program, Outcome>
+    ensures ok { IfOk result (IsLoaded bytes.now) }
+    ensures err { IfErr result
+        (λ outcome. (error : LoadError) × IsRefused bytes.now error × (outcome ≡ refused_outcome error)) }
+{
+    match load(alloc, bytes) {
         Ok(program) => Ok(program),
         Err(error) => Err(refused(error)),
     }

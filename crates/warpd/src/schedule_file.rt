@@ -3,7 +3,7 @@ ghost use Rattle.std.specs.Prelude.{◌+◌, IfErr, IfOk};
 ghost use Rattle.warp_world.specs.Schedule.{longest_schedule};
 ghost use Rattle.warpd.specs.Outcome.{IsFrontOf, IsUnread};
 
-use crate::file_bytes::{first_bytes, lost};
+use crate::file_bytes::{first_bytes, without_file};
 use crate::outcome::Outcome;
 use std::alloc::Global;
 use std::fs::{self, Files};
@@ -21,13 +21,13 @@ pub(crate) fn schedule_bytes<F: Files>(
     ensures { IfErr result IsUnread }
 {
     match fs::open(files, name) {
-        Ok(file) => front(alloc, file),
-        Err(error) => Err(lost(&error, Outcome::NoSchedule)),
+        Ok(file) => enough_bytes(alloc, file),
+        Err(error) => Err(without_file(&error, Outcome::NoSchedule)),
     }
 }
 
 /// All bytes of a reader, or where there are more than a schedule may have, so many that it is seen.
-fn front<R: Read + Drop>(alloc: Global, reader: R) -> Result<Vec<u8>, Outcome>
+fn enough_bytes<R: Read + Drop>(alloc: Global, reader: R) -> Result<Vec<u8>, Outcome>
     ensures bytes { IfOk result (λ bytes. IsFrontOf (longest_schedule + 1) (R.remaining reader) bytes.items) }
     ensures err { IfErr result IsUnread }
 {

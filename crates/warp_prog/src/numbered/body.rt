@@ -1,19 +1,20 @@
 //! Bodies with numbers in the place of names.
 ghost use Rattle.std.specs.Prelude.{◌≡◌, IfOk, map};
-ghost use Rattle.warp_body.specs.Effect.{statement_of, statements_of};
-ghost use Rattle.warp_body.specs.Term.{term_of};
+ghost use Rattle.warp_body.specs.Effect.{Body, Choose, statement_of, statements_of};
+ghost use Rattle.warp_body.specs.Term.{Term, OfTwo, Choice, term_of};
 ghost use Rattle.warp_prog.specs.File.{Named};
 ghost use Rattle.warp_prog.specs.Numbered.{numbered_term, numbered_statement, numbered_body};
 ghost use Rattle.warp_prog.specs.inner.Room.{HasRoom};
 ghost use Rattle.warp_prog.specs.View.{reactor_tree, term_tree, statement_tree, body_tree};
 
+use crate::both::both;
 use crate::file::{Expression, Reactor, Statement};
 use crate::name::Name;
 use crate::named::is_among;
 use crate::numbered::place::{action_number, output_number, readable, variable_number};
 use crate::scope::Before;
 use std::alloc::Global;
-use warp_body::{Expr, Stmt};
+use warp_body::{BinaryOperator, Expr, Stmt};
 use warp_tag::OutOfMemory;
 
 /// What a name stands for in an expression: a variable if the reactor has one, else what is read by that name.
@@ -26,6 +27,47 @@ fn numbered_name(before: &Before, reactor: &Reactor, name: &Name) -> Expr
     } else {
         Expr::Value(readable(before, reactor, name))
     }
+}
+
+/// An operator over two parts, if both were numbered.
+fn with_two(
+    alloc: Global,
+    operator: BinaryOperator,
+    first: Result<Expr, OutOfMemory>,
+    second: Result<Expr, OutOfMemory>,
+) -> Result<Expr, OutOfMemory>
+    ensures { (a b : Term) → IfOk first (λ e. term_of e ≡ a) → IfOk second (λ e. term_of e ≡ b)
+        → IfOk result (λ e. term_of e ≡ OfTwo operator a b) }
+{
+    let (first, second) = both(first, second)?;
+    let first = Box::new(alloc, first)?;
+    let second = Box::new(alloc, second)?;
+    Ok(Expr::Binary(operator, first, second))
+}
+
+/// A choice.
+fn of_three(alloc: Global, test: Expr, first: Expr, second: Expr) -> Result<Expr, OutOfMemory>
+    ensures { IfOk result (λ e. term_of e ≡ Choice (term_of test) (term_of first) (term_of second)) }
+{
+    let test = Box::new(alloc, test)?;
+    let first = Box::new(alloc, first)?;
+    let second = Box::new(alloc, second)?;
+    Ok(Expr::If(test, first, second))
+}
+
+/// A choice, if all three parts were numbered.
+fn with_three(
+    alloc: Global,
+    test: Result<Expr, OutOfMemory>,
+    first: Result<Expr, OutOfMemory>,
+    second: Result<Expr, OutOfMemory>,
+) -> Result<Expr, OutOfMemory>
+    ensures { (c a b : Term) → IfOk test (λ e. term_of e ≡ c) → IfOk first (λ e. term_of e ≡ a)
+        → IfOk second (λ e. term_of e ≡ b) → IfOk result (λ e. term_of e ≡ Choice c a b) }
+{
+    let (test, rest) = both(test, both(first, second))?;
+    let (first, second) = rest;
+    of_three(alloc, test, first, second)
 }
 
 fn numbered_term(
@@ -42,21 +84,37 @@ fn numbered_term(
         Expression::Value(name) => Ok(numbered_name(before, reactor, name)),
         Expression::Present(name) => Ok(Expr::Present(readable(before, reactor, name))),
         Expression::Unary(operator, a) => {
-            let a = Box::new(alloc, numbered_term(alloc, before, reactor, a)?)?;
+            let a = numbered_term(alloc, before, reactor, a)?;
+            let a = Box::new(alloc, a)?;
             Ok(Expr::Unary(*operator, a))
         }
         Expression::Binary(operator, a, b) => {
-            let a = Box::new(alloc, numbered_term(alloc, before, reactor, a)?)?;
-            let b = Box::new(alloc, numbered_term(alloc, before, reactor, b)?)?;
-            Ok(Expr::Binary(*operator, a, b))
+            let a = numbered_term(alloc, before, reactor, a);
+            let b = numbered_term(alloc, before, reactor, b);
+            with_two(alloc, *operator, a, b)
         }
         Expression::If(condition, a, b) => {
-            let condition = Box::new(alloc, numbered_term(alloc, before, reactor, condition)?)?;
-            let a = Box::new(alloc, numbered_term(alloc, before, reactor, a)?)?;
-            let b = Box::new(alloc, numbered_term(alloc, before, reactor, b)?)?;
-            Ok(Expr::If(condition, a, b))
+            let condition = numbered_term(alloc, before, reactor, condition);
+            let a = numbered_term(alloc, before, reactor, a);
+            let b = numbered_term(alloc, before, reactor, b);
+            with_three(alloc, condition, a, b)
         }
     }
+}
+
+/// A choice between two lists, if all of it was numbered.
+fn choice(
+    condition: Result<Expr, OutOfMemory>,
+    first: Result<Vec<Stmt>, OutOfMemory>,
+    second: Result<Vec<Stmt>, OutOfMemory>,
+) -> Result<Stmt, OutOfMemory>
+    ensures { (c : Term) (a b : Body) → IfOk condition (λ e. term_of e ≡ c)
+        → IfOk first (λ ss. statements_of ss.items ≡ a) → IfOk second (λ ss. statements_of ss.items ≡ b)
+        → IfOk result (λ s. statement_of s ≡ Choose c a b) }
+{
+    let (condition, rest) = both(condition, both(first, second))?;
+    let (first, second) = rest;
+    Ok(Stmt::If(condition, first, second))
 }
 
 #[cycle(numbered_statement)]
@@ -88,10 +146,10 @@ fn numbered_statement(
             ))
         }
         Statement::If(condition, first, second) => {
-            let condition = numbered_term(alloc, before, reactor, condition)?;
-            let first = numbered_body(alloc, before, reactor, first)?;
-            let second = numbered_body(alloc, before, reactor, second)?;
-            Ok(Stmt::If(condition, first, second))
+            let condition = numbered_term(alloc, before, reactor, condition);
+            let first = numbered_body(alloc, before, reactor, first);
+            let second = numbered_body(alloc, before, reactor, second);
+            choice(condition, first, second)
         }
     }
 }

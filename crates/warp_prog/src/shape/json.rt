@@ -4,6 +4,7 @@ ghost use Rattle.serde_json.specs.Data.{Data};
 ghost use Rattle.serde_json.specs.Find.{get};
 ghost use Rattle.serde_json.specs.View.{view, items_view, members_view};
 ghost use Rattle.warp_prog.specs.Json.{is_one_of, are_keys, has_only, items_at, each, list_at, pair_of, triple_of};
+ghost use Rattle.warp_prog.specs.inner.Read.{first_word};
 
 use crate::misread::Misread;
 use serde_json::{Map, Value};
@@ -25,7 +26,9 @@ pub(crate) fn each<T: FromJson>(alloc: Global, items: &[Value]) -> Result<Vec<T>
 {
     let mut found = Vec::with_capacity(alloc, items.len())?;
     for item in items {
-        let part = T::from_json(item).ok_or(Misread::Shape)?;
+        let Some(part) = T::from_json(item) else {
+            return Err(Misread::Shape);
+        };
         found.push(part)?;
     }
     Ok(found)
@@ -46,7 +49,9 @@ pub(crate) fn list<T: FromJson>(alloc: Global, value: &Value, key: &str) -> Resu
     ensures ok { IfOk result (λ xs. list_at T.FromJson.shape key.now (view value.now) ≡ Some xs.items) }
     ensures err { result ≡ Err Misread.Shape → list_at T.FromJson.shape key.now (view value.now) ≡ None }
 {
-    let items = items(value, key).ok_or(Misread::Shape)?;
+    let Some(items) = items(value, key) else {
+        return Err(Misread::Shape);
+    };
     each(alloc, items)
 }
 
@@ -80,6 +85,13 @@ pub(crate) fn has_only(value: &Value, keys: &[&str]) -> bool
         Some(members) => are_keys(keys, members),
         None => false,
     }
+}
+
+/// The text that the first item of a list is.
+pub(crate) fn first_word<'v>(items: &'v [Value]) -> Option<&'v str>
+    ensures { option_map (λ w. w.now) result ≡ first_word (items_view items.now) }
+{
+    items.first()?.as_str()
 }
 
 /// The two values of a list of two.

@@ -2,9 +2,9 @@
 ghost use Rattle.std.specs.Prelude.{◌≡◌, Some, None, IfOk, Err, option_and_then, map, codes};
 ghost use Rattle.serde_json.specs.Find.{get};
 ghost use Rattle.serde_json.specs.View.{view, items_view};
-ghost use Rattle.warp_prog.specs.Json.{each, list_at, unless_empty};
+ghost use Rattle.warp_prog.specs.Json.{each, has_only, list_at, unless_empty};
 ghost use Rattle.warp_prog.specs.Word.{name_at};
-ghost use Rattle.warp_prog.specs.Shape.{body_or_none, reaction_of};
+ghost use Rattle.warp_prog.specs.Shape.{body_or_none, reaction_keys, reaction_of};
 ghost use Rattle.warp_prog.specs.View.{statement_tree, body_tree, reaction_tree};
 
 use crate::file::{Reaction, Statement};
@@ -41,13 +41,20 @@ fn body_or_none(alloc: Global, value: &Value) -> Result<Vec<Statement>, Misread>
     }
 }
 
+/// Whether a value is an object whose keys are all among those of a reaction.
+fn has_reaction_keys(value: &Value) -> bool
+    ensures { result ≡ has_only reaction_keys (view value.now) }
+{
+    has_only(value, &["on", "reads", "writes", "body"])
+}
+
 /// The reaction that a value is.
 #[tactic(auto, unfolding(crate::specs::Shape::reaction_of))]
 fn reaction(alloc: Global, value: &Value) -> Result<Reaction, Misread>
     ensures ok { IfOk result (λ r. reaction_of (view value.now) ≡ Some (reaction_tree r)) }
     ensures err { result ≡ Err Misread.Shape → reaction_of (view value.now) ≡ None }
 {
-    if !has_only(value, &["on", "reads", "writes", "body"]) {
+    if !has_reaction_keys(value) {
         return Err(Misread::Shape);
     }
     let triggers = triggers(alloc, value)?;

@@ -2,9 +2,9 @@
 ghost use Rattle.std.specs.Prelude.{◌≡◌, Some, None, IfOk, Err, option_and_then, map, codes};
 ghost use Rattle.serde_json.specs.Find.{get};
 ghost use Rattle.serde_json.specs.View.{view, items_view};
-ghost use Rattle.warp_prog.specs.Json.{each, list_at, unless_empty};
+ghost use Rattle.warp_prog.specs.Json.{each, has_only, list_at, unless_empty};
 ghost use Rattle.warp_prog.specs.Word.{name_at};
-ghost use Rattle.warp_prog.specs.Shape.{reaction_of, reactor_of};
+ghost use Rattle.warp_prog.specs.Shape.{reaction_of, reactor_keys, reactor_of};
 ghost use Rattle.warp_prog.specs.View.{reaction_tree, reactor_tree};
 
 use crate::file::{Reaction, Reactor};
@@ -29,15 +29,15 @@ fn reactions_at(alloc: Global, value: &Value) -> Result<Vec<Reaction>, Misread>
         (λ rs. list_at reaction_of (codes "reactions") (view value.now) ≡ Some (map reaction_tree rs.items)) }
     ensures err { result ≡ Err Misread.Shape → list_at reaction_of (codes "reactions") (view value.now) ≡ None }
 {
-    let items = items(value, "reactions").ok_or(Misread::Shape)?;
+    let Some(items) = items(value, "reactions") else {
+        return Err(Misread::Shape);
+    };
     reactions(alloc, items)
 }
 
-/// The reactor that a value is.
-#[tactic(auto, unfolding(crate::specs::Shape::reactor_of))]
-fn reactor(alloc: Global, value: &Value) -> Result<Reactor, Misread>
-    ensures ok { IfOk result (λ r. reactor_of (view value.now) ≡ Some (reactor_tree r)) }
-    ensures err { result ≡ Err Misread.Shape → reactor_of (view value.now) ≡ None }
+/// Whether a value is an object whose keys are all among those of a reactor.
+fn has_reactor_keys(value: &Value) -> bool
+    ensures { result ≡ has_only reactor_keys (view value.now) }
 {
     let keys = [
         "name",
@@ -48,10 +48,21 @@ fn reactor(alloc: Global, value: &Value) -> Result<Reactor, Misread>
         "timers",
         "reactions",
     ];
-    if !has_only(value, &keys) {
+    has_only(value, &keys)
+}
+
+/// The reactor that a value is.
+#[tactic(auto, unfolding(crate::specs::Shape::reactor_of))]
+fn reactor(alloc: Global, value: &Value) -> Result<Reactor, Misread>
+    ensures ok { IfOk result (λ r. reactor_of (view value.now) ≡ Some (reactor_tree r)) }
+    ensures err { result ≡ Err Misread.Shape → reactor_of (view value.now) ≡ None }
+{
+    if !has_reactor_keys(value) {
         return Err(Misread::Shape);
     }
-    let name = name(value).ok_or(Misread::Shape)?;
+    let Some(name) = name(value) else {
+        return Err(Misread::Shape);
+    };
     let variables = list(alloc, value, "vars")?;
     let inputs = list(alloc, value, "inputs")?;
     let outputs = list(alloc, value, "outputs")?;
@@ -91,7 +102,9 @@ pub(crate) fn reactors(alloc: Global, value: &Value) -> Result<Vec<Reactor>, Mis
     ensures err { result ≡ Err Misread.Shape
         → option_and_then unless_empty (list_at reactor_of (codes "reactors") (view value.now)) ≡ None }
 {
-    let items = items(value, "reactors").ok_or(Misread::Shape)?;
+    let Some(items) = items(value, "reactors") else {
+        return Err(Misread::Shape);
+    };
     let found = each_reactor(alloc, items)?;
     if found.is_empty() {
         return Err(Misread::Shape);

@@ -1,15 +1,19 @@
 //! Statements and bodies of a file.
-ghost use Rattle.std.specs.Prelude.{◌≡◌, Some, None, IfOk, Err, option_map, map};
+ghost use Rattle.std.specs.Prelude.{◌≡◌, Option, Some, None, IfOk, Err, option_map, map};
 ghost use Rattle.serde_json.specs.Data.{array};
 ghost use Rattle.serde_json.specs.View.{view, items_view};
 ghost use Rattle.warp_prog.specs.Statements.{assignment, assignment_of, scheduling_of, choice_of, statement_of};
 ghost use Rattle.warp_prog.specs.Statements.{body_of, statements_of};
+ghost use Rattle.warp_prog.specs.File.{NamedBody};
 ghost use Rattle.warp_prog.specs.View.{term_tree, statement_tree, body_tree};
+ghost use Rattle.warp_prog.specs.inner.Read.{IsRead, list_tree};
 
+use crate::both::both;
 use crate::file::{Expression, Statement};
 use crate::misread::Misread;
 use crate::name::Name;
 use crate::shape::expression::expression;
+use crate::shape::json::first_word;
 use crate::shape::word::{integer_at, name_at};
 use serde_json::Value;
 use std::alloc::Global;
@@ -32,7 +36,9 @@ fn assign(alloc: Global, word: &str, name: &Value, value: &Value) -> Result<Stat
         (λ s. assignment_of word.now (view name.now) (view value.now) ≡ Some (statement_tree s)) }
     ensures err { result ≡ Err Misread.Shape → assignment_of word.now (view name.now) (view value.now) ≡ None }
 {
-    let name = name_at(name).ok_or(Misread::Shape)?;
+    let Some(name) = name_at(name) else {
+        return Err(Misread::Shape);
+    };
     let value = expression(alloc, value)?;
     assignment(word, name, value).ok_or(Misread::Shape)
 }
@@ -51,8 +57,12 @@ fn schedule(
     ensures err { result ≡ Err Misread.Shape
         → scheduling_of word.now (view action.now) (view delay.now) (view value.now) ≡ None }
 {
-    let action = name_at(action).ok_or(Misread::Shape)?;
-    let delay = integer_at(delay).ok_or(Misread::Shape)?;
+    let Some(action) = name_at(action) else {
+        return Err(Misread::Shape);
+    };
+    let Some(delay) = integer_at(delay) else {
+        return Err(Misread::Shape);
+    };
     let value = expression(alloc, value)?;
     if word != "schedule" {
         return Err(Misread::Shape);
@@ -60,47 +70,43 @@ fn schedule(
     Ok(Statement::Schedule(action, delay, value))
 }
 
-/// `["if", expression, [..], [..]]`, of what the lists are.
+/// `["if", expression, [..], [..]]`, of what the lists are read as.
 #[tactic(auto, unfolding(crate::specs::Statements::choice_of))]
 fn choose(
     alloc: Global,
     test: &Value,
-    first: Vec<Statement>,
-    second: Vec<Statement>,
+    first: Result<Vec<Statement>, Misread>,
+    second: Result<Vec<Statement>, Misread>,
 ) -> Result<Statement, Misread>
-    ensures ok { IfOk result
-        (λ s. choice_of (view test.now) (Some (body_tree (map statement_tree first.items)))
-        (Some (body_tree (map statement_tree second.items))) ≡ Some (statement_tree s)) }
-    ensures err { result ≡ Err Misread.Shape
-        → choice_of (view test.now) (Some (body_tree (map statement_tree first.items)))
-        (Some (body_tree (map statement_tree second.items))) ≡ None }
+    ensures { (a b : Option NamedBody) → IsRead list_tree first a → IsRead list_tree second b
+        → IsRead statement_tree result (choice_of (view test.now) a b) }
 {
-    let test = expression(alloc, test)?;
+    let lists = both(first, second);
+    let (lists, test) = both(lists, expression(alloc, test))?;
+    let (first, second) = lists;
     Ok(Statement::If(test, first, second))
 }
 
 /// The statement of a word and its parts.
 #[cycle(statement)]
-#[tactic(auto, using(crate::proofs::StatementLemmas::no_statement_in_few, crate::proofs::StatementLemmas::no_statement_in_many))]
 fn parts(alloc: Global, items: &[Value]) -> Result<Statement, Misread>
     ensures ok { IfOk result (λ s. statement_of (array (items_view items.now)) ≡ Some (statement_tree s)) }
     ensures err { result ≡ Err Misread.Shape → statement_of (array (items_view items.now)) ≡ None }
 {
+    let Some(word) = first_word(items) else {
+        return Err(Misread::Shape);
+    };
     match items {
         [] => Err(Misread::Shape),
         [_] => Err(Misread::Shape),
         [_, _] => Err(Misread::Shape),
-        [word, name, value] => {
-            let word = word.as_str().ok_or(Misread::Shape)?;
-            assign(alloc, word, name, value)
-        }
-        [word, x, y, z] => {
-            let word = word.as_str().ok_or(Misread::Shape)?;
+        [_, name, value] => assign(alloc, word, name, value),
+        [_, x, y, z] => {
             if word != "if" {
                 return schedule(alloc, word, x, y, z);
             }
-            let first = body(alloc, y)?;
-            let second = body(alloc, z)?;
+            let first = body(alloc, y);
+            let second = body(alloc, z);
             choose(alloc, x, first, second)
         }
         [_, _, _, _, _, ..] => Err(Misread::Shape),

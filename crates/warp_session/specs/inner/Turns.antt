@@ -6,7 +6,7 @@ use Rattle.warp_record.specs.declared.line.Line.{Line}
 use Rattle.warp_record.specs.declared.reply.Reply.{Reply}
 use Rattle.warp_record.specs.declared.feed.Fed.{Fed}
 use Rattle.warp_record.specs.Lines.{Piece, IsOneLine, lines_of, kept_of, piece_of}
-use Rattle.warp_session.specs.Stream.{Counts}
+use Rattle.warp_session.specs.Stream.{CountsFailures}
 use Rattle.warp_session.specs.Session.{GivesText, AreWholeLines}
 
 -- what waits in a session: what the feed keeps of the unfinished line, and the text gathered
@@ -15,8 +15,8 @@ pub record Held : Type 0 where
   pub gathered : List ℕ
 
 -- nothing waits
-abbrev pub nothing : Held
-nothing = record { kept = kept_of []; gathered = [] }
+abbrev pub nothing_held : Held
+nothing_held = record { kept = kept_of []; gathered = [] }
 
 -- where a session is: its desk's state, what waits, the bytes written if they are told, and how many writes failed
 pub record At (S : Type 0) : Type 0 where
@@ -40,7 +40,7 @@ pub record Answered {S : Type 0} (gives : S → Line → Reply → S → Type 0)
 -- what a call of a session does: at Ok this, and no write failed; at Err one did
 pub record Turn {S T E : Type 0} (Does : T → At S → At S → Type 0) (old new : At S) (result : Result T E) : Type 0 where
   pub does : IfOk result (λ v. Does v old new)
-  pub failures : Counts old.failures new.failures result
+  pub failures : CountsFailures old.failures new.failures result
 
 -- whatever follows these bytes is cut into lines by itself
 abbrev pub AreCutOff : List ℕ → Type 0
@@ -58,8 +58,8 @@ pub record Taken {S : Type 0} (gives : S → Line → Reply → S → Type 0) (b
   pub answers : Answered gives (lines_of lines) start now
 
 -- whatever was taken before, these bytes were taken too
-abbrev pub Takes : {S : Type 0} → (S → Line → Reply → S → Type 0) → List ℕ → At S → At S → Type 0
-Takes {S} gives bytes old new =
+abbrev pub TakesBytes : {S : Type 0} → (S → Line → Reply → S → Type 0) → List ℕ → At S → At S → Type 0
+TakesBytes {S} gives bytes old new =
     (start : At S) → (seen : List ℕ) → Taken gives seen start old → Taken gives (seen ++ bytes) start new
 
 -- whatever was taken before, all of it is answered now, and nothing is gathered any more

@@ -2,7 +2,7 @@
 use Rattle.std.proofs.Common.{◌≡◌, refl, subst}
 use Rattle.warpd.specs.Outcome.{EndsSo, Seen}
 use Rattle.warp_session.specs.declared.desk_session.SessionEnd.TheVariants.{NoMemory}
-use Rattle.warpd.proofs.Endings.{ends_so}
+use Rattle.warpd.proofs.Endings.{writes_so}
 use Rattle.warpd.proofs.answer.Goals as goal
 
 pub returns : goal.returns
@@ -22,5 +22,5 @@ returns g c =
     } in
     let same : c.run_session.result ≡ NoMemory → after ≡ before = λ ended. let m = e.memory ended in rw (m.0, m.1) refl in
     let ends : EndsSo c.args.program before after c.run_session.result =
-    ends_so c.args.program before after c.run_session.result e.bytes e.read_fault e.lines e.write_fault e.many same in
+    (writes_so c.args.program before after c.run_session.result e.bytes e.lines e.many same, e.failures) in
     subst (λ (seen : Seen). EndsSo c.args.program seen after c.run_session.result) c.streams.view_is ends

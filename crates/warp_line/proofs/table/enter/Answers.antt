@@ -1,5 +1,5 @@
 -- The name stands at the place, or comes in new there.
-use Rattle.std.proofs.Common.{◌≡◌, ◌<◌, ◌≤◌, arith, length, ap, subst, sym, ◌∙◌, List, vec_len}
+use Rattle.std.proofs.Common.{◌≡◌, ◌<◌, ◌≤◌, arith, refl, length, ap, subst, sym, ◌∙◌, List, vec_len}
 use Rattle.std.specs.List.{insert, prefix_len}
 use Rattle.warp_tag.specs.declared.entry.Entry.{Entry}
 use Rattle.warp_tag.proofs.Names.{ahead}
@@ -26,6 +26,9 @@ here c =
 pub returns-then-at-len-clause-entry : goal.returns-then-at-len-clause-entry
 returns-then-at-len-clause-entry c = (here c).entry
 
+pub returns-then-at-len-clause-capacity : goal.returns-then-at-len-clause-capacity
+returns-then-at-len-clause-capacity c = (c.insert.ensures.in_place c.requires.room).1.0
+
 pub returns-then-at-len-clause-change : goal.returns-then-at-len-clause-change
 returns-then-at-len-clause-change c = (here c).change
 
@@ -38,4 +41,4 @@ returns-else-not-is_of c =
     let within : c.place-at.result < length c.args.entries.now.items = omega arith in
     let e = entered_there c.args.origin c.args.tag c.args.entries.now.items c.place-at.result c.index.result.now c.requires.table place within
     c.index.ensures (sym c.is_of.ensures ∙ c.if-not-is_of.false) in
-    record { within = omega arith; entry = e.entry; change = e.change }
+    record { within = omega arith; entry = e.entry; change = e.change; capacity = refl }

@@ -16,4 +16,5 @@ returns c =
       ordered = n.ordered;
       same = λ r. n.stays (c.note_event.ensures.same r);
       changes = λ r h. c.note_event.ensures.changes r (n.shows h);
+      capacity = c.enter-at.ensures.capacity;
     }

@@ -13,4 +13,5 @@ returns c =
       ordered = n.ordered;
       same = λ r. n.stays (c.withdraw.ensures.same r);
       changes = λ r h. c.withdraw.ensures.changes r (n.shows h);
+      capacity = c.enter-at.ensures.capacity;
     }

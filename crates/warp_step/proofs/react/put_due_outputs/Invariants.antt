@@ -9,7 +9,7 @@ invariant-loop-mark l = record {
   rest : l.out.items ++ outputs_from (l.mark - l.first) l.tag l.present (drop (l.mark - l.first) l.program.outputs)
       ≡ l.fn.out.items ++ outputs_from 0 l.tag l.present l.program.outputs;
   room : vec_len l.out + length l.program.outputs ≤ vec_capacity l.out + (l.mark - l.first);
-  capacity : vec_capacity l.fn.out ≤ vec_capacity l.out;
+  capacity : vec_capacity l.out ≡ vec_capacity l.fn.out;
 }
 
 abbrev pub decreases-loop-mark : goal.decreases-loop-mark

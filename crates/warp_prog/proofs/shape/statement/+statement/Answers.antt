@@ -1,7 +1,9 @@
-use Rattle.std.proofs.Common.{◌≡◌, rules, sym, ◌∙◌, None}
-use Rattle.serde_json.specs.View.{view}
-use Rattle.warp_prog.specs.Statements.{body_of}
-use Rattle.warp_prog.proofs.StatementLemmas.{choice_row, no_first, no_second, one_more_at, all_read}
+use Rattle.std.proofs.Common.{◌≡◌, None, Some, option_map, map, ap, sym, ◌∙◌, arith, rules}
+use Rattle.serde_json.specs.View.{view, items_view}
+use Rattle.warp_prog.specs.Statements.{statement_of, body_of}
+use Rattle.warp_prog.specs.View.{statement_tree}
+use Rattle.warp_prog.specs.inner.Read.{first_word}
+use Rattle.warp_prog.proofs.StatementLemmas.{one_more_at, none_read, all_read, choice_row, no_statement_in_few, no_statement_in_many}
 use Rattle.warp_prog.proofs.shape.statement.+statement.Goals as goal
 
 pub statements-loop-item-preserved : goal.statements-loop-item-preserved
@@ -15,22 +17,33 @@ statements-returns-clause-ok t c =
     let l = c.loop-item in
     sym l.invariant ∙ all_read l.found.items c.args.items.now l.item-index c.loop-item-test.false
 
-pub parts-returns-in_err-first-in-len4-clause-err : goal.parts-returns-in_err-first-in-len4-clause-err
-parts-returns-in_err-first-in-len4-clause-err t c = λ e.
-    let none : body_of (view c.y-item.result) ≡ None = search rules in
-    choice_row c.args.items.now c.word-item-then-items-lt5.result c.x-item.result c.y-item.result c.z-item.result c.in-len4.len_at_least c.in-len4.len_below c.word-item-then-items-lt5.is c.x-item.is c.y-item.is c.z-item.is c.as_str-in-len4.result c.in_ok-word-in-len4.word c.as_str-in-len4.ensures c.in_ok-word-in-len4.ensures.ok_part c.if-ne.ensures ∙ no_first _ _ _ none
+pub statements-returns-in_err-next-clause-err : goal.statements-returns-in_err-next-clause-err
+statements-returns-in_err-next-clause-err t c = λ e.
+    let l = c.loop-item in
+    let none : statement_of (view c.item-item.result) ≡ None = search rules in
+    sym l.invariant ∙ none_read (map statement_tree l.found.items) c.args.items.now l.item-index c.item-item.result c.loop-item-test.true c.item-item.is none
 
-pub parts-returns-in_err-second-in-len4-clause-err : goal.parts-returns-in_err-second-in-len4-clause-err
-parts-returns-in_err-second-in-len4-clause-err t c = λ e.
-    let none : body_of (view c.z-item.result) ≡ None = search rules in
-    choice_row c.args.items.now c.word-item-then-items-lt5.result c.x-item.result c.y-item.result c.z-item.result c.in-len4.len_at_least c.in-len4.len_below c.word-item-then-items-lt5.is c.x-item.is c.y-item.is c.z-item.is c.as_str-in-len4.result c.in_ok-word-in-len4.word c.as_str-in-len4.ensures c.in_ok-word-in-len4.ensures.ok_part c.if-ne.ensures ∙ no_second _ _ _ none
+pub parts-returns-in-len1-clause-err : goal.parts-returns-in-len1-clause-err
+parts-returns-in-len1-clause-err t c = λ e. no_statement_in_few _ (omega (arith, c.in-len1.len_below))
 
-pub parts-returns-in_ok-second-in-len4-clause-ok : goal.parts-returns-in_ok-second-in-len4-clause-ok
-parts-returns-in_ok-second-in-len4-clause-ok t c =
-    let row = choice_row c.args.items.now c.word-item-then-items-lt5.result c.x-item.result c.y-item.result c.z-item.result c.in-len4.len_at_least c.in-len4.len_below c.word-item-then-items-lt5.is c.x-item.is c.y-item.is c.z-item.is c.as_str-in-len4.result c.in_ok-word-in-len4.word c.as_str-in-len4.ensures c.in_ok-word-in-len4.ensures.ok_part c.if-ne.ensures in
-    rw (row, c.in_ok-first-in-len4.ensures.ok, c.in_ok-second-in-len4.ensures.ok) c.choose.ensures.ok
+pub parts-returns-in-len2-clause-err : goal.parts-returns-in-len2-clause-err
+parts-returns-in-len2-clause-err t c = λ e. no_statement_in_few _ c.in-len2.len_below
 
-pub parts-returns-in_ok-second-in-len4-clause-err : goal.parts-returns-in_ok-second-in-len4-clause-err
-parts-returns-in_ok-second-in-len4-clause-err t c =
-    let row = choice_row c.args.items.now c.word-item-then-items-lt5.result c.x-item.result c.y-item.result c.z-item.result c.in-len4.len_at_least c.in-len4.len_below c.word-item-then-items-lt5.is c.x-item.is c.y-item.is c.z-item.is c.as_str-in-len4.result c.in_ok-word-in-len4.word c.as_str-in-len4.ensures c.in_ok-word-in-len4.ensures.ok_part c.if-ne.ensures in
-    rw (row, c.in_ok-first-in-len4.ensures.ok, c.in_ok-second-in-len4.ensures.ok) c.choose.ensures.err
+pub parts-returns-else-ne-clause-ok : goal.parts-returns-else-ne-clause-ok
+parts-returns-else-ne-clause-ok t c =
+    let word : first_word (items_view c.args.items.now) ≡ Some c.in-Some.word.now = sym c.first_word.ensures ∙ ap (option_map (λ w. w.now)) c.in-Some.is in
+    let row = choice_row c.args.items.now c.in-Some.word.now c.x-item.result c.y-item.result c.z-item.result c.in-len4.len_at_least c.in-len4.len_below word c.x-item.is c.y-item.is c.z-item.is c.if-ne.ensures in
+    let made = c.choose.ensures (body_of (view c.y-item.result)) (body_of (view c.z-item.result))
+    (record { ok = c.body-first.ensures.ok; err = c.body-first.ensures.err }) (record { ok = c.body-second.ensures.ok; err = c.body-second.ensures.err }) in
+    rw row made.ok
+
+pub parts-returns-else-ne-clause-err : goal.parts-returns-else-ne-clause-err
+parts-returns-else-ne-clause-err t c =
+    let word : first_word (items_view c.args.items.now) ≡ Some c.in-Some.word.now = sym c.first_word.ensures ∙ ap (option_map (λ w. w.now)) c.in-Some.is in
+    let row = choice_row c.args.items.now c.in-Some.word.now c.x-item.result c.y-item.result c.z-item.result c.in-len4.len_at_least c.in-len4.len_below word c.x-item.is c.y-item.is c.z-item.is c.if-ne.ensures in
+    let made = c.choose.ensures (body_of (view c.y-item.result)) (body_of (view c.z-item.result))
+    (record { ok = c.body-first.ensures.ok; err = c.body-first.ensures.err }) (record { ok = c.body-second.ensures.ok; err = c.body-second.ensures.err }) in
+    rw row made.err
+
+pub parts-returns-in-len5-up-clause-err : goal.parts-returns-in-len5-up-clause-err
+parts-returns-in-len5-up-clause-err t c = λ e. no_statement_in_many _ c.in-len5-up.len_at_least

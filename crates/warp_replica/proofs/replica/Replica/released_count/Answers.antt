@@ -12,6 +12,6 @@ returns-clause-gives g c =
     let r = c.self.inside in
     let log = c.len in
     let outs = c.released.result.now in
-    let released = subst (λ s. IsReleased s.program (set_of s.records) outs) (sym c.self.view_is) c.released.ensures in
+    let released = subst (λ s. IsReleased s.program (set_of s.records) outs) (sym c.self.view_is) c.released.ensures.released in
     subst (λ s. GivesQuery s.program s.records Released (reply.Released log.result (length outs))) c.self.view_is
     (gives_released r.program r.table log.result log.ensures.once log.ensures.value outs released)

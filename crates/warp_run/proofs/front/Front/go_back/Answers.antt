@@ -5,8 +5,8 @@ use Rattle.warp_run.specs.History.{Saves, newest}
 use Rattle.warp_run.proofs.RowsBack.{always_left, goes_back}
 use Rattle.warp_run.proofs.front.Front.go_back.Goals as goal
 
-pub returns-in-Some : goal.returns-in-Some
-returns-in-Some c = λ P E done at.
+pub returns-in-Some-clause-back : goal.returns-in-Some-clause-back
+returns-in-Some-clause-back c = λ P E done at.
     goes_back P E c.args.tag c.args.self.now _ c.in-Some.done done
     (record {
       history = c.take_from.ensures.left;
@@ -25,7 +25,7 @@ returns-in-Some c = λ P E done at.
     })
     at c.requires.late
 
-pub returns-in_default : goal.returns-in_default
-returns-in_default c = λ P E done at.
+pub returns-in_default-clause-back : goal.returns-in_default-clause-back
+returns-in_default-clause-back c = λ P E done at.
     absurd (always_left P E c.args.tag c.args.self.now done at c.requires.late
     (ap (λ (h : Saves). newest h.saves) (sym c.take_from.ensures.left) ∙ sym c.in_default.ensures))

@@ -1,8 +1,9 @@
 -- the lists have one more
-use Rattle.std.proofs.Common.{◌∷◌, ap, sym, ◌∙◌, length, refl}
-use Rattle.warp_run.specs.History.{Saves, saved_at}
+use Rattle.std.proofs.Common.{◌≡◌, ◌∷◌, ap, arith, sym, ◌∙◌, false, true, length, refl}
+use Rattle.warp_run.specs.History.{Room, Saves, saved_at}
 use Rattle.warp_run.specs.declared.history.Mark.{Mark}
-use Rattle.warp_run.proofs.Marks.{HasMore, has_more}
+use Rattle.warp_run.specs.declared.history.History.TheInside.{Inside}
+use Rattle.warp_run.proofs.Marks.{HasMore, has_more, room_for, room_of}
 use Rattle.warp_run.proofs.history.History.add.Goals as goal
 use Rattle.warp_run.proofs.history.History.add.Goals.{After-append_entries}
 
@@ -23,13 +24,89 @@ added c =
       few = c.requires.entries.0;
       order = c.requires.entries.1;
     })
-    c.push_reserved.ensures.items c.append_values.ensures c.append_entries.ensures
+    c.push_reserved.ensures.items c.append_values.ensures.items c.append_entries.ensures.items
 
 pub invariant_of-self : goal.invariant_of-self
 invariant_of-self c = (added c).kept
 
-pub returns : goal.returns
-returns c = λ i. record {
+pub returns-clause-saves : goal.returns-clause-saves
+returns-clause-saves c = λ i. record {
   width = (ap (λ (s : Saves). s.width) c.self.view_is) i;
   saves = ((added c).saves ∙ ap (λ (s : Saves). saved_at c.args.done (record { vars = c.args.values.now; pending = c.args.entries.now; lost = c.args.lost }) ∷ s.saves) c.self.view_is) i;
+  room = record {
+    marks = (c.push_reserved.ensures.capacity ∙ ap (λ (s : Saves). s.room.marks) c.self.view_is) i;
+    values = (c.append_values.ensures.capacity ∙ ap (λ (s : Saves). s.room.values) c.self.view_is) i;
+    entries = (c.append_entries.ensures.capacity ∙ ap (λ (s : Saves). s.room.entries) c.self.view_is) i;
+  };
 }
+
+-- ---- it is added where there is room, and only there
+
+abbrev room_there : Inside → Room
+room_there h = record { marks = h.marks.cap; values = h.values.cap; entries = h.entries.cap }
+
+pub returns-then-len-capacity-clause-room : goal.returns-then-len-capacity-clause-room
+returns-then-len-capacity-clause-room c = (
+  λ yes. let no : false ≡ true = yes in cc,
+  λ has.
+      let h = c.self.inside in
+      let room = room_of h.width h.marks.items h.values.items h.entries.items (room_there h) (record { vars = c.args.values.now; pending = c.args.entries.now; lost = c.args.lost }) c.self.invariant c.self.view_is has in
+      let full = c.if-len-capacity.true in
+      let len = c.len.ensures in
+      let capacity = c.capacity.ensures in
+      let all = h.marks.ok.0 in
+      let needs = room.0 in
+      absurd (omega arith),
+)
+
+pub returns-then-values-capacity-clause-room : goal.returns-then-values-capacity-clause-room
+returns-then-values-capacity-clause-room c = (
+  λ yes. let no : false ≡ true = yes in cc,
+  λ has.
+      let h = c.self.inside in
+      let room = room_of h.width h.marks.items h.values.items h.entries.items (room_there h) (record { vars = c.args.values.now; pending = c.args.entries.now; lost = c.args.lost }) c.self.invariant c.self.view_is has in
+      let full = c.if-values-capacity.true in
+      let len = c.len-2.ensures in
+      let capacity = c.capacity-2.ensures in
+      let all = h.values.ok.0 in
+      let needs = room.1 in
+      absurd (omega arith),
+)
+
+pub returns-then-entries-capacity-clause-room : goal.returns-then-entries-capacity-clause-room
+returns-then-entries-capacity-clause-room c = (
+  λ yes. let no : false ≡ true = yes in cc,
+  λ has.
+      let h = c.self.inside in
+      let room = room_of h.width h.marks.items h.values.items h.entries.items (room_there h) (record { vars = c.args.values.now; pending = c.args.entries.now; lost = c.args.lost }) c.self.invariant c.self.view_is has in
+      let full = c.if-entries-capacity.true in
+      let len = c.len-3.ensures in
+      let capacity = c.capacity-3.ensures in
+      let all = h.entries.ok.0 in
+      let needs = room.2 in
+      absurd (omega arith),
+)
+
+pub returns-clause-room : goal.returns-clause-room
+returns-clause-room c = (
+  λ _.
+      let h = c.self.inside in
+      let marks_free = c.if-len-capacity.false in
+      let values_free = c.if-values-capacity.false in
+      let entries_free = c.if-entries-capacity.false in
+      let marks_len = c.len.ensures in
+      let values_len = c.len-2.ensures in
+      let entries_len = c.len-3.ensures in
+      let marks_capacity = c.capacity.ensures in
+      let values_capacity = c.capacity-2.ensures in
+      let entries_capacity = c.capacity-3.ensures in
+      let marks_all = h.marks.ok.0 in
+      let values_all = h.values.ok.0 in
+      let entries_all = h.entries.ok.0 in
+      let marks_within = h.marks.ok.1 in
+      let values_within = h.values.ok.1 in
+      let entries_within = h.entries.ok.1 in
+      room_for h.width h.marks.items h.values.items h.entries.items (room_there h) (record { vars = c.args.values.now; pending = c.args.entries.now; lost = c.args.lost }) c.self.invariant c.self.view_is
+      (omega arith) (omega arith) (omega arith),
+  λ _. refl,
+)

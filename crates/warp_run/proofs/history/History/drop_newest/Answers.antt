@@ -28,4 +28,9 @@ pub returns-in-Some : goal.returns-in-Some
 returns-in-Some c = λ i. record {
   width = (ap (λ (s : Saves). s.width) c.self.view_is) i;
   saves = ((rest c).saves ∙ ap (λ (s : Saves). drop 1 s.saves) c.self.view_is) i;
+  room = record {
+    marks = (c.pop.ensures.capacity ∙ ap (λ (s : Saves). s.room.marks) c.self.view_is) i;
+    values = (c.truncate.ensures.capacity ∙ ap (λ (s : Saves). s.room.values) c.self.view_is) i;
+    entries = (c.truncate-in-Some.ensures.capacity ∙ ap (λ (s : Saves). s.room.entries) c.self.view_is) i;
+  };
 }

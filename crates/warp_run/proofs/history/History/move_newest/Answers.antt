@@ -46,7 +46,9 @@ returns-clause-other c =
     let entries = end_part _ _ _ c.in-Some.mark.now.pending c.deref-3.ensures.value (c.len-2.ensures ∙ h.entries.ok.0) in
     let m = c.in-Some.mark.now in
     let saves = sym has.saves ∙ ap (λ (s : Saves). s.saves) c.self.view_is in
-    c.if-not-add.ensures ∙ (λ i. record {
-      width = c.args.other.now.width;
-      saves = saved_at m.done (record { vars = values i; pending = entries i; lost = m.lost }) ∷ c.args.other.now.saves;
-    }) ∙ ap (λ (all : List Saved). record { width = c.args.other.now.width; saves = take 1 all ++ c.args.other.now.saves }) saves
+    let other = c.args.other.now in
+    c.if-not-add.ensures.saves ∙ (λ i. record {
+      width = other.width;
+      saves = saved_at m.done (record { vars = values i; pending = entries i; lost = m.lost }) ∷ other.saves;
+      room = other.room;
+    }) ∙ ap (λ (all : List Saved). record { width = other.width; saves = take 1 all ++ other.saves; room = other.room }) saves

@@ -52,8 +52,8 @@ names_known w o g at is finds changes r =
       cursor = r;
     }
 
-pub returns-then-len-known : goal.returns-then-len-known
-returns-then-len-known c =
+pub returns-then-len-known-clause-names : goal.returns-then-len-known-clause-names
+returns-then-len-known-clause-names c =
     let old = c.args.self.now in
     let o = c.args.origin in
     let g = c.args.tag in
@@ -65,8 +65,8 @@ returns-then-len-known c =
     subst (λ n. NamesAt old (record old { arena = new.new.self }) o g n) (sym same.0)
     (subst (λ a. NamesAt old (record old { arena = a }) o g there.0) (sym same.1) at)
 
-pub returns-in-Some : goal.returns-in-Some
-returns-in-Some c =
+pub returns-in-Some-clause-names : goal.returns-in-Some-clause-names
+returns-in-Some-clause-names c =
     let old = c.args.self.now in
     let ps = old.arena.places in
     let new = c.enter-node in
@@ -81,8 +81,8 @@ returns-in-Some c =
     (stays_first old.front.last c.args.origin c.args.tag new.result ps old.cursor r later at c.entry.result c.in-Some.is named
     (sym c.comes_before.ensures ∙ c.if-comes_before.true))
 
-pub returns-in_default : goal.returns-in_default
-returns-in_default c =
+pub returns-in_default-clause-names : goal.returns-in_default-clause-names
+returns-in_default-clause-names c =
     let old = c.args.self.now in
     let ps = old.arena.places in
     let new = c.enter-node in
@@ -102,8 +102,8 @@ returns-in_default c =
           comes_alone old.front.last c.args.origin c.args.tag new.result ps old.cursor r later w.in_default.is
     ])
 
-pub returns-else-is_after : goal.returns-else-is_after
-returns-else-is_after c =
+pub returns-else-is_after-clause-names : goal.returns-else-is_after-clause-names
+returns-else-is_after-clause-names c =
     let old = c.args.self.now in
     let ps = old.arena.places in
     let new = c.enter-node in
@@ -112,3 +112,36 @@ returns-else-is_after c =
     names_new old c.args.origin c.args.tag new.result new.new.self old.cursor (new.ensures.places absent) (new.ensures.new_handle absent) (new.ensures.entry absent)
     c.finds_known.ensures absent c.changes_new.ensures c.ordered.ensures.order
     (stays_before old.front.last c.args.origin c.args.tag new.result ps old.cursor c.requires.name.1.cursor earlier)
+
+-- the room stays as it is
+
+pub returns-then-len-known-clause-room : goal.returns-then-len-known-clause-room
+returns-then-len-known-clause-room c =
+    let old = c.args.self.now in
+    let o = c.args.origin in
+    let g = c.args.tag in
+    let new = c.enter-node in
+    let there = there_where old.arena new.new.self new.result o g (node_of o g old.arena.places) new.ensures.places
+    c.len.result c.len-known.result c.len.ensures c.len-known.ensures c.if-len-known.true in
+    ap (λ (a : Contents). a.room) (new.ensures.known there.0 there.1).1
+
+pub returns-in-Some-clause-room : goal.returns-in-Some-clause-room
+returns-in-Some-clause-room c =
+    let old = c.args.self.now in
+    let new = c.enter-node in
+    let absent = absent_by old.arena new.new.self new.result (node_of c.args.origin c.args.tag old.arena.places) new.ensures.known c.len.result c.len-known.result c.len.ensures c.len-known.ensures c.if-len-known.false in
+    ap (λ (a : Contents). a.room) (new.ensures.places absent)
+
+pub returns-in_default-clause-room : goal.returns-in_default-clause-room
+returns-in_default-clause-room c =
+    let old = c.args.self.now in
+    let new = c.enter-node in
+    let absent = absent_by old.arena new.new.self new.result (node_of c.args.origin c.args.tag old.arena.places) new.ensures.known c.len.result c.len-known.result c.len.ensures c.len-known.ensures c.if-len-known.false in
+    ap (λ (a : Contents). a.room) (new.ensures.places absent)
+
+pub returns-else-is_after-clause-room : goal.returns-else-is_after-clause-room
+returns-else-is_after-clause-room c =
+    let old = c.args.self.now in
+    let new = c.enter-node in
+    let absent = absent_by old.arena new.new.self new.result (node_of c.args.origin c.args.tag old.arena.places) new.ensures.known c.len.result c.len-known.result c.len.ensures c.len-known.ensures c.if-len-known.false in
+    ap (λ (a : Contents). a.room) (new.ensures.places absent)

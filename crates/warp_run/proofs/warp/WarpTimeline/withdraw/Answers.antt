@@ -1,29 +1,57 @@
 -- the arena has the withdrawal; where the live events changed what is left stays done, and where they stayed all does
-use Rattle.std.proofs.Common.{not}
+use Rattle.std.proofs.Common.{not, ap, sym, subst, ◌∙◌}
 use Rattle.warp_tag.specs.Table.{with_withdrawal}
 use Rattle.warp_tag.proofs.Tables.{withdrawal_passes, with_withdrawal_names}
 use Rattle.warp_step.specs.Events.{event_fits}
 use Rattle.warp_step.specs.Run.{is_after}
+use Rattle.warp_arena.specs.Places.{Contents}
+use Rattle.warp_run.specs.Front.{KeepsRoom}
 use Rattle.warp_run.specs.Warp.{latest_with}
+use Rattle.warp_run.specs.declared.front.Front.{Front}
+use Rattle.warp_run.specs.declared.warp.Warp.{Warp}
 use Rattle.warp_run.proofs.ChangesEvents.{all_through}
-use Rattle.warp_run.proofs.ChangesStand.{named_after, same_stands, undone_stands}
+use Rattle.warp_run.proofs.ChangesStand.{keeps_room, named_after, never_same, same_room, same_stands, undone_stands}
 use Rattle.warp_run.proofs.warp.WarpTimeline.withdraw.Goals as goal
 
 pub undo_from-requires-clause-named : goal.undo_from-requires-clause-named
-undo_from-requires-clause-named c = named_after with_withdrawal with_withdrawal_names c.node-node.ensures c.set_withdrawn.ensures.places
+undo_from-requires-clause-named c = named_after with_withdrawal with_withdrawal_names c.node-node.ensures.names c.set_withdrawn.ensures.places
 
-pub returns-then-changes : goal.returns-then-changes
-returns-then-changes c = λ m h good.
+pub returns-then-changes-clause-stands : goal.returns-then-changes-clause-stands
+returns-then-changes-clause-stands c = λ m h good.
     let latest = c.args.self.now.latest in
     let fits = withdrawal_passes (event_fits m.program) c.args.origin c.args.tag m.table h.events in
     let through = withdrawal_passes (λ e. not (is_after (latest_with c.args.tag latest) e.tag)) c.args.origin c.args.tag m.table
     (all_through c.args.tag latest _ h.latest) in
     let u = c.undo_from.ensures in
-    undone_stands with_withdrawal with_withdrawal_names c.node-node.ensures c.set_withdrawn.ensures.places c.ordered.ensures.order.table
+    undone_stands with_withdrawal with_withdrawal_names c.node-node.ensures.names c.set_withdrawn.ensures.places c.ordered.ensures.order.table
     c.entry.ensures.entry c.withdraw-changes.ensures.entry h (c.withdraw-changes.ensures.changes c.if-changes.true) fits through
     c.undo_from.new.self u.arena u.latest u.unsettled u.front u.cursor
 
-pub returns-else-changes : goal.returns-else-changes
-returns-else-changes c = λ m h good.
-    same_stands with_withdrawal with_withdrawal_names c.node-node.ensures c.set_withdrawn.ensures.places c.ordered.ensures.order.table
+pub returns-else-changes-clause-stands : goal.returns-else-changes-clause-stands
+returns-else-changes-clause-stands c = λ m h good.
+    same_stands with_withdrawal with_withdrawal_names c.node-node.ensures.names c.set_withdrawn.ensures.places c.ordered.ensures.order.table
     c.entry.ensures.entry c.withdraw-changes.ensures.entry h (c.withdraw-changes.ensures.same c.if-changes.false)
+
+pub returns-then-changes-clause-settled : goal.returns-then-changes-clause-settled
+returns-then-changes-clause-settled c = λ m h good same.
+    absurd (never_same with_withdrawal with_withdrawal_names c.node-node.ensures.names c.set_withdrawn.ensures.places
+    c.ordered.ensures.order.table c.entry.ensures.entry c.withdraw-changes.ensures.entry h (c.withdraw-changes.ensures.changes c.if-changes.true) same)
+
+pub returns-else-changes-clause-settled : goal.returns-else-changes-clause-settled
+returns-else-changes-clause-settled c = λ m h good same. ap (λ (w : Warp). w.settled) c.node-node.ensures.names.others
+
+pub returns-then-changes-clause-room : goal.returns-then-changes-clause-room
+returns-then-changes-clause-room c =
+    let others = c.node-node.ensures.names.others in
+    let u = c.undo_from.ensures in
+    same_room c.args.self.now c.undo_from.new.self
+    (ap (λ (a : Contents). a.room) u.arena ∙ ap (λ (a : Contents). a.room) c.set_withdrawn.ensures.places ∙ c.node-node.ensures.room)
+    (subst (λ (x : Front). KeepsRoom x c.undo_from.new.self.front) (ap (λ (w : Warp). w.front) others) u.room)
+    (u.given ∙ ap (λ (w : Warp). w.given) others)
+
+pub returns-else-changes-clause-room : goal.returns-else-changes-clause-room
+returns-else-changes-clause-room c =
+    let others = c.node-node.ensures.names.others in
+    same_room c.args.self.now (record c.node-node.new.self { arena = c.set_withdrawn.new.self }) (ap (λ (a : Contents). a.room) c.set_withdrawn.ensures.places ∙ c.node-node.ensures.room)
+    (subst (λ (x : Front). KeepsRoom c.args.self.now.front x) (sym (ap (λ (w : Warp). w.front) others)) (keeps_room c.args.self.now.front))
+    (ap (λ (w : Warp). w.given) others)

@@ -1,12 +1,12 @@
 -- The bytes so far were taken, and nothing failed.
 use Rattle.std.proofs.Common.{◌≡◌, ◌-◌, ◌≤◌, take, length}
-use Rattle.warp_session.specs.inner.Turns.{Takes, at}
+use Rattle.warp_session.specs.inner.Turns.{TakesBytes, at}
 use Rattle.warp_session.proofs.desk_session.Transcriber.take.Given as goal
 
 abbrev pub invariant-loop-at : goal.invariant-loop-at
 invariant-loop-at g l = record {
   within : l.at ≤ length l.bytes;
-  takes : Takes g.D.Desk.gives (take l.at l.bytes)
+  takes : TakesBytes g.D.Desk.gives (take l.at l.bytes)
       (at (g.D.Desk.state l.initial.desk) l.initial.self (g.W.Sink.written l.initial.sink) (g.W.Sink.failures l.initial.sink))
       (at (g.D.Desk.state l.desk) l.self (g.W.Sink.written l.sink) (g.W.Sink.failures l.sink));
   sound : g.W.Sink.failures l.sink ≡ g.W.Sink.failures l.initial.sink;

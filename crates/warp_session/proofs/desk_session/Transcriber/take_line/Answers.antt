@@ -1,8 +1,8 @@
 use Rattle.std.proofs.Common.{◌≡◌, ℕ, ◌+◌, ap, sym, subst, ◌∙◌, refl, take, List}
 use Rattle.warp_record.specs.Lines.{first_end}
 use Rattle.warp_record.specs.Lines.Piece.{Whole}
-use Rattle.warp_session.specs.inner.Turns.{Held, Takes, at}
-use Rattle.warp_session.proofs.TurnsLemmas.{Takes-line, Takes-pushed}
+use Rattle.warp_session.specs.inner.Turns.{Held, TakesBytes, at}
+use Rattle.warp_session.proofs.TurnsLemmas.{TakesBytes-line, TakesBytes-pushed}
 use Rattle.warp_session.proofs.desk_session.Transcriber.take_line.Goals as goal
 
 -- the line stands whole among the bytes, and nothing of it came before
@@ -15,18 +15,18 @@ returns-in-Some-clause-turn g c =
     let a = at (g.D.Desk.state c.args.desk.now) c.args.self.now (g.W.Sink.written c.args.sink.now) (g.W.Sink.failures c.args.sink.now) in
     let b = at (g.D.Desk.state c.answer_text.new.desk) c.answer_text.new.self (g.W.Sink.written c.answer_text.new.sink) (g.W.Sink.failures c.answer_text.new.sink) in
     let answered = c.in_ok-answer_text.ensures.answered in
-    let takes : Takes g.D.Desk.gives (take (first_end bytes + 1) bytes) a b =
-    Takes-line g.D.Desk.gives a b bytes (Whole text) found.2
+    let takes : TakesBytes g.D.Desk.gives (take (first_end bytes + 1) bytes) a b =
+    TakesBytes-line g.D.Desk.gives a b bytes (Whole text) found.2
     (λ line is. c.in-Some.ensures.line line (view ∙ is)) (c.answer_text.ensures.kept ∙ sym view ∙ c.in-Some.ensures.fresh) answered in
     record {
-      does = subst (λ (n : ℕ). Takes g.D.Desk.gives (take (n + 1) bytes) a b) (sym found.1) takes;
+      does = subst (λ (n : ℕ). TakesBytes g.D.Desk.gives (take (n + 1) bytes) a b) (sym found.1) takes;
       failures = c.in_ok-answer_text.ensures.failures;
     }
 
 pub returns-clause-turn : goal.returns-clause-turn
 returns-clause-turn g c = record {
   does = rw (← c.self.view_is)
-      (Takes-pushed g.D.Desk.gives _ _ c.push-count.new.self c.args.bytes.now c.push-count.result.0 c.push-count.result.1
+      (TakesBytes-pushed g.D.Desk.gives _ _ c.push-count.new.self c.args.bytes.now c.push-count.result.0 c.push-count.result.1
       c.push-count.ensures.taken c.push-count.ensures.given c.push-count.ensures.line c.push-count.ensures.fresh c.push-count.ensures.kept
       c.answer.ensures.kept c.in_ok-answer.ensures.turn.does);
   failures = c.in_ok-answer.ensures.turn.failures;

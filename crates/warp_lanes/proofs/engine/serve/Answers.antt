@@ -1,0 +1,32 @@
+use Rattle.std.proofs.Common.{◌++◌, ◌∷◌, [], ap, ◌∙◌}
+use Rattle.warp_lanes.specs.declared.answer.Answer.{Answer}
+use Rattle.warp_lanes.proofs.Publishing.{has_news}
+use Rattle.warp_lanes.proofs.engine.serve.Goals as goal
+
+pub returns-clause-turns : goal.returns-clause-turns
+returns-clause-turns g c =
+    let f = c.is_full.ensures.looked in
+    let p = c.in-Ok.ensures in
+    let q = c.push_reserved.ensures in
+    let answer : Answer = record { len = c.len-len.result; reply = c.ask-reply.result } in (
+      c.in-Ok.line,
+      answer,
+      (
+        c.ask-reply.ensures.gives,
+        c.ask-reply.ensures.program,
+        c.len-len.ensures.value,
+        (c.ask-reply.ensures.reply, rw c.len-len.ensures.value c.ask-reply.ensures.length),
+        rw (← c.lane.view_is)
+            (λ i. record {
+              lane = (
+                record { words = p.ring.0.0 i; slots = p.ring.0.1 i; names = p.ring.0.2 i },
+                record { words = (q.ring.0.0 ∙ f.0.0.0) i; slots = (q.ring.0.1 ∙ f.0.0.1) i; names = (q.ring.0.2 ∙ f.0.0.2) i },
+              );
+              commands = p.ok.0 i;
+              answers = (q.sent.0 ∙ ap (λ l. l ++ answer ∷ []) f.1) i;
+            }),
+      ),
+    )
+
+pub returns-clause-news : goal.returns-clause-news
+returns-clause-news g c = rw c.news.ensures (has_news _ _ _ _ _ c.ask-reply.ensures.gives)

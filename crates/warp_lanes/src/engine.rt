@@ -1,0 +1,162 @@
+//! The engine: the thread that holds the replica serves all lanes.
+//!
+//! What the lanes received and sent is always a linear history of the replica's program and log.
+ghost use Rattle.std.specs.Prelude.{◌≡◌, ◌<◌, ◌≤◌, [], false, IsTrue, List, length};
+ghost use Rattle.warp_tag.specs.declared.out.Out.{Out};
+ghost use Rattle.warp_table.specs.Records.{set_of};
+ghost use Rattle.warp_replica.specs.Answers.{IsReleased};
+ghost use Rattle.warp_lanes.specs.Engine.{AreFresh, Turns, TurnsLane, most_lanes};
+ghost use Rattle.warp_lanes.specs.History.{IsHistory};
+ghost use Rattle.warp_lanes.specs.Publish.{AreReleased, HasNews, Publishes};
+
+use crate::answer::Answer;
+use crate::executor_end::Lane;
+use crate::publish::{Published, news, publish, rows_before};
+use crate::turn::Turn;
+use std::alloc::Global;
+use std::marker::Model;
+use warp_board::{Board, Writer};
+use warp_line::Timeline;
+use warp_replica::Replica;
+use warp_tag::Tag;
+
+/// A replica, the lanes that it serves, and the writer of its board. Contracts see these three, and the length that the log had
+/// when the engine was made.
+#[derive(Drop)]
+pub struct Engine<T: Timeline> {
+    replica: Replica<T>,
+    lanes: Vec<Lane>,
+    writer: Writer,
+    began: u32,
+    // So many of the board's rows are known to begin what is released, while it is not frozen.
+    sure: usize,
+}
+
+impl<T: Timeline> Model for Engine<T> {
+    ghost use Rattle.warp_lanes.specs.Codes.{engine_code};
+    ghost use Rattle.warp_lanes.specs.Engine.{EngineState};
+    ghost use Rattle.warp_lanes.specs.History.{IsHistory};
+    ghost use Rattle.warp_lanes.specs.Publish.{KeepsBoard};
+
+    ghost Value = { EngineState T };
+
+    ghost coded = { engine_code T.code };
+
+    ghost view = { λ e.
+        record { replica = e.replica; lanes = e.lanes.items; writer = e.writer; began = e.began } };
+
+    ghost invariant = { λ e.
+        IsHistory e.replica.program e.replica.records e.began e.lanes.items
+        × KeepsBoard e.replica.program e.replica.records e.writer e.sure };
+}
+
+impl<T: Timeline> Engine<T> {
+    /// An engine over this replica, 0 to 16 new lanes, and the writer of a new board. A lane is named by its place in the list,
+    /// from 0.
+    pub fn new(replica: Replica<T>, lanes: Vec<Lane>, writer: Writer) -> Engine<T>
+        requires fresh { AreFresh lanes.items }
+        requires most { length lanes.items ≤ most_lanes }
+        requires rows { writer.rows ≡ [] }
+        requires flag { writer.frozen ≡ false }
+        ensures { result
+            ≡ record { replica = replica; lanes = lanes.items; writer = writer; began = length replica.records } }
+    {
+        let began = replica.len();
+        Engine {
+            replica,
+            lanes,
+            writer,
+            began,
+            sure: 0,
+        }
+    }
+
+    /// What is known of any engine: its lanes are a linear history of its program and log, which began with as many records as the
+    /// log had when it was made; and while no origin broke an announcement, its board is not frozen, and the rows begin what the
+    /// program releases over the log. It does nothing.
+    pub fn valid(&self)
+        ensures history { IsHistory self.now.replica.program self.now.replica.records self.now.began self.now.lanes }
+        ensures board { AreReleased self.now.replica.program self.now.replica.records self.now.writer }
+    {
+        // A look at a field shows it.
+        let _began = self.began;
+    }
+
+    /// Its replica.
+    pub fn replica(&self) -> &Replica<T>
+        ensures { result.now ≡ self.now.replica }
+    {
+        &self.replica
+    }
+
+    /// How many records the log had when the engine was made, 0 to 100,000.
+    pub fn began(&self) -> usize
+        ensures { result ≡ self.now.began }
+    {
+        self.began as usize
+    }
+
+    /// How many lanes it serves, 0 to 16.
+    pub fn lane_count(&self) -> usize
+        ensures { result ≡ length self.now.lanes }
+    {
+        self.lanes.len()
+    }
+
+    /// Serves the next command of a lane as a replica without peers would, if one is found and its answer has a place. It takes no
+    /// memory but in the replica's taking and settling.
+    pub fn turn(&mut self, alloc: Global, lane: usize) -> Turn
+        requires { lane < length self.old.lanes }
+        ensures turns { Turns self.old lane result self.new }
+        ensures program { self.new.replica.program ≡ self.old.replica.program }
+        ensures writer { self.new.writer ≡ self.old.writer }
+        ensures began { self.new.began ≡ self.old.began }
+        ensures lanes { length self.new.lanes ≡ length self.old.lanes }
+    {
+        // A program has an origin, and each record is in its log once.
+        self.replica.program().valid();
+        self.replica.valid();
+        let (turn, news) = serve(&mut self.lanes[lane], &mut self.replica, alloc);
+        self.sure = rows_before(self.writer.rows(), self.sure, news);
+        turn
+    }
+
+    /// Appends to the board the released outputs that are missing, as many as it has room for, and tells how many rows there are; or
+    /// freezes it for good, where its rows no longer begin what is released. The replica is settled. It takes no memory, and looks
+    /// at no row that no record since can have changed.
+    pub fn publish(&mut self, board: &Board) -> Published
+        requires settled { IsTrue (T.settled self.old.replica.timeline) }
+        requires board { self.old.writer.board ≡ board.now }
+        ensures published { (released : List Out)
+            × IsReleased self.old.replica.program (set_of self.old.replica.records) released
+            × Publishes released self.old.writer result self.new.writer }
+        ensures others { self.new ≡ record self.old { writer = self.new.writer } }
+    {
+        let released = self.replica.released();
+        let published = publish(released, self.sure, &mut self.writer, board);
+        self.sure = self.writer.rows().len();
+        published
+    }
+}
+
+/// Serves the next command of a lane: a place for its answer is looked for before the command is received. The tag is that of the
+/// record that came in, if one did.
+fn serve<T: Timeline>(
+    lane: &mut Lane,
+    replica: &mut Replica<T>,
+    alloc: Global,
+) -> (Turn, Option<Tag>)
+    ensures turns { TurnsLane replica.old lane.old result.0 replica.new lane.new }
+    ensures news { HasNews replica.old.program replica.old.records result.1 replica.new.records }
+{
+    if lane.answers.is_full() {
+        return (Turn::Stalled, None);
+    }
+    let Ok(line) = lane.commands.pop() else {
+        return (Turn::Empty, None);
+    };
+    let reply = replica.ask(alloc, line);
+    let len = replica.len();
+    lane.answers.push_reserved(Answer { len, reply });
+    (Turn::Served, news(&line, &reply))
+}

@@ -1,0 +1,25 @@
+use Rattle.std.proofs.Common.{map, ◌∙◌}
+use Rattle.warp_step.specs.Program.{rule_of}
+use Rattle.warp_prog.specs.Numbered.{its_variables, its_ports, its_actions, its_timers, its_reactions}
+use Rattle.warp_prog.proofs.Numbers.{each_more, room_more}
+use Rattle.warp_prog.proofs.numbered.contents_of.Goals as goal
+
+pub loop-reactor-preserved : goal.loop-reactor-preserved
+loop-reactor-preserved c =
+    let l = c.loop-reactor in
+    let old = l.contents in
+    let new = c.add.new.self in
+    let added = c.in_ok-add.ensures in
+    let rs = c.args.reactors.now in
+    let i = l.reactor-index in
+    let r = c.reactor-item.result in
+    let lt = c.loop-reactor-test.true in
+    let here = c.reactor-item.is in
+    rw c.past-before.ensures (record {
+      room = (room_more l.before rs i r lt here l.invariant.room).1;
+      variables = each_more its_variables old.variables.items new.variables.items l.before rs i r lt here added.variables ∙ l.invariant.variables;
+      ports = each_more its_ports old.ports.items new.ports.items l.before rs i r lt here added.ports ∙ l.invariant.ports;
+      actions = each_more its_actions old.actions.items new.actions.items l.before rs i r lt here added.actions ∙ l.invariant.actions;
+      timers = each_more its_timers old.timers.items new.timers.items l.before rs i r lt here added.timers ∙ l.invariant.timers;
+      reactions = each_more its_reactions (map rule_of old.reactions.items) (map rule_of new.reactions.items) l.before rs i r lt here added.reactions ∙ l.invariant.reactions;
+    })

@@ -1,0 +1,25 @@
+//! The law on rework of a replica: what it costs to settle after records came.
+ghost use Rattle.std.specs.Prelude.{◌≡◌, ◌≤◌, ◌+◌, ℕ, List};
+ghost use Rattle.warp_tag.specs.Moment.{Moment};
+ghost use Rattle.warp_tag.specs.Table.{live};
+ghost use Rattle.warp_step.specs.Run.{Row, Run};
+ghost use Rattle.warp_line.specs.Rework.{rework};
+ghost use Rattle.warp_table.specs.Table.{table_of};
+ghost use Rattle.warp_replica.specs.Chain.{Taking, TakeAll, ChangeFrom, ChangeNone, IsAllDone, SettlesWith};
+ghost use Rattle.warp_replica.specs.Replica.{ReplicaState};
+
+use warp_line::Timeline;
+
+/// A law: after a settled replica took records, one after another, settling it ticks at most once for each row of the
+/// run over its records then that is not before the least tag at which a record changed the live events, and `SLACK`
+/// times more; not at all where none changed them. What is asked of each taking is what `Replica::take` ensures, and of
+/// settling what `Replica::settle` does.
+pub fn rework_after_takes<T: Timeline>()
+    ensures bound { (r last settled : ReplicaState T) (takings : List (Taking T)) (tag : Moment) (ticks : ℕ)
+        (trace : List Row) → IsAllDone T.stands_for r → TakeAll T.stands_for T.SLACK r takings last →
+        ChangeFrom tag r takings → SettlesWith T.stands_for last ticks settled →
+        Run last.program (live (table_of last.records)) trace → ticks ≤ rework tag trace + T.SLACK }
+    ensures idle { (r last settled : ReplicaState T) (takings : List (Taking T)) (ticks : ℕ) →
+        IsAllDone T.stands_for r → TakeAll T.stands_for T.SLACK r takings last → ChangeNone r takings →
+        SettlesWith T.stands_for last ticks settled → ticks ≡ 0 }
+{}

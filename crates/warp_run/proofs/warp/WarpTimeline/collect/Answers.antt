@@ -1,0 +1,6 @@
+use Rattle.warp_line.proofs.Rooms.{takes_none}
+use Rattle.warp_run.specs.Warp.{room_in}
+use Rattle.warp_run.proofs.warp.WarpTimeline.collect.Goals as goal
+
+pub returns-clause-room : goal.returns-clause-room
+returns-clause-room c = takes_none (room_in c.args.self.now)

@@ -1,0 +1,35 @@
+use Rattle.std.proofs.Common.{[], ◌++◌, ◌∙◌, take, refl, arith}
+use Rattle.std.proofs.KnownBytes.{Consumes-nil, Consumes-trans}
+use Rattle.warp_session.proofs.TurnsLemmas.{Taken-nil, transcribed, read_more}
+use Rattle.warp_session.proofs.desk_session.Transcriber.answer_all.Goals as goal
+
+pub returns-then-has_ended-clause-bytes : goal.returns-then-has_ended-clause-bytes
+returns-then-has_ended-clause-bytes g c = λ end.
+    let was = c.reads.invariant in
+    transcribed g.D.Desk.gives _ _ _ was.seen c.read.new.buffer c.in-Ok.count _ _ _ refl was.taken c.in-Ok-finish.ensures.does was.read
+    c.in-Ok.ensures.bytes c.if-has_ended.true (omega (arith, c.requires.room, c.read.auto.buffer, c.reads.auto.buffer))
+
+pub reads-preserved : goal.reads-preserved
+reads-preserved g c =
+    let was = c.reads.invariant in
+    let piece = take c.in-Ok.count c.read.new.buffer in
+    record {
+      seen = was.seen ++ piece;
+      read = Consumes-trans _ _ _ was.seen piece was.read c.in-Ok.ensures.bytes.0;
+      taken = c.in-Ok-take.ensures.turn.does _ was.seen was.taken;
+      reads = read_more was.seen c.read.new.buffer c.in-Ok.count c.reads._read was.reads c.in-Ok.ensures.bound c.if-has_ended.false;
+      empty = c.in-Ok-take.ensures.empty;
+      reads_sound = c.in-Ok.ensures.failures ∙ was.reads_sound;
+      writes_sound = c.in-Ok-take.ensures.turn.failures ∙ was.writes_sound;
+    }
+
+pub reads-init : goal.reads-init
+reads-init g c = rw c.requires.new (record {
+  seen = [];
+  read = Consumes-nil _;
+  taken = Taken-nil g.D.Desk.gives _ refl;
+  reads = omega arith;
+  empty = refl;
+  reads_sound = refl;
+  writes_sound = refl;
+})
