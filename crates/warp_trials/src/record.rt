@@ -1,11 +1,88 @@
-//! What no line of the program shows of records and replies: that replies are read, and records and replies at ends of
-//! their ranges that the program never comes to.
+//! What no line of the program shows of records and replies: a stream that is cut at every place, replies that are
+//! read, and records and replies at ends of their ranges that the program never comes to.
 use std::alloc::Global;
 use std::process::Abort;
+use std::test::Fail;
 use warp_record::{
-    Count, Line, Record, Refusal, Reply, read_line, read_reply, write_record, write_reply,
+    Count, Fed, Feed, Line, Record, Refusal, Reply, read_line, read_reply, write_record,
+    write_reply,
 };
 use warp_tag::{Out, Tag};
+
+/// Two lines and an empty one, and lines of 129 and of 128 bytes.
+const STREAM: &[u8] = b"event 00 5 0 0 3\n\nevent 0 5 0 1 3\n\
+xxxxxxxxxxxxxxxxxxxxxxxxxxxxxxxxxxxxxxxxxxxxxxxxxxxxxxxxxxxxxxxxxxxxxxxxxxxxxxxxxxxxxxxxxxxxxxxxxxxx\
+xxxxxxxxxxxxxxxxxxxxxxxxxxxxx\n\
+xxxxxxxxxxxxxxxxxxxxxxxxxxxxxxxxxxxxxxxxxxxxxxxxxxxxxxxxxxxxxxxxxxxxxxxxxxxxxxxxxxxxxxxxxxxxxxxxxxxx\
+xxxxxxxxxxxxxxxxxxxxxxxxxxxx\n";
+
+/// What is fed of them, each as a line.
+const FED: &[u8] = b"event 00 5 0 0 3\n\nevent 0 5 0 1 3\n(too long)\n\
+xxxxxxxxxxxxxxxxxxxxxxxxxxxxxxxxxxxxxxxxxxxxxxxxxxxxxxxxxxxxxxxxxxxxxxxxxxxxxxxxxxxxxxxxxxxxxxxxxxxx\
+xxxxxxxxxxxxxxxxxxxxxxxxxxxx\n";
+
+/// What stands behind the last line feed, and what is fed of it at the end.
+const LAST: [(&[u8], &[u8]); 3] = [
+    (b"var", b"(torn)\n"),
+    (b"", b""),
+    (&[b'x'; 129], b"(too long)\n"),
+];
+
+/// Appends a line that was fed, as a text of one line.
+fn append(out: &mut Vec<u8>, fed: Option<Fed>) -> Result<(), Fail> {
+    match fed {
+        None => {}
+        Some(Fed::Text(line)) => {
+            out.extend_from_slice(line.as_slice())?;
+            out.push(b'\n')?;
+        }
+        Some(Fed::TooLong) => out.extend_from_slice(b"(too long)\n")?,
+        Some(Fed::Torn) => out.extend_from_slice(b"(torn)\n")?,
+    }
+    Ok(())
+}
+
+/// Feeds all of a piece, and appends what is fed.
+fn feed_piece(feed: &mut Feed, out: &mut Vec<u8>, piece: &[u8]) -> Result<(), Fail> {
+    let mut rest = piece;
+    for _ in 0..piece.len() {
+        let (taken, fed) = feed.push(rest);
+        append(out, fed)?;
+        rest = &rest[taken..];
+    }
+    Ok(())
+}
+
+/// What is fed of the bytes, which come in two pieces.
+fn fed_in_two(alloc: Global, bytes: &[u8], cut: usize) -> Result<Vec<u8>, Fail> {
+    let cut = cut.min(bytes.len());
+    let mut feed = Feed::new();
+    let mut out = Vec::new(alloc);
+    feed_piece(&mut feed, &mut out, &bytes[..cut])?;
+    feed_piece(&mut feed, &mut out, &bytes[cut..])?;
+    append(&mut out, feed.end())?;
+    Ok(out)
+}
+
+/// These texts, one behind the other.
+fn joined(alloc: Global, a: &[u8], b: &[u8]) -> Result<Vec<u8>, Fail> {
+    let mut all = Vec::from_slice(alloc, a)?;
+    all.extend_from_slice(b)?;
+    Ok(all)
+}
+
+#[test]
+fn cut_at_every_place(rt: HostRuntime) -> Result<(), Fail> {
+    for (last, end) in LAST {
+        let bytes = joined(rt.alloc(), STREAM, last)?;
+        let wanted = joined(rt.alloc(), FED, end)?;
+        for cut in 0..bytes.len() {
+            let fed = fed_in_two(rt.alloc(), &bytes, cut)?;
+            assert_eq!(rt; fed.as_slice(), wanted.as_slice(), "cut at {cut}");
+        }
+    }
+    Ok(())
+}
 
 /// The first or the last tag.
 fn tag(rt: &impl Abort, is_last: bool) -> Tag {
