@@ -1,7 +1,5 @@
-use Rattle.std.proofs.Common.{inr, subst}
-use Rattle.warp_prog.specs.Load.{IsLoaded, IsRefused}
-use Rattle.warp_prog.specs.declared.error.LoadError.{LoadError}
-use Rattle.warpd.specs.Outcome.{refused_outcome}
+use Rattle.std.proofs.Common.{subst}
+use Rattle.warp_prog.specs.Load.{IsLoaded}
 use Rattle.warpd.proofs.program_file.loaded.Goals as goal
 
 pub returns-clause-ok : goal.returns-clause-ok
