@@ -1,12 +1,13 @@
 -- Operators over parts that were read one after another.
-use Rattle.std.proofs.Common.{◌≡◌, List, ◌∷◌, [], ◌<◌, ◌≤◌, arith, length, Option, Some, None, Result, Ok, Err, ℕ, get_or, ap, refl}
+use Rattle.std.proofs.Common.{◌≡◌, List, ◌∷◌, [], ◌<◌, ◌≤◌, arith, length, Option, Some, None, Result, Ok, Err, ℕ, get_or, true, false, bytes_eq, codes, option_map, ap, sym, refl}
 use Rattle.serde_json.specs.Data.{array}
 use Rattle.serde_json.specs.View.{view, items_view}
 use Rattle.serde_json.specs.declared.value.Value.{Value}
 use Rattle.warp_prog.specs.Chain.{◌>>=◌}
-use Rattle.warp_prog.specs.File.{NamedTerm}
+use Rattle.warp_prog.specs.File.{NamedTerm, PresentNamed}
 use Rattle.warp_prog.specs.Terms.{term_of, of_two, of_three}
-use Rattle.warp_prog.specs.inner.Read.{both, first_word, with_two, with_three}
+use Rattle.warp_prog.specs.Word.{name_at}
+use Rattle.warp_prog.specs.inner.Read.{both, first_word, with_one, with_two, with_three}
 
 two_same : (w : List ℕ) (a b : Option NamedTerm) → (a >>= λ x. b >>= λ y. of_two w x y) ≡ with_two w a b
 two_same w None b = refl
@@ -19,7 +20,21 @@ three_same w (Some z) None b = refl
 three_same w (Some z) (Some x) None = refl
 three_same w (Some z) (Some x) (Some y) = refl
 
--- the rows of an expression, of what a match on three and four items knows
+-- the rows of an expression, of what a match on two, three and four items knows
+pub presence_row : (vs : List Value) (w : List ℕ) (x : Value) → 2 ≤ length vs → length vs < 3 → first_word (items_view vs) ≡ Some w → x ≡ get_or vs 1 x
+    → true ≡ bytes_eq w (codes "present") → term_of (array (items_view vs)) ≡ option_map PresentNamed (name_at (view x))
+presence_row [] w x few many word at_x is = absurd (omega (arith, few))
+presence_row (a ∷ []) w x few many word at_x is = absurd (omega (arith, few))
+presence_row (a ∷ (b ∷ [])) w x few many word at_x is = rw (at_x, word, sym is) refl
+presence_row (a ∷ (b ∷ (c ∷ vs))) w x few many word at_x is = absurd (omega (arith, many))
+
+pub one_row : (vs : List Value) (w : List ℕ) (x : Value) → 2 ≤ length vs → length vs < 3 → first_word (items_view vs) ≡ Some w → x ≡ get_or vs 1 x
+    → false ≡ bytes_eq w (codes "present") → term_of (array (items_view vs)) ≡ with_one w (term_of (view x))
+one_row [] w x few many word at_x is = absurd (omega (arith, few))
+one_row (a ∷ []) w x few many word at_x is = absurd (omega (arith, few))
+one_row (a ∷ (b ∷ [])) w x few many word at_x is = rw (at_x, word, sym is) refl
+one_row (a ∷ (b ∷ (c ∷ vs))) w x few many word at_x is = absurd (omega (arith, many))
+
 pub two_row : (vs : List Value) (w : List ℕ) (x y : Value) → 3 ≤ length vs → length vs < 4 → first_word (items_view vs) ≡ Some w
     → x ≡ get_or vs 1 x → y ≡ get_or vs 2 y → term_of (array (items_view vs)) ≡ with_two w (term_of (view x)) (term_of (view y))
 two_row [] w x y few many word at_x at_y = absurd (omega (arith, few))

@@ -5,7 +5,7 @@ use Rattle.serde_json.specs.View.{view, items_view}
 use Rattle.serde_json.specs.declared.value.Value.{Value}
 use Rattle.serde_json.specs.Data.{Data, array, Items, item}
 use Rattle.warp_prog.specs.File.{NamedStatement, NamedBody, NamedDone, NamedThen}
-use Rattle.warp_prog.specs.Statements.{statement_of, statements_of, body_of, choice_of}
+use Rattle.warp_prog.specs.Statements.{statement_of, statements_of, body_of, assignment_of, scheduling_of, choice_of}
 use Rattle.warp_prog.specs.inner.Read.{first_word}
 use Rattle.warp_prog.specs.View.{body_tree, statement_tree}
 use Rattle.warp_prog.specs.declared.file.Statement.{Statement}
@@ -65,6 +65,29 @@ all_read done vs i past = rw (drop_all i vs past) (ap Some (joined_whole (map st
 was_true : (b : Bool) → false ≡ not b → b ≡ true
 was_true true e = refl
 was_true false e = absurd (true≢false (sym e))
+
+was_false : (b : Bool) → true ≡ not b → b ≡ false
+was_false true e = absurd (true≢false e)
+was_false false e = refl
+
+-- the rows of an assignment and of a scheduling, of what a match on three and four items knows
+pub assignment_row : (vs : List Value) (w : List ℕ) (x y : Value) → 3 ≤ length vs → length vs < 4 → first_word (items_view vs) ≡ Some w
+    → x ≡ get_or vs 1 x → y ≡ get_or vs 2 y → statement_of (array (items_view vs)) ≡ assignment_of w (view x) (view y)
+assignment_row [] w x y few many word at_x at_y = absurd (omega (arith, few))
+assignment_row (a ∷ []) w x y few many word at_x at_y = absurd (omega (arith, few))
+assignment_row (a ∷ (b ∷ [])) w x y few many word at_x at_y = absurd (omega (arith, few))
+assignment_row (a ∷ (b ∷ (c ∷ []))) w x y few many word at_x at_y = rw (at_x, at_y, word) refl
+assignment_row (a ∷ (b ∷ (c ∷ (d ∷ vs)))) w x y few many word at_x at_y = absurd (omega (arith, many))
+
+pub scheduling_row : (vs : List Value) (w : List ℕ) (x y z : Value) → 4 ≤ length vs → length vs < 5 → first_word (items_view vs) ≡ Some w
+    → x ≡ get_or vs 1 x → y ≡ get_or vs 2 y → z ≡ get_or vs 3 z → true ≡ not (bytes_eq w (codes "if"))
+    → statement_of (array (items_view vs)) ≡ scheduling_of w (view x) (view y) (view z)
+scheduling_row [] w x y z few many word at_x at_y at_z is_other = absurd (omega (arith, few))
+scheduling_row (a ∷ []) w x y z few many word at_x at_y at_z is_other = absurd (omega (arith, few))
+scheduling_row (a ∷ (b ∷ [])) w x y z few many word at_x at_y at_z is_other = absurd (omega (arith, few))
+scheduling_row (a ∷ (b ∷ (c ∷ []))) w x y z few many word at_x at_y at_z is_other = absurd (omega (arith, few))
+scheduling_row (a ∷ (b ∷ (c ∷ (d ∷ [])))) w x y z few many word at_x at_y at_z is_other = rw (at_x, at_y, at_z, word, was_false _ is_other) refl
+scheduling_row (a ∷ (b ∷ (c ∷ (d ∷ (e ∷ vs))))) w x y z few many word at_x at_y at_z is_other = absurd (omega (arith, many))
 
 -- the row of `if`, of what a match on four items knows
 pub choice_row : (vs : List Value) (w : List ℕ) (x y z : Value) → 4 ≤ length vs → length vs < 5 → first_word (items_view vs) ≡ Some w

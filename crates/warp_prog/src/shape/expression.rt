@@ -163,7 +163,8 @@ fn parts(alloc: Global, items: &[Value]) -> Result<Expression, Misread>
             if word == "present" {
                 return presence(part);
             }
-            with_one(alloc, word, expression(alloc, part))
+            let part = expression(alloc, part);
+            with_one(alloc, word, part)
         }
         [_, first, second] => {
             let first = expression(alloc, first);

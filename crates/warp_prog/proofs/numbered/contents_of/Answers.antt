@@ -23,3 +23,13 @@ loop-reactor-preserved c =
       timers = each_more its_timers old.timers.items new.timers.items l.before rs i r lt here added.timers ∙ l.invariant.timers;
       reactions = each_more its_reactions (map rule_of old.reactions.items) (map rule_of new.reactions.items) l.before rs i r lt here added.reactions ∙ l.invariant.reactions;
     })
+
+pub add-requires : goal.add-requires
+add-requires c =
+    let l = c.loop-reactor in
+    (room_more l.before c.args.reactors.now l.reactor-index c.reactor-item.result c.loop-reactor-test.true c.reactor-item.is l.invariant.room).0
+
+pub past-before-requires : goal.past-before-requires
+past-before-requires c =
+    let l = c.loop-reactor in
+    (room_more l.before c.args.reactors.now l.reactor-index c.reactor-item.result c.loop-reactor-test.true c.reactor-item.is l.invariant.room).0

@@ -18,3 +18,13 @@ pub returns : goal.returns
 returns c =
     let l = c.loop-reactor in
     sym (port_none output_number l.before c.args.reactors.now l.reactor-index c.args.port.now c.loop-reactor-test.false) ∙ l.invariant.rest
+
+pub output_number-requires : goal.output_number-requires
+output_number-requires c =
+    let l = c.loop-reactor in
+    (room_more l.before c.args.reactors.now l.reactor-index c.reactor-item.result c.loop-reactor-test.true c.reactor-item.is l.invariant.room).0
+
+pub past-before-requires : goal.past-before-requires
+past-before-requires c =
+    let l = c.loop-reactor in
+    (room_more l.before c.args.reactors.now l.reactor-index c.reactor-item.result c.loop-reactor-test.true c.reactor-item.is l.invariant.room).0

@@ -4,7 +4,7 @@ use Rattle.serde_json.specs.View.{view, items_view}
 use Rattle.warp_prog.specs.Terms.{term_of}
 use Rattle.warp_prog.specs.inner.Read.{first_word}
 use Rattle.warp_prog.proofs.ItemLemmas.{too_few, too_many}
-use Rattle.warp_prog.proofs.ReadLemmas.{two_row, three_row}
+use Rattle.warp_prog.proofs.ReadLemmas.{presence_row, one_row, two_row, three_row}
 use Rattle.warp_prog.proofs.shape.expression.+term.Goals as goal
 
 pub parts-returns-in-len1-clause-err : goal.parts-returns-in-len1-clause-err
@@ -50,3 +50,29 @@ parts-returns-in-len4-clause-err t c =
 
 pub parts-returns-in-len5-up-clause-err : goal.parts-returns-in-len5-up-clause-err
 parts-returns-in-len5-up-clause-err t c = λ e. too_many _ c.in-len5-up.len_at_least
+
+pub parts-returns-then-eq-clause-ok : goal.parts-returns-then-eq-clause-ok
+parts-returns-then-eq-clause-ok t c =
+    let word : first_word (items_view c.args.items.now) ≡ Some c.in-Some.word.now = sym c.first_word.ensures ∙ ap (option_map (λ w. w.now)) c.in-Some.is in
+    let row = presence_row c.args.items.now c.in-Some.word.now c.part-item.result c.in-len2.len_at_least c.in-len2.len_below word c.part-item.is c.if-eq.ensures in
+    rw row c.presence.ensures.ok
+
+pub parts-returns-else-eq-clause-ok : goal.parts-returns-else-eq-clause-ok
+parts-returns-else-eq-clause-ok t c =
+    let word : first_word (items_view c.args.items.now) ≡ Some c.in-Some.word.now = sym c.first_word.ensures ∙ ap (option_map (λ w. w.now)) c.in-Some.is in
+    let row = one_row c.args.items.now c.in-Some.word.now c.part-item.result c.in-len2.len_at_least c.in-len2.len_below word c.part-item.is c.if-eq.ensures in
+    let made = c.with_one.ensures (term_of (view c.part-item.result)) (record { ok = c.expression-part.ensures.ok; err = c.expression-part.ensures.err }) in
+    rw row made.ok
+
+pub parts-returns-then-eq-clause-err : goal.parts-returns-then-eq-clause-err
+parts-returns-then-eq-clause-err t c =
+    let word : first_word (items_view c.args.items.now) ≡ Some c.in-Some.word.now = sym c.first_word.ensures ∙ ap (option_map (λ w. w.now)) c.in-Some.is in
+    let row = presence_row c.args.items.now c.in-Some.word.now c.part-item.result c.in-len2.len_at_least c.in-len2.len_below word c.part-item.is c.if-eq.ensures in
+    rw row c.presence.ensures.err
+
+pub parts-returns-else-eq-clause-err : goal.parts-returns-else-eq-clause-err
+parts-returns-else-eq-clause-err t c =
+    let word : first_word (items_view c.args.items.now) ≡ Some c.in-Some.word.now = sym c.first_word.ensures ∙ ap (option_map (λ w. w.now)) c.in-Some.is in
+    let row = one_row c.args.items.now c.in-Some.word.now c.part-item.result c.in-len2.len_at_least c.in-len2.len_below word c.part-item.is c.if-eq.ensures in
+    let made = c.with_one.ensures (term_of (view c.part-item.result)) (record { ok = c.expression-part.ensures.ok; err = c.expression-part.ensures.err }) in
+    rw row made.err
