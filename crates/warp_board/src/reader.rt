@@ -1,5 +1,6 @@
 //! The readers of a board.
-ghost use Rattle.std.specs.Prelude.{◌≡◌, ◌<◌, ◌≤◌, true, ◌||◌, ◌↔◌, IfSome, IsNone, IsOk, MatchResult, slice_get, length};
+ghost use Rattle.std.specs.Prelude.{◌≡◌, ◌<◌, ◌≤◌, true, ◌||◌, ◌↔◌};
+ghost use Rattle.std.specs.Prelude.{IfSome, IsNone, IsOk, MatchResult, slice_get, length};
 ghost use Rattle.warp_tag.specs.Limits.{most_outputs, most_rows};
 ghost use Rattle.warp_tag.specs.Lists.{StartsWith};
 ghost use Rattle.warp_board.specs.Board.{room_of};

@@ -11,7 +11,8 @@ pub struct Answer {
     pub reply: Reply,
 }
 
-/// The rule of the ring of answers: each reply is in its range, and the length of a log that it says is its answer's `len`.
+/// The rule of the ring of answers: each reply is in its range, and the length of a log that it says is its answer's
+/// `len`.
 #[derive(Clone, Copy)]
 pub struct SaysLength;
 

@@ -20,8 +20,8 @@ use warp_line::Timeline;
 use warp_replica::Replica;
 use warp_tag::Tag;
 
-/// A replica, the lanes that it serves, and the writer of its board. Contracts see these three, and the length that the log had
-/// when the engine was made.
+/// A replica, the lanes that it serves, and the writer of its board. Contracts see these three, and the length that the
+/// log had when the engine was made.
 #[derive(Drop)]
 pub struct Engine<T: Timeline> {
     replica: Replica<T>,
@@ -51,8 +51,8 @@ impl<T: Timeline> Model for Engine<T> {
 }
 
 impl<T: Timeline> Engine<T> {
-    /// An engine over this replica, 0 to 16 new lanes, and the writer of a new board. A lane is named by its place in the list,
-    /// from 0.
+    /// An engine over this replica, 0 to 16 new lanes, and the writer of a new board. A lane is named by its place in
+    /// the list, from 0.
     pub fn new(replica: Replica<T>, lanes: Vec<Lane>, writer: Writer) -> Engine<T>
         requires fresh { AreFresh lanes.items }
         requires most { length lanes.items ≤ most_lanes }
@@ -71,9 +71,9 @@ impl<T: Timeline> Engine<T> {
         }
     }
 
-    /// What is known of any engine: its lanes are a linear history of its program and log, which began with as many records as the
-    /// log had when it was made; and while no origin broke an announcement, its board is not frozen, and the rows begin what the
-    /// program releases over the log. It does nothing.
+    /// What is known of any engine: its lanes are a linear history of its program and log, which began with as many
+    /// records as the log had when it was made; and while no origin broke an announcement, its board is not frozen, and
+    /// the rows begin what the program releases over the log. It does nothing.
     pub fn valid(&self)
         ensures history { IsHistory self.now.replica.program self.now.replica.records self.now.began self.now.lanes }
         ensures board { AreReleased self.now.replica.program self.now.replica.records self.now.writer }
@@ -103,8 +103,8 @@ impl<T: Timeline> Engine<T> {
         self.lanes.len()
     }
 
-    /// Serves the next command of a lane as a replica without peers would, if one is found and its answer has a place. It takes no
-    /// memory but in the replica's taking and settling.
+    /// Serves the next command of a lane as a replica without peers would, if one is found and its answer has a place.
+    /// `alloc` is the replica's.
     pub fn turn(&mut self, alloc: Global, lane: usize) -> Turn
         requires { lane < length self.old.lanes }
         ensures turns { Turns self.old lane result self.new }
@@ -121,9 +121,9 @@ impl<T: Timeline> Engine<T> {
         turn
     }
 
-    /// Appends to the board the released outputs that are missing, as many as it has room for, and tells how many rows there are; or
-    /// freezes it for good, where its rows no longer begin what is released. The replica is settled. It takes no memory, and looks
-    /// at no row that no record since can have changed.
+    /// Appends to the board the released outputs that are missing, as many as it has room for, and tells how many rows
+    /// there are; or freezes it for good, where its rows no longer begin what is released. The replica is settled. It
+    /// looks at no row that no record since can have changed.
     pub fn publish(&mut self, board: &Board) -> Published
         requires settled { IsTrue (T.settled self.old.replica.timeline) }
         requires board { self.old.writer.board ≡ board.now }
@@ -139,8 +139,8 @@ impl<T: Timeline> Engine<T> {
     }
 }
 
-/// Serves the next command of a lane: a place for its answer is looked for before the command is received. The tag is that of the
-/// record that came in, if one did.
+/// Serves the next command of a lane: a place for its answer is looked for before the command is received. The tag is
+/// that of the record that came in, if one did.
 fn serve<T: Timeline>(
     lane: &mut Lane,
     replica: &mut Replica<T>,

@@ -9,8 +9,8 @@ ghost use Rattle.warp_replica.specs.Gives.{Gives};
 ghost use Rattle.warp_lanes.specs.declared.answer.Answer.{Answer};
 ghost use Rattle.warp_lanes.specs.History.{IsGiven};
 
-/// A line leaves the log as it found it, or with one record more, and is answered `taken` with its place then. An answer
-/// `taken` with a place is to the record that stands there.
+/// A line leaves the log as it found it, or with one record more, and is answered `taken` with its place then. An
+/// answer `taken` with a place is to the record that stands there.
 pub fn taken_is_there()
     ensures one_more { (P : Program) (found after : List Record) (said : Line) (answer : Reply) →
         Gives P found said answer after →

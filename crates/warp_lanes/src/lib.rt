@@ -1,8 +1,10 @@
-//! Lanes: one thread's lines to a replica that another thread holds, and the answers back, through two rings of 64 places.
+//! Lanes: one thread's lines to a replica that another thread holds, and the answers back, through two rings of 64
+//! places.
 //!
-//! A `Port` sends lines and fetches their answers; a `Lane` is the other end, and an `Engine` serves it. None waits for another: where
-//! a ring has no place or no item, the call says so. What a port knows it knows of itself: what it sent, and what it fetched. What an
-//! engine received and sent on all its lanes is a linear history of its replica's program and log.
+//! A `Port` sends lines and fetches their answers; a `Lane` is the other end, and an `Engine` serves it. None waits for
+//! another: where a ring has no place or no item, the call says so. What a port knows it knows of itself: what it sent,
+//! and what it fetched. What an engine received and sent on all its lanes is a linear history of its replica's program
+//! and log.
 #![tactic(auto)]
 
 mod answer;

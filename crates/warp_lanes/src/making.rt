@@ -11,7 +11,8 @@ use warp_tag::OutOfMemory;
 /// How many commands, and how many answers, a lane has places for.
 const PLACES: usize = 64;
 
-/// A new lane: the end for a thread that sends lines, and the end for the one that answers them. `Err` only for want of memory.
+/// A new lane: the end for a thread that sends lines, and the end for the one that answers them. `Err` only for want of
+/// memory.
 pub fn lane(alloc: Global) -> Result<(Port, Lane), OutOfMemory>
     ensures port { IfOk result (λ ends. (ends.0.sent ≡ []) × (ends.0.fetched ≡ [])) }
     ensures lane { IfOk result (λ ends. ends.1 ≡ record { lane = ends.0.lane; commands = []; answers = [] }) }

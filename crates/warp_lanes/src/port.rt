@@ -11,7 +11,7 @@ use warp_record::Line;
 /// How many answers may be missing: as many as both rings have places for.
 const MOST_MISSING: u8 = 128;
 
-/// Sends lines, and fetches their answers. It takes no memory and never waits.
+/// Sends lines, and fetches their answers. It never waits.
 #[derive(Drop)]
 pub struct Port {
     pub(crate) commands: Producer<Line, Global>,
@@ -43,8 +43,8 @@ impl Model for Port {
 }
 
 impl Port {
-    /// Sends a line. It comes back where the ring of commands has no place, or 128 answers are missing, which is where both
-    /// rings are full; of the first 64 lines none does.
+    /// Sends a line. It comes back where the ring of commands has no place, or 128 answers are missing, which is where
+    /// both rings are full; of the first 64 lines none does.
     pub fn send(&mut self, line: Line) -> Result<(), Line>
         ensures ok { OnOk result (self.new ≡ record self.old { sent = self.old.sent ++ «line» ∷ [] }) }
         ensures err { IfErr result (λ back. (back ≡ «line») × (self.new ≡ self.old)) }

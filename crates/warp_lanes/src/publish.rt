@@ -1,5 +1,6 @@
 //! Publishing released outputs on a board.
-ghost use Rattle.std.specs.Prelude.{◌≡◌, ◌↔◌, ◌<◌, ◌≤◌, All, IfNone, IfSome, IsTrue, drop, false, length, min, take, true};
+ghost use Rattle.std.specs.Prelude.{◌≡◌, ◌↔◌, ◌<◌, ◌≤◌};
+ghost use Rattle.std.specs.Prelude.{All, IfNone, IfSome, IsTrue, drop, false, length, min, take, true};
 ghost use Rattle.std.specs.List.Sorted.{IsPartitionPoint, IsPartitionedBy};
 ghost use Rattle.warp_tag.specs.Limits.{most_outputs};
 ghost use Rattle.warp_tag.specs.Moment.{is_before};
@@ -21,8 +22,8 @@ pub enum Published {
     Frozen,
 }
 
-/// Appends the released outputs that are missing, as many as the board has room for; or freezes it, where its rows do not begin
-/// them. That the first `sure` of the rows do is known, and they are not looked at.
+/// Appends the released outputs that are missing, as many as the board has room for; or freezes it, where its rows do
+/// not begin them. That the first `sure` of the rows do is known, and they are not looked at.
 pub(crate) fn publish(
     released: &[Out],
     sure: usize,
@@ -89,7 +90,8 @@ pub(crate) fn rows_before(rows: &[Out], sure: usize, news: Option<Tag>) -> usize
     ensures none { IfNone news (result ≡ sure) }
     ensures before { IfSome news
         (λ tag. IsPartitionedBy (λ row. is_before row.tag tag) (take sure rows.now) →
-        IsPartitionPoint (λ row. is_before row.tag tag ≡ true) (λ row. is_before row.tag tag ≡ false) (take sure rows.now) result) }
+        IsPartitionPoint (λ row. is_before row.tag tag ≡ true) (λ row. is_before row.tag tag ≡ false)
+        (take sure rows.now) result) }
 {
     let Some(tag) = news else {
         return sure;

@@ -1,4 +1,5 @@
-//! An engine may be sent to another thread where its timeline may: the thread that serves need not be the one that made it.
+//! An engine may be sent to another thread where its timeline may: the thread that serves need not be the one that made
+//! it.
 ghost use Rattle.std.specs.Prelude.{◌≡◌};
 
 use crate::engine::Engine;

@@ -118,7 +118,8 @@ fn empty_wishes(alloc: Global, count: usize) -> Result<Vec<Wishes>, OutOfMemory>
     Ok(lists)
 }
 
-/// One step of a program at a tag, with what is given there. The room of `out` stays as it is, and the meter ticks once.
+/// One step of a program at a tag, with what is given there. The room of `out` stays as it is, and the meter ticks
+/// once.
 ///
 /// The state and the scratch are of this program, and `out` has room for each program output. What is pending at the
 /// tag and what is given is present; timers repeat; the triggered reactions run; their wishes, and what links with a

@@ -1,5 +1,6 @@
 //! Several replicas of one program, and what happens to them.
-ghost use Rattle.std.specs.Prelude.{◌≡◌, ◌≢◌, ◌<◌, ◌≤◌, List, [], ◌∷◌, ◌++◌, All, IfNone, IfOk, IfSome, IsTrue, OnErr, OnOk, Err};
+ghost use Rattle.std.specs.Prelude.{◌≡◌, ◌≢◌, ◌<◌, ◌≤◌, List, [], ◌∷◌, ◌++◌};
+ghost use Rattle.std.specs.Prelude.{All, IfNone, IfOk, IfSome, IsTrue, OnErr, OnOk, Err};
 ghost use Rattle.std.specs.Prelude.{Some, length, map, slice_get, slice_set, if◌then◌else◌};
 ghost use Rattle.warp_step.specs.Program.{Program};
 ghost use Rattle.warp_step.specs.Counter.{IsUnused};
