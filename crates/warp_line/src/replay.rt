@@ -5,7 +5,8 @@ ghost use Rattle.std.specs.List.{list_all, list_any};
 ghost use Rattle.warp_tag.specs.Moment.{is_before, is_same};
 ghost use Rattle.warp_tag.specs.Table.{IsTable, live};
 ghost use Rattle.warp_step.specs.Snapshot.{IsStateOf, start_state};
-ghost use Rattle.warp_step.specs.Step.{CanStep, room_of};
+ghost use Rattle.warp_step.specs.Step.{CanStep};
+ghost use Rattle.warp_step.specs.Scratch.{IsRoomOf};
 ghost use Rattle.warp_step.specs.Run.{Row, Run, given_of, state_at_end, outputs_of};
 ghost use Rattle.warp_step.specs.Events.{event_fits};
 ghost use Rattle.warp_line.specs.inner.Replay.{HasOtherHead, GoesOn, is_waiting, next_of, none_before};
@@ -80,7 +81,7 @@ fn advance<M: Meter>(
     requires can { IsTrue (is_waiting tag given.now state.old.pending) → CanStep program.now state.old tag given.now }
     requires none_before { IsTrue (none_before tag state.old.pending) }
     requires state { IsStateOf program.now state.old }
-    requires scratch { scratch.old ≡ room_of program.now }
+    requires scratch { IsRoomOf program.now scratch.old }
     ensures goes { OnOk result (GoesOn program.now tag given.now
         state.old state.new outputs.old.items outputs.new.items (M.ticks meter.old) (M.ticks meter.new)) }
     ensures state { OnOk result (IsStateOf program.now state.new) }

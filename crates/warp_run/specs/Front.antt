@@ -6,7 +6,8 @@ use Rattle.warp_tag.specs.Moment.{Moment}
 use Rattle.warp_tag.specs.Table.{Event}
 use Rattle.warp_step.specs.Program.{Program}
 use Rattle.warp_step.specs.Snapshot.{start_state}
-use Rattle.warp_step.specs.Step.{AreInputs, room_of}
+use Rattle.warp_step.specs.Step.{AreInputs}
+use Rattle.warp_step.specs.Scratch.{IsRoomOf}
 use Rattle.warp_step.specs.Run.{Row, Run, is_after, state_at_end, outputs_of}
 use Rattle.warp_step.specs.declared.given.Given.{Given}
 use Rattle.warp_line.specs.Timeline.{rows_before}
@@ -46,7 +47,7 @@ pub record IsAt (P : Program) (E : List Event) (x : Front) (done : List Row) : T
   pub due : x.due ≤ reach x.history.saves
   pub aside_width : x.aside.history.width ≡ length P.variables
   pub aside : AreAside P E x.aside.first x.aside.outputs x.aside.history.saves
-  pub scratch : x.scratch ≡ room_of P
+  pub scratch : IsRoomOf P x.scratch
 
 -- what is given at a tag that the program executes: each input is one of the program's, none is given twice
 pub record CanGive (P : Program) (tag : Moment) (X : List Given) : Type 0 where

@@ -7,7 +7,7 @@ use Rattle.warp_body.specs.Effect.{Statement, SetVariable, PutOutput, ScheduleAc
 use Rattle.warp_body.specs.Term.{is_true, value_of}
 use Rattle.warp_body.specs.declared.place.Target.{Target}
 use Rattle.warp_body.specs.declared.place.Target.TheVariants as to
-use Rattle.warp_step.specs.Plan.{heeds, heeds_any, is_port}
+use Rattle.warp_step.specs.inner.Plan.{heeds, heeds_any, is_port}
 use Rattle.warp_step.specs.Program.{Program, Rule}
 use Rattle.warp_step.specs.Valid.{body_may, names, rule_fits, statement_may, term_may}
 use Rattle.warp_step.proofs.DueLemmas.{Follows, or_false, triggers_stay}

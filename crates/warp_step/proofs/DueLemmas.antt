@@ -8,10 +8,10 @@ use Rattle.warp_body.specs.Presence.{Presence, is_target, nothing_present, prese
 use Rattle.warp_body.specs.declared.place.Places.{Places}
 use Rattle.warp_body.specs.declared.place.Target.{Target}
 use Rattle.warp_body.specs.declared.place.Target.TheVariants as to
-use Rattle.warp_step.specs.Marks.{first_link, first_output, first_reaction, first_timer, mark_at, no_marks, with_mark}
-use Rattle.warp_step.specs.Plan.{heeds, heeds_any, link_heeds, output_heeds, place_of, reaction_heeds, timer_heeds, with_watchers}
+use Rattle.warp_step.specs.inner.Marks.{first_link, first_output, first_reaction, first_timer, mark_at, no_marks, with_mark}
+use Rattle.warp_step.specs.inner.Plan.{heeds, heeds_any, link_heeds, marks_of, output_heeds, place_of, reaction_heeds, timer_heeds, with_watchers}
 use Rattle.warp_step.specs.Program.{Program}
-use Rattle.warp_step.specs.Step.{marks_of, sources_of}
+use Rattle.warp_step.specs.Step.{sources_of}
 use Rattle.warp_step.specs.inner.Due.{AreDue, AreMarked}
 use Rattle.warp_step.proofs.MarkLemmas.{joined_adds, joined_keeps, with_mark_adds, with_mark_keeps}
 

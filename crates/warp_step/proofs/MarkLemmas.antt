@@ -5,7 +5,7 @@ use Rattle.std.specs.Int.Count.{trailing_of_zero}
 use Rattle.std.proofs.lemmas.Bool.{cases_eq, cases_lt}
 use Rattle.std.proofs.lemmas.Nat.{and_le_r, pow_pos}
 use Rattle.std.proofs.lemmas.Nat.Bits.{bit_at-lt, bit_at-trailing_zeros, bit_at-zero, bit_at_and, bit_at_cat_high, bit_at_cat_low, bit_at_clear_other, bit_at_clear_same, bit_at_or, bit_at_set_same}
-use Rattle.warp_step.specs.Marks.{mark_at, marks_from, with_mark}
+use Rattle.warp_step.specs.inner.Marks.{mark_at, marks_from, with_mark}
 
 -- what is marked in one word or in another is marked in both together
 pub joined_keeps : (word other m : ℕ) → mark_at word m ≡ 1 → mark_at (bit_or word other) m ≡ 1

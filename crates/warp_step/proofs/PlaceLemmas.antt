@@ -6,9 +6,8 @@ use Rattle.std.proofs.lemmas.List.FromFn.{get_or-map-range_with_len}
 use Rattle.warp_body.specs.Presence.{target_fits}
 use Rattle.warp_body.specs.declared.place.Target.{Target}
 use Rattle.warp_body.specs.declared.place.Target.TheVariants as to
-use Rattle.warp_step.specs.Plan.{most_places, place_numbers, numbered_place, place_number}
+use Rattle.warp_step.specs.inner.Plan.{marks_of, most_places, numbered_place, place_number, place_numbers, plan_of}
 use Rattle.warp_step.specs.Program.{Program}
-use Rattle.warp_step.specs.Step.{marks_of, plan_of}
 use Rattle.warp_step.specs.Valid.{is_valid, program_places}
 use Rattle.warp_step.proofs.ValidLemmas.{validity}
 

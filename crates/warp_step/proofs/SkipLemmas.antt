@@ -10,8 +10,8 @@ use Rattle.warp_tag.specs.Moment.{Moment}
 use Rattle.warp_body.specs.Effect.{Done}
 use Rattle.warp_body.specs.Presence.{Presence, present_at}
 use Rattle.warp_body.specs.declared.place.Target.TheVariants as to
-use Rattle.warp_step.specs.Marks.{first_reaction, mark_at, marks_from}
-use Rattle.warp_step.specs.Plan.{link_heeds, output_heeds, reaction_heeds, source_if_delayed, timer_heeds}
+use Rattle.warp_step.specs.inner.Marks.{first_reaction, mark_at, marks_from}
+use Rattle.warp_step.specs.inner.Plan.{link_heeds, output_heeds, reaction_heeds, source_if_delayed, timer_heeds}
 use Rattle.warp_step.specs.Program.{Program, Rule}
 use Rattle.warp_step.specs.Snapshot.{Snapshot, landed}
 use Rattle.warp_step.specs.Step.{Reacting, after_reactions, delivered, is_triggered, numbers, outputs_from, repeats, with_links, with_output, with_repeats}

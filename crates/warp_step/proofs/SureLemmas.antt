@@ -10,9 +10,9 @@ use Rattle.warp_tag.specs.Limits.{most_reactions}
 use Rattle.warp_body.specs.Presence.{Presence, is_target, places_of, present_at, target_fits, with_value}
 use Rattle.warp_body.specs.declared.place.Target.{Target}
 use Rattle.warp_body.specs.declared.place.Target.TheVariants as to
-use Rattle.warp_step.specs.Plan.{first_heeding, heeds, most_places, numbered_place, place_number, place_numbers, place_of}
+use Rattle.warp_step.specs.inner.Plan.{first_heeding, heeds, most_places, numbered_place, place_number, place_numbers, place_of, plan_of}
 use Rattle.warp_step.specs.Program.{Program, Rule}
-use Rattle.warp_step.specs.Step.{plan_of, sources_of}
+use Rattle.warp_step.specs.Step.{sources_of}
 use Rattle.warp_step.specs.Valid.{is_valid, program_places}
 use Rattle.warp_step.specs.inner.Sure.{IsSure}
 use Rattle.warp_step.proofs.PlaceLemmas.{place_with_own, place_within}

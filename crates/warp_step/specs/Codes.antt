@@ -4,9 +4,6 @@ use Rattle.std.specs.Coded.{Coded, code_by, coded×, coded_ℕ, coded_ℤ, coded
 use Rattle.warp_body.specs.Codes.{body_code, target_code}
 use Rattle.warp_body.specs.Effect.{Body}
 use Rattle.warp_body.specs.declared.place.Target.{Target}
-use Rattle.warp_body.specs.declared.place.Places.{Places}
-use Rattle.warp_step.specs.Plan.{Plan}
-use Rattle.warp_step.specs.Step.{Room}
 use Rattle.warp_step.specs.Program.{Program, Rule}
 use Rattle.warp_step.specs.declared.parts.Variable.{Variable}
 use Rattle.warp_step.specs.declared.parts.Port.{Port}
@@ -91,26 +88,3 @@ program_code =
       outputs = p.1.1.1.1.1;
     })
     (λ _. refl)
-
--- whom each place concerns, and which reaction first; bodies; and whom what each reaction writes concerns, and all links
-abbrev pub PlanParts : Type 0
-PlanParts = List ℕ × (List ℕ × (List Body × (List ℕ × ℕ)))
-
-abbrev pub plan_code : Coded Plan
-plan_code =
-    code_by PlanParts
-    (coded× (coded_list coded_ℕ) (coded× (coded_list coded_ℕ) (coded× (coded_list body_code) (coded× (coded_list coded_ℕ) coded_ℕ))))
-    (λ p. (p.places, (p.firsts, (p.bodies, (p.after, p.links)))))
-    (λ q. record { places = q.0; firsts = q.1.0; bodies = q.1.1.0; after = q.1.1.1.0; links = q.1.1.1.1 })
-    (λ _. refl)
-
--- how many places there are of each kind
-abbrev pub places_code : Coded Places
-places_code =
-    code_by (ℕ × (ℕ × ℕ)) (coded× coded_ℕ (coded× coded_ℕ coded_ℕ))
-    (λ p. (p.timers, (p.actions, p.ports))) (λ q. record { timers = q.0; actions = q.1.0; ports = q.1.1 }) (λ _. refl)
-
-abbrev pub room_code : Coded Room
-room_code =
-    code_by (Places × (List ℕ × (ℕ × Plan))) (coded× places_code (coded× (coded_list coded_ℕ) (coded× coded_ℕ plan_code)))
-    (λ r. (r.places, (r.sources, (r.bodies, r.plan)))) (λ q. record { places = q.0; sources = q.1.0; bodies = q.1.1.0; plan = q.1.1.1 }) (λ _. refl)

@@ -3,9 +3,8 @@ pub mod Codes
 pub mod View
 pub mod Valid
 pub mod Snapshot
-pub mod Marks
-pub mod Plan
 pub mod Step
+pub mod Scratch
 pub mod Run
 pub mod Events
 pub mod Twice

@@ -2,17 +2,13 @@
 use Rattle.std.specs.Prelude.{◌≡◌, ℕ, ℤ, pos, ◌+◌, ◌≤◌, Bool, not, ◌&&◌, ◌||◌, ◌==◌, IsTrue, List, [], ◌∷◌, length, map, filter, replicate, slice_set, slice_get, slice_index, nat_lt, Option, Some, None, is_some, is_none, if◌then◌else◌}
 use Rattle.std.specs.Option.{option_map_or}
 use Rattle.std.specs.List.{list_any, list_all}
-use Rattle.arrayvec.specs.ArrayVec.{ArrayVec}
 use Rattle.warp_tag.specs.Moment.{Moment, is_before, is_same}
 use Rattle.warp_body.specs.Presence.{Presence, nothing_present, present_at, with_value}
 use Rattle.warp_body.specs.Effect.{Effect, effect_of}
-use Rattle.warp_body.specs.declared.place.Places.{Places}
 use Rattle.warp_body.specs.declared.place.Target.{Target}
 use Rattle.warp_body.specs.declared.place.Target.TheVariants as to
 use Rattle.warp_body.specs.declared.stmt.Wish.{Wish}
 use Rattle.warp_step.specs.Program.{Rule, Program, delay_of}
-use Rattle.warp_step.specs.Marks.{first_link, first_output, first_reaction, first_timer, marks_from, no_marks}
-use Rattle.warp_step.specs.Plan.{Plan, first_heeding, is_port, link_heeds, numbered_place, output_heeds, place_numbers, reaction_heeds, timer_heeds, with_watchers}
 use Rattle.warp_step.specs.Valid.{is_distinct, program_places}
 use Rattle.warp_step.specs.Snapshot.{Snapshot, IsStateOf, landed}
 use Rattle.warp_step.specs.declared.parts.Link.{Link}
@@ -105,10 +101,6 @@ after_reactions P (n ∷ ns) now = after_reactions P ns (option_map_or (λ rule.
 abbrev pub order_of : Program → List ℕ
 order_of P = numbers 0 P.reactions
 
--- lists of wishes, without the room that they have
-abbrev pub lists_of : List (ArrayVec Wish) → List (List Wish)
-lists_of rooms = map (λ w. w.items) rooms
-
 -- no reaction has a wish
 abbrev pub no_wishes : Program → List (List Wish)
 no_wishes P = replicate (length P.reactions) []
@@ -181,34 +173,3 @@ pub record CanStep (P : Program) (s : Snapshot) (t : Moment) (X : List Given) : 
   pub none_before : IsTrue (list_all (λ w. not (is_before w.tag t)) s.pending)
   pub some : IsTrue (nat_lt 0 (length X) || list_any (λ w. is_same w.tag t) s.pending)
   pub inputs : AreInputs P X
-
--- the marks of those whom the presence of one of these places concerns
-abbrev pub marks_of : Program → List Target → ℕ
-marks_of P places =
-    let sources = sources_of P in
-    with_watchers timer_heeds (first_timer P) sources places 0 P.timers
-    (with_watchers output_heeds (first_output P) sources places 0 P.outputs
-    (with_watchers link_heeds (first_link P) sources places 0 P.links
-    (with_watchers reaction_heeds first_reaction sources places 0 P.reactions no_marks)))
-
--- whom each place of the program concerns, which reaction first, the bodies of its reactions, whom what each writes concerns, and
--- all its links
-abbrev pub plan_of : Program → Plan
-plan_of P = record {
-  places = map (λ n. marks_of P (numbered_place n ∷ [])) place_numbers;
-  firsts = map (λ n. first_heeding (sources_of P) (numbered_place n) 0 P.reactions) place_numbers;
-  bodies = map (λ rule. rule.body) P.reactions;
-  after = map (λ rule. marks_of P (filter is_port rule.writes)) P.reactions;
-  links = marks_from (first_link P) (length P.links);
-}
-
--- the room that steps of the program work in: its places, the sources of its ports, for how many bodies it keeps wishes,
--- and its plan
-pub record Room : Type 0 where
-  pub places : Places
-  pub sources : List ℕ
-  pub bodies : ℕ
-  pub plan : Plan
-
-abbrev pub room_of : Program → Room
-room_of P = record { places = program_places P; sources = sources_of P; bodies = length P.reactions; plan = plan_of P }

@@ -1,5 +1,8 @@
--- What follows a loop of the code and no public contract cites.
+-- What follows the code, and no public contract cites.
 pub mod Front
 pub mod Flagged
+pub mod Marks
+pub mod Plan
+pub mod Room
 pub mod Due
 pub mod Sure

@@ -11,7 +11,8 @@ ghost use Rattle.warp_step.specs.Snapshot.{landed};
 ghost use Rattle.warp_step.specs.inner.Due.{AreDue};
 ghost use Rattle.warp_step.specs.inner.Flagged.{HasNone};
 ghost use Rattle.warp_step.specs.Step.{repeats, with_repeats, with_wishes, with_all_wishes, with_links, delivered};
-ghost use Rattle.warp_step.specs.Step.{lists_of, plan_of};
+ghost use Rattle.warp_step.specs.inner.Plan.{plan_of};
+ghost use Rattle.warp_step.specs.inner.Room.{lists_of};
 
 use crate::marks::{Marks, first_link, first_timer};
 use crate::parts::{Link, Timer};

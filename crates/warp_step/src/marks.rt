@@ -1,8 +1,8 @@
 //! Marks: sets of numbers in one word, by which a step knows whom it may have to look at.
 ghost use Rattle.std.specs.Prelude.{◌≡◌, ℕ, ◌+◌, ◌≤◌, ◌<◌, false, length};
 ghost use Rattle.std.specs.Int.RustNames.{bit_or};
-ghost use Rattle.warp_step.specs.Marks.{first_link, first_output, first_timer, mark_at, marks_from, most_marks};
-ghost use Rattle.warp_step.specs.Marks.{no_marks, with_mark};
+ghost use Rattle.warp_step.specs.inner.Marks.{first_link, first_output, first_timer, mark_at, marks_from, most_marks};
+ghost use Rattle.warp_step.specs.inner.Marks.{no_marks, with_mark};
 
 use crate::program::Program;
 

@@ -6,9 +6,11 @@ ghost use Rattle.warp_tag.specs.Moment.{is_before};
 ghost use Rattle.warp_body.specs.Presence.{places_of};
 ghost use Rattle.warp_step.specs.Valid.{program_places};
 ghost use Rattle.warp_step.specs.Snapshot.{Snapshot, IsStateOf};
+ghost use Rattle.warp_step.specs.Step.{CanStep, Step, reacted, source_of, sources_of, state_after};
+ghost use Rattle.warp_step.specs.Scratch.{IsRoomOf};
 ghost use Rattle.warp_step.specs.inner.Due.{AreDue};
-ghost use Rattle.warp_step.specs.Step.{CanStep, Step, Room, lists_of, plan_of, reacted, room_of, source_of, sources_of};
-ghost use Rattle.warp_step.specs.Step.{state_after};
+ghost use Rattle.warp_step.specs.inner.Plan.{plan_of};
+ghost use Rattle.warp_step.specs.inner.Room.{lists_of};
 
 use crate::arrive::arrive;
 use crate::given::Given;
@@ -24,8 +26,8 @@ use std::marker::Model;
 use warp_body::{Places, Present, Wishes};
 use warp_tag::{Out, OutOfMemory, Tag};
 
-/// Room that the steps of one program share. Contracts see of which program it is: its places, the sources of its
-/// ports, for how many bodies it keeps wishes, and its plan: whom each place concerns, and the bodies, ready to run.
+/// Room that the steps of one program share: its targets with what is present, whom each of them concerns, the bodies,
+/// ready to run, and a list of wishes for each. Contracts of a step say that it was made for the program (`IsRoomOf`).
 #[derive(Drop)]
 pub struct Scratch {
     present: Present,
@@ -37,8 +39,7 @@ pub struct Scratch {
 impl Model for Scratch {
     ghost use Rattle.std.specs.Prelude.{length};
     ghost use Rattle.warp_body.specs.Presence.{places_of};
-    ghost use Rattle.warp_step.specs.Step.{Room};
-    ghost use Rattle.warp_step.specs.Codes.{room_code};
+    ghost use Rattle.warp_step.specs.inner.Room.{Room, room_code};
 
     ghost Value = { Room };
 
@@ -53,7 +54,7 @@ impl Model for Scratch {
         } };
 
     ghost use Rattle.std.specs.Prelude.{◌≡◌, [], replicate};
-    ghost use Rattle.warp_step.specs.Step.{lists_of};
+    ghost use Rattle.warp_step.specs.inner.Room.{lists_of};
 
     ghost invariant = { λ s. lists_of s.wishes.items ≡ replicate (length s.wishes.items) [] };
 }
@@ -61,7 +62,7 @@ impl Model for Scratch {
 impl Scratch {
     /// Room for the steps of a program.
     pub fn new(alloc: Global, program: &Program) -> Result<Scratch, OutOfMemory>
-        ensures { IfOk result (λ s. s ≡ room_of program.now) }
+        ensures { IfOk result (λ s. IsRoomOf program.now s) }
     {
         program.valid();
         let places = Places {
@@ -135,7 +136,7 @@ pub fn step<M: Meter>(
     meter: &mut M,
 )
     requires can { CanStep program.now state.old tag given.now }
-    requires scratch { scratch.old ≡ room_of program.now }
+    requires scratch { IsRoomOf program.now scratch.old }
     requires room { vec_len out.old + length program.now.outputs ≤ vec_capacity out.old }
     ensures step { (outs : List Out) × (out.new.items ≡ out.old.items ++ outs) ×
         Step program.now state.old tag given.now state.new outs }

@@ -5,12 +5,13 @@ ghost use Rattle.std.specs.List.{list_any};
 ghost use Rattle.warp_tag.specs.Limits.{most_reactions};
 ghost use Rattle.warp_body.specs.declared.place.Target.{Target};
 ghost use Rattle.warp_body.specs.declared.place.Target.TheVariants as to;
-ghost use Rattle.warp_step.specs.Marks.{first_link, first_reaction, marks_from, most_marks, no_marks, with_mark};
-ghost use Rattle.warp_step.specs.Plan.{first_heeding, heeds, heeds_any, is_port, link_heeds, most_places};
-ghost use Rattle.warp_step.specs.Plan.{numbered_place, output_heeds, place_number, place_numbers, place_of};
-ghost use Rattle.warp_step.specs.Plan.{reaction_heeds, timer_heeds, with_watchers};
+ghost use Rattle.warp_step.specs.inner.Marks.{first_link, first_reaction, marks_from, most_marks, no_marks, with_mark};
+ghost use Rattle.warp_step.specs.inner.Plan.{first_heeding, heeds, heeds_any, is_port, link_heeds, most_places};
+ghost use Rattle.warp_step.specs.inner.Plan.{numbered_place, output_heeds, place_number, place_numbers, place_of};
+ghost use Rattle.warp_step.specs.inner.Plan.{reaction_heeds, timer_heeds, with_watchers};
 ghost use Rattle.warp_step.specs.Program.{rule_of};
-ghost use Rattle.warp_step.specs.Step.{marks_of, plan_of, sources_of};
+ghost use Rattle.warp_step.specs.Step.{sources_of};
+ghost use Rattle.warp_step.specs.inner.Plan.{marks_of, plan_of};
 
 use crate::marks::{Marks, first_link, first_output, first_timer};
 use crate::parts::{Link, Timer};
@@ -319,8 +320,8 @@ pub(crate) struct Plan {
 
 impl Model for Plan {
     ghost use Rattle.std.specs.Prelude.{map};
-    ghost use Rattle.warp_step.specs.Plan as specs;
-    ghost use Rattle.warp_step.specs.Codes.{plan_code};
+    ghost use Rattle.warp_step.specs.inner.Plan as specs;
+    ghost use Rattle.warp_step.specs.inner.Plan.{plan_code};
 
     ghost Value = { specs.Plan };
 

@@ -9,12 +9,13 @@ ghost use Rattle.warp_body.specs.Effect.{body_fits, schedules_of, wish_fits};
 ghost use Rattle.warp_body.specs.Term.{sizes_of};
 ghost use Rattle.warp_step.specs.Program.{Program, rule_of};
 ghost use Rattle.warp_step.specs.Valid.{is_valid, program_places, program_sizes, rule_fits};
-ghost use Rattle.warp_step.specs.Plan.{is_port};
 ghost use Rattle.warp_step.specs.inner.Due.{AreDue};
 ghost use Rattle.warp_step.specs.inner.Flagged.{HasNone};
+ghost use Rattle.warp_step.specs.inner.Plan.{is_port, marks_of, plan_of};
+ghost use Rattle.warp_step.specs.inner.Room.{lists_of};
 ghost use Rattle.warp_step.specs.inner.Sure.{IsSure};
-ghost use Rattle.warp_step.specs.Step.{Reacting, after_reactions, is_triggered, lists_of, marks_of, no_wishes};
-ghost use Rattle.warp_step.specs.Step.{order_of, outputs_from, plan_of, react, sources_of, with_output};
+ghost use Rattle.warp_step.specs.Step.{Reacting, after_reactions, is_triggered, no_wishes};
+ghost use Rattle.warp_step.specs.Step.{order_of, outputs_from, react, sources_of, with_output};
 
 use crate::marks::{Marks, first_output};
 use crate::plan::{Plan, Ready};

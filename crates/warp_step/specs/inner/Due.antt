@@ -3,8 +3,8 @@ use Rattle.std.specs.Prelude.{◌≡◌, ℕ, ◌+◌, true, List, Some, is_some
 use Rattle.std.specs.List.{list_any}
 use Rattle.warp_body.specs.Presence.{Presence, present_at}
 use Rattle.warp_body.specs.declared.place.Target.{Target}
-use Rattle.warp_step.specs.Marks.{first_link, first_output, first_reaction, first_timer, mark_at}
-use Rattle.warp_step.specs.Plan.{link_heeds, output_heeds, reaction_heeds, timer_heeds}
+use Rattle.warp_step.specs.inner.Marks.{first_link, first_output, first_reaction, first_timer, mark_at}
+use Rattle.warp_step.specs.inner.Plan.{link_heeds, output_heeds, reaction_heeds, timer_heeds}
 use Rattle.warp_step.specs.Program.{Program}
 
 -- each element of a list that something present triggers is marked; the first mark is at this number

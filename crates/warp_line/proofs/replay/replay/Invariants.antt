@@ -3,7 +3,7 @@ use Rattle.std.proofs.Common.{◌≡◌, ◌+◌, ◌-◌, length, IsTrue}
 use Rattle.std.specs.List.{list_all}
 use Rattle.warp_tag.specs.Table.{IsTable, live}
 use Rattle.warp_step.specs.Snapshot.{IsStateOf}
-use Rattle.warp_step.specs.Step.{room_of}
+use Rattle.warp_step.specs.Scratch.{IsRoomOf}
 use Rattle.warp_step.specs.Events.{event_fits}
 use Rattle.warp_line.proofs.ProgressLemmas.{Progress, rows_left}
 use Rattle.warp_line.proofs.replay.replay.Given as goal
@@ -14,7 +14,7 @@ invariant-rows g l = record {
   table : IsTable l.rest;
   events : IsTrue (list_all (event_fits l.program) (live l.rest));
   state : IsStateOf l.program l.state;
-  scratch : l.scratch ≡ room_of l.program;
+  scratch : IsRoomOf l.program l.scratch;
 }
 
 -- entries that are left, and rows that are left

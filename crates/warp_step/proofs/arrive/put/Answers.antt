@@ -6,8 +6,8 @@ use Rattle.warp_body.specs.Presence.{Presence, target_fits, with_value}
 use Rattle.warp_body.specs.declared.place.Places.{Places}
 use Rattle.warp_body.specs.declared.place.Target.{Target}
 use Rattle.warp_step.specs.Program.{Program}
-use Rattle.warp_step.specs.Plan.{Plan, numbered_place, place_number, place_numbers, most_places}
-use Rattle.warp_step.specs.Step.{marks_of, sources_of}
+use Rattle.warp_step.specs.inner.Plan.{Plan, marks_of, most_places, numbered_place, place_number, place_numbers}
+use Rattle.warp_step.specs.Step.{sources_of}
 use Rattle.warp_step.specs.Valid.{program_places}
 use Rattle.warp_step.specs.inner.Due.{AreDue}
 use Rattle.warp_step.proofs.DueLemmas.{due_after, follows_value}

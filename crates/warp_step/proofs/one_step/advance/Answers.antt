@@ -2,7 +2,8 @@
 use Rattle.std.proofs.Common.{◌≡◌, length, ap, ◌∙◌, sym}
 use Rattle.warp_body.specs.Presence.{Presence, places_of}
 use Rattle.warp_step.specs.Snapshot.{Snapshot}
-use Rattle.warp_step.specs.Step.{Reacting, lists_of, with_all_wishes, with_links, after_reactions, order_of, no_wishes, arrived, without_entries}
+use Rattle.warp_step.specs.Step.{Reacting, with_all_wishes, with_links, after_reactions, order_of, no_wishes, arrived, without_entries}
+use Rattle.warp_step.specs.inner.Room.{lists_of}
 use Rattle.warp_step.proofs.RepeatLemmas.{arrived_timers, same_repeats}
 use Rattle.warp_step.proofs.StepLemmas.{cleared, cleared_places, repeats_vars, Made, reacts_are, state_is, made_later, made_of}
 use Rattle.warp_step.proofs.one_step.advance.Goals as goal

@@ -3,7 +3,7 @@ use Rattle.std.proofs.Common.{◌≡◌, ◌+◌, ◌∷◌, [], ◌++◌, List,
 use Rattle.std.proofs.lemmas.List.{map_push, replicate_more}
 use Rattle.arrayvec.specs.ArrayVec.{ArrayVec}
 use Rattle.warp_body.specs.declared.stmt.Wish.{Wish}
-use Rattle.warp_step.specs.Step.{lists_of}
+use Rattle.warp_step.specs.inner.Room.{lists_of}
 use Rattle.warp_step.proofs.one_step.empty_wishes.Goals as goal
 
 pub loop-preserved : goal.loop-preserved

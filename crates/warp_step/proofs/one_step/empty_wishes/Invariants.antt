@@ -1,6 +1,6 @@
 -- the lists so far are empty, as many as turns
 use Rattle.std.proofs.Common.{◌≡◌, [], replicate, vec_len}
-use Rattle.warp_step.specs.Step.{lists_of}
+use Rattle.warp_step.specs.inner.Room.{lists_of}
 use Rattle.warp_step.proofs.one_step.empty_wishes.Given as goal
 
 abbrev pub invariant-loop : goal.invariant-loop

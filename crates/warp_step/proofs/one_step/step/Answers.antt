@@ -1,6 +1,6 @@
 -- the scratch is the room of the program, and so has its plan
 use Rattle.std.proofs.Common.{ap, ◌∙◌}
-use Rattle.warp_step.specs.Step.{Room}
+use Rattle.warp_step.specs.inner.Room.{Room}
 use Rattle.warp_step.proofs.one_step.step.Goals as goal
 
 pub advance-due-requires-clause-plan : goal.advance-due-requires-clause-plan

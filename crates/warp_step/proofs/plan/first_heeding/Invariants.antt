@@ -1,6 +1,6 @@
 -- the first of those that are left is the first of all
 use Rattle.std.proofs.Common.{◌≡◌, map, drop}
-use Rattle.warp_step.specs.Plan.{first_heeding}
+use Rattle.warp_step.specs.inner.Plan.{first_heeding}
 use Rattle.warp_step.specs.Program.{rule_of}
 use Rattle.warp_step.proofs.plan.first_heeding.Given as goal
 

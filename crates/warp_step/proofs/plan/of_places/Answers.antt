@@ -4,8 +4,8 @@ use Rattle.std.specs.List.{range_with_len}
 use Rattle.std.proofs.lemmas.List.{map-append}
 use Rattle.std.proofs.lemmas.List.FromFn.{map-range_with_len_more}
 use Rattle.warp_step.specs.declared.plan.Concerned.{Concerned}
-use Rattle.warp_step.specs.Plan.{first_heeding, numbered_place, place_numbers}
-use Rattle.warp_step.specs.Step.{marks_of, sources_of}
+use Rattle.warp_step.specs.inner.Plan.{first_heeding, marks_of, numbered_place, place_numbers}
+use Rattle.warp_step.specs.Step.{sources_of}
 use Rattle.warp_step.proofs.plan.of_places.Goals as goal
 
 -- one more at the end of a table

@@ -1,8 +1,8 @@
 -- the marks of the places so far, and the first reaction that each triggers
 use Rattle.std.proofs.Common.{◌≡◌, [], ◌∷◌, map}
 use Rattle.std.specs.List.{range_with_len}
-use Rattle.warp_step.specs.Plan.{first_heeding, numbered_place}
-use Rattle.warp_step.specs.Step.{marks_of, sources_of}
+use Rattle.warp_step.specs.inner.Plan.{first_heeding, marks_of, numbered_place}
+use Rattle.warp_step.specs.Step.{sources_of}
 use Rattle.warp_step.proofs.plan.of_places.Given as goal
 
 abbrev pub invariant-loop-number : goal.invariant-loop-number

@@ -2,9 +2,8 @@
 use Rattle.std.proofs.Common.{◌≡◌, ℕ, List, filter, map, ap, ◌∙◌}
 use Rattle.warp_body.specs.Effect.{Body, statements_of}
 use Rattle.warp_body.specs.declared.place.Target.{Target}
-use Rattle.warp_step.specs.Plan.{is_port}
+use Rattle.warp_step.specs.inner.Plan.{is_port, marks_of}
 use Rattle.warp_step.specs.Program.{Rule, rule_of}
-use Rattle.warp_step.specs.Step.{marks_of}
 use Rattle.warp_step.specs.declared.plan.Ready.{Ready}
 use Rattle.warp_step.specs.declared.reaction.Reaction.{Reaction}
 use Rattle.warp_step.proofs.PlanLemmas.{made_all, made_more, told_twice}

@@ -1,8 +1,7 @@
 -- the bodies and the marks so far are those of the reactions so far
 use Rattle.std.proofs.Common.{◌≡◌, filter, map, take}
-use Rattle.warp_step.specs.Plan.{is_port}
+use Rattle.warp_step.specs.inner.Plan.{is_port, marks_of}
 use Rattle.warp_step.specs.Program.{rule_of}
-use Rattle.warp_step.specs.Step.{marks_of}
 use Rattle.warp_step.proofs.plan.of_reactions.Given as goal
 
 abbrev pub invariant-loop-reaction : goal.invariant-loop-reaction

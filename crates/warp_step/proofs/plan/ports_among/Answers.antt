@@ -3,7 +3,7 @@ use Rattle.std.proofs.Common.{◌≡◌, ◌≢◌, ℕ, ◌+◌, ◌<◌, ◌++
 use Rattle.std.proofs.lemmas.List.{append-nil, append_assoc, at_drop_all, at_drop_more}
 use Rattle.warp_body.specs.declared.place.Target.{Target}
 use Rattle.warp_body.specs.declared.place.Target.TheVariants as to
-use Rattle.warp_step.specs.Plan.{is_port}
+use Rattle.warp_step.specs.inner.Plan.{is_port}
 use Rattle.warp_step.proofs.plan.ports_among.Goals.{in-Port+in_ok-push, in_default}
 use Rattle.warp_step.proofs.plan.ports_among.Goals as goal
 

@@ -1,6 +1,6 @@
 -- the ports so far, and those among the targets that are left, are those among all
 use Rattle.std.proofs.Common.{◌≡◌, ◌++◌, drop, filter}
-use Rattle.warp_step.specs.Plan.{is_port}
+use Rattle.warp_step.specs.inner.Plan.{is_port}
 use Rattle.warp_step.proofs.plan.ports_among.Given as goal
 
 abbrev pub invariant-loop-target : goal.invariant-loop-target

@@ -1,6 +1,6 @@
 -- the marks so far, and then those for the outputs that are left, are those for all
 use Rattle.std.proofs.Common.{◌≡◌, drop}
-use Rattle.warp_step.specs.Plan.{output_heeds, with_watchers}
+use Rattle.warp_step.specs.inner.Plan.{output_heeds, with_watchers}
 use Rattle.warp_step.proofs.plan.watch_outputs.Given as goal
 
 abbrev pub invariant-loop-number : goal.invariant-loop-number

@@ -1,7 +1,7 @@
 -- the marks so far, and then those for the reactions that are left, are those for all
 use Rattle.std.proofs.Common.{◌≡◌, map, drop}
-use Rattle.warp_step.specs.Marks.{first_reaction}
-use Rattle.warp_step.specs.Plan.{reaction_heeds, with_watchers}
+use Rattle.warp_step.specs.inner.Marks.{first_reaction}
+use Rattle.warp_step.specs.inner.Plan.{reaction_heeds, with_watchers}
 use Rattle.warp_step.specs.Program.{rule_of}
 use Rattle.warp_step.proofs.plan.watch_reactions.Given as goal
 

@@ -1,7 +1,7 @@
 -- one timer more
 use Rattle.std.proofs.Common.{◌+◌, ◌<◌, List, ℕ, length, drop, ap, sym, ◌∙◌}
 use Rattle.std.proofs.lemmas.List.{drop_more}
-use Rattle.warp_step.specs.Plan.{timer_heeds, with_watchers}
+use Rattle.warp_step.specs.inner.Plan.{timer_heeds, with_watchers}
 use Rattle.warp_step.specs.declared.parts.Timer.{Timer}
 use Rattle.warp_step.proofs.plan.watch_timers.Goals as goal
 

@@ -5,7 +5,7 @@ use Rattle.warp_tag.specs.Limits.{most_outputs}
 use Rattle.warp_body.specs.Presence.{present_at}
 use Rattle.warp_body.specs.declared.place.Places.{Places}
 use Rattle.warp_body.specs.declared.place.Target.TheVariants as to
-use Rattle.warp_step.specs.Plan.{output_heeds}
+use Rattle.warp_step.specs.inner.Plan.{output_heeds}
 use Rattle.warp_step.specs.Step.{outputs_from, with_output}
 use Rattle.warp_tag.specs.declared.out.Out.{Out}
 use Rattle.warp_step.specs.inner.Due.{AreMarked}

@@ -9,10 +9,11 @@ use Rattle.warp_body.specs.Effect.{Body, Effect, effect_of, wish_fits}
 use Rattle.warp_body.specs.Term.{sizes_of}
 use Rattle.warp_body.specs.declared.stmt.Wish.{Wish}
 use Rattle.warp_step.specs.Program.{rule_of}
-use Rattle.warp_step.specs.Step.{Reacting, effect_in, is_triggered, lists_of}
+use Rattle.warp_step.specs.Step.{Reacting, effect_in, is_triggered}
+use Rattle.warp_step.specs.inner.Room.{lists_of}
 use Rattle.warp_body.specs.Presence.{Presence}
 use Rattle.warp_step.specs.inner.Due.{AreDue}
-use Rattle.warp_step.specs.Plan.{is_port}
+use Rattle.warp_step.specs.inner.Plan.{is_port}
 use Rattle.warp_step.proofs.DueBodies.{follows_body}
 use Rattle.warp_step.proofs.DueLemmas.{due_after}
 use Rattle.warp_step.proofs.ReactLemmas.{list_all_set}

@@ -14,11 +14,12 @@ use Rattle.warp_body.specs.Term.{sizes_of}
 use Rattle.warp_body.specs.declared.place.Places.{Places}
 use Rattle.warp_body.specs.declared.place.Sizes.{Sizes}
 use Rattle.warp_body.specs.declared.stmt.Wish.{Wish}
-use Rattle.warp_step.specs.Plan.{Plan, is_port}
+use Rattle.warp_step.specs.inner.Plan.{Plan, is_port, marks_of, plan_of}
 use Rattle.warp_step.specs.Program.{Program, Rule, rule_of}
 use Rattle.warp_step.specs.Valid.{is_valid, program_places, program_sizes, rule_fits}
 use Rattle.warp_step.specs.inner.Sure.{IsSure}
-use Rattle.warp_step.specs.Step.{Reacting, after_reactions, lists_of, marks_of, numbers, order_of, plan_of}
+use Rattle.warp_step.specs.Step.{Reacting, after_reactions, numbers, order_of}
+use Rattle.warp_step.specs.inner.Room.{lists_of}
 use Rattle.warp_step.specs.declared.reaction.Reaction.{Reaction}
 use Rattle.warp_step.proofs.ReactLemmas.{after_one_more, empty_at, empty_pass, react_other, rule_at}
 use Rattle.warp_step.proofs.SkipLemmas.{skip_reactions}

@@ -5,7 +5,8 @@ use Rattle.std.specs.List.{list_all}
 use Rattle.warp_body.specs.Effect.{wish_fits}
 use Rattle.warp_body.specs.Presence.{places_of}
 use Rattle.warp_step.specs.Valid.{program_sizes}
-use Rattle.warp_step.specs.Step.{after_reactions, lists_of, no_wishes, numbers, order_of}
+use Rattle.warp_step.specs.Step.{after_reactions, no_wishes, numbers, order_of}
+use Rattle.warp_step.specs.inner.Room.{lists_of}
 use Rattle.warp_step.specs.inner.Due.{AreDue}
 use Rattle.warp_step.specs.inner.Flagged.{HasNone}
 use Rattle.warp_step.specs.inner.Sure.{IsSure}

@@ -1,7 +1,7 @@
 -- what is kept for the reaction with this number
 use Rattle.std.proofs.Common.{◌≡◌, ◌<◌, length, get_or, ap, sym, ◌∙◌, arith}
 use Rattle.std.proofs.lemmas.List.{get_or-map, length-map}
-use Rattle.warp_step.specs.Plan.{Plan}
+use Rattle.warp_step.specs.inner.Plan.{Plan}
 use Rattle.warp_step.specs.declared.plan.Ready.{Ready}
 use Rattle.warp_step.proofs.plan.Plan.reaction.Goals as goal
 

@@ -1,7 +1,7 @@
 -- where the marks of all links are apart from those that are due, none is due
 use Rattle.std.proofs.Common.{◌≡◌, ℕ, length, ap, sym, ◌∙◌}
-use Rattle.warp_step.specs.Marks.{first_link, mark_at, marks_from}
-use Rattle.warp_step.specs.Plan.{Plan}
+use Rattle.warp_step.specs.inner.Marks.{first_link, mark_at, marks_from}
+use Rattle.warp_step.specs.inner.Plan.{Plan}
 use Rattle.warp_step.proofs.SkipLemmas.{links_rest, none_marked}
 use Rattle.warp_step.proofs.state.State.deliver.Goals as goal
 

@@ -1,7 +1,7 @@
 -- a valid program's links fit; links that are not marked deliver nothing
 use Rattle.std.proofs.Common.{◌≡◌, ℕ, ◌+◌, ◌-◌, ◌<◌, ◌≤◌, List, None, IsTrue, length, drop, get_or, ap, sym, ◌∙◌, subst, arith}
 use Rattle.std.proofs.lemmas.List.{at_drop_all}
-use Rattle.warp_step.specs.Plan.{link_heeds}
+use Rattle.warp_step.specs.inner.Plan.{link_heeds}
 use Rattle.warp_step.specs.Step.{with_links}
 use Rattle.warp_step.specs.Snapshot.{Snapshot}
 use Rattle.warp_step.specs.Valid.{link_fits}

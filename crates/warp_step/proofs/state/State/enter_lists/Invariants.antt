@@ -3,7 +3,8 @@ use Rattle.std.proofs.Common.{◌≡◌, drop, IsTrue}
 use Rattle.std.specs.List.{list_all}
 use Rattle.warp_body.specs.Effect.{wish_fits}
 use Rattle.warp_step.specs.Valid.{program_sizes}
-use Rattle.warp_step.specs.Step.{with_all_wishes, lists_of}
+use Rattle.warp_step.specs.Step.{with_all_wishes}
+use Rattle.warp_step.specs.inner.Room.{lists_of}
 use Rattle.warp_step.proofs.state.State.enter_lists.Given as goal
 
 abbrev pub invariant-loop-list : goal.invariant-loop-list

@@ -1,7 +1,8 @@
 -- where no list has a wish, nothing is to be entered
 use Rattle.std.proofs.Common.{List, length, ap, sym, ◌∙◌}
 use Rattle.warp_body.specs.declared.stmt.Wish.{Wish}
-use Rattle.warp_step.specs.Step.{lists_of, with_all_wishes}
+use Rattle.warp_step.specs.Step.{with_all_wishes}
+use Rattle.warp_step.specs.inner.Room.{lists_of}
 use Rattle.warp_step.proofs.StepLemmas.{none_enter}
 use Rattle.warp_step.proofs.state.State.enter_wishes.Goals as goal
 

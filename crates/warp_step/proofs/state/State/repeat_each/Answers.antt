@@ -1,7 +1,7 @@
 -- a timer's period is a delay that lands; timers that are not marked do not repeat
 use Rattle.std.proofs.Common.{◌≡◌, ℕ, ◌+◌, ◌-◌, ◌<◌, ◌≤◌, List, length, drop, get_or, ap, sym, ◌∙◌, subst, arith}
 use Rattle.std.proofs.lemmas.List.{at_drop_all}
-use Rattle.warp_step.specs.Plan.{timer_heeds}
+use Rattle.warp_step.specs.inner.Plan.{timer_heeds}
 use Rattle.warp_step.specs.Step.{with_repeats}
 use Rattle.warp_step.specs.Snapshot.{Snapshot}
 use Rattle.warp_step.specs.declared.parts.Timer.{Timer}

@@ -1,13 +1,16 @@
 -- Whom a step may have to look at where a place becomes present: the reactions that it may trigger, the links and the program
 -- outputs whose port it is, and the timer that it is. Each has its triggers.
-use Rattle.std.specs.Prelude.{ℕ, ◌+◌, ◌-◌, Bool, true, false, nat_lt, nat_eq, List, [], ◌∷◌, Option, None, Some, slice_index_or, if◌then◌else◌}
+use Rattle.std.specs.Prelude.{ℕ, ◌+◌, ◌-◌, Bool, true, false, nat_lt, nat_eq, List, [], ◌∷◌, length, map, filter, Option, None, Some, slice_index_or, if◌then◌else◌, refl}
+use Rattle.std.specs.Coded.{Coded, code_by, coded×, coded_ℕ, coded_list}
 use Rattle.std.specs.List.{list_any, range_with_len}
+use Rattle.warp_body.specs.Codes.{body_code}
 use Rattle.warp_body.specs.Effect.{Body}
 use Rattle.warp_body.specs.Presence.{is_target}
 use Rattle.warp_body.specs.declared.place.Target.{Target}
 use Rattle.warp_body.specs.declared.place.Target.TheVariants as to
-use Rattle.warp_step.specs.Marks.{with_mark}
-use Rattle.warp_step.specs.Program.{Rule}
+use Rattle.warp_step.specs.inner.Marks.{first_link, first_output, first_reaction, first_timer, marks_from, no_marks, with_mark}
+use Rattle.warp_step.specs.Program.{Rule, Program}
+use Rattle.warp_step.specs.Step.{sources_of}
 use Rattle.warp_step.specs.declared.parts.Link.{Link}
 use Rattle.warp_step.specs.declared.parts.Timer.{Timer}
 
@@ -91,3 +94,35 @@ pub record Plan : Type 0 where
   pub bodies : List Body
   pub after : List ℕ
   pub links : ℕ
+
+-- the marks of those whom the presence of one of these places concerns
+abbrev pub marks_of : Program → List Target → ℕ
+marks_of P places =
+    let sources = sources_of P in
+    with_watchers timer_heeds (first_timer P) sources places 0 P.timers
+    (with_watchers output_heeds (first_output P) sources places 0 P.outputs
+    (with_watchers link_heeds (first_link P) sources places 0 P.links
+    (with_watchers reaction_heeds first_reaction sources places 0 P.reactions no_marks)))
+
+-- whom each place of the program concerns, which reaction first, the bodies of its reactions, whom what each writes concerns, and
+-- all its links
+abbrev pub plan_of : Program → Plan
+plan_of P = record {
+  places = map (λ n. marks_of P (numbered_place n ∷ [])) place_numbers;
+  firsts = map (λ n. first_heeding (sources_of P) (numbered_place n) 0 P.reactions) place_numbers;
+  bodies = map (λ rule. rule.body) P.reactions;
+  after = map (λ rule. marks_of P (filter is_port rule.writes)) P.reactions;
+  links = marks_from (first_link P) (length P.links);
+}
+
+-- whom each place concerns, and which reaction first; bodies; and whom what each reaction writes concerns, and all links
+abbrev pub PlanParts : Type 0
+PlanParts = List ℕ × (List ℕ × (List Body × (List ℕ × ℕ)))
+
+abbrev pub plan_code : Coded Plan
+plan_code =
+    code_by PlanParts
+    (coded× (coded_list coded_ℕ) (coded× (coded_list coded_ℕ) (coded× (coded_list body_code) (coded× (coded_list coded_ℕ) coded_ℕ))))
+    (λ p. (p.places, (p.firsts, (p.bodies, (p.after, p.links)))))
+    (λ q. record { places = q.0; firsts = q.1.0; bodies = q.1.1.0; after = q.1.1.1.0; links = q.1.1.1.1 })
+    (λ _. refl)
