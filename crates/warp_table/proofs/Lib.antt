@@ -14,6 +14,7 @@ pub mod ListedNames
 pub mod KeptNames
 pub mod KnownNames
 pub mod OriginRows
+pub mod RowBlocks
 pub mod NamesInOrder
 pub mod AddedRecords
 pub mod Counts
@@ -21,7 +22,7 @@ pub mod Announcements
 pub mod Horizons
 pub mod BelowHorizon
 pub mod InOrder
-pub mod KeptTags
+pub mod BlockLists
 pub mod Tallies
 pub mod Heard
 pub mod HeardNews

@@ -1,20 +1,18 @@
 -- The rows of one origin in order of tags: what they say of a tag, with one more, and with one changed.
-use Rattle.std.proofs.Common.{◌≡◌, ℕ, zero, suc, ◌+◌, ◌-◌, ◌<◌, ◌≤◌, Bool, true, false, if◌then◌else◌, IsTrue, is_some, Option, Some, None, List, [], ◌∷◌, drop, length, get_or, set, slice_get, inl, inr, refl, sym, ap, subst, ◌∙◌, arith}
+use Rattle.std.proofs.Common.{◌≡◌, ℕ, zero, suc, ◌-◌, ◌<◌, ◌≤◌, Bool, true, false, if◌then◌else◌, IsTrue, is_some, Option, Some, None, List, [], ◌∷◌, length, get_or, map, set, slice_get, inl, inr, refl, sym, ap, subst, ◌∙◌, arith}
 use Rattle.std.specs.List.{All, insert}
 use Rattle.std.specs.List.Sorted.{IsPartitionedBy}
-use Rattle.std.proofs.lemmas.Bool.{both_ways, cases_Bool, cases_eq, false≢true, false_from_ne_true}
+use Rattle.std.proofs.lemmas.Bool.{both_ways, cases_Bool, cases_eq, false≢true}
 use Rattle.std.proofs.lemmas.Bool.Decides.{nat_tests}
-use Rattle.std.proofs.lemmas.List.{get_or_read, get_or-set_other, get_or-set_same}
-use Rattle.std.proofs.lemmas.List.Elements.{All-cons, All-head, All-tail, All-weaker}
-use Rattle.std.proofs.lemmas.List.Kept.{AllPairs-cons}
+use Rattle.std.proofs.lemmas.List.{get_or_read}
+use Rattle.std.proofs.lemmas.List.Elements.{All-head, All-tail, All-weaker}
 use Rattle.std.proofs.lemmas.Option.{slice_get-get_or, slice_get_past}
-use Rattle.std.proofs.Math.ListN.{length-set}
 use Rattle.warp_tag.specs.Moment.{Moment, is_before, is_same}
 use Rattle.warp_tag.proofs.Tags.{before_trans, same_moment}
 use Rattle.warp_table.specs.declared.rows.Known.{Known}
 use Rattle.warp_table.specs.declared.rows.Row.{Row}
 use Rattle.warp_table.specs.inner.NamesByOrigin.{AreInOrder, IsWith, row_of, row_place}
-use Rattle.warp_table.proofs.Members.{All-insert, AllPairs-first, AllPairs-one, AllPairs-tail}
+use Rattle.warp_table.proofs.Members.{AllPairs-first, AllPairs-tail}
 use Rattle.warp_table.proofs.Places.{cond_apart}
 
 -- one row is before another
@@ -38,7 +36,7 @@ neither_same t u h k = grind (arith, nat_tests)
 -- Look-ups
 
 -- rows behind a tag say nothing of it
-none_behind : (tag : Moment) (rows : List Row) → All (λ r. IsTrue (is_before tag r.tag)) rows → row_of tag rows ≡ None
+pub none_behind : (tag : Moment) (rows : List Row) → All (λ r. IsTrue (is_before tag r.tag)) rows → row_of tag rows ≡ None
 none_behind tag [] all = refl
 none_behind tag (r ∷ rows) all =
     let here = All-head (λ (r : Row). IsTrue (is_before tag r.tag)) r rows all in
@@ -88,26 +86,6 @@ place_is tag (r ∷ rows) (suc n) le front rest =
     let more : n ≡ row_place tag rows = place_is tag rows n (omega arith) (λ k d l. front (suc k) d (omega arith)) (λ d l. rest d (omega arith)) in
     rw (front 0 r (omega arith)) (omega arith)
 
--- rows before a tag are passed on the way to its place
-passed_place : (tag : Moment) (rows : List Row) (n : ℕ) → n ≤ length rows → ((k : ℕ) (d : Row) → k < n → is_before (get_or rows k d).tag tag ≡ true)
-    → row_place tag rows ≡ n + row_place tag (drop n rows)
-passed_place tag rows zero le front = omega arith
-passed_place tag [] (suc n) le front = absurd (omega (arith, le))
-passed_place tag (r ∷ rows) (suc n) le front =
-    let more : row_place tag rows ≡ n + row_place tag (drop n rows) = passed_place tag rows n (omega (arith, le)) (λ k d l. front (suc k) d (omega (arith, l))) in
-    rw (front 0 r (omega arith)) (omega (arith, more))
-
--- and all are, where the last of them is
-pub place_behind_row : (tag : Moment) (rows : List Row) (n : ℕ) (row : Row) → AreInOrder rows → 0 < n → n ≤ length rows → row ≡ get_or rows (n - 1) row
-    → is_before row.tag tag ≡ true → row_place tag rows ≡ n + row_place tag (drop n rows)
-place_behind_row tag rows n row h some le is b =
-    let read : (d : Row) → row ≡ get_or rows (n - 1) d = λ d. get_or_read rows (n - 1) row (omega (arith, some, le)) is d in
-    passed_place tag rows n le (λ k d l. elim (cases_eq k (n - 1)) [
-      | inl same ↦ subst (λ (i : ℕ). is_before (get_or rows i d).tag tag ≡ true) (sym same) (subst (λ (r : Row). is_before r.tag tag ≡ true) (read d) b)
-      | inr other ↦ before_trans (get_or rows k d).tag row.tag tag
-          (subst (λ (r : Row). is_before (get_or rows k d).tag r.tag ≡ true) (sym (read d)) (h k (n - 1) d (omega (arith, l, other)) (omega (arith, some, le)))) b
-    ])
-
 module _ (tag : Moment) (last : Row) (rows : List Row) (h : AreInOrder rows) (some : 0 < length rows) (is : last ≡ get_or rows (length rows - 1) last) where
   last_read : (d : Row) → last ≡ get_or rows (length rows - 1) d
   last_read d = get_or_read rows (length rows - 1) last (omega (arith, some)) is d
@@ -131,37 +109,6 @@ module _ (tag : Moment) (last : Row) (rows : List Row) (h : AreInOrder rows) (so
 
 -- One more row
 
--- it keeps the order at its place
-pub in_order_with : (row : Row) (rows : List Row) → AreInOrder rows → row_of row.tag rows ≡ None → AreInOrder (insert rows (row_place row.tag rows) row)
-in_order_with row [] h none = AllPairs-one Before row
-in_order_with row (r ∷ rows) h none = elim (cases_Bool (is_before r.tag row.tag)) [
-  | inl b ↦ (
-      let rest : row_of row.tag rows ≡ None = rw (behind_differs row.tag r.tag b) at none in
-      rw b (AllPairs-cons Before r (insert rows (row_place row.tag rows) row)
-      (All-insert (Before r) rows (row_place row.tag rows) row b (AllPairs-first Before r rows h))
-      (in_order_with row rows (AllPairs-tail Before r rows h) rest))
-      )
-  | inr b ↦ (
-      let first : is_before row.tag r.tag ≡ true = before_else r.tag row.tag b (not_first row r rows none) in
-      rw b (AllPairs-cons Before row (r ∷ rows)
-      (All-cons (Before row) r rows first (All-weaker (Before r) (Before row) (λ q k. before_trans row.tag r.tag q.tag first k) rows (AllPairs-first Before r rows h))) h)
-      )
-]
-  where
-    not_first : (row r : Row) (rows : List Row) → row_of row.tag (r ∷ rows) ≡ None → is_same row.tag r.tag ≡ false
-    not_first row r rows none = false_from_ne_true (is_same row.tag r.tag) (λ same. some_none (sym (ap (λ b. if b then Some r.known else row_of row.tag rows) same) ∙ none))
-      where
-        some_none : {X : Type 0} {x : X} → Some x ≡ None → ⊥
-        some_none e = cc
-
--- a place is in the rows or at their end
-pub place_within : (tag : Moment) (rows : List Row) → row_place tag rows ≤ length rows
-place_within tag [] = omega arith
-place_within tag (r ∷ rows) = elim (cases_Bool (is_before r.tag tag)) [
-  | inl b ↦ (let rest : row_place tag rows ≤ length rows = place_within tag rows in rw b (omega arith))
-  | inr b ↦ rw b (omega arith)
-]
-
 -- a row of which no other has the tag says what it says, wherever it stands
 pub says_with : (row : Row) (rows : List Row) (n : ℕ) → row_of row.tag rows ≡ None → IsWith row.tag row.known rows (insert rows n row)
 says_with row [] zero none = λ other. refl
@@ -181,10 +128,6 @@ says_with row (r ∷ rows) (suc n) none = λ other. elim (cases_Bool (is_same ro
 
     some_none : {X : Type 0} {x : X} → Some x ≡ None → ⊥
     some_none e = cc
-
--- and so does one at the end, where its place is
-pub in_order_last : (row : Row) (rows : List Row) → length rows ≡ row_place row.tag rows → AreInOrder rows → row_of row.tag rows ≡ None → AreInOrder (insert rows (length rows) row)
-in_order_last row rows last h none = subst (λ (n : ℕ). AreInOrder (insert rows n row)) (sym last) (in_order_with row rows h none)
 
 -- One row changed
 
@@ -212,18 +155,11 @@ row_at_place tag rows some h n is =
     let here = row_here tag rows some h in
     (omega (arith, is, here.0), λ d. ap (λ k. (get_or rows k d).tag) is ∙ here.1 d)
 
--- a row in the place of another with its tag keeps the order
-pub in_order_changed : (row : Row) (rows : List Row) (n : ℕ) → n < length rows → ((d : Row) → (get_or rows n d).tag ≡ row.tag) → AreInOrder rows → AreInOrder (set rows n row)
-in_order_changed row rows n within same h = λ i j d before there.
-    let many : length (set rows n row) ≡ length rows = length-set rows n row in
-    subst (λ (t : Moment). is_before t (get_or (set rows n row) j d).tag ≡ true) (sym (tags i d))
-    (subst (λ (t : Moment). is_before (get_or rows i d).tag t ≡ true) (sym (tags j d)) (h i j d before (omega (arith, many, there))))
-  where
-    tags : (i : ℕ) (d : Row) → (get_or (set rows n row) i d).tag ≡ (get_or rows i d).tag
-    tags i d = elim (cases_eq i n) [
-      | inl is ↦ subst (λ (k : ℕ). (get_or (set rows n row) k d).tag ≡ (get_or rows k d).tag) (sym is) (ap (λ (r : Row). r.tag) (get_or-set_same rows n row d within) ∙ sym (same d))
-      | inr other ↦ ap (λ (r : Row). r.tag) (get_or-set_other rows n i row d other)
-    ]
+-- a row in the place of another with its tag keeps the tags
+pub tags_changed : (row : Row) (rows : List Row) (n : ℕ) → n < length rows → ((d : Row) → (get_or rows n d).tag ≡ row.tag) → map (λ r. r.tag) (set rows n row) ≡ map (λ r. r.tag) rows
+tags_changed row [] n within same = absurd (omega (arith, within))
+tags_changed row (r ∷ rows) zero within same = ap (λ t. t ∷ map (λ (q : Row). q.tag) rows) (sym (same r))
+tags_changed row (r ∷ rows) (suc n) within same = ap (λ ts. r.tag ∷ ts) (tags_changed row rows n (omega (arith, within)) same)
 
 -- and says what it says
 pub says_changed : (row : Row) (rows : List Row) (n : ℕ) → n < length rows → ((d : Row) → (get_or rows n d).tag ≡ row.tag) → AreInOrder rows → IsWith row.tag row.known rows (set rows n row)

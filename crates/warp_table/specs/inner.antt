@@ -1,6 +1,6 @@
 pub mod Kept
 pub mod Heard
-pub mod Tags
+pub mod Blocks
 pub mod Tally
 pub mod NamesByOrigin
 pub mod News

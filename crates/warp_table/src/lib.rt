@@ -7,6 +7,7 @@
 #![tactic(auto)]
 
 mod announcer;
+mod blocks;
 mod honest_law;
 mod law;
 mod names;

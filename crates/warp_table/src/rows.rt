@@ -1,12 +1,12 @@
-//! What is known of the names of one origin, in the order of their tags.
+//! What is known of the names of one origin, in the order of their tags, in blocks.
 //!
 //! Names come nearly in order of tags, so a row is looked for at the end first, and put there; only a tag that comes
-//! late is sought by halves, near the end where it is there.
-ghost use Rattle.std.specs.Prelude.{◌≡◌, ◌+◌, ◌<◌, ◌≤◌, None, IsTrue, drop, is_some, length};
-ghost use Rattle.std.specs.Vec.{vec_capacity, vec_len};
+//! late is sought by halves.
+ghost use Rattle.std.specs.Prelude.{◌≡◌, ◌≤◌, IsTrue, is_some, length, map};
 ghost use Rattle.warp_table.specs.inner.NamesByOrigin.{AreInOrder, IsWith, row_of, row_place};
 
 use crate::announcer::Announcer;
+use crate::blocks::{Tagged, block_of, make_room, put};
 use std::alloc::Global;
 use std::marker::Model;
 use warp_tag::{OutOfMemory, Tag};
@@ -60,41 +60,22 @@ pub(crate) struct Row {
     known: Known,
 }
 
-/// Among how many of the last rows a tag is looked for first, which comes a little late.
-const LAST: usize = 64;
+impl Tagged for Row {
+    ghost tag_of = { λ r. r.tag };
 
-/// How many rows are passed before a tag is sought by halves: all but the last few, where they are before it.
-#[inline(always)]
-fn count_passed(rows: &[Row], tag: Tag) -> usize
-    requires { AreInOrder rows.now }
-    ensures place { row_place tag rows.now ≡ result + row_place tag (drop result rows.now) }
-    ensures within { result ≤ length rows.now }
-{
-    let passed = rows.len().saturating_sub(LAST);
-    if passed > 0 && rows[passed - 1].tag.is_before(tag) {
-        passed
-    } else {
-        0
+    fn tag(&self) -> Tag {
+        self.tag
     }
 }
 
 /// The place of the first row that is not before the tag, sought by halves.
+#[inline(never)]
 fn place_by_halves(rows: &[Row], tag: Tag) -> usize
     requires { AreInOrder rows.now }
     ensures place { result ≡ row_place tag rows.now }
     ensures within { result ≤ length rows.now }
 {
     rows.partition_point(|row| row.tag.is_before(tag))
-}
-
-/// The place of the first row that is not before the tag, sought by halves, near the end where it is there.
-#[inline(never)]
-fn place_behind(rows: &[Row], tag: Tag) -> usize
-    requires { AreInOrder rows.now }
-    ensures { result ≡ row_place tag rows.now }
-{
-    let passed = count_passed(rows, tag);
-    passed + place_by_halves(&rows[passed..], tag)
 }
 
 /// The place of the first row that is not before the tag: at the end, where what comes in order lands, and else sought.
@@ -109,7 +90,7 @@ fn place_of(rows: &[Row], tag: Tag) -> usize
         return rows.len();
     }
     if tag.is_before(last.tag) {
-        return place_behind(rows, tag);
+        return place_by_halves(rows, tag);
     }
     rows.len() - 1
 }
@@ -131,59 +112,32 @@ fn known_at(rows: &[Row], tag: Tag) -> Option<Known>
 fn set_at(rows: &mut [Row], tag: Tag, known: Known)
     requires in_order { AreInOrder rows.old }
     requires there { IsTrue (is_some (row_of tag rows.old)) }
-    ensures in_order { AreInOrder rows.new }
+    ensures tags { map (λ r. r.tag) rows.new ≡ map (λ r. r.tag) rows.old }
     ensures row { IsWith tag known rows.old rows.new }
 {
     let place = place_of(rows, tag);
     rows[place].known = known;
 }
 
-/// Puts in the row of a tag among others at its place. They have no row of the tag, and room for it.
-#[inline(never)]
-fn put_among(rows: &mut Vec<Row>, at: usize, tag: Tag, known: Known)
-    requires in_order { AreInOrder rows.old.items }
-    requires new { row_of tag rows.old.items ≡ None }
-    requires place { at ≡ row_place tag rows.old.items }
-    requires room { vec_len rows.old < vec_capacity rows.old }
-    ensures in_order { AreInOrder rows.new.items }
-    ensures row { IsWith tag known rows.old.items rows.new.items }
-{
-    let _ = rows.insert(at, Row { tag, known });
-}
-
-/// Puts in the row of a tag at its place among others. They have no row of the tag, and room for it.
-fn put_in(rows: &mut Vec<Row>, tag: Tag, known: Known)
-    requires in_order { AreInOrder rows.old.items }
-    requires new { row_of tag rows.old.items ≡ None }
-    requires room { vec_len rows.old < vec_capacity rows.old }
-    ensures in_order { AreInOrder rows.new.items }
-    ensures row { IsWith tag known rows.old.items rows.new.items }
-{
-    let at = place_of(rows, tag);
-    if at == rows.len() {
-        rows.push_reserved(Row { tag, known });
-    } else {
-        put_among(rows, at, tag, known);
-    }
-}
-
 /// What is known of an origin's names, seen as the rows of their tags in order. Their contracts say what a look-up
 /// finds.
 #[derive(Drop)]
 pub(crate) struct Rows {
-    rows: Vec<Row>,
+    blocks: Vec<Vec<Row>>,
 }
 
 impl Model for Rows {
     ghost use Rattle.std.specs.Prelude.{List};
+    ghost use Rattle.std.specs.Vec.{vec_items};
     ghost use Rattle.warp_table.specs.declared.rows.Row.{Row};
+    ghost use Rattle.warp_table.specs.inner.Blocks.{AreBlocks, flat};
     ghost use Rattle.warp_table.specs.inner.NamesByOrigin.{AreInOrder};
 
     ghost Value = { List Row };
 
-    ghost view = { λ r. r.rows.items };
+    ghost view = { λ r. flat vec_items r.blocks.items };
 
-    ghost invariant = { λ r. AreInOrder r.rows.items };
+    ghost invariant = { λ r. AreBlocks vec_items r.blocks.items × AreInOrder (flat vec_items r.blocks.items) };
 }
 
 impl Rows {
@@ -197,7 +151,7 @@ impl Rows {
         ensures { result ≡ [] }
     {
         Rows {
-            rows: Vec::new(alloc),
+            blocks: Vec::new(alloc),
         }
     }
 
@@ -205,7 +159,11 @@ impl Rows {
     pub(crate) fn known(&self, tag: Tag) -> Option<Known>
         ensures { result ≡ row_of tag self.now }
     {
-        known_at(&self.rows, tag)
+        if self.blocks.is_empty() {
+            return None;
+        }
+        let at = block_of(&self.blocks, tag);
+        known_at(&self.blocks[at], tag)
     }
 
     /// Has this known of the name of this tag, which has a row.
@@ -213,7 +171,8 @@ impl Rows {
         requires { IsTrue (is_some (row_of tag self.old)) }
         ensures { IsWith tag known self.old self.new }
     {
-        set_at(&mut self.rows, tag, known);
+        let at = block_of(&self.blocks, tag);
+        set_at(&mut self.blocks[at], tag, known);
     }
 
     /// Puts in the row of a new name that has an event at this place, and tells its origin. An `Err` changes nothing.
@@ -230,9 +189,10 @@ impl Rows {
             (announcer.new ≡ record announcer.old { events = with_tag tag announcer.old.events }) }
         ensures err { OnErr result ((self.new ≡ self.old) × (announcer.new ≡ announcer.old)) }
     {
-        self.rows.reserve(1)?;
+        let at = make_room(&mut self.blocks, tag)?;
         announcer.note_event(tag)?;
-        put_in(&mut self.rows, tag, Known::nothing().with_event(place));
+        let event = Known::nothing().with_event(place);
+        put(&mut self.blocks, at, Row { tag, known: event });
         Ok(())
     }
 
@@ -251,9 +211,17 @@ impl Rows {
             (announcer.new ≡ record announcer.old { withdrawn = with_tag tag announcer.old.withdrawn }) }
         ensures err { OnErr result ((self.new ≡ self.old) × (announcer.new ≡ announcer.old)) }
     {
-        self.rows.reserve(1)?;
+        let at = make_room(&mut self.blocks, tag)?;
         announcer.note_withdrawal(tag)?;
-        put_in(&mut self.rows, tag, Known::nothing().with_withdrawal(place));
+        let withdrawal = Known::nothing().with_withdrawal(place);
+        put(
+            &mut self.blocks,
+            at,
+            Row {
+                tag,
+                known: withdrawal,
+            },
+        );
         Ok(())
     }
 }

@@ -3,7 +3,7 @@ use Rattle.std.proofs.Common.{sym, rules, arith}
 use Rattle.std.proofs.lemmas.List.Sorted.{IsPartitionPoint-from_clause}
 use Rattle.warp_tag.specs.Moment.{is_before}
 use Rattle.warp_table.proofs.InOrder.{filter_front}
-use Rattle.warp_table.proofs.KeptTags.{before_in_order}
+use Rattle.warp_table.proofs.BlockLists.{before_in_order}
 use Rattle.warp_table.proofs.tags.count_in_order.Goals as goal
 
 pub returns-clause-count : goal.returns-clause-count

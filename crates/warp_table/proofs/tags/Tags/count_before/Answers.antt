@@ -1,14 +1,10 @@
--- those before one are those of both lists
-use Rattle.std.proofs.Common.{◌≡◌, ◌+◌, ap, sym, ◌∙◌, arith}
-use Rattle.warp_table.specs.inner.Heard.{count_before}
-use Rattle.warp_table.proofs.KeptTags.{count-with_tags}
+-- there are no more of them than a number counts
+use Rattle.std.proofs.Common.{◌<◌, ◌^◌, Vec, Global, List, length, subst, sym, arith}
+use Rattle.std.specs.Vec.{vec_items}
+use Rattle.warp_tag.specs.Moment.{Moment}
+use Rattle.warp_table.specs.inner.Blocks.{flat}
 use Rattle.warp_table.proofs.tags.Tags.count_before.Goals as goal
 
-pub returns : goal.returns
-returns c =
-    let is = c.self.inside in
-    let one : c.count_in_order.result ≡ count_before c.args.tag is.ascending.items = c.count_in_order.ensures.count ∙ ap (count_before c.args.tag) c.deref.ensures.value in
-    let other : c.count_newest_first.result ≡ count_before c.args.tag is.descending.items = c.count_newest_first.ensures.count ∙ ap (count_before c.args.tag) c.deref-2.ensures.value in
-    let all : count_before c.args.tag c.args.self.now ≡ count_before c.args.tag is.ascending.items + count_before c.args.tag is.descending.items =
-    ap (count_before c.args.tag) (sym c.self.view_is) ∙ count-with_tags c.args.tag is.descending.items is.ascending.items in
-    omega arith
+pub count_in_blocks-requires-clause-few : goal.count_in_blocks-requires-clause-few
+count_in_blocks-requires-clause-few c =
+    subst (λ (bs : List (Vec Moment Global)). length (flat vec_items bs) < 2 ^ 64) (sym c.deref.ensures.value) (omega (arith, c.self.invariant.2))

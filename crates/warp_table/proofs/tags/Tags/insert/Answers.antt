@@ -1,28 +1,20 @@
--- a tag that comes last is at its place
-use Rattle.std.proofs.Common.{◌≡◌, ◌∷◌, ◌++◌, [], List, ap, subst, sym, ◌∙◌, arith}
+-- a tag comes in at its place
+use Rattle.std.proofs.Common.{◌≡◌, suc, length, List, ap, subst, sym, ◌∙◌, arith}
+use Rattle.std.specs.Vec.{vec_items}
 use Rattle.warp_tag.specs.Moment.{Moment}
+use Rattle.warp_table.specs.inner.Blocks.{AreOrdered, flat, with_item}
 use Rattle.warp_table.specs.inner.Heard.{with_tag}
-use Rattle.warp_table.specs.inner.Tags.{AreRising, with_tags}
-use Rattle.warp_table.proofs.KeptTags.{kept_room, rising-with_tag, with_tags-below}
+use Rattle.warp_table.proofs.BlockLists.{item_tag, length-with_item, ordered-with_item}
 use Rattle.warp_table.proofs.tags.Tags.insert.Goals as goal
 
-pushed : (c : goal.In_ok-push) → c.push.new.self.items ≡ with_tag c.args.tag c.self.inside.ascending.items
-pushed c =
-    c.in_ok-push.ensures.items
-    ∙ sym (subst (λ (ts : List Moment). with_tag c.args.tag ts ≡ ts ++ c.args.tag ∷ []) c.deref.ensures.value (c.is_behind_all.ensures c.if-is_behind_all.true))
+pub invariant_of-self-2 : goal.invariant_of-self-2
+invariant_of-self-2 c =
+    let was = flat vec_items c.self.inside.blocks.items in
+    let now : flat vec_items c.put.new.blocks.items ≡ with_item (λ t. t) c.args.tag was = c.put.ensures.items ∙ ap (with_item (λ t. t) c.args.tag) c.make_room.ensures.items in
+    let many : length (flat vec_items c.put.new.blocks.items) ≡ suc (length was) = ap (λ (l : List Moment). length l) now ∙ length-with_item (λ t. t) c.args.tag was in
+    (c.put.ensures.kept, subst (AreOrdered (λ t. t)) (sym now) (ordered-with_item (λ t. t) c.args.tag was c.self.invariant.1), omega (arith, many, c.self.invariant.2))
 
-pub invariant_of-self-then-is_behind_all : goal.invariant_of-self-then-is_behind_all
-invariant_of-self-then-is_behind_all c =
-    let was = c.self.inside in
-    (subst AreRising (sym (pushed c)) (rising-with_tag c.args.tag was.ascending.items c.self.invariant.0), c.self.invariant.1)
-
-pub returns-then-is_behind_all-clause-ok : goal.returns-then-is_behind_all-clause-ok
-returns-then-is_behind_all-clause-ok c =
-    let was = c.self.inside in
-    ap (with_tags was.descending.items) (pushed c) ∙ with_tags-below was.descending.items was.ascending.items c.args.tag ∙ ap (with_tag c.args.tag) c.self.view_is
-
-pub returns-then-is_behind_all-clause-room : goal.returns-then-is_behind_all-clause-room
-returns-then-is_behind_all-clause-room c =
-    let was = c.self.inside in
-    kept_room was.ascending.items was.descending.items c.args.self.now
-    (omega (arith, was.ascending.ok.0, was.ascending.ok.1, was.ascending.small)) (omega (arith, was.descending.ok.0, was.descending.ok.1, was.descending.small)) c.self.view_is
+pub returns-clause-ok : goal.returns-clause-ok
+returns-clause-ok c =
+    c.put.ensures.items ∙ ap (with_item (λ t. t) c.args.tag) c.make_room.ensures.items
+    ∙ item_tag c.args.tag (flat vec_items c.self.inside.blocks.items) ∙ ap (with_tag c.args.tag) c.self.view_is

@@ -1,0 +1,216 @@
+//! Lists in order of tags, kept in blocks, so that an item that comes late moves those of one block alone.
+//!
+//! No block is empty but the first, which is where nothing came. What comes in order of tags goes to the end of the
+//! last block. On how many items a block has hangs what an insertion costs, and nothing else.
+ghost use Rattle.std.specs.Prelude.{◌≡◌, ◌<◌, ◌≤◌, All, IfOk, OnErr, OnOk, drop, false, length, take, true};
+ghost use Rattle.std.specs.List.{position_or_len};
+ghost use Rattle.std.specs.Vec.{vec_capacity, vec_items, vec_len};
+ghost use Rattle.warp_tag.specs.Moment.{Moment, is_before};
+ghost use Rattle.warp_table.specs.inner.Blocks.{AreBlocks, AreOrdered, HasRoom, IsBlockOf};
+ghost use Rattle.warp_table.specs.inner.Blocks.{IsLonger, begins_beyond, flat, with_item};
+
+use std::alloc::AllocError;
+use warp_tag::Tag;
+
+/// So many items a block has at most.
+const MOST: usize = 512;
+
+/// What stands in order of tags.
+pub(crate) trait Tagged {
+    ghost tag_of: { Self → Moment };
+
+    /// Its tag.
+    fn tag(&self) -> Tag
+        ensures { result ≡ tag_of self.now };
+
+    /// Whether it is beyond the other tag.
+    fn is_beyond(&self, other: Tag) -> bool
+        ensures { result ≡ is_before other (tag_of self.now) }
+    {
+        other.is_before(self.tag())
+    }
+}
+
+/// Whether the first of the items is beyond the tag.
+fn begins_beyond<T: Tagged>(block: &[T], tag: Tag) -> bool
+    ensures { result ≡ begins_beyond T.tag_of tag block.now }
+{
+    match block.first() {
+        Some(first) => first.is_beyond(tag),
+        None => false,
+    }
+}
+
+/// The block of a tag, sought by halves: the last one that does not begin beyond it.
+#[inline(never)]
+fn block_by_halves<T: Tagged>(blocks: &[Vec<T>], tag: Tag) -> usize
+    requires some { 0 < length blocks.now }
+    requires kept { AreBlocks vec_items blocks.now }
+    requires in_order { AreOrdered T.tag_of (flat vec_items blocks.now) }
+    ensures { IsBlockOf vec_items T.tag_of tag blocks.now result }
+{
+    let mut low = 0;
+    let mut high = blocks.len();
+    while high - low > 1 {
+        let middle = low + (high - low) / 2;
+        if begins_beyond(&blocks[middle], tag) {
+            high = middle;
+        } else {
+            low = middle;
+        }
+    }
+    low
+}
+
+/// The block of a tag: the last one, where what comes in order lands, or else sought.
+pub(crate) fn block_of<T: Tagged>(blocks: &[Vec<T>], tag: Tag) -> usize
+    requires some { 0 < length blocks.now }
+    requires kept { AreBlocks vec_items blocks.now }
+    requires in_order { AreOrdered T.tag_of (flat vec_items blocks.now) }
+    ensures { IsBlockOf vec_items T.tag_of tag blocks.now result }
+{
+    let last = blocks.len() - 1;
+    if !begins_beyond(&blocks[last], tag) {
+        return last;
+    }
+    block_by_halves(blocks, tag)
+}
+
+/// Whether none of these, which stand in order, is beyond the tag.
+fn is_behind_all<T: Tagged>(items: &[T], tag: Tag) -> bool
+    requires { AreOrdered T.tag_of items.now }
+    ensures { result ≡ true → All (λ x. is_before tag (T.tag_of x) ≡ false) items.now }
+{
+    match items.last() {
+        Some(last) => !last.is_beyond(tag),
+        None => true,
+    }
+}
+
+/// The place of the first one beyond the tag, sought by halves.
+fn place_by_halves<T: Tagged>(items: &[T], tag: Tag) -> usize
+    requires { AreOrdered T.tag_of items.now }
+    ensures place { result ≡ position_or_len (λ x. is_before tag (T.tag_of x)) items.now }
+    ensures within { result ≤ length items.now }
+{
+    items.partition_point(|item| !item.is_beyond(tag))
+}
+
+/// Puts an item among others of a block, which has room for it.
+#[inline(never)]
+fn put_among<T: Tagged + Copy>(block: &mut Vec<T>, item: T)
+    requires in_order { AreOrdered T.tag_of block.old.items }
+    requires room { vec_len block.old < vec_capacity block.old }
+    ensures { block.new.items ≡ with_item T.tag_of item block.old.items }
+{
+    let at = place_by_halves(block, item.tag());
+    let _ = block.insert(at, item);
+}
+
+/// Puts an item at its place in a block, which has room for it.
+fn put_in<T: Tagged + Copy>(block: &mut Vec<T>, item: T)
+    requires in_order { AreOrdered T.tag_of block.old.items }
+    requires room { vec_len block.old < vec_capacity block.old }
+    ensures { block.new.items ≡ with_item T.tag_of item block.old.items }
+{
+    if is_behind_all(block, item.tag()) {
+        block.push_reserved(item);
+        return;
+    }
+    put_among(block, item);
+}
+
+/// Puts an item at its place in its block, which has room for it.
+pub(crate) fn put<T: Tagged + Copy>(blocks: &mut Vec<Vec<T>>, at: usize, item: T)
+    requires kept { AreBlocks vec_items blocks.old.items }
+    requires in_order { AreOrdered T.tag_of (flat vec_items blocks.old.items) }
+    requires block { IsBlockOf vec_items T.tag_of (T.tag_of item) blocks.old.items at }
+    requires room { HasRoom vec_len vec_capacity blocks.old.items at }
+    ensures items { flat vec_items blocks.new.items ≡ with_item T.tag_of item (flat vec_items blocks.old.items) }
+    ensures kept { AreBlocks vec_items blocks.new.items }
+{
+    put_in(&mut blocks[at], item);
+}
+
+/// Where a full block is parted for a tag: before its last item, where the tag comes behind all, so that what comes in
+/// order leaves full blocks, and else in the middle.
+fn cut_of<T: Tagged>(blocks: &[Vec<T>], at: usize, tag: Tag) -> usize
+    requires within { at < length blocks.now }
+    requires in_order { AreOrdered T.tag_of (flat vec_items blocks.now) }
+    ensures some { 0 < result }
+    ensures less { result < 512 }
+{
+    if at + 1 == blocks.len() && is_behind_all(&blocks[at], tag) {
+        MOST - 1
+    } else {
+        MOST / 2
+    }
+}
+
+/// Cuts the items from this place on off, and gives them. An `Err` changes nothing.
+fn cut_off<T: Copy + Drop>(block: &mut Vec<T>, cut: usize) -> Result<Vec<T>, AllocError>
+    requires { cut ≤ vec_len block.old }
+    ensures ok { IfOk result (λ more. (block.new.items ≡ take cut block.old.items) × (more.items ≡ drop cut block.old.items)) }
+    ensures err { OnErr result (block.new.items ≡ block.old.items) }
+{
+    let alloc = *block.allocator();
+    let more = Vec::from_slice(alloc, &block[cut..])?;
+    block.truncate(cut);
+    Ok(more)
+}
+
+/// Parts a block in two. The items stay, also on an `Err`.
+#[inline(never)]
+fn part<T: Copy + Drop>(blocks: &mut Vec<Vec<T>>, at: usize, cut: usize) -> Result<(), AllocError>
+    requires kept { AreBlocks vec_items blocks.old.items }
+    requires within { at < length blocks.old.items }
+    requires cut { 0 < cut }
+    requires long { IsLonger vec_len blocks.old.items at cut }
+    ensures items { flat vec_items blocks.new.items ≡ flat vec_items blocks.old.items }
+    ensures kept { AreBlocks vec_items blocks.new.items }
+    ensures some { 0 < length blocks.new.items }
+{
+    blocks.reserve(1)?;
+    let more = cut_off(&mut blocks[at], cut)?;
+    let _ = blocks.insert(at + 1, more);
+    Ok(())
+}
+
+/// Makes the first block, or parts that of a tag where it is full. The items stay, also on an `Err`.
+fn prepare<T: Tagged + Copy + Drop>(blocks: &mut Vec<Vec<T>>, tag: Tag) -> Result<(), AllocError>
+    requires kept { AreBlocks vec_items blocks.old.items }
+    requires in_order { AreOrdered T.tag_of (flat vec_items blocks.old.items) }
+    ensures items { flat vec_items blocks.new.items ≡ flat vec_items blocks.old.items }
+    ensures kept { AreBlocks vec_items blocks.new.items }
+    ensures some { OnOk result (0 < length blocks.new.items) }
+{
+    if blocks.is_empty() {
+        let alloc = *blocks.allocator();
+        blocks.push(Vec::new(alloc))?;
+        return Ok(());
+    }
+    let at = block_of(blocks, tag);
+    if blocks[at].len() < MOST {
+        return Ok(());
+    }
+    let cut = cut_of(blocks, at, tag);
+    part(blocks, at, cut)
+}
+
+/// Makes room for one more item of a tag, and gives its block. The items stay, also on an `Err`.
+pub(crate) fn make_room<T: Tagged + Copy + Drop>(
+    blocks: &mut Vec<Vec<T>>,
+    tag: Tag,
+) -> Result<usize, AllocError>
+    requires kept { AreBlocks vec_items blocks.old.items }
+    requires in_order { AreOrdered T.tag_of (flat vec_items blocks.old.items) }
+    ensures items { flat vec_items blocks.new.items ≡ flat vec_items blocks.old.items }
+    ensures kept { AreBlocks vec_items blocks.new.items }
+    ensures block { IfOk result (λ at. IsBlockOf vec_items T.tag_of tag blocks.new.items at) }
+    ensures room { IfOk result (λ at. HasRoom vec_len vec_capacity blocks.new.items at) }
+{
+    prepare(blocks, tag)?;
+    let at = block_of(blocks, tag);
+    blocks[at].reserve(1)?;
+    Ok(at)
+}
