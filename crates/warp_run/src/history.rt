@@ -11,6 +11,9 @@ use std::marker::Model;
 use warp_step::{State, Waiting};
 use warp_tag::{OutOfMemory, Tag};
 
+/// So many items are filled in at once.
+const BLOCK: usize = 64;
+
 /// How far a run is done.
 #[derive(Clone, Copy, Debug)]
 pub(crate) struct Done {
@@ -102,8 +105,9 @@ fn last_of<T>(list: &[T], used: usize, count: usize) -> &[T]
     &list[used - count..used]
 }
 
-/// Makes a list at least so long, and fills it up to its room. What is there stays.
-fn grow<T: Copy>(list: &mut Vec<T>, len: usize, filler: T) -> Result<(), OutOfMemory>
+/// Makes a list at least so long, and fills it up to its room with copies of a block. What is there stays.
+fn grow<T: Copy>(list: &mut Vec<T>, len: usize, block: &[T]) -> Result<(), OutOfMemory>
+    requires { 0 < length block.now }
     ensures items { take (vec_len list.old) list.new.items ≡ list.old.items }
     ensures len { OnOk result (len ≤ vec_len list.new) }
 {
@@ -112,7 +116,20 @@ fn grow<T: Copy>(list: &mut Vec<T>, len: usize, filler: T) -> Result<(), OutOfMe
     }
     list.try_reserve(len - list.len())?;
     let room = list.capacity();
-    list.resize(room, filler)?;
+    fill(list, room, block)
+}
+
+/// Fills a list up to so many items with copies of a block. What is there stays.
+fn fill<T: Copy>(list: &mut Vec<T>, len: usize, block: &[T]) -> Result<(), OutOfMemory>
+    requires some { 0 < length block.now }
+    requires more { vec_len list.old ≤ len }
+    ensures items { take (vec_len list.old) list.new.items ≡ list.old.items }
+    ensures len { OnOk result (len ≤ vec_len list.new) }
+{
+    while len - list.len() > block.len() {
+        list.extend_from_slice(block)?;
+    }
+    list.extend_from_slice(&block[..len - list.len()])?;
     Ok(())
 }
 
@@ -202,8 +219,8 @@ impl History {
         let values = self.values_used + state.vars().len();
         let entries = self.entries_used + state.pending().len();
         self.marks.try_reserve(1)?;
-        grow(&mut self.values, values, 0)?;
-        grow(&mut self.entries, entries, Waiting::default())?;
+        grow(&mut self.values, values, &[0; BLOCK])?;
+        grow(&mut self.entries, entries, &[Waiting::default(); BLOCK])?;
         Ok(())
     }
 
@@ -234,8 +251,12 @@ impl History {
     {
         let marks = other.marks.capacity().saturating_sub(self.marks.len());
         self.marks.try_reserve(marks)?;
-        grow(&mut self.values, other.values.len(), 0)?;
-        grow(&mut self.entries, other.entries.len(), Waiting::default())?;
+        grow(&mut self.values, other.values.len(), &[0; BLOCK])?;
+        grow(
+            &mut self.entries,
+            other.entries.len(),
+            &[Waiting::default(); BLOCK],
+        )?;
         Ok(())
     }
 
