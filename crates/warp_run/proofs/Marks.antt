@@ -2,7 +2,7 @@
 use Rattle.std.proofs.Common.{◌≡◌, ℕ, ℤ, ◌+◌, ◌-◌, ◌<◌, ◌≤◌, List, [], ◌∷◌, ◌++◌, length, take, drop, Some, ap, sym, subst, ◌∙◌, refl, arith}
 use Rattle.std.proofs.Common.{append_assoc, take-append-drop, length-append, length-drop}
 use Rattle.std.specs.Prelude.{slice_get}
-use Rattle.std.proofs.lemmas.List.{take_at, drop_at, take_all, take_more, length-take-le, take_rest, take-append-le, drop-append-le, nil_from_length}
+use Rattle.std.proofs.lemmas.List.{take_at, drop_at, take_all, take_more, take-take, drop-take, length-take-le, take-append-le, drop-append-le, nil_from_length}
 use Rattle.std.proofs.lemmas.Option.{slice_get_within, get_or_from_slice_get}
 use Rattle.warp_tag.specs.Limits.{most_pending}
 use Rattle.warp_step.specs.Snapshot.{AreInOrder, Snapshot}
@@ -209,11 +209,30 @@ has_last width list marks m values entries same got h =
     has_newest width marks (take (length marks - 1) marks) m values entries
     (last_is marks m (subst (λ (all : List Mark). slice_get all (length all - 1) ≡ Some m) same (sym got))) h
 
--- the part of a list from so many before its end on
-pub end_part : {X : Type 0} (list items : List X) (len back : ℕ) → list ≡ items → len ≡ length items
-    → take (length list - (len - back)) (drop (len - back) list) ≡ drop (length items - back) items
-end_part {X = X} list items len back same all =
-    take_rest list (len - back) ∙ ap (λ (xs : List X). drop (len - back) xs) same ∙ ap (λ (n : ℕ). drop (n - back) items) all
+-- of the items in use the last so many
+pub end_part : {X : Type 0} (list : List X) (used count : ℕ) → used ≤ length list → count ≤ used
+    → take (used - (used - count)) (drop (used - count) list) ≡ drop (length (take used list) - count) (take used list)
+end_part {X = X} list used count within most =
+    let all = length-take-le used list within in
+    let both : used - count + (used - (used - count)) ≡ used = omega arith in
+    sym (drop-take (used - count) (used - (used - count)) list) ∙ ap (λ (n : ℕ). drop (used - count) (take n list)) both
+    ∙ ap (λ (n : ℕ). drop (n - count) (take used list)) (sym all)
+
+-- so it is of a list that is the same
+pub in_use : {X : Type 0} {list items : List X} (count used : ℕ) → list ≡ items
+    → drop (length (take used list) - count) (take used list) ≡ drop (length (take used items) - count) (take used items)
+in_use {X = X} count used same = ap (λ (xs : List X). drop (length (take used xs) - count) (take used xs)) same
+
+-- what is in front of the last so many of those in use
+pub in_front : {X : Type 0} (items : List X) (used count : ℕ) → take (used - count) items ≡ take (used - count) (take used items)
+in_front items used count = let less : used - count ≤ used = omega arith in sym (take-take (used - count) used items less)
+
+-- where a list got longer, what is in use stays
+pub stays_in_use : {X : Type 0} (old new : List X) (len used : ℕ) → len ≡ length old → used ≤ length old → take len new ≡ old
+    → take used new ≡ take used old
+stays_in_use old new len used all within same =
+    let less : used ≤ len = omega arith in
+    sym (take-take used len new less) ∙ ap (take used) same
 
 -- as many as there are marks
 pub length-saves_of : (width : ℕ) (saves : List Saved) (ms : List Mark) (values : List ℤ) (entries : List Waiting)

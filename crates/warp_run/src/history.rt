@@ -11,6 +11,9 @@ use std::marker::Model;
 use warp_step::{State, Waiting};
 use warp_tag::{OutOfMemory, Tag};
 
+/// So many items are filled in at once.
+const BLOCK: usize = 64;
+
 /// How far a run is done.
 #[derive(Clone, Copy, Debug)]
 pub(crate) struct Done {
@@ -56,33 +59,81 @@ struct Mark {
     lost: u64,
 }
 
-/// Appends values, often one, to a list that has room for them.
+/// Writes values, often one, behind so many that are in use.
 #[inline(always)]
-fn append_values(list: &mut Vec<i64>, values: &[i64])
-    requires { vec_len list.old + length values.now ≤ vec_capacity list.old }
-    ensures items { list.new.items ≡ list.old.items ++ values.now }
-    ensures capacity { vec_capacity list.new ≡ vec_capacity list.old }
+fn write_values(list: &mut Vec<i64>, used: usize, values: &[i64])
+    requires { used + length values.now ≤ vec_len list.old }
+    ensures items { take (used + length values.now) list.new.items ≡ take used list.old.items ++ values.now }
+    ensures len { vec_len list.new ≡ vec_len list.old }
 {
     if let [value] = values {
-        list.push_reserved(*value);
+        list[used] = *value;
     } else {
-        append(list, values);
+        write(list, used, values);
     }
 }
 
-/// Appends entries, often none, to a list that has room for them.
+/// Writes entries, often none, behind so many that are in use.
 #[inline(always)]
-fn append_entries(list: &mut Vec<Waiting>, entries: &[Waiting])
-    requires { vec_len list.old + length entries.now ≤ vec_capacity list.old }
-    ensures items { list.new.items ≡ list.old.items ++ entries.now }
-    ensures capacity { vec_capacity list.new ≡ vec_capacity list.old }
+fn write_entries(list: &mut Vec<Waiting>, used: usize, entries: &[Waiting])
+    requires { used + length entries.now ≤ vec_len list.old }
+    ensures items { take (used + length entries.now) list.new.items ≡ take used list.old.items ++ entries.now }
+    ensures len { vec_len list.new ≡ vec_len list.old }
 {
     if !entries.is_empty() {
-        append(list, entries);
+        write(list, used, entries);
     }
 }
 
-/// Appends items to a list that has room for them, apart from where mostly none are copied.
+/// Writes items behind so many that are in use, apart from where mostly none are copied.
+#[inline(never)]
+fn write<T: Copy>(list: &mut Vec<T>, used: usize, items: &[T])
+    requires { used + length items.now ≤ vec_len list.old }
+    ensures items { take (used + length items.now) list.new.items ≡ take used list.old.items ++ items.now }
+    ensures len { vec_len list.new ≡ vec_len list.old }
+{
+    list[used..used + items.len()].copy_from_slice(items);
+}
+
+/// Of so many items that are in use the last ones.
+#[inline(always)]
+fn last_of<T>(list: &[T], used: usize, count: usize) -> &[T]
+    requires used { used ≤ length list.now }
+    requires count { count ≤ used }
+    ensures { result.now ≡ drop (length (take used list.now) - count) (take used list.now) }
+{
+    &list[used - count..used]
+}
+
+/// Makes a list at least so long, and fills it up to its room with copies of a block. What is there stays.
+fn grow<T: Copy>(list: &mut Vec<T>, len: usize, block: &[T]) -> Result<(), OutOfMemory>
+    requires { 0 < length block.now }
+    ensures items { take (vec_len list.old) list.new.items ≡ list.old.items }
+    ensures len { OnOk result (len ≤ vec_len list.new) }
+{
+    if len <= list.len() {
+        return Ok(());
+    }
+    list.try_reserve(len - list.len())?;
+    let room = list.capacity();
+    fill(list, room, block)
+}
+
+/// Fills a list up to so many items with copies of a block. What is there stays.
+fn fill<T: Copy>(list: &mut Vec<T>, len: usize, block: &[T]) -> Result<(), OutOfMemory>
+    requires some { 0 < length block.now }
+    requires more { vec_len list.old ≤ len }
+    ensures items { take (vec_len list.old) list.new.items ≡ list.old.items }
+    ensures len { OnOk result (len ≤ vec_len list.new) }
+{
+    while len - list.len() > block.len() {
+        list.extend_from_slice(block)?;
+    }
+    list.extend_from_slice(&block[..len - list.len()])?;
+    Ok(())
+}
+
+/// Appends items to a list that has room for them.
 #[inline(never)]
 pub(crate) fn append<T: Copy>(list: &mut Vec<T>, items: &[T])
     requires { vec_len list.old + length items.now ≤ vec_capacity list.old }
@@ -97,17 +148,19 @@ pub(crate) fn append<T: Copy>(list: &mut Vec<T>, items: &[T])
 /// The checkpoints of one run. Contracts see them as a list, the newest first.
 ///
 /// Each has as many values of variables as the program has variables; the values of all stand in one list, and so do
-/// the pending entries.
+/// the pending entries. These two lists are filled up to their room, and counts say how much of them is in use.
 #[derive(Debug, Drop)]
 pub(crate) struct History {
     width: usize,
     marks: Vec<Mark>,
     values: Vec<i64>,
+    values_used: usize,
     entries: Vec<Waiting>,
+    entries_used: usize,
 }
 
 impl Model for History {
-    ghost use Rattle.std.specs.Prelude.{[]};
+    ghost use Rattle.std.specs.Prelude.{[], ◌≤◌, length, take};
     ghost use Rattle.warp_run.specs.History.{Saves, AreKept, saves_of};
 
     ghost Value = { Saves };
@@ -116,15 +169,17 @@ impl Model for History {
 
     ghost view = { λ h. record {
       width = h.width;
-      saves = saves_of h.width [] h.marks.items h.values.items h.entries.items;
+      saves = saves_of h.width [] h.marks.items
+          (take h.values_used h.values.items) (take h.entries_used h.entries.items);
       room = record {
         marks = vec_capacity h.marks;
-        values = vec_capacity h.values;
-        entries = vec_capacity h.entries;
+        values = length h.values.items;
+        entries = length h.entries.items;
       };
     } };
 
-    ghost invariant = { λ h. AreKept h.width h.marks.items h.values.items h.entries.items };
+    ghost invariant = { λ h. (h.values_used ≤ length h.values.items) × (h.entries_used ≤ length h.entries.items) ×
+        AreKept h.width h.marks.items (take h.values_used h.values.items) (take h.entries_used h.entries.items) };
 }
 
 impl History {
@@ -136,7 +191,9 @@ impl History {
             width,
             marks: Vec::new(alloc),
             values: Vec::new(alloc),
+            values_used: 0,
             entries: Vec::new(alloc),
+            entries_used: 0,
         }
     }
 
@@ -159,9 +216,11 @@ impl History {
         ensures same { self.new ≡ record self.old { room = self.new.room } }
         ensures room { OnOk result (HasRoomFor self.new state.now) }
     {
+        let values = self.values_used + state.vars().len();
+        let entries = self.entries_used + state.pending().len();
         self.marks.try_reserve(1)?;
-        self.values.try_reserve(state.vars().len())?;
-        self.entries.try_reserve(state.pending().len())?;
+        grow(&mut self.values, values, &[0; BLOCK])?;
+        grow(&mut self.entries, entries, &[Waiting::default(); BLOCK])?;
         Ok(())
     }
 
@@ -180,8 +239,8 @@ impl History {
         let Some(mark) = self.marks.last() else {
             return false;
         };
-        let values = &self.values[self.values.len() - self.width..];
-        let entries = &self.entries[self.entries.len() - mark.pending..];
+        let values = last_of(&self.values, self.values_used, self.width);
+        let entries = last_of(&self.entries, self.entries_used, mark.pending);
         state.is_same_as(values, entries, mark.lost)
     }
 
@@ -191,11 +250,13 @@ impl History {
         ensures room { OnOk result (IsAtLeast other.now.room self.new.room) }
     {
         let marks = other.marks.capacity().saturating_sub(self.marks.len());
-        let values = other.values.capacity().saturating_sub(self.values.len());
-        let entries = other.entries.capacity().saturating_sub(self.entries.len());
         self.marks.try_reserve(marks)?;
-        self.values.try_reserve(values)?;
-        self.entries.try_reserve(entries)?;
+        grow(&mut self.values, other.values.len(), &[0; BLOCK])?;
+        grow(
+            &mut self.entries,
+            other.entries.len(),
+            &[Waiting::default(); BLOCK],
+        )?;
         Ok(())
     }
 
@@ -204,8 +265,8 @@ impl History {
         ensures { self.new ≡ record self.old { saves = [] } }
     {
         self.marks.clear();
-        self.values.clear();
-        self.entries.clear();
+        self.values_used = 0;
+        self.entries_used = 0;
     }
 
     /// Moves the checkpoints whose last row is not before the tag, the newest first, to another history in the place of
@@ -241,8 +302,8 @@ impl History {
         let Some(mark) = self.marks.last() else {
             return false;
         };
-        let values = &self.values[self.values.len() - self.width..];
-        let entries = &self.entries[self.entries.len() - mark.pending..];
+        let values = last_of(&self.values, self.values_used, self.width);
+        let entries = last_of(&self.entries, self.entries_used, mark.pending);
         if !other.add(mark.done, values, entries, mark.lost) {
             return false;
         }
@@ -266,10 +327,10 @@ impl History {
         if self.marks.len() == self.marks.capacity() {
             return false;
         }
-        if values.len() > self.values.capacity() - self.values.len() {
+        if values.len() > self.values.len() - self.values_used {
             return false;
         }
-        if entries.len() > self.entries.capacity() - self.entries.len() {
+        if entries.len() > self.entries.len() - self.entries_used {
             return false;
         }
         let mark = Mark {
@@ -278,8 +339,10 @@ impl History {
             lost,
         };
         self.marks.push_reserved(mark);
-        append_values(&mut self.values, values);
-        append_entries(&mut self.entries, entries);
+        write_values(&mut self.values, self.values_used, values);
+        write_entries(&mut self.entries, self.entries_used, entries);
+        self.values_used += values.len();
+        self.entries_used += entries.len();
         true
     }
 
@@ -311,8 +374,8 @@ impl History {
         ensures { self.new ≡ record self.old { saves = drop 1 self.old.saves } }
     {
         if let Some(mark) = self.marks.pop() {
-            self.values.truncate(self.values.len() - self.width);
-            self.entries.truncate(self.entries.len() - mark.pending);
+            self.values_used -= self.width;
+            self.entries_used -= mark.pending;
         }
     }
 
@@ -322,8 +385,8 @@ impl History {
         ensures { (newest : Saved) (others : List Saved) → self.now.saves ≡ newest ∷ others → state.new ≡ newest.state }
     {
         if let Some(mark) = self.marks.last() {
-            let values = &self.values[self.values.len() - self.width..];
-            let entries = &self.entries[self.entries.len() - mark.pending..];
+            let values = last_of(&self.values, self.values_used, self.width);
+            let entries = last_of(&self.entries, self.entries_used, mark.pending);
             state.restore(values, entries, mark.lost);
         }
     }

@@ -1,29 +1,30 @@
-use Rattle.std.proofs.Common.{◌≡◌, List, ap, sym, subst, ◌∙◌, arith, IsTrue}
+use Rattle.std.proofs.Common.{◌≡◌, List, take, ap, sym, subst, ◌∙◌, arith, IsTrue}
+use Rattle.std.proofs.lemmas.List.{length-take-le}
 use Rattle.warp_run.specs.History.{IsOfState, Saved, Saves}
-use Rattle.warp_run.proofs.Marks.{end_part, has_last}
+use Rattle.warp_run.proofs.Marks.{has_last, in_use}
 use Rattle.warp_run.proofs.history.History.is_of.Goals as goal
 
-pub overflow_sub-values : goal.overflow_sub-values
-overflow_sub-values c =
+pub last_of-values-requires-clause-count : goal.last_of-values-requires-clause-count
+last_of-values-requires-clause-count c =
     let h = c.self.inside in
-    let has = has_last h.width _ h.marks.items c.in-Some.mark.now h.values.items h.entries.items
-    c.deref.ensures.value c.in-Some.ensures.value c.self.invariant in
-    omega (arith, has.vars, h.values.ok.0)
+    let has = has_last h.width _ h.marks.items c.in-Some.mark.now (take h.values_used h.values.items) (take h.entries_used h.entries.items)
+    c.deref.ensures.value c.in-Some.ensures.value c.self.invariant.2 in
+    omega (arith, has.vars, length-take-le h.values_used h.values.items c.self.invariant.0)
 
-pub overflow_sub-entries : goal.overflow_sub-entries
-overflow_sub-entries c =
+pub last_of-entries-requires-clause-count : goal.last_of-entries-requires-clause-count
+last_of-entries-requires-clause-count c =
     let h = c.self.inside in
-    let has = has_last h.width _ h.marks.items c.in-Some.mark.now h.values.items h.entries.items
-    c.deref.ensures.value c.in-Some.ensures.value c.self.invariant in
-    omega (arith, has.pending, h.entries.ok.0)
+    let has = has_last h.width _ h.marks.items c.in-Some.mark.now (take h.values_used h.values.items) (take h.entries_used h.entries.items)
+    c.deref.ensures.value c.in-Some.ensures.value c.self.invariant.2 in
+    omega (arith, has.pending, length-take-le h.entries_used h.entries.items c.self.invariant.1)
 
 pub returns : goal.returns
 returns c =
     let h = c.self.inside in
-    let has = has_last h.width _ h.marks.items c.in-Some.mark.now h.values.items h.entries.items
-    c.deref.ensures.value c.in-Some.ensures.value c.self.invariant in
-    let values = end_part _ _ _ h.width c.deref-2.ensures.value (c.len.ensures ∙ h.values.ok.0) in
-    let entries = end_part _ _ _ c.in-Some.mark.now.pending c.deref-3.ensures.value (c.len-2.ensures ∙ h.entries.ok.0) in
+    let has = has_last h.width _ h.marks.items c.in-Some.mark.now (take h.values_used h.values.items) (take h.entries_used h.entries.items)
+    c.deref.ensures.value c.in-Some.ensures.value c.self.invariant.2 in
+    let values = c.last_of-values.ensures ∙ in_use h.width h.values_used c.deref-2.ensures.value in
+    let entries = c.last_of-entries.ensures ∙ in_use c.in-Some.mark.now.pending h.entries_used c.deref-3.ensures.value in
     let state : _ ≡ _ = (λ i. record { vars = values i; pending = entries i; lost = c.in-Some.mark.now.lost }) in
     let saves = sym has.saves ∙ ap (λ (s : Saves). s.saves) c.self.view_is in
     subst (λ (all : List Saved). (IsTrue c.is_same_as.result → IsOfState all c.args.state.now) × (IsOfState all c.args.state.now → IsTrue c.is_same_as.result)) saves
