@@ -23,6 +23,7 @@ pub mod BelowHorizon
 pub mod InOrder
 pub mod KeptTags
 pub mod Tallies
+pub mod Blocks
 pub mod Heard
 pub mod HeardNews
 pub mod LeastReach
