@@ -14,10 +14,10 @@ use Rattle.warp_tag.specs.Moment.{Moment, is_before}
 use Rattle.warp_tag.proofs.Tags.{before_trans, not_before_self}
 use Rattle.warp_table.specs.inner.Heard.{Announced, Heard, IsExceeded, IsExceededBy, IsHeardTo, IsReachedBy, earlier_of, with_tag}
 use Rattle.warp_table.specs.inner.Tally.{AreInOrder, AreKept, Counts, IsVerdict, announcement_of, before_of, beyond, counted, has_doubled, is_exceeded, is_met, place_of, with_name, with_tally}
-use Rattle.warp_table.specs.declared.announcer.Kind.{Kind}
-use Rattle.warp_table.specs.declared.announcer.Kind.TheVariants.{Event, Withdrawal}
-use Rattle.warp_table.specs.declared.announcer.Tally.{Tally}
-use Rattle.warp_table.specs.declared.announcer.Verdict.{Verdict}
+use Rattle.warp_table.specs.declared.tally.Kind.{Kind}
+use Rattle.warp_table.specs.declared.tally.Kind.TheVariants.{Event, Withdrawal}
+use Rattle.warp_table.specs.declared.tally.Tally.{Tally}
+use Rattle.warp_table.specs.declared.tally.Verdict.{Verdict}
 use Rattle.warp_table.proofs.Members.{All-insert, AllPairs-first, AllPairs-one, AllPairs-tail, Contains-cases, Contains-here, Contains-insert, Contains-from_insert, Contains-there, Contains-map, Contains-from_map, Contains-nil}
 use Rattle.warp_table.proofs.InOrder.{ascending-with_tag, before_not_behind, count-with_tag_before, count-with_tag_behind, count_before-le, not_beyond}
 
@@ -57,11 +57,11 @@ later_where true false one other h = record { not_before = not_before_self one; 
 later_where false before one other h = record { not_before = not_before_self one; not_before_other = λ t. absurd (false≢true t); some = inl refl }
 
 -- what a verdict becomes by some more announcements
-record Judges (before : Verdict) (more : List Tally) (after : Verdict) : Type 0 where
-  not_before : is_before after.reached before.reached ≡ false
+pub record Judges (before : Verdict) (more : List Tally) (after : Verdict) : Type 0 where
+  pub not_before : is_before after.reached before.reached ≡ false
   greatest : (c : Tally) → Contains more c → is_met c ≡ true → is_before after.reached c.tag ≡ false
   some : (after.reached ≡ before.reached) ⊎ ((c : Tally) × Contains more c × (is_met c ≡ true) × (c.tag ≡ after.reached))
-  broken : after.is_broken ≡ (before.is_broken || list_any is_exceeded more)
+  pub broken : after.is_broken ≡ (before.is_broken || list_any is_exceeded more)
 
 or_assoc : (a b c : Bool) → ((a || b) || c) ≡ (a || (b || c))
 or_assoc true b c = refl
@@ -71,7 +71,7 @@ or_none : (a : Bool) → a ≡ (a || false)
 or_none true = refl
 or_none false = refl
 
-judges : (v : Verdict) (more : List Tally) → Judges v more (fold with_tally v more)
+pub judges : (v : Verdict) (more : List Tally) → Judges v more (fold with_tally v more)
 judges v [] = record {
   not_before = not_before_self v.reached;
   greatest = λ c h m. absurd (Contains-nil c h);
@@ -383,7 +383,7 @@ or_covered false true c h = sym (h refl)
 or_covered false false c h = refl
 
 -- a tag that is before any of them is before the last one's
-last_doubled : (t : Moment) (xs : List Tally) (c : Tally) → AreInOrder xs → 0 < length xs → get_or xs (length xs - 1) c ≡ c → list_any (has_doubled (Some t)) xs ≡ is_before t c.tag
+pub last_doubled : (t : Moment) (xs : List Tally) (c : Tally) → AreInOrder xs → 0 < length xs → get_or xs (length xs - 1) c ≡ c → list_any (has_doubled (Some t)) xs ≡ is_before t c.tag
 last_doubled t xs c ordered some last = elim (cases_Bool (is_before t c.tag)) [
   | inl b ↦ list_any-from_Any (has_doubled (Some t)) xs (length xs - 1, c, omega arith, last, b) ∙ sym b
   | inr b ↦ list_any_none (has_doubled (Some t)) xs (none b) ∙ sym b
@@ -409,15 +409,15 @@ verdict_doubled doubled tag xs v before was is = record {
       (list_any-either (has_doubled doubled) (has_doubled (Some (earlier_of doubled tag))) (doubled-earlier doubled tag) xs);
 }
 
--- one more name of two payloads, before the last announcement's tag or not
-pub kept_doubled : (tag : Moment) (last : Tally) (names gone : List Moment) (doubled : Option Moment) (xs : List Tally) (v : Verdict) → AreKept names gone doubled xs v → 0 < length xs → get_or xs (length xs - 1) last ≡ last →
-    AreKept names gone (Some (earlier_of doubled tag)) xs (record v { is_broken = v.is_broken || is_before (earlier_of doubled tag) last.tag })
-kept_doubled tag last names gone doubled xs v was some is_last = record {
+-- one more name of two payloads, before an announcement's tag or not
+pub kept_doubled : (tag : Moment) (names gone : List Moment) (doubled : Option Moment) (xs : List Tally) (v : Verdict) → AreKept names gone doubled xs v →
+    AreKept names gone (Some (earlier_of doubled tag)) xs (record v { is_broken = v.is_broken || list_any (λ c. is_before (earlier_of doubled tag) c.tag) xs })
+kept_doubled tag names gone doubled xs v was = record {
   events = was.events;
   withdrawn = was.withdrawn;
   in_order = was.in_order;
   counts = was.counts;
-  judged = verdict_doubled doubled tag xs v (is_before (earlier_of doubled tag) last.tag) was.judged (last_doubled (earlier_of doubled tag) xs last was.in_order some is_last);
+  judged = verdict_doubled doubled tag xs v (list_any (λ c. is_before (earlier_of doubled tag) c.tag) xs) was.judged refl;
 }
 
 -- What is heard

@@ -1,139 +1,16 @@
 //! One origin: which of its names came, what it announced, and how far that is reached.
 //!
-//! Each announcement keeps how many names are before its tag. A new name is counted in the announcements beyond it,
-//! from the newest end, so that what comes in order of tag costs no pass over what came before.
-ghost use Rattle.std.specs.Prelude.{◌≡◌, ◌↔◌, ◌⊎◌, ◌+◌, ◌<◌, ◌^◌, ◌||◌, All, Contains, IsTrue, OnOk, OnErr, fold, map};
-ghost use Rattle.warp_table.specs.inner.Heard.{Announced, IsExceeded, IsHeardTo, earlier_of, nothing_heard, with_tag};
-ghost use Rattle.warp_table.specs.inner.Tally.{AreInOrder, before_of, beyond, counted, has_doubled, is_exceeded};
-ghost use Rattle.warp_table.specs.inner.Tally.{is_met, with_name, with_tally};
+//! Each announcement has how many names are before its tag. A new name is counted in the announcements beyond it
+//! (`announced.rt`), so that what comes in order of tag costs no pass over what came before.
+ghost use Rattle.std.specs.Prelude.{◌≡◌, ◌↔◌, ◌⊎◌, Contains, IsTrue, OnOk, OnErr};
+ghost use Rattle.warp_table.specs.inner.Heard.{Announced as Said, IsExceeded, IsHeardTo, earlier_of, nothing_heard, with_tag};
 
-use crate::tags::{Tagged, Tags, place};
+use crate::announced::Announced;
+use crate::tags::Tags;
+use crate::tally::{Kind, Tally, Verdict};
 use std::alloc::{AllocError, Global};
 use std::marker::Model;
 use warp_tag::Tag;
-
-/// What is noted of a name.
-#[derive(Clone, Copy)]
-enum Kind {
-    Event,
-    Withdrawal,
-}
-
-/// An announcement, and how many names are before its tag so far.
-#[derive(Clone, Copy)]
-struct Tally {
-    tag: Tag,
-    events: u32,
-    withdrawn: u32,
-    events_before: usize,
-    withdrawn_before: usize,
-}
-
-impl Tally {
-    /// Whether so many names at least are before its tag as it says.
-    fn is_met(&self) -> bool
-        ensures { result ≡ is_met self.now }
-    {
-        self.events as usize <= self.events_before
-            && self.withdrawn as usize <= self.withdrawn_before
-    }
-
-    /// Whether more names are before its tag than it says.
-    fn is_exceeded(&self) -> bool
-        ensures { result ≡ is_exceeded self.now }
-    {
-        self.events_before > self.events as usize || self.withdrawn_before > self.withdrawn as usize
-    }
-
-    /// Whether the name of two payloads, if there is one, is before its tag.
-    fn has_doubled(&self, doubled: Option<Tag>) -> bool
-        ensures { result ≡ has_doubled doubled self.now }
-    {
-        match doubled {
-            Some(tag) => tag.is_before(self.tag),
-            None => false,
-        }
-    }
-
-    /// Counts one more name of this kind before its tag.
-    fn count(&mut self, kind: Kind)
-        requires { before_of kind self.old + 1 < 2 ^ 64 }
-        ensures { self.new ≡ with_name kind self.old }
-    {
-        match kind {
-            Kind::Event => self.events_before += 1,
-            Kind::Withdrawal => self.withdrawn_before += 1,
-        }
-    }
-}
-
-/// What follows from the announcements of an origin.
-#[derive(Clone, Copy)]
-struct Verdict {
-    /// The greatest tag of those that are reached, the beginning where none is.
-    reached: Tag,
-    /// Whether one of them is exceeded.
-    is_broken: bool,
-}
-
-impl Verdict {
-    /// With the counts of one more announcement.
-    fn with(self, tally: &Tally) -> Verdict
-        ensures { result ≡ with_tally self tally.now }
-    {
-        let is_later = tally.is_met() && self.reached.is_before(tally.tag);
-        Verdict {
-            reached: if is_later { tally.tag } else { self.reached },
-            is_broken: self.is_broken || tally.is_exceeded(),
-        }
-    }
-
-    /// Broken also where this is so.
-    fn broken_where(self, is_broken: bool) -> Verdict
-        ensures { result ≡ record self { is_broken = self.is_broken || is_broken } }
-    {
-        Verdict {
-            reached: self.reached,
-            is_broken: self.is_broken || is_broken,
-        }
-    }
-}
-
-impl Tagged for Tally {
-    ghost tag_of = { λ t. t.tag };
-
-    fn tag(&self) -> Tag {
-        self.tag
-    }
-}
-
-/// Counts one more name in each of these announcements, and adds them to the verdict.
-#[inline(never)]
-fn count_in(later: &mut [Tally], kind: Kind, mut verdict: Verdict) -> Verdict
-    requires { All (λ t. before_of kind t + 1 < 2 ^ 64) later.old }
-    ensures tallies { later.new ≡ map (with_name kind) later.old }
-    ensures judged { result ≡ fold with_tally verdict later.new }
-{
-    for tally in later.iter_mut() {
-        tally.count(kind);
-        verdict = verdict.with(tally);
-    }
-    verdict
-}
-
-/// Counts a new name in the announcements beyond its tag, and judges these anew.
-#[inline(always)]
-fn count_name(announced: &mut [Tally], tag: Tag, kind: Kind, verdict: &mut Verdict)
-    requires in_order { AreInOrder announced.old }
-    requires room { All (λ t. before_of kind t + 1 < 2 ^ 64) announced.old }
-    ensures tallies { announced.new ≡ counted kind tag announced.old }
-    ensures judged { verdict.new ≡ fold with_tally verdict.old (map (with_name kind) (beyond tag announced.old)) }
-{
-    let first = place(announced, tag);
-    if first < announced.len() {
-        *verdict = count_in(&mut announced[first..], kind, *verdict);
-    }
-}
 
 /// The earlier one of a tag, if there is one, and another.
 fn earlier(one: Option<Tag>, other: Tag) -> Tag
@@ -151,7 +28,7 @@ pub(crate) struct Announcer {
     events: Tags,
     withdrawn: Tags,
     doubled: Option<Tag>,
-    announced: Vec<Tally>,
+    announced: Announced,
     verdict: Verdict,
 }
 
@@ -167,10 +44,10 @@ impl Model for Announcer {
           events = a.events;
           withdrawn = a.withdrawn;
           doubled = a.doubled;
-          announced = map announcement_of a.announced.items;
+          announced = map announcement_of a.announced;
         } };
 
-    ghost invariant = { λ a. AreKept a.events a.withdrawn a.doubled a.announced.items a.verdict };
+    ghost invariant = { λ a. AreKept a.events a.withdrawn a.doubled a.announced a.verdict };
 }
 
 impl Announcer {
@@ -182,7 +59,7 @@ impl Announcer {
             events: Tags::new(alloc),
             withdrawn: Tags::new(alloc),
             doubled: None,
-            announced: Vec::new(alloc),
+            announced: Announced::new(alloc),
             verdict: Verdict {
                 reached: Tag::default(),
                 is_broken: false,
@@ -198,7 +75,8 @@ impl Announcer {
         ensures err { OnErr result (self.new ≡ self.old) }
     {
         self.events.insert(tag)?;
-        count_name(&mut self.announced, tag, Kind::Event, &mut self.verdict);
+        self.announced
+            .count_name(tag, Kind::Event, &mut self.verdict);
         Ok(())
     }
 
@@ -209,12 +87,8 @@ impl Announcer {
         ensures err { OnErr result (self.new ≡ self.old) }
     {
         self.withdrawn.insert(tag)?;
-        count_name(
-            &mut self.announced,
-            tag,
-            Kind::Withdrawal,
-            &mut self.verdict,
-        );
+        self.announced
+            .count_name(tag, Kind::Withdrawal, &mut self.verdict);
         Ok(())
     }
 
@@ -222,12 +96,10 @@ impl Announcer {
     pub(crate) fn note_two_payloads(&mut self, tag: Tag)
         ensures { self.new ≡ record self.old { doubled = Some (earlier_of self.old.doubled tag) } }
     {
-        self.doubled = Some(earlier(self.doubled, tag));
-        // A name that is before any announcement's tag is before the last one's.
-        if let Some(last) = self.announced.last() {
-            let is_before = last.has_doubled(self.doubled);
-            self.verdict = self.verdict.broken_where(is_before);
-        }
+        let first = earlier(self.doubled, tag);
+        self.doubled = Some(first);
+        let is_before = self.announced.has_beyond(first);
+        self.verdict = self.verdict.broken_where(is_before);
     }
 
     /// Notes an announcement. An `Err` changes nothing.
@@ -237,7 +109,7 @@ impl Announcer {
         events: u32,
         withdrawn: u32,
     ) -> Result<(), AllocError>
-        ensures announced { OnOk result ((a : Announced) → Contains self.new.announced a ↔
+        ensures announced { OnOk result ((a : Said) → Contains self.new.announced a ↔
             Contains self.old.announced a ⊎ (a ≡ record { tag = tag; events = events; withdrawn = withdrawn })) }
         ensures ok { OnOk result (self.new ≡ record self.old { announced = self.new.announced }) }
         ensures err { OnErr result (self.new ≡ self.old) }
@@ -249,8 +121,7 @@ impl Announcer {
             events_before: self.events.count_before(tag),
             withdrawn_before: self.withdrawn.count_before(tag),
         };
-        let at = place(&self.announced, tag);
-        self.announced.insert(at, tally)?;
+        self.announced.insert(tally)?;
         let has_doubled = tally.has_doubled(self.doubled);
         self.verdict = self.verdict.with(&tally).broken_where(has_doubled);
         Ok(())

@@ -6,6 +6,7 @@
 //! `some_reach`).
 #![tactic(auto)]
 
+mod announced;
 mod announcer;
 mod blocks;
 mod honest_law;
@@ -14,6 +15,7 @@ mod names;
 mod rows;
 mod table;
 mod tags;
+mod tally;
 
 pub use honest_law::{honest_within, later_horizon, one_horizon, same_below, some_reach};
 pub use law::{

@@ -1,14 +1,15 @@
 -- What is kept of one origin beside what is heard of it: how many names are before each announcement, and what follows from
 -- that. For proofs alone.
-use Rattle.std.specs.Prelude.{◌≡◌, ◌⊎◌, ℕ, ◌+◌, Bool, true, false, ◌&&◌, ◌||◌, nat_lt, nat_le, Option, Some, None, List, ◌++◌, Contains, All, AllPairs, map, take, drop, if◌then◌else◌}
+use Rattle.std.specs.Prelude.{◌≡◌, ◌⊎◌, ℕ, ◌+◌, ◌-◌, ◌<◌, ◌^◌, Bool, true, false, ◌&&◌, ◌||◌, nat_lt, nat_le, Option, Some, None, List, [], ◌∷◌, ◌++◌, length, fold, Contains, All, AllPairs, map, take, drop, if◌then◌else◌}
 use Rattle.std.specs.List.{list_any, position_or_len}
 use Rattle.warp_tag.specs.Moment.{Moment, is_before}
 use Rattle.warp_table.specs.Announced.{beginning}
 use Rattle.warp_table.specs.inner.Heard.{Announced, AreAscending, count_before}
-use Rattle.warp_table.specs.declared.announcer.Kind.{Kind}
-use Rattle.warp_table.specs.declared.announcer.Kind.TheVariants.{Event, Withdrawal}
-use Rattle.warp_table.specs.declared.announcer.Tally.{Tally}
-use Rattle.warp_table.specs.declared.announcer.Verdict.{Verdict}
+use Rattle.warp_table.specs.declared.tally.Kind.{Kind}
+use Rattle.warp_table.specs.declared.tally.Kind.TheVariants.{Event, Withdrawal}
+use Rattle.warp_table.specs.declared.tally.Numbers.{Numbers}
+use Rattle.warp_table.specs.declared.tally.Tally.{Tally}
+use Rattle.warp_table.specs.declared.tally.Verdict.{Verdict}
 
 -- the announcement of a tally
 abbrev pub announcement_of : Tally → Announced
@@ -78,3 +79,59 @@ pub record AreKept (names gone : List Moment) (doubled : Option Moment) (tallies
   pub in_order : AreInOrder tallies
   pub counts : All (Counts names gone) tallies
   pub judged : IsVerdict doubled tallies verdict
+
+-- none of either kind
+abbrev pub no_names : Numbers
+no_names = record { events = 0; withdrawn = 0 }
+
+-- the number of a kind
+abbrev pub number_of : Kind → Numbers → ℕ
+number_of Event n = n.events
+number_of Withdrawal n = n.withdrawn
+
+-- one more of a kind
+abbrev pub with_one : Kind → Numbers → Numbers
+with_one Event n = record n { events = n.events + 1 }
+with_one Withdrawal n = record n { withdrawn = n.withdrawn + 1 }
+
+-- one less of a kind
+abbrev pub less_one : Kind → Numbers → Numbers
+less_one Event n = record n { events = n.events - 1 }
+less_one Withdrawal n = record n { withdrawn = n.withdrawn - 1 }
+
+-- a tally with so many more names before its tag
+abbrev pub with_more : Numbers → Tally → Tally
+with_more more tally = record tally { events_before = tally.events_before + more.events; withdrawn_before = tally.withdrawn_before + more.withdrawn }
+
+-- there is room for so many
+abbrev pub fits : Numbers → Tally → Type 0
+fits more tally = (tally.events_before + more.events < 2 ^ 64) × (tally.withdrawn_before + more.withdrawn < 2 ^ 64)
+
+-- so many more names leave it as it was whether as many are counted as were announced, and whether more are
+abbrev pub IsSpare : ℕ → ℕ → ℕ → Type 0
+IsSpare more announced counted = (more ≡ 0) ⊎ ((counted + more < announced) ⊎ (announced < counted))
+
+-- so many more names of either kind leave every verdict on the tally as it was
+pub record IsSpared (spare : Numbers) (tally : Tally) : Type 0 where
+  pub events : IsSpare spare.events tally.events tally.events_before
+  pub withdrawn : IsSpare spare.withdrawn tally.withdrawn tally.withdrawn_before
+  pub few_events : tally.events_before < 2 ^ 64
+  pub few_withdrawn : tally.withdrawn_before < 2 ^ 64
+
+-- the verdict has the tally in it
+pub record IsJudged (verdict : Verdict) (tally : Tally) : Type 0 where
+  pub met : is_met tally ≡ true → is_before verdict.reached tally.tag ≡ false
+  pub exceeded : is_exceeded tally ≡ true → verdict.is_broken ≡ true
+
+-- the tallies of blocks
+abbrev pub all_of : List (List Tally) → List Tally
+all_of [] = []
+all_of (block ∷ blocks) = block ++ all_of blocks
+
+-- no block is empty
+abbrev pub AreSome : List (List Tally) → Type 0
+AreSome blocks = All (λ block. 0 < length block) blocks
+
+-- a verdict, with a new name counted in a block
+abbrev pub judged_in : Kind → Moment → Verdict → List Tally → Verdict
+judged_in kind tag verdict block = fold with_tally verdict (map (with_name kind) (beyond tag block))

@@ -8,4 +8,4 @@ pub returns : goal.returns
 returns c =
     let is = c.self.inside in
     subst (λ (h : Heard). IsTrue is.verdict.is_broken ↔ IsExceeded h) c.self.view_is
-    (broken_heard is.events is.withdrawn is.doubled is.announced.items is.verdict c.self.invariant)
+    (broken_heard is.events is.withdrawn is.doubled is.announced is.verdict c.self.invariant)

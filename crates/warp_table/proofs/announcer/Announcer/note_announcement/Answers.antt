@@ -1,12 +1,12 @@
 -- the announcement comes in at its place, with its counts, and is judged
-use Rattle.std.proofs.Common.{◌≡◌, ◌||◌, List, Contains, map, ap, sym, subst, ◌∙◌}
+use Rattle.std.proofs.Common.{◌≡◌, ◌||◌, List, Contains, map, refl, sym, subst, ◌∙◌}
 use Rattle.std.specs.Prelude.{◌⊎◌, ◌↔◌}
 use Rattle.std.specs.List.{insert}
 use Rattle.warp_tag.specs.Moment.{Moment}
 use Rattle.warp_table.specs.inner.Heard.{Announced, Heard}
 use Rattle.warp_table.specs.inner.Tally.{AreKept, Counts, announcement_of, place_of}
-use Rattle.warp_table.specs.declared.announcer.Tally.{Tally}
-use Rattle.warp_table.specs.declared.announcer.Verdict.{Verdict}
+use Rattle.warp_table.specs.declared.tally.Tally.{Tally}
+use Rattle.warp_table.specs.declared.tally.Verdict.{Verdict}
 use Rattle.warp_table.proofs.Tallies.{announced-insert, kept_announcement}
 use Rattle.warp_table.proofs.announcer.Announcer.note_announcement.Goals as goal
 
@@ -20,21 +20,20 @@ invariant_of-self-2 c =
     let was = c.self.inside in
     let names : List Moment = was.events in
     let gone : List Moment = was.withdrawn in
-    let place : c.place-at.result ≡ place_of c.args.tag was.announced.items = c.place-at.ensures.place ∙ ap (place_of c.args.tag) c.deref.ensures.value in
     let counts : Counts names gone (tally c) = record {
       events = c.count_before.ensures;
       withdrawn = c.count_before-2.ensures;
     } in
     let judged = c.broken_where-self-inside.ensures
     ∙ (λ i. record { reached = (c.with.ensures i).reached; is_broken = (c.with.ensures i).is_broken || c.has_doubled-has_doubled.ensures i }) in
-    subst (λ (ts : List Tally). AreKept names gone was.doubled ts c.broken_where-self-inside.result) (sym c.in_ok-insert.ensures.items)
-    (subst (λ (v : Verdict). AreKept names gone was.doubled (insert was.announced.items c.place-at.result (tally c)) v) (sym judged)
-    (kept_announcement (tally c) c.place-at.result names gone was.doubled was.announced.items was.verdict c.self.invariant place counts))
+    subst (λ (ts : List Tally). AreKept names gone was.doubled ts c.broken_where-self-inside.result) (sym c.in_ok-insert.ensures.ok)
+    (subst (λ (v : Verdict). AreKept names gone was.doubled (insert was.announced (place_of c.args.tag was.announced) (tally c)) v) (sym judged)
+    (kept_announcement (tally c) (place_of c.args.tag was.announced) names gone was.doubled was.announced was.verdict c.self.invariant refl counts))
 
 pub returns-clause-announced : goal.returns-clause-announced
 unfolding tally
 returns-clause-announced c = λ a.
-    let told = announced-insert (tally c) c.place-at.result c.self.inside.announced.items a in
+    let told = announced-insert (tally c) (place_of c.args.tag c.self.inside.announced) c.self.inside.announced a in
     let A : Announced = record { tag = c.args.tag; events = c.args.events; withdrawn = c.args.withdrawn } in
-    subst (λ (h : Heard). Contains (map announcement_of c.insert.new.self.items) a ↔ (Contains h.announced a ⊎ (a ≡ A))) c.self.view_is
-    (subst (λ (ts : List Tally). Contains (map announcement_of ts) a ↔ (Contains (map announcement_of c.self.inside.announced.items) a ⊎ (a ≡ A))) (sym c.in_ok-insert.ensures.items) told)
+    subst (λ (h : Heard). Contains (map announcement_of c.insert.new.self) a ↔ (Contains h.announced a ⊎ (a ≡ A))) c.self.view_is
+    (subst (λ (ts : List Tally). Contains (map announcement_of ts) a ↔ (Contains (map announcement_of c.self.inside.announced) a ⊎ (a ≡ A))) (sym c.in_ok-insert.ensures.ok) told)

@@ -1,52 +1,41 @@
 -- the name comes in at its place and is counted beyond it
-use Rattle.std.proofs.Common.{◌≡◌, ◌+◌, ◌<◌, ◌^◌, List, Contains, fold, length, map, ap, sym, subst, ◌∙◌}
-use Rattle.std.specs.List.{All}
-use Rattle.std.specs.Vec.{with_items}
-use Rattle.std.proofs.lemmas.List.{with_items_is}
+use Rattle.std.proofs.Common.{List, Contains, fold, map, ap, sym, subst, ◌∙◌}
 use Rattle.warp_tag.specs.Moment.{Moment}
 use Rattle.warp_table.specs.inner.Heard.{Heard, with_tag}
-use Rattle.warp_table.specs.inner.Tally.{AreKept, announcement_of, before_of, beyond, counted, with_name, with_tally}
-use Rattle.warp_table.specs.declared.announcer.Kind.TheVariants.{Withdrawal}
-use Rattle.warp_table.specs.declared.announcer.Tally.{Tally}
-use Rattle.warp_table.specs.declared.announcer.Verdict.{Verdict}
-use Rattle.warp_table.proofs.Tallies.{announced-counted, kept_withdrawal, length-counted, room_withdrawal}
+use Rattle.warp_table.specs.inner.Tally.{AreKept, announcement_of, beyond, counted, with_name, with_tally}
+use Rattle.warp_table.specs.declared.tally.Kind.TheVariants.{Withdrawal}
+use Rattle.warp_table.specs.declared.tally.Tally.{Tally}
+use Rattle.warp_table.specs.declared.tally.Verdict.{Verdict}
+use Rattle.warp_table.proofs.Blocks.{are_judged}
+use Rattle.warp_table.proofs.Tallies.{announced-counted, kept_withdrawal, room_withdrawal}
 use Rattle.warp_table.proofs.announcer.Announcer.note_withdrawal.Goals as goal
+
+pub count_name-requires-clause-in_order : goal.count_name-requires-clause-in_order
+count_name-requires-clause-in_order c = c.self.invariant.in_order
 
 pub count_name-requires-clause-room : goal.count_name-requires-clause-room
 count_name-requires-clause-room c =
-    let few : length c.self.inside.withdrawn + 1 < 2 ^ 64 = c.in_ok-insert.ensures.room in
-    subst (λ (ts : List Tally). All (λ t. before_of Withdrawal t + 1 < 2 ^ 64) ts) (sym c.deref_mut.ensures.value)
-    (room_withdrawal c.self.inside.events c.self.inside.withdrawn c.self.inside.doubled c.self.inside.announced.items c.self.inside.verdict c.self.invariant few)
+    let was = c.self.inside in
+    room_withdrawal was.events was.withdrawn was.doubled was.announced was.verdict c.self.invariant c.in_ok-insert.ensures.room
 
--- the announcements are those of before, counted
-now : (c : goal.After-self-1) →
-    (with_items c.self.inside.announced c.count_name.new.announced).items ≡ counted Withdrawal c.args.tag c.self.inside.announced.items
-now c =
-    let counts : c.count_name.new.announced ≡ counted Withdrawal c.args.tag c.self.inside.announced.items =
-    c.count_name.ensures.tallies ∙ ap (counted Withdrawal c.args.tag) c.deref_mut.ensures.value in
-    let long : length c.count_name.new.announced ≡ c.self.inside.announced.len =
-    ap length counts ∙ length-counted Withdrawal c.args.tag c.self.inside.announced.items ∙ sym c.self.inside.announced.ok.0 in
-    with_items_is c.self.inside.announced c.count_name.new.announced long ∙ counts
+pub count_name-requires-clause-judged : goal.count_name-requires-clause-judged
+count_name-requires-clause-judged c = are_judged c.self.inside.doubled c.self.inside.announced c.self.inside.verdict c.self.invariant.judged
 
 pub invariant_of-self-2 : goal.invariant_of-self-2
 invariant_of-self-2 c =
     let was = c.self.inside in
-    let names : List Moment = was.events in
-    let old : List Tally = was.announced.items in
-    let gone : List Moment = with_tag c.args.tag was.withdrawn in
+    let old : List Tally = was.announced in
     let tallies : List Tally = counted Withdrawal c.args.tag old in
     let verdict : Verdict = fold with_tally was.verdict (map (with_name Withdrawal) (beyond c.args.tag old)) in
     let new : Contains was.withdrawn c.args.tag → ⊥ = subst (λ (h : Heard). Contains h.withdrawn c.args.tag → ⊥) (sym c.self.view_is) c.requires in
-    let judged : c.count_name.new.verdict ≡ verdict =
-    c.count_name.ensures.judged ∙ ap (λ ts. fold with_tally was.verdict (map (with_name Withdrawal) (beyond c.args.tag ts))) c.deref_mut.ensures.value in
-    subst (λ (ws : List Moment). AreKept names ws was.doubled (with_items was.announced c.count_name.new.announced).items c.count_name.new.verdict) (sym c.in_ok-insert.ensures.ok)
-    (subst (λ (ts : List Tally). AreKept names gone was.doubled ts c.count_name.new.verdict) (sym (now c))
-    (subst (λ (v : Verdict). AreKept names gone was.doubled tallies v) (sym judged)
-    (kept_withdrawal c.args.tag names was.withdrawn was.doubled old was.verdict c.self.invariant new)))
+    subst (λ (ns : List Moment). AreKept was.events ns was.doubled c.count_name.new.self c.count_name.new.verdict) (sym c.in_ok-insert.ensures.ok)
+    (subst (λ (ts : List Tally). AreKept was.events (with_tag c.args.tag was.withdrawn) was.doubled ts c.count_name.new.verdict) (sym c.count_name.ensures.tallies)
+    (subst (λ (v : Verdict). AreKept was.events (with_tag c.args.tag was.withdrawn) was.doubled tallies v) (sym c.count_name.ensures.judged)
+    (kept_withdrawal c.args.tag was.events was.withdrawn was.doubled old was.verdict c.self.invariant new)))
 
 pub returns-clause-ok : goal.returns-clause-ok
 returns-clause-ok c =
     let was = c.self.inside in
-    let told = ap (map announcement_of) (now c) ∙ announced-counted Withdrawal c.args.tag was.announced.items in
+    let told = ap (map announcement_of) c.count_name.ensures.tallies ∙ announced-counted Withdrawal c.args.tag was.announced in
     (λ i. record { events = was.events; withdrawn = c.in_ok-insert.ensures.ok i; doubled = was.doubled; announced = told i })
     ∙ ap (λ (h : Heard). record h { withdrawn = with_tag c.args.tag h.withdrawn }) c.self.view_is

@@ -7,4 +7,4 @@ pub returns : goal.returns
 returns c =
     let is = c.self.inside in
     subst (λ (h : Heard). IsHeardTo h is.verdict.reached) c.self.view_is
-    (heard_to is.events is.withdrawn is.doubled is.announced.items is.verdict c.self.invariant)
+    (heard_to is.events is.withdrawn is.doubled is.announced is.verdict c.self.invariant)

@@ -1,6 +1,6 @@
 use Rattle.std.proofs.Common.{◌≡◌, ◌++◌, map, take, drop, fold}
 use Rattle.warp_table.specs.inner.Tally.{with_name, with_tally}
-use Rattle.warp_table.proofs.announcer.count_in.Given as goal
+use Rattle.warp_table.proofs.announced.count_in.Given as goal
 
 -- the front is counted and judged
 abbrev pub invariant-loop-tally : goal.invariant-loop-tally

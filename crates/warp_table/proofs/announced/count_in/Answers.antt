@@ -4,7 +4,7 @@ use Rattle.std.proofs.lemmas.List.{take_more_set}
 use Rattle.std.proofs.lemmas.List.Edits.{map_over_more}
 use Rattle.std.proofs.lemmas.List.Sums.{fold_push}
 use Rattle.warp_table.specs.inner.Tally.{with_name, with_tally}
-use Rattle.warp_table.proofs.announcer.count_in.Goals as goal
+use Rattle.warp_table.proofs.announced.count_in.Goals as goal
 
 pub loop-tally-preserved : goal.loop-tally-preserved
 loop-tally-preserved c =

@@ -1,0 +1,364 @@
+//! The announcements of one origin in order of tags, in blocks of a bounded number, each with how many names are before its tag.
+//!
+//! A name that is before all tags of a block is counted once for the whole block, as long as no announcement of it can be met or
+//! exceeded by it: a block knows how many more names it may take so. So a late name costs a walk over the blocks behind it and
+//! over one block, and one that is beyond all announcements costs nothing.
+ghost use Rattle.std.specs.Prelude.{◌≡◌, ◌+◌, ◌<◌, ◌≤◌, ◌^◌, [], ◌∷◌, ◌++◌, All, IfOk, OnOk, OnErr, drop, false, fold, get_or, length, map, take, true};
+ghost use Rattle.std.specs.List.{insert, list_any};
+ghost use Rattle.warp_tag.specs.Moment.{is_before};
+ghost use Rattle.warp_table.specs.inner.Tally.{AreInOrder, AreSome, IsJudged, IsSpared, all_of, before_of, beyond};
+ghost use Rattle.warp_table.specs.inner.Tally.{counted, fits, judged_in, no_names, place_of, with_more, with_name, with_tally};
+
+use crate::tags::{Tagged, place};
+use crate::tally::{Kind, Numbers, Tally, Verdict};
+use std::alloc::{AllocError, Global};
+use std::marker::Model;
+use warp_tag::Tag;
+
+/// So many announcements half a block has at most.
+const HALF: usize = 64;
+
+/// Counts one more name in each of these announcements, and adds them to the verdict.
+#[inline(never)]
+fn count_in(later: &mut [Tally], kind: Kind, mut verdict: Verdict) -> Verdict
+    requires { All (λ t. before_of kind t + 1 < 2 ^ 64) later.old }
+    ensures tallies { later.new ≡ map (with_name kind) later.old }
+    ensures judged { result ≡ fold with_tally verdict later.new }
+{
+    for tally in later.iter_mut() {
+        tally.count(kind);
+        verdict = verdict.with(tally);
+    }
+    verdict
+}
+
+/// Counts a new name in the announcements beyond its tag, and judges these anew.
+#[inline(always)]
+fn count_name(announced: &mut [Tally], tag: Tag, kind: Kind, verdict: &mut Verdict)
+    requires in_order { AreInOrder announced.old }
+    requires room { All (λ t. before_of kind t + 1 < 2 ^ 64) announced.old }
+    ensures tallies { announced.new ≡ counted kind tag announced.old }
+    ensures judged { verdict.new ≡ fold with_tally verdict.old (map (with_name kind) (beyond tag announced.old)) }
+{
+    let first = place(announced, tag);
+    if first < announced.len() {
+        *verdict = count_in(&mut announced[first..], kind, *verdict);
+    }
+}
+
+/// Counts so many more names in each of these announcements.
+fn add_more(tallies: &mut [Tally], more: Numbers)
+    requires { All (fits more) tallies.old }
+    ensures { tallies.new ≡ map (with_more more) tallies.old }
+{
+    for tally in tallies.iter_mut() {
+        tally.add(more);
+    }
+}
+
+/// Counts in each of these announcements what is not yet counted in them.
+fn push_down(tallies: &mut Vec<Tally>, more: &mut Numbers)
+    requires { All (fits more.old) tallies.old.items }
+    ensures tallies { tallies.new.items ≡ map (with_more more.old) tallies.old.items }
+    ensures none { more.new ≡ no_names }
+{
+    add_more(tallies, *more);
+    *more = Numbers::none();
+}
+
+/// How many more names may be counted in all of these announcements before any verdict on one of them changes.
+fn spare_of(tallies: &[Tally]) -> Numbers
+    ensures { All (IsSpared result) tallies.now }
+{
+    let mut least = Numbers {
+        events: usize::MAX,
+        withdrawn: usize::MAX,
+    };
+    for tally in tallies {
+        least = tally.spare().least(least);
+    }
+    least
+}
+
+/// Some announcements that stand in order. They are seen as their list, each with all that is counted in it.
+#[derive(Drop)]
+struct Block {
+    tallies: Vec<Tally>,
+    /// So many names are before all of their tags, and not yet counted in each.
+    more: Numbers,
+    /// So many more at least may be counted so.
+    spare: Numbers,
+}
+
+impl Model for Block {
+    ghost use Rattle.std.specs.Prelude.{List, All, map};
+    ghost use Rattle.warp_table.specs.declared.tally.Tally.{Tally};
+    ghost use Rattle.warp_table.specs.inner.Tally.{IsSpared, with_more};
+
+    ghost Value = { List Tally };
+
+    ghost view = { λ b. map (with_more b.more) b.tallies.items };
+
+    ghost invariant = { λ b. All (IsSpared b.spare) (map (with_more b.more) b.tallies.items) };
+}
+
+impl Block {
+    /// One announcement.
+    fn of(tally: Tally, alloc: Global) -> Result<Block, AllocError>
+        ensures { IfOk result (λ b. b ≡ tally ∷ []) }
+    {
+        let mut tallies = Vec::new(alloc);
+        tallies.push(tally)?;
+        Ok(Block {
+            tallies,
+            more: Numbers::none(),
+            spare: tally.spare(),
+        })
+    }
+
+    /// Whether it is to take no further one.
+    fn is_full(&self) -> bool
+        ensures { result ≡ true → 64 < length self.now }
+    {
+        self.tallies.len() >= 2 * HALF
+    }
+
+    /// Whether one of them is beyond the tag.
+    fn has_beyond(&self, tag: Tag) -> bool
+        requires { AreInOrder self.now }
+        ensures { result ≡ list_any (λ t. is_before tag t.tag) self.now }
+    {
+        match self.tallies.last() {
+            Some(last) => tag.is_before(last.tag),
+            None => false,
+        }
+    }
+
+    /// Whether all of them are beyond the tag.
+    fn is_beyond(&self, tag: Tag) -> bool
+        requires { AreInOrder self.now }
+        ensures { result ≡ true → place_of tag self.now ≡ 0 }
+    {
+        match self.tallies.first() {
+            Some(first) => tag.is_before(first.tag),
+            None => true,
+        }
+    }
+
+    /// Counts a new name in the announcements beyond its tag, and judges these anew.
+    fn count_among(&mut self, tag: Tag, kind: Kind, verdict: &mut Verdict)
+        requires in_order { AreInOrder self.old }
+        requires room { All (λ t. before_of kind t + 1 < 2 ^ 64) self.old }
+        ensures tallies { self.new ≡ counted kind tag self.old }
+        ensures judged { verdict.new ≡ fold with_tally verdict.old (map (with_name kind) (beyond tag self.old)) }
+    {
+        push_down(&mut self.tallies, &mut self.more);
+        count_name(&mut self.tallies, tag, kind, verdict);
+        self.spare = spare_of(&self.tallies);
+    }
+
+    /// Counts a new name in the announcements beyond its tag. A verdict that has them all judged is brought up to date.
+    fn count_name(&mut self, tag: Tag, kind: Kind, verdict: &mut Verdict)
+        requires some { 0 < length self.old }
+        requires in_order { AreInOrder self.old }
+        requires room { All (λ t. before_of kind t + 1 < 2 ^ 64) self.old }
+        requires judged { All (IsJudged verdict.old) self.old }
+        ensures tallies { self.new ≡ counted kind tag self.old }
+        ensures judged { verdict.new ≡ fold with_tally verdict.old (map (with_name kind) (beyond tag self.old)) }
+    {
+        if self.is_beyond(tag) && self.spare.of(kind) > 0 {
+            self.more.add(kind);
+            self.spare.take(kind);
+        } else {
+            self.count_among(tag, kind, verdict);
+        }
+    }
+
+    /// Puts an announcement in its place. An `Err` changes nothing.
+    fn insert(&mut self, tally: Tally) -> Result<(), AllocError>
+        requires { AreInOrder self.old }
+        ensures ok { OnOk result (self.new ≡ insert self.old (place_of tally.tag self.old) tally) }
+        ensures err { OnErr result (self.new ≡ self.old) }
+    {
+        push_down(&mut self.tallies, &mut self.more);
+        let at = place(&self.tallies, tally.tag);
+        self.tallies.insert(at, tally)?;
+        self.spare = tally.spare().least(self.spare);
+        Ok(())
+    }
+
+    /// Of these parts.
+    fn made(tallies: Vec<Tally>, more: Numbers, spare: Numbers) -> Block
+        requires { All (IsSpared spare) (map (with_more more) tallies.items) }
+        ensures { result ≡ map (with_more more) tallies.items }
+    {
+        Block {
+            tallies,
+            more,
+            spare,
+        }
+    }
+
+    /// A copy of those from this place on.
+    fn copy_from(&self, from: usize) -> Result<Block, AllocError>
+        requires { from ≤ length self.now }
+        ensures { IfOk result (λ b. b ≡ drop from self.now) }
+    {
+        let mut tallies = Vec::new(*self.tallies.allocator());
+        tallies.extend_from_slice(&self.tallies[from..])?;
+        Ok(Block::made(tallies, self.more.copy(), self.spare.copy()))
+    }
+
+    /// Lets go those from this place on.
+    fn cut(&mut self, from: usize)
+        ensures { self.new ≡ take from self.old }
+    {
+        self.tallies.truncate(from);
+    }
+}
+
+/// The place of the first block in which a name of this tag is counted, sought from the newest end.
+fn first_beyond(blocks: &[Block], tag: Tag) -> usize
+    requires some { AreSome blocks.now }
+    requires in_order { AreInOrder (all_of blocks.now) }
+    ensures within { result ≤ length blocks.now }
+    ensures none { All (λ t. is_before tag t.tag ≡ false) (all_of (take result blocks.now)) }
+    ensures some { result < length blocks.now →
+        list_any (λ t. is_before tag t.tag) (get_or blocks.now result []) ≡ true }
+{
+    let mut at = blocks.len();
+    while at > 0 && blocks[at - 1].has_beyond(tag) {
+        at -= 1;
+    }
+    at
+}
+
+/// Counts a new name in each of these blocks.
+fn count_in_blocks(blocks: &mut [Block], tag: Tag, kind: Kind, verdict: &mut Verdict)
+    requires some { AreSome blocks.old }
+    requires in_order { AreInOrder (all_of blocks.old) }
+    requires room { All (λ t. before_of kind t + 1 < 2 ^ 64) (all_of blocks.old) }
+    requires judged { All (IsJudged verdict.old) (all_of blocks.old) }
+    ensures tallies { blocks.new ≡ map (counted kind tag) blocks.old }
+    ensures judged { verdict.new ≡ fold (judged_in kind tag) verdict.old blocks.old }
+{
+    for block in blocks.iter_mut() {
+        block.count_name(tag, kind, verdict);
+    }
+}
+
+/// Counts a new name in each of these blocks from this place on.
+#[inline(always)]
+fn count_behind(blocks: &mut [Block], first: usize, tag: Tag, kind: Kind, verdict: &mut Verdict)
+    requires within { first ≤ length blocks.old }
+    requires some { AreSome (drop first blocks.old) }
+    requires in_order { AreInOrder (all_of (drop first blocks.old)) }
+    requires room { All (λ t. before_of kind t + 1 < 2 ^ 64) (all_of (drop first blocks.old)) }
+    requires judged { All (IsJudged verdict.old) (all_of (drop first blocks.old)) }
+    ensures tallies { blocks.new ≡ take first blocks.old ++ map (counted kind tag) (drop first blocks.old) }
+    ensures judged { verdict.new ≡ fold (judged_in kind tag) verdict.old (drop first blocks.old) }
+{
+    if first < blocks.len() {
+        count_in_blocks(&mut blocks[first..], tag, kind, verdict);
+    }
+}
+
+/// Puts an announcement that comes last in its place. An `Err` changes nothing.
+fn put_last(blocks: &mut Vec<Block>, tally: Tally) -> Result<(), AllocError>
+    requires some { AreSome blocks.old.items }
+    requires in_order { AreInOrder (all_of blocks.old.items) }
+    requires none { All (λ t. is_before tally.tag t.tag ≡ false) (all_of blocks.old.items) }
+    ensures some { AreSome blocks.new.items }
+    ensures ok { OnOk result
+        (all_of blocks.new.items ≡ insert (all_of blocks.old.items) (place_of tally.tag (all_of blocks.old.items)) tally) }
+    ensures err { OnErr result (all_of blocks.new.items ≡ all_of blocks.old.items) }
+{
+    let count = blocks.len();
+    if count > 0 && !blocks[count - 1].is_full() {
+        return blocks[count - 1].insert(tally);
+    }
+    let block = Block::of(tally, *blocks.allocator())?;
+    blocks.push(block)?;
+    Ok(())
+}
+
+/// Splits a block into halves where it is full. The announcements stay, also on an `Err`.
+fn split_if_full(blocks: &mut Vec<Block>, at: usize) -> Result<(), AllocError>
+    requires some { AreSome blocks.old.items }
+    requires within { at < length blocks.old.items }
+    ensures some { AreSome blocks.new.items }
+    ensures same { all_of blocks.new.items ≡ all_of blocks.old.items }
+{
+    if !blocks[at].is_full() {
+        return Ok(());
+    }
+    let later = blocks[at].copy_from(HALF)?;
+    blocks.insert(at + 1, later)?;
+    blocks[at].cut(HALF);
+    Ok(())
+}
+
+/// The announcements of one origin, seen as their list.
+#[derive(Drop)]
+pub(crate) struct Announced {
+    blocks: Vec<Block>,
+}
+
+impl Model for Announced {
+    ghost use Rattle.std.specs.Prelude.{List};
+    ghost use Rattle.warp_table.specs.declared.tally.Tally.{Tally};
+    ghost use Rattle.warp_table.specs.inner.Tally.{AreSome, all_of};
+
+    ghost Value = { List Tally };
+
+    ghost view = { λ a. all_of a.blocks.items };
+
+    ghost invariant = { λ a. AreSome a.blocks.items };
+}
+
+impl Announced {
+    /// None yet. They grow in `alloc`.
+    pub(crate) fn new(alloc: Global) -> Announced
+        ensures { result ≡ [] }
+    {
+        Announced {
+            blocks: Vec::new(alloc),
+        }
+    }
+
+    /// Whether one of them is beyond the tag.
+    pub(crate) fn has_beyond(&self, tag: Tag) -> bool
+        requires { AreInOrder self.now }
+        ensures { result ≡ list_any (λ t. is_before tag t.tag) self.now }
+    {
+        first_beyond(&self.blocks, tag) < self.blocks.len()
+    }
+
+    /// Counts a new name in the announcements beyond its tag. A verdict that has them all judged is brought up to date.
+    #[inline(always)]
+    pub(crate) fn count_name(&mut self, tag: Tag, kind: Kind, verdict: &mut Verdict)
+        requires in_order { AreInOrder self.old }
+        requires room { All (λ t. before_of kind t + 1 < 2 ^ 64) self.old }
+        requires judged { All (IsJudged verdict.old) self.old }
+        ensures tallies { self.new ≡ counted kind tag self.old }
+        ensures judged { verdict.new ≡ fold with_tally verdict.old (map (with_name kind) (beyond tag self.old)) }
+    {
+        let first = first_beyond(&self.blocks, tag);
+        count_behind(&mut self.blocks, first, tag, kind, verdict);
+    }
+
+    /// Puts an announcement in its place. An `Err` changes nothing.
+    pub(crate) fn insert(&mut self, tally: Tally) -> Result<(), AllocError>
+        requires { AreInOrder self.old }
+        ensures ok { OnOk result (self.new ≡ insert self.old (place_of tally.tag self.old) tally) }
+        ensures err { OnErr result (self.new ≡ self.old) }
+    {
+        let at = first_beyond(&self.blocks, tally.tag);
+        if at == self.blocks.len() {
+            return put_last(&mut self.blocks, tally);
+        }
+        split_if_full(&mut self.blocks, at)?;
+        let at = first_beyond(&self.blocks, tally.tag);
+        self.blocks[at].insert(tally)
+    }
+}
