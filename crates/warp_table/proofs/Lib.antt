@@ -24,7 +24,7 @@ pub mod BelowHorizon
 pub mod InOrder
 pub mod BlockLists
 pub mod Tallies
-pub mod Blocks
+pub mod AnnouncedBlocks
 pub mod Heard
 pub mod HeardNews
 pub mod LeastReach

@@ -6,7 +6,7 @@ use Rattle.std.proofs.lemmas.List.Sums.{fold_push}
 use Rattle.warp_table.specs.inner.Tally.{AreInOrder, IsJudged, all_of, before_of, beyond, counted, judged_in, with_name}
 use Rattle.warp_table.specs.declared.tally.Tally.{Tally}
 use Rattle.warp_table.specs.declared.tally.Verdict.{Verdict}
-use Rattle.warp_table.proofs.Blocks.{all_still_judged, at_turn, block_all, block_in_order, take_one_more}
+use Rattle.warp_table.proofs.AnnouncedBlocks.{all_still_judged, at_turn, block_all, block_in_order, take_one_more}
 use Rattle.warp_table.proofs.announced.count_in_blocks.Goals as goal
 
 pub count_name-requires-clause-in_order : goal.count_name-requires-clause-in_order

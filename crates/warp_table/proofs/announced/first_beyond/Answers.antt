@@ -3,7 +3,7 @@ use Rattle.std.proofs.Common.{◌≡◌, ◌-◌, ℕ, suc, false, take, subst, 
 use Rattle.std.specs.List.{All}
 use Rattle.warp_tag.specs.Moment.{is_before}
 use Rattle.warp_table.specs.inner.Tally.{all_of}
-use Rattle.warp_table.proofs.Blocks.{block_in_order, front_none}
+use Rattle.warp_table.proofs.AnnouncedBlocks.{block_in_order, front_none}
 use Rattle.warp_table.proofs.announced.first_beyond.Goals as goal
 
 pub has_beyond-requires : goal.has_beyond-requires

@@ -3,7 +3,7 @@ use Rattle.std.proofs.Common.{◌≡◌, ◌∷◌, ◌++◌, ◌-◌, ◌<◌, 
 use Rattle.warp_tag.specs.Moment.{is_before}
 use Rattle.warp_table.specs.inner.Tally.{all_of}
 use Rattle.warp_table.specs.declared.tally.Tally.{Tally}
-use Rattle.warp_table.proofs.Blocks.{block_in_order, front_all, ok_then, put_behind, put_in_block}
+use Rattle.warp_table.proofs.AnnouncedBlocks.{block_in_order, front_all, ok_then, put_behind, put_in_block}
 use Rattle.warp_table.proofs.announced.put_last.Goals as goal
 
 pub insert-requires : goal.insert-requires

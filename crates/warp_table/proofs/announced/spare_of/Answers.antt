@@ -1,7 +1,7 @@
 -- what leaves the front and one more as they were
 use Rattle.std.proofs.Common.{arith}
 use Rattle.warp_table.specs.inner.Tally.{IsSpared}
-use Rattle.warp_table.proofs.Blocks.{all_within, within_less, All-more, take_all_of}
+use Rattle.warp_table.proofs.AnnouncedBlocks.{all_within, within_less, All-more, take_all_of}
 use Rattle.warp_table.proofs.announced.spare_of.Goals as goal
 
 pub loop-tally-preserved : goal.loop-tally-preserved

@@ -2,7 +2,7 @@
 use Rattle.std.proofs.Common.{◌≡◌, ◌<◌, List, length, subst, sym, ◌∙◌, arith}
 use Rattle.std.proofs.lemmas.List.{get_or_default}
 use Rattle.warp_table.specs.declared.tally.Tally.{Tally}
-use Rattle.warp_table.proofs.Blocks.{split_all}
+use Rattle.warp_table.proofs.AnnouncedBlocks.{split_all}
 use Rattle.warp_table.proofs.announced.split_if_full.Goals as goal
 
 pub returns-clause-some : goal.returns-clause-some

@@ -6,7 +6,7 @@ use Rattle.std.proofs.lemmas.List.{with_items_is}
 use Rattle.warp_tag.specs.Moment.{is_before}
 use Rattle.warp_table.specs.inner.Tally.{AreInOrder, AreSome, IsJudged, all_of, before_of, beyond, counted, judged_in, with_name, with_tally}
 use Rattle.warp_table.specs.declared.tally.Tally.{Tally}
-use Rattle.warp_table.proofs.Blocks.{counted_behind, counted_some, judged_behind, length-counted_behind, rest_all, rest_in_order}
+use Rattle.warp_table.proofs.AnnouncedBlocks.{counted_behind, counted_some, judged_behind, length-counted_behind, rest_all, rest_in_order}
 use Rattle.warp_table.proofs.announced.Announced.count_name.Goals as goal
 
 pub count_behind-requires-clause-in_order : goal.count_behind-requires-clause-in_order

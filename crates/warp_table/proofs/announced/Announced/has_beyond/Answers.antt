@@ -4,7 +4,7 @@ use Rattle.std.specs.List.{All, list_any}
 use Rattle.warp_tag.specs.Moment.{is_before}
 use Rattle.warp_table.specs.inner.Tally.{all_of}
 use Rattle.warp_table.specs.declared.tally.Tally.{Tally}
-use Rattle.warp_table.proofs.Blocks.{beyond_there}
+use Rattle.warp_table.proofs.AnnouncedBlocks.{beyond_there}
 use Rattle.warp_table.proofs.announced.Announced.has_beyond.Goals as goal
 
 pub returns : goal.returns

@@ -4,7 +4,7 @@ use Rattle.std.specs.List.{All, insert, list_any}
 use Rattle.warp_tag.specs.Moment.{is_before}
 use Rattle.warp_table.specs.inner.Tally.{AreInOrder, all_of, place_of}
 use Rattle.warp_table.specs.declared.tally.Tally.{Tally}
-use Rattle.warp_table.proofs.Blocks.{block_in_order, ok_then, put_there_in, still_there, whole_none}
+use Rattle.warp_table.proofs.AnnouncedBlocks.{block_in_order, ok_then, put_there_in, still_there, whole_none}
 use Rattle.warp_table.proofs.announced.Announced.insert.Goals as goal
 
 pub put_last-requires-clause-none : goal.put_last-requires-clause-none

@@ -5,7 +5,7 @@ use Rattle.std.proofs.lemmas.List.Elements.{All-drop}
 use Rattle.warp_table.specs.inner.Tally.{IsSpared, with_more}
 use Rattle.warp_table.specs.declared.tally.Numbers.{Numbers}
 use Rattle.warp_table.specs.declared.tally.Tally.{Tally}
-use Rattle.warp_table.proofs.Blocks.{copied}
+use Rattle.warp_table.proofs.AnnouncedBlocks.{copied}
 use Rattle.warp_table.proofs.announced.Block.copy_from.Goals as goal
 
 pub made-requires : goal.made-requires

@@ -5,7 +5,7 @@ use Rattle.std.specs.Vec.{with_items}
 use Rattle.std.proofs.lemmas.List.{with_items_is}
 use Rattle.warp_table.specs.inner.Tally.{IsSpared, counted}
 use Rattle.warp_table.specs.declared.tally.Tally.{Tally}
-use Rattle.warp_table.proofs.Blocks.{all_fit, pushed_down}
+use Rattle.warp_table.proofs.AnnouncedBlocks.{all_fit, pushed_down}
 use Rattle.warp_table.proofs.Tallies.{length-counted}
 use Rattle.warp_table.proofs.announced.Block.count_among.Goals as goal
 

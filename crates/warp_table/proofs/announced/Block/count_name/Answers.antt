@@ -4,7 +4,7 @@ use Rattle.std.specs.List.{All}
 use Rattle.warp_table.specs.inner.Tally.{IsSpared, before_of, less_one, number_of, with_more, with_name, with_tally}
 use Rattle.warp_table.specs.declared.tally.Numbers.{Numbers}
 use Rattle.warp_table.specs.declared.tally.Tally.{Tally}
-use Rattle.warp_table.proofs.Blocks.{all_next, beyond_all, counted_all, fold_stays, one_added, one_fits}
+use Rattle.warp_table.proofs.AnnouncedBlocks.{all_next, beyond_all, counted_all, fold_stays, one_added, one_fits}
 use Rattle.warp_table.proofs.announced.Block.count_name.Goals as goal
 
 pub add-requires : goal.add-requires

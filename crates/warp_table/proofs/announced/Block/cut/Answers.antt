@@ -4,7 +4,7 @@ use Rattle.std.specs.List.{All}
 use Rattle.std.proofs.lemmas.List.Elements.{All-take}
 use Rattle.warp_table.specs.inner.Tally.{IsSpared, with_more}
 use Rattle.warp_table.specs.declared.tally.Tally.{Tally}
-use Rattle.warp_table.proofs.Blocks.{map-take}
+use Rattle.warp_table.proofs.AnnouncedBlocks.{map-take}
 use Rattle.warp_table.proofs.announced.Block.cut.Goals as goal
 
 pub invariant_of-self : goal.invariant_of-self

@@ -4,7 +4,7 @@ use Rattle.std.specs.List.{list_any}
 use Rattle.warp_tag.specs.Moment.{is_before}
 use Rattle.warp_table.specs.inner.Tally.{AreInOrder}
 use Rattle.warp_table.specs.declared.tally.Tally.{Tally}
-use Rattle.warp_table.proofs.Blocks.{last_beyond}
+use Rattle.warp_table.proofs.AnnouncedBlocks.{last_beyond}
 use Rattle.warp_table.proofs.announced.Block.has_beyond.Goals as goal
 
 pub returns-in-Some : goal.returns-in-Some

@@ -3,7 +3,7 @@ use Rattle.std.proofs.Common.{List, map, ap, sym, subst, ◌∙◌, rules}
 use Rattle.std.specs.List.{All, insert}
 use Rattle.warp_table.specs.inner.Tally.{IsSpared, place_of, with_more}
 use Rattle.warp_table.specs.declared.tally.Tally.{Tally}
-use Rattle.warp_table.proofs.Blocks.{all_fit, all_within, pushed_down, within_less}
+use Rattle.warp_table.proofs.AnnouncedBlocks.{all_fit, all_within, pushed_down, within_less}
 use Rattle.warp_table.proofs.Members.{All-insert}
 use Rattle.warp_table.proofs.announced.Block.insert.Goals as goal
 

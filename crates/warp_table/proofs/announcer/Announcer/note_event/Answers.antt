@@ -6,7 +6,7 @@ use Rattle.warp_table.specs.inner.Tally.{AreKept, announcement_of, beyond, count
 use Rattle.warp_table.specs.declared.tally.Kind.TheVariants.{Event}
 use Rattle.warp_table.specs.declared.tally.Tally.{Tally}
 use Rattle.warp_table.specs.declared.tally.Verdict.{Verdict}
-use Rattle.warp_table.proofs.Blocks.{are_judged}
+use Rattle.warp_table.proofs.AnnouncedBlocks.{are_judged}
 use Rattle.warp_table.proofs.Tallies.{announced-counted, kept_event, room_event}
 use Rattle.warp_table.proofs.announcer.Announcer.note_event.Goals as goal
 

@@ -6,7 +6,7 @@ use Rattle.warp_table.specs.inner.Tally.{AreKept, announcement_of, beyond, count
 use Rattle.warp_table.specs.declared.tally.Kind.TheVariants.{Withdrawal}
 use Rattle.warp_table.specs.declared.tally.Tally.{Tally}
 use Rattle.warp_table.specs.declared.tally.Verdict.{Verdict}
-use Rattle.warp_table.proofs.Blocks.{are_judged}
+use Rattle.warp_table.proofs.AnnouncedBlocks.{are_judged}
 use Rattle.warp_table.proofs.Tallies.{announced-counted, kept_withdrawal, room_withdrawal}
 use Rattle.warp_table.proofs.announcer.Announcer.note_withdrawal.Goals as goal
 
