@@ -62,8 +62,10 @@ fn push_down(tallies: &mut Vec<Tally>, more: &mut Numbers)
     ensures tallies { tallies.new.items ≡ map (with_more more.old) tallies.old.items }
     ensures none { more.new ≡ no_names }
 {
-    add_more(tallies, *more);
-    *more = Numbers::none();
+    if more.events > 0 || more.withdrawn > 0 {
+        add_more(tallies, *more);
+        *more = Numbers::none();
+    }
 }
 
 /// How many more names may be counted in all of these announcements before any verdict on one of them changes.
