@@ -1,7 +1,7 @@
 -- where nothing is put off, all stays
 use Rattle.std.proofs.Common.{◌≡◌, sym, arith}
 use Rattle.warp_table.specs.inner.Tally.{no_names}
-use Rattle.warp_table.proofs.Blocks.{pushed_down}
+use Rattle.warp_table.proofs.AnnouncedBlocks.{pushed_down}
 use Rattle.warp_table.proofs.announced.push_down.Goals as goal
 
 pub returns-else-more-gt0-2-clause-tallies : goal.returns-else-more-gt0-2-clause-tallies
