@@ -16,6 +16,7 @@ pub mod Growing
 pub mod Finding
 pub mod Touching
 pub mod Handles
+pub mod Hinted
 pub mod ByName
 pub mod Beside
 pub mod Ends

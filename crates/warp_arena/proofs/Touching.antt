@@ -13,7 +13,7 @@ use Rattle.warp_arena.specs.declared.node.Node.{Node}
 use Rattle.warp_arena.specs.declared.node.Origin.{Origin}
 use Rattle.warp_arena.specs.declared.node.TheConstants.{NO_NODE}
 use Rattle.warp_arena.specs.Places.{entry_of}
-use Rattle.warp_arena.specs.Shape.{IsWhole, IsAfter, IsOneOf, Spells, threads_of, node_at, count_of, members, no_origin}
+use Rattle.warp_arena.specs.Shape.{IsWhole, IsAfter, IsBehind, IsOneOf, Spells, threads_of, node_at, count_of, members, no_origin}
 use Rattle.warp_arena.proofs.Rings.{All-at, count_of-append, count_of-here, last_or-push}
 use Rattle.warp_arena.proofs.Tables.{Precedes, All-unmap, IsTable-members, IsTable-rest}
 use Rattle.warp_arena.proofs.Shapes.{members-append, members_here, members_own}
@@ -61,14 +61,21 @@ module _ (a : Inside) (w : IsWhole (threads a) a.used) (o : ℕ) (g : Moment) (a
   after_entry : IsAfter o g at (places a) → ((entry at).origin ≡ o) × later at
   after_entry h = subst (λ x. IsSomeAnd x (λ e. (e.origin ≡ o) × (name_before o g e ≡ true))) (entry_found a w at (named h)) h
 
+  behind_named : (x : Option Entry) → IsSomeAnd x (λ e. name_before o g e ≡ true) → IsSome x
+  behind_named None h = absurd h
+  behind_named (Some e) h = refl
+
+  behind_entry : IsBehind o g at (places a) → later at
+  behind_entry h = subst (λ x. IsSomeAnd x (λ e. name_before o g e ≡ true)) (entry_found a w at (behind_named (entry_of at (places a)) h)) h
+
   -- a walk along the tag list
-  pub starts_by_tag : (at ≢ a.ends.prev → IsAfter o g at (places a)) → Stands (λ i. name_before o g (entry i)) (used a) at
+  pub starts_by_tag : (at ≢ a.ends.prev → IsBehind o g at (places a)) → Stands (λ i. name_before o g (entry i)) (used a) at
   starts_by_tag h =
       elim (cases_eq at a.ends.prev) [
         | inl same ↦ walk_start a.nodes.items (λ n. n.by_tag) a.ends (used a) (Listed-tags a w) (name_before o g) at same
         | inr other ↦
-            let f = found a w at (named (h other)) in
-            stands_at o g entry (used a) f.front f.back at f.parts w.shape.sorted (after_entry (h other)).1
+            let f = found a w at (behind_named (entry_of at (places a)) (h other)) in
+            stands_at o g entry (used a) f.front f.back at f.parts w.shape.sorted (behind_entry (h other))
       ]
 
   -- a walk along the origin's list

@@ -1,5 +1,5 @@
 -- The shape of an arena: how its links spell its lists. No public clause cites this module.
-use Rattle.std.specs.Prelude.{not, ◌≡◌, ◌≢◌, true, IsSomeAnd, ℕ, zero, suc, ◌+◌, ◌-◌, ◌<◌, ◌≤◌, ◌==◌, nat_lt, List, [], ◌∷◌, if◌then◌else◌, map, filter, length, slice_index_or}
+use Rattle.std.specs.Prelude.{not, ◌≡◌, ◌≢◌, true, IsSome, IsSomeAnd, ◌%◌, ℕ, zero, suc, ◌+◌, ◌-◌, ◌<◌, ◌≤◌, ◌==◌, nat_lt, List, [], ◌∷◌, if◌then◌else◌, map, filter, length, slice_index_or}
 use Rattle.std.specs.List.{AllByRecursion}
 use Rattle.warp_tag.specs.Moment.{Moment}
 use Rattle.warp_tag.specs.Limits.{most_names}
@@ -9,7 +9,7 @@ use Rattle.warp_arena.specs.declared.node.Gap.{Gap}
 use Rattle.warp_arena.specs.declared.node.Links.{Links}
 use Rattle.warp_arena.specs.declared.node.Node.{Node}
 use Rattle.warp_arena.specs.declared.node.Origin.{Origin}
-use Rattle.warp_arena.specs.declared.node.TheConstants.{NO_NODE}
+use Rattle.warp_arena.specs.declared.node.TheConstants.{NO_NODE, HINTED}
 use Rattle.warp_arena.specs.Places.{Place, Contents, entry_of, places_of}
 
 -- the links of a list without a node
@@ -164,6 +164,15 @@ pub record IsWhole (t : Threads) (count : ℕ) : Type 0 where
   pub fits : count ≤ t.size
   pub shape : IsArena t (used_of t count) (unused_of t (t.size - count))
 
+-- each hint names a place, and its index is a multiple of HINTED
+abbrev pub AreHints : List ℕ → List Place → Type 0
+AreHints hints places = AllByRecursion (λ h. (h % HINTED ≡ 0) × IsSome (entry_of h places)) hints
+
+-- the links have the shape of an arena, and each hint is a used node
+pub record IsHinted (t : Threads) (count : ℕ) (hints : List ℕ) : Type 0 where
+  pub whole : IsWhole t count
+  pub named : AreHints hints (map (place_at t.entry) (used_of t count))
+
 -- the handle of the last of these places whose name is not after this one, or NO_NODE where all names are
 abbrev pub last_not_after : ℕ → Moment → List Place → ℕ
 last_not_after origin tag places =
@@ -181,7 +190,15 @@ pub record IsGap (origin : ℕ) (tag : Moment) (places : List Place) (gap : Gap)
   pub own_before : gap.own_before ≡ last_not_after origin tag (places_of origin places)
   pub own_after : gap.own_after ≡ first_after origin tag (places_of origin places)
 
+-- the entry is of this origin, and its name is after this one
+abbrev pub IsOwnAfter : ℕ → Moment → Entry → Type 0
+IsOwnAfter origin tag e = (e.origin ≡ origin) × (name_before origin tag e ≡ true)
+
 -- the handle is of an entry of this origin, whose name is after this one
 abbrev pub IsAfter : ℕ → Moment → ℕ → List Place → Type 0
 IsAfter origin tag node places =
     IsSomeAnd (entry_of node places) (λ e. (e.origin ≡ origin) × (name_before origin tag e ≡ true))
+
+-- the handle is of an entry whose name is after this one
+abbrev pub IsBehind : ℕ → Moment → ℕ → List Place → Type 0
+IsBehind origin tag node places = IsSomeAnd (entry_of node places) (λ e. name_before origin tag e ≡ true)

@@ -1,8 +1,9 @@
 //! The arena: entries of names, in order, each at a handle.
 use crate::links::{
-    add_node, handle, is_passed, next_by_tag, next_of_origin, thread_node, unthread_node,
+    add_node, forget_hint, handle, is_passed, next_by_tag, next_of_origin, own_hint, place_of_hint,
+    reserve_hints, tag_hint, thread_node, unthread_node,
 };
-use crate::node::{Gap, Links, MAX_USED, NO_NODE, Node, NodeId, Origin};
+use crate::node::{Gap, HINTED, Links, MAX_USED, NO_NODE, Node, NodeId, Origin};
 use crate::packed::Packed;
 use std::alloc::Global;
 use std::marker::Model;
@@ -16,8 +17,10 @@ use warp_tag::{Entry, OutOfMemory, Tag};
 ///
 /// How it seeks a name, of which no clause speaks: `find`, `insert` and `enter` walk back along the list of its origin,
 /// from the entry of the origin that was touched last (that came in, or got an event or a withdrawal), where that is
-/// after the name, and else from the list's end. Where the name comes in, a walk back along the tag list follows, from
-/// the origin's first entry after the name, or from the end where there is none.
+/// after the name, and else from the list's end; but where a hint of the origin is nearer, from there. Where the name
+/// comes in, a walk back along the tag list follows, from the origin's first entry after the name or from the end, or
+/// from a hint that is nearer. Hints are the entries at each `HINTED`th node, in order as they were put in, so that one
+/// is found by halving. No proof asks of them more than that they are used nodes: each is looked at before it is used.
 #[derive(Drop)]
 pub struct Arena {
     nodes: Vec<Node>,
@@ -25,6 +28,8 @@ pub struct Arena {
     ends: Links,
     free: u32,
     used: usize,
+    /// Used nodes from which a walk may start, in order.
+    hints: Vec<u32>,
 }
 
 impl Model for Arena {
@@ -33,12 +38,13 @@ impl Model for Arena {
     ghost Value = { Contents };
 
     ghost use Rattle.std.specs.Vec.{vec_capacity};
-    ghost use Rattle.warp_arena.specs.Shape.{threads_of, contents_of, IsWhole};
+    ghost use Rattle.warp_arena.specs.Shape.{threads_of, contents_of, IsHinted};
 
     ghost view = { λ a.
         contents_of (threads_of a.nodes.items a.by_origin.items a.ends a.free) a.used (vec_capacity a.nodes) };
 
-    ghost invariant = { λ a. IsWhole (threads_of a.nodes.items a.by_origin.items a.ends a.free) a.used };
+    ghost invariant = { λ a.
+        IsHinted (threads_of a.nodes.items a.by_origin.items a.ends a.free) a.used a.hints.items };
 }
 
 impl Arena {
@@ -53,7 +59,7 @@ impl Arena {
     ghost use Rattle.warp_arena.specs.Places.{places_of, node_of, entry_of, first_node, last_node, Reaches};
     ghost use Rattle.warp_arena.specs.Places.{places_from, places_after, places_before, with_place, with_change};
     ghost use Rattle.warp_arena.specs.Places.{with_free, places_past, places_through, IsOrdered, origin_of};
-    ghost use Rattle.warp_arena.specs.Shape.{IsGap, last_not_after, IsAfter};
+    ghost use Rattle.warp_arena.specs.Shape.{IsGap, last_not_after, IsAfter, IsBehind};
 
     /// An arena without entries, for origins below this number. The only error is want of memory.
     pub fn start(alloc: Global, origins: u32) -> Result<Arena, OutOfMemory>
@@ -69,6 +75,7 @@ impl Arena {
             ends: Links::EMPTY,
             free: NO_NODE,
             used: 0,
+            hints: Vec::new(alloc),
         })
     }
 
@@ -83,6 +90,7 @@ impl Arena {
         ensures room { length self.old.places < self.old.room → IsOk result }
     {
         if self.free == NO_NODE {
+            reserve_hints(&mut self.hints, &self.nodes)?;
             let index = self.nodes.len() as u32;
             add_node(&mut self.nodes)?;
             self.free = index;
@@ -241,6 +249,25 @@ impl Arena {
 
     /// Takes in this name at this gap.
     fn insert_into(&mut self, origin: u32, tag: Tag, gap: &Gap) -> NodeId
+        requires origin { origin < self.old.origins }
+        requires reserved { 0 < self.old.free }
+        requires absent { node_of origin tag self.old.places ≡ None }
+        requires gap { IsGap origin tag self.old.places gap.now }
+        ensures places { self.new ≡ record self.old {
+          places = with_place (record { node = result; entry = fresh origin tag }) self.old.places;
+          free = self.old.free - 1;
+        } }
+        ensures new_handle { entry_of result self.old.places ≡ None }
+        ensures entry { entry_of result self.new.places ≡ Some (fresh origin tag) }
+        ensures others { (node : ℕ) → node ≢ result → entry_of node self.new.places ≡ entry_of node self.old.places }
+    {
+        let node = self.thread_in(origin, tag, gap);
+        self.note_hint(node, origin, tag);
+        node
+    }
+
+    /// Takes in this name at this gap, and notes no hint.
+    fn thread_in(&mut self, origin: u32, tag: Tag, gap: &Gap) -> NodeId
         requires origin { origin < self.old.origins }
         requires reserved { 0 < self.old.free }
         requires absent { node_of origin tag self.old.places ≡ None }
@@ -415,6 +442,7 @@ impl Arena {
         };
         self.free = at;
         self.used -= 1;
+        forget_hint(&mut self.hints, at);
     }
 
     /// Notes that the handle's node is the one of its origin that was touched last.
@@ -425,6 +453,36 @@ impl Arena {
         let at = node.index();
         let origin = self.nodes[at as usize].entry.origin() as usize;
         self.by_origin[origin].touched = at;
+    }
+
+    /// Notes that the node of this name is a hint, where its index says so and there is room.
+    fn note_hint(&mut self, node: NodeId, origin: u32, tag: Tag)
+        requires { IsSome (entry_of node self.old.places) }
+        ensures { self.new ≡ self.old }
+    {
+        let at = node.index();
+        if at % HINTED == 0 && self.hints.len() < self.hints.capacity() {
+            let place = place_of_hint(&self.hints, &self.nodes, origin, tag);
+            let _ = self.hints.insert(place, at);
+        }
+    }
+
+    /// Where a walk back to this name starts: where `start_of_walk` says, or at a hint that is nearer.
+    fn start_near(&self, origin: u32, tag: Tag, end: u32) -> u32
+        requires { origin < self.now.origins }
+        ensures { result ≢ end → IsAfter origin tag result self.now.places }
+    {
+        let hint = own_hint(&self.hints, &self.nodes, origin, tag);
+        if hint == NO_NODE {
+            return self.start_of_walk(origin, tag, end);
+        }
+        let touched = self.start_of_walk(origin, tag, hint);
+        let hinted = &self.nodes[hint as usize].entry;
+        if hinted.comes_after(origin, self.nodes[touched as usize].entry.tag()) {
+            touched
+        } else {
+            hint
+        }
     }
 
     /// Where a walk back to this name starts: at the node of its origin that was touched last, where that is after the
@@ -454,6 +512,25 @@ impl Arena {
         if own_after == NO_NODE { end } else { own_after }
     }
 
+    /// Where the walk back along the tag list starts: where `start_beside` says, or at a hint that is nearer.
+    fn start_near_beside(&self, origin: u32, tag: Tag, own_before: u32, end: u32) -> u32
+        requires origin { origin < self.now.origins }
+        requires own_before { own_before ≡ last_not_after origin tag (places_of origin self.now.places) }
+        ensures { result ≢ end → IsBehind origin tag result self.now.places }
+    {
+        let hint = tag_hint(&self.hints, &self.nodes, origin, tag);
+        if hint == NO_NODE {
+            return self.start_beside(origin, tag, own_before, end);
+        }
+        let own_after = self.start_beside(origin, tag, own_before, hint);
+        let hinted = &self.nodes[hint as usize].entry;
+        if hinted.comes_after(origin, self.nodes[own_after as usize].entry.tag()) {
+            own_after
+        } else {
+            hint
+        }
+    }
+
     /// The last node of the tag list whose name is not after this one, or `NO_NODE`, where it is known which of the
     /// origin's nodes is.
     fn last_through(&self, origin: u32, tag: Tag, own_before: u32) -> u32
@@ -461,7 +538,7 @@ impl Arena {
         requires own_before { own_before ≡ last_not_after origin tag (places_of origin self.now.places) }
         ensures { result ≡ last_not_after origin tag self.now.places }
     {
-        let mut at = self.start_beside(origin, tag, own_before, self.ends.prev);
+        let mut at = self.start_near_beside(origin, tag, own_before, self.ends.prev);
         while at != NO_NODE && self.nodes[at as usize].entry.comes_after(origin, tag) {
             at = self.nodes[at as usize].by_tag.prev;
         }
@@ -474,7 +551,7 @@ impl Arena {
         ensures { result ≡ last_not_after origin tag (places_of origin self.now.places) }
     {
         let last = self.by_origin[origin as usize].ends.prev;
-        let mut at = self.start_of_walk(origin, tag, last);
+        let mut at = self.start_near(origin, tag, last);
         while at != NO_NODE && self.nodes[at as usize].entry.comes_after(origin, tag) {
             at = self.nodes[at as usize].of_origin.prev;
         }

@@ -70,6 +70,13 @@ impl Packed {
         self.origin
     }
 
+    /// The tag of the name.
+    pub fn tag(&self) -> Tag
+        ensures { result ≡ self.now.tag }
+    {
+        self.tag
+    }
+
     /// Whether the entry's name comes before the name of this origin and tag: by tag, then by origin.
     pub fn comes_before(&self, origin: u32, tag: Tag) -> bool
         ensures { result ≡ name_before self.now.origin self.now.tag (fresh origin tag) }

@@ -9,12 +9,12 @@ use Rattle.warp_arena.proofs.arena.Arena.gap_at_end.Goals as goal
 pub is_passed-requires : goal.is_passed-requires
 is_passed-requires c =
     let a = c.self.inside in
-    subst (λ ns. IsPlace (length ns) a.ends.prev) (sym c.deref.ensures.value) (end_below a c.self.invariant c.args.origin c.args.tag)
+    subst (λ ns. IsPlace (length ns) a.ends.prev) (sym c.deref.ensures.value) (end_below a c.self.invariant.whole c.args.origin c.args.tag)
 
 pub returns-then-is_passed-clause-gap : goal.returns-then-is_passed-clause-gap
 returns-then-is_passed-clause-gap c =
     let a = c.self.inside in
-    let w = c.self.invariant in
+    let w = c.self.invariant.whole in
     let o = c.args.origin in
     let g = c.args.tag in
     let v = c.args.self.now in
@@ -37,7 +37,7 @@ returns-then-is_passed-clause-gap c =
 pub returns-then-is_passed-clause-absent : goal.returns-then-is_passed-clause-absent
 returns-then-is_passed-clause-absent c =
     let a = c.self.inside in
-    let w = c.self.invariant in
+    let w = c.self.invariant.whole in
     let o = c.args.origin in
     let g = c.args.tag in
     let h : o < length a.by_origin.items = omega (arith, ap (λ u. u.origins) c.self.view_is) in

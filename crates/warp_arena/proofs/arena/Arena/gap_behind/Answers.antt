@@ -9,19 +9,19 @@ pub next_by_tag-requires : goal.next_by_tag-requires
 next_by_tag-requires c =
     let before = c.last_through-before in
     subst (λ ns. IsPlace (length ns) before.result) (sym c.deref.ensures.value)
-    (tag_below c.self.inside c.self.invariant c.args.origin c.args.tag c.args.self.now c.self.view_is before.result before.ensures)
+    (tag_below c.self.inside c.self.invariant.whole c.args.origin c.args.tag c.args.self.now c.self.view_is before.result before.ensures)
 
 pub next_of_origin-requires : goal.next_of_origin-requires
 next_of_origin-requires c =
     let a = c.self.inside in
     let h : c.args.origin < length a.by_origin.items = omega (arith, ap (λ u. u.origins) c.self.view_is) in
     subst (λ ns. IsPlace (length ns) c.args.own_before) (sym c.deref-2.ensures.value)
-    (own_below a c.self.invariant c.args.origin c.args.tag c.args.self.now c.self.view_is h c.args.own_before c.requires.own_before)
+    (own_below a c.self.invariant.whole c.args.origin c.args.tag c.args.self.now c.self.view_is h c.args.own_before c.requires.own_before)
 
 pub returns : goal.returns
 returns c =
     let a = c.self.inside in
-    let w = c.self.invariant in
+    let w = c.self.invariant.whole in
     let o = c.args.origin in
     let g = c.args.tag in
     let v = c.args.self.now in

@@ -6,7 +6,7 @@ use Rattle.warp_arena.proofs.Wholes.{ordered}
 use Rattle.warp_arena.proofs.arena.Arena.ordered.Goals as goal
 
 pub returns-clause-order : goal.returns-clause-order
-returns-clause-order c = subst IsOrdered c.self.view_is (ordered c.self.inside c.self.invariant (vec_capacity c.self.inside.nodes))
+returns-clause-order c = subst IsOrdered c.self.view_is (ordered c.self.inside c.self.invariant.whole (vec_capacity c.self.inside.nodes))
 
 pub returns-clause-room : goal.returns-clause-room
 returns-clause-room c =
@@ -18,7 +18,7 @@ returns-clause-room c =
       ap (λ u. u.free) v,
       ap (λ u. length u.places) v,
       length-places a,
-      c.self.invariant.fits,
+      c.self.invariant.whole.fits,
       a.nodes.ok.0,
       a.nodes.ok.1,
     )

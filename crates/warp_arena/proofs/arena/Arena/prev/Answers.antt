@@ -18,22 +18,22 @@ pub index-requires-2 : goal.index-requires-2
 index-requires-2 c =
     let a = c.self.inside in
     let h = subst (λ v. IsSome (entry_of c.args.node v.places)) (sym c.self.view_is) c.requires in
-    omega (arith, a.nodes.ok.0, used_found_below a c.self.invariant c.args.node h, c.index.ensures)
+    omega (arith, a.nodes.ok.0, used_found_below a c.self.invariant.whole c.args.node h, c.index.ensures)
 
 pub returns-clause-handle : goal.returns-clause-handle
 returns-clause-handle c =
     let a = c.self.inside in
     let h = subst (λ v. IsSome (entry_of c.args.node v.places)) (sym c.self.view_is) c.requires in
-    let read = node_read a.nodes.items c.args.node c.index-2.result.now (used_found_below a c.self.invariant c.args.node h) (subst (λ i. c.index-2.result.now ≡ get_or a.nodes.items i c.index-2.result.now) c.index.ensures c.index-2.ensures) in
-    let r = prev_found a c.self.invariant c.args.node h c.index-2.result.now.by_tag.prev (ap (λ n. n.by_tag.prev) read) in
+    let read = node_read a.nodes.items c.args.node c.index-2.result.now (used_found_below a c.self.invariant.whole c.args.node h) (subst (λ i. c.index-2.result.now ≡ get_or a.nodes.items i c.index-2.result.now) c.index.ensures c.index-2.ensures) in
+    let r = prev_found a c.self.invariant.whole c.args.node h c.index-2.result.now.by_tag.prev (ap (λ n. n.by_tag.prev) read) in
     c.handle.ensures ∙ r.handle ∙ ap (λ v. last_node (places_before c.args.node v.places)) c.self.view_is
 
 pub returns-clause-used : goal.returns-clause-used
 returns-clause-used c =
     let a = c.self.inside in
     let h = subst (λ v. IsSome (entry_of c.args.node v.places)) (sym c.self.view_is) c.requires in
-    let read = node_read a.nodes.items c.args.node c.index-2.result.now (used_found_below a c.self.invariant c.args.node h) (subst (λ i. c.index-2.result.now ≡ get_or a.nodes.items i c.index-2.result.now) c.index.ensures c.index-2.ensures) in
-    let r = prev_found a c.self.invariant c.args.node h c.index-2.result.now.by_tag.prev (ap (λ n. n.by_tag.prev) read) in
+    let read = node_read a.nodes.items c.args.node c.index-2.result.now (used_found_below a c.self.invariant.whole c.args.node h) (subst (λ i. c.index-2.result.now ≡ get_or a.nodes.items i c.index-2.result.now) c.index.ensures c.index-2.ensures) in
+    let r = prev_found a c.self.invariant.whole c.args.node h c.index-2.result.now.by_tag.prev (ap (λ n. n.by_tag.prev) read) in
     subst (λ x. IfSome x (λ at. IsSome (entry_of at c.args.self.now.places))) (sym c.handle.ensures)
     (subst (λ v. IfSome (handle_of c.index-2.result.now.by_tag.prev) (λ at. IsSome (entry_of at v.places))) c.self.view_is r.used)
 
@@ -41,7 +41,7 @@ pub returns-clause-left : goal.returns-clause-left
 returns-clause-left c =
     let a = c.self.inside in
     let h = subst (λ v. IsSome (entry_of c.args.node v.places)) (sym c.self.view_is) c.requires in
-    let read = node_read a.nodes.items c.args.node c.index-2.result.now (used_found_below a c.self.invariant c.args.node h) (subst (λ i. c.index-2.result.now ≡ get_or a.nodes.items i c.index-2.result.now) c.index.ensures c.index-2.ensures) in
-    let r = prev_found a c.self.invariant c.args.node h c.index-2.result.now.by_tag.prev (ap (λ n. n.by_tag.prev) read) in
+    let read = node_read a.nodes.items c.args.node c.index-2.result.now (used_found_below a c.self.invariant.whole c.args.node h) (subst (λ i. c.index-2.result.now ≡ get_or a.nodes.items i c.index-2.result.now) c.index.ensures c.index-2.ensures) in
+    let r = prev_found a c.self.invariant.whole c.args.node h c.index-2.result.now.by_tag.prev (ap (λ n. n.by_tag.prev) read) in
     subst (λ x. LeftBefore c.args.node c.args.self.now.places x) (sym c.handle.ensures)
     (subst (λ v. LeftBefore c.args.node v.places (handle_of c.index-2.result.now.by_tag.prev)) c.self.view_is r.left)

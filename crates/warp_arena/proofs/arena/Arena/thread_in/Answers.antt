@@ -16,7 +16,9 @@ use Rattle.warp_arena.proofs.Wholes.{Ready, Threadable, ready, threadable}
 use Rattle.warp_arena.proofs.Gaps.{tag_after, own_after}
 use Rattle.warp_arena.proofs.Inserted.{new_handle, whole_inserted, contents_inserted}
 use Rattle.warp_arena.proofs.Handles.{entry_of-with_place_same, entry_of-with_place_other}
-use Rattle.warp_arena.proofs.arena.Arena.insert_into.Goals as goal
+use Rattle.warp_arena.proofs.Hinted.{IsHinted-kept, named_with_place}
+use Rattle.warp_arena.proofs.Reading.{places}
+use Rattle.warp_arena.proofs.arena.Arena.thread_in.Goals as goal
 
 -- what is known before the node comes in
 record Before (a : Inside) (o : ℕ) (g : Moment) (b c : ℕ) : Type 0 where
@@ -37,21 +39,21 @@ before_insert a v o g b c is w declared room absent s r =
 pub index-requires : goal.index-requires
 index-requires c =
     let b = before_insert c.self.inside c.args.self.now c.args.origin c.args.tag c.args.gap.now.before c.args.gap.now.own_before
-    c.self.view_is c.self.invariant c.requires.origin c.requires.reserved c.requires.absent c.requires.gap.before c.requires.gap.own_before in
+    c.self.view_is c.self.invariant.whole c.requires.origin c.requires.reserved c.requires.absent c.requires.gap.before c.requires.gap.own_before in
     omega (arith, c.self.inside.nodes.ok.0, b.can_thread.tags.at_in)
 
 pub thread_node-requires-clause-tags : goal.thread_node-requires-clause-tags
 thread_node-requires-clause-tags c =
     let a = c.self.inside in
     let b = before_insert a c.args.self.now c.args.origin c.args.tag c.args.gap.now.before c.args.gap.now.own_before
-    c.self.view_is c.self.invariant c.requires.origin c.requires.reserved c.requires.absent c.requires.gap.before c.requires.gap.own_before in
+    c.self.view_is c.self.invariant.whole c.requires.origin c.requires.reserved c.requires.absent c.requires.gap.before c.requires.gap.own_before in
     subst (λ (ns : List Node). CanThread (length ns) (next_in a.ends (by_tag ns)) c.args.gap.now.before a.free) (sym c.deref_mut.ensures.value) b.can_thread.tags
 
 pub thread_node-requires-clause-owns : goal.thread_node-requires-clause-owns
 thread_node-requires-clause-owns c =
     let a = c.self.inside in
     let b = before_insert a c.args.self.now c.args.origin c.args.tag c.args.gap.now.before c.args.gap.now.own_before
-    c.self.view_is c.self.invariant c.requires.origin c.requires.reserved c.requires.absent c.requires.gap.before c.requires.gap.own_before in
+    c.self.view_is c.self.invariant.whole c.requires.origin c.requires.reserved c.requires.absent c.requires.gap.before c.requires.gap.own_before in
     let C = λ (ns : List Node) (l : Links). CanThread (length ns) (next_in l (of_origin ns)) c.args.gap.now.own_before a.free in
     let own : c.index_mut-own.result.now ≡ get_or a.by_origin.items c.args.origin no_origin = origin_read a.by_origin.items c.args.origin c.index_mut-own.result.now b.declared c.index_mut-own.ensures.value in
     subst (λ ns. C ns c.index_mut-own.result.now.ends) (sym c.deref_mut.ensures.value) (subst (λ (n : Origin). C a.nodes.items n.ends) (sym own) b.can_thread.owns)
@@ -60,7 +62,7 @@ pub thread_node-requires-clause-after : goal.thread_node-requires-clause-after
 thread_node-requires-clause-after c =
     let a = c.self.inside in
     let gap = c.requires.gap in
-    gap.after ∙ sym (tag_after a c.self.invariant c.args.origin c.args.tag c.args.self.now c.self.view_is c.args.gap.now.before gap.before)
+    gap.after ∙ sym (tag_after a c.self.invariant.whole c.args.origin c.args.tag c.args.self.now c.self.view_is c.args.gap.now.before gap.before)
     ∙ ap (λ ns. next_in a.ends (by_tag ns) c.args.gap.now.before) (sym c.deref_mut.ensures.value)
 
 pub thread_node-requires-clause-own_after : goal.thread_node-requires-clause-own_after
@@ -69,7 +71,7 @@ thread_node-requires-clause-own_after c =
     let gap = c.requires.gap in
     let h : c.args.origin < length a.by_origin.items = omega (arith, ap (λ v. v.origins) c.self.view_is) in
     let own = ap (λ n. n.ends) (origin_read a.by_origin.items c.args.origin c.index_mut-own.result.now h c.index_mut-own.ensures.value) in
-    gap.own_after ∙ sym (own_after a c.self.invariant c.args.origin c.args.tag c.args.self.now c.self.view_is h c.args.gap.now.own_before gap.own_before)
+    gap.own_after ∙ sym (own_after a c.self.invariant.whole c.args.origin c.args.tag c.args.self.now c.self.view_is h c.args.gap.now.own_before gap.own_before)
     ∙ ap (λ l. next_in l (of_origin a.nodes.items) c.args.gap.now.own_before) (sym own)
     ∙ ap (λ ns. next_in c.index_mut-own.result.now.ends (of_origin ns) c.args.gap.now.own_before) (sym c.deref_mut.ensures.value)
 
@@ -77,7 +79,7 @@ pub invariant_of-self : goal.invariant_of-self
 invariant_of-self c =
     let a = c.self.inside in
     let b = before_insert c.self.inside c.args.self.now c.args.origin c.args.tag c.args.gap.now.before c.args.gap.now.own_before
-    c.self.view_is c.self.invariant c.requires.origin c.requires.reserved c.requires.absent c.requires.gap.before c.requires.gap.own_before in
+    c.self.view_is c.self.invariant.whole c.requires.origin c.requires.reserved c.requires.absent c.requires.gap.before c.requires.gap.own_before in
     let own = ap (λ n. n.ends) (origin_read a.by_origin.items c.args.origin c.index_mut-own.result.now b.declared c.index_mut-own.ensures.value) in
     let free = ap (λ n. n.by_tag.next) (node_read a.nodes.items a.free c.index.result.now b.can_thread.tags.at_in c.index.ensures) in
     let threaded = subst (λ (ns : List Node). Threaded ns c.thread_node.new.nodes a.ends c.thread_node.new.ends c.index_mut-own.result.now.ends c.thread_node.new.own_ends
@@ -85,15 +87,23 @@ invariant_of-self c =
     let change = subst (λ (e : Entry). Threaded a.nodes.items c.thread_node.new.nodes a.ends c.thread_node.new.ends c.index_mut-own.result.now.ends c.thread_node.new.own_ends
     c.args.gap.now.before c.args.gap.now.own_before a.free e) c.fresh-entry.ensures threaded in
     let items = with_items_is a.nodes c.thread_node.new.nodes (omega (arith, change.len, a.nodes.ok.0)) in
+    let whole =
     subst (λ ns. IsWhole (threads_of ns (set a.by_origin.items c.args.origin (record { ends = c.thread_node.new.own_ends; touched = a.free })) c.thread_node.new.ends c.index.result.now.by_tag.next) (a.used + 1)) (sym items)
     (whole_inserted a c.args.origin c.args.tag c.args.gap.now.before c.args.gap.now.own_before b.is_ready b.declared
-    c.thread_node.new.nodes c.index_mut-own.result.now.ends c.thread_node.new.ends c.thread_node.new.own_ends c.index.result.now.by_tag.next own free change)
+    c.thread_node.new.nodes c.index_mut-own.result.now.ends c.thread_node.new.ends c.thread_node.new.own_ends c.index.result.now.by_tag.next own free change) in
+    let contents =
+    ap (λ ns. contents_of (threads_of ns (set a.by_origin.items c.args.origin (record { ends = c.thread_node.new.own_ends; touched = a.free })) c.thread_node.new.ends c.index.result.now.by_tag.next) (a.used + 1) (vec_capacity a.nodes)) items
+    ∙ contents_inserted a c.args.origin c.args.tag c.args.gap.now.before c.args.gap.now.own_before b.is_ready b.declared
+    c.thread_node.new.nodes c.index_mut-own.result.now.ends c.thread_node.new.ends c.thread_node.new.own_ends c.index.result.now.by_tag.next own free change in
+    let p : Place = record { node = a.free; entry = fresh c.args.origin c.args.tag } in
+    IsHinted-kept (threads a) _ a.used (a.used + 1) a.hints.items (with_place p (places a)) c.self.invariant whole (ap (λ v. v.places) contents)
+    (named_with_place p (places a) (new_handle a c.args.origin c.args.tag c.args.gap.now.before c.args.gap.now.own_before b.is_ready b.declared))
 
 pub returns-clause-places : goal.returns-clause-places
 returns-clause-places c =
     let a = c.self.inside in
     let b = before_insert c.self.inside c.args.self.now c.args.origin c.args.tag c.args.gap.now.before c.args.gap.now.own_before
-    c.self.view_is c.self.invariant c.requires.origin c.requires.reserved c.requires.absent c.requires.gap.before c.requires.gap.own_before in
+    c.self.view_is c.self.invariant.whole c.requires.origin c.requires.reserved c.requires.absent c.requires.gap.before c.requires.gap.own_before in
     let own = ap (λ n. n.ends) (origin_read a.by_origin.items c.args.origin c.index_mut-own.result.now b.declared c.index_mut-own.ensures.value) in
     let free = ap (λ n. n.by_tag.next) (node_read a.nodes.items a.free c.index.result.now b.can_thread.tags.at_in c.index.ensures) in
     let threaded = subst (λ (ns : List Node). Threaded ns c.thread_node.new.nodes a.ends c.thread_node.new.ends c.index_mut-own.result.now.ends c.thread_node.new.own_ends
@@ -112,7 +122,7 @@ pub returns-clause-new_handle : goal.returns-clause-new_handle
 returns-clause-new_handle c =
     let a = c.self.inside in
     let b = before_insert c.self.inside c.args.self.now c.args.origin c.args.tag c.args.gap.now.before c.args.gap.now.own_before
-    c.self.view_is c.self.invariant c.requires.origin c.requires.reserved c.requires.absent c.requires.gap.before c.requires.gap.own_before in
+    c.self.view_is c.self.invariant.whole c.requires.origin c.requires.reserved c.requires.absent c.requires.gap.before c.requires.gap.own_before in
     ap (λ n. entry_of n c.args.self.now.places) c.new.ensures
     ∙ ap (λ u. entry_of a.free u.places) (sym c.self.view_is)
     ∙ new_handle a c.args.origin c.args.tag c.args.gap.now.before c.args.gap.now.own_before b.is_ready b.declared
