@@ -64,8 +64,8 @@ standard output, in order.
                                             breach N 1, or breach N 0
   lost                                      how much was lost: lost N COUNT
   log P                                     log N and a record's line, or none N
-  collect                                   executes all that is not done, and changes no answer;
-                                            it lets go of nothing yet: collected N
+  collect                                   executes all that is not done, lets go of what is not
+                                            needed before the horizon: collected N
   board, row INDEX                          refused: there is no board here
 
 P is a record's place in the log, from 1, and N the length of the log. The name of an event
@@ -116,7 +116,7 @@ Each further line is a move:
   make R RECORD   a record comes from outside to replica R: the line of an event, a
                   withdraw or an announce, as `warpd run --help` shows them
   carry F I R     the record at place I of the log of replica F, from 1, comes to replica R
-  collect R       replica R executes what is not done; it lets go of nothing yet
+  collect R       replica R settles, and lets go of what it needs no more
   settle R        replica R executes what is not done
   restart R       replica R starts anew, with an empty log
 
