@@ -8,7 +8,7 @@ use warp_tag::{OutOfMemory, Tag};
 /// A value stands for a program, a table of names (with payload and withdrawn mark) and so many rows of the
 /// run as are done (`Standing`): that is a relation, since a value need not keep what it stands for. What was let go of
 /// is known by its floor: no name whose tag is behind it is put or withdrawn any more.
-pub trait Timeline: Sized {
+pub trait Timeline: Sized + Drop {
     ghost use Rattle.std.specs.Prelude.{◌≡◌, ◌<◌, ◌≤◌, ◌+◌, ◌-◌, ℕ, ℤ, Bool, false, IsTrue, List, [], length, IfOk};
     ghost use Rattle.std.specs.Prelude.{OnOk, OnErr, IsOk, Option, None};
     ghost use Rattle.warp_tag.specs.Limits.{most_names};
@@ -132,7 +132,7 @@ pub trait Timeline: Sized {
         requires { IsTrue (settled self.old) }
         ensures stands { (m : Standing) → stands_for self.old m → stands_for self.new m }
         ensures settled { IsTrue (settled self.new) }
-        ensures floor { MovesFloor below (floor self.old) (floor self.new) }
+        ensures floor { (m : Standing) → stands_for self.old m → MovesFloor below (floor self.old) (floor self.new) }
         ensures behind { (m : Standing) → stands_for self.old m →
             rows_before below m.done ≤ rows_behind (floor self.new) m.done + SLACK }
         ensures kept { is_prepared self.old → is_prepared self.new }
