@@ -1,5 +1,5 @@
 -- Moving the base up: to the last row, or to a checkpoint, with what is older dropped.
-use Rattle.std.proofs.Common.{◌≡◌, ◌⊎◌, ℕ, ◌+◌, ◌≤◌, true, false, not, cond, IsTrue, List, [], ◌∷◌, length, take, ap, sym, subst, ◌∙◌, refl, inl, inr, arith, Option, Some, None}
+use Rattle.std.proofs.Common.{◌≡◌, ℕ, ◌+◌, ◌≤◌, true, false, not, cond, List, [], ◌∷◌, length, take, ap, sym, subst, ◌∙◌, refl, inl, inr, arith, Option, Some, None}
 use Rattle.std.specs.List.{AllByRecursion}
 use Rattle.std.proofs.lemmas.Bool.{cases_Bool}
 use Rattle.std.proofs.lemmas.Bool.Decides.{nat_tests}
@@ -7,7 +7,6 @@ use Rattle.std.proofs.lemmas.List.{take_all}
 use Rattle.std.proofs.lemmas.List.Sums.{count_by-le-length}
 use Rattle.warp_tag.specs.Moment.{Moment, is_before}
 use Rattle.warp_tag.specs.Table.{Event}
-use Rattle.warp_tag.proofs.Lists.{same_some}
 use Rattle.warp_step.specs.Program.{Program}
 use Rattle.warp_step.specs.Run.{Row, Run, is_after}
 use Rattle.warp_line.specs.Begin.{last_after}
@@ -17,7 +16,7 @@ use Rattle.warp_run.specs.Front.{AreSaved, IsAt, IsSaved}
 use Rattle.warp_run.specs.History.{Saved, Saves, before, down_to, newest, reach, spacing}
 use Rattle.warp_run.specs.declared.front.Front.{Front}
 use Rattle.warp_run.specs.declared.history.Done.{Done}
-use Rattle.warp_run.proofs.RowsBack.{IsBare, IsCut, cut_or_bare, few_before}
+use Rattle.warp_run.proofs.RowsBack.{cut_or_bare, few_before}
 use Rattle.warp_run.proofs.RowsFloor.{after_fewer, after_floor, behind_base}
 
 -- ---- the newest that is before a tag

@@ -1,12 +1,11 @@
 -- The base of what is executed: it stays where more rows are, and no row up to it is after the floor.
-use Rattle.std.proofs.Common.{◌≡◌, ℕ, zero, suc, ◌+◌, ◌≤◌, true, false, not, List, [], ◌∷◌, ◌++◌, length, take, drop, filter, ap, sym, subst, ◌∙◌, refl, inl, inr, arith, Option, Some, None, length-append, take-append-drop}
+use Rattle.std.proofs.Common.{◌≡◌, ℕ, zero, suc, ◌≤◌, true, false, not, List, [], ◌∷◌, ◌++◌, length, take, drop, filter, ap, sym, subst, ◌∙◌, refl, inl, inr, arith, Option, Some, None, length-append, take-append-drop}
 use Rattle.std.specs.List.{AllByRecursion}
 use Rattle.std.proofs.lemmas.Bool.{cases_Bool}
-use Rattle.std.proofs.lemmas.Bool.Decides.{nat_tests}
 use Rattle.std.proofs.lemmas.List.{length-take-le, take-append-le, take-take, take_all}
 use Rattle.std.proofs.lemmas.List.Elements.{filter-append}
 use Rattle.std.proofs.lemmas.List.Sums.{length-filter}
-use Rattle.warp_tag.specs.Moment.{Moment, is_before}
+use Rattle.warp_tag.specs.Moment.{Moment}
 use Rattle.warp_tag.specs.Table.{Event}
 use Rattle.warp_tag.proofs.Tags.{not_before_self}
 use Rattle.warp_step.specs.Program.{Program}

@@ -1,10 +1,8 @@
 -- the base comes to the last row, or to a checkpoint, or stays
-use Rattle.std.proofs.Common.{◌≡◌, [], None, ap, sym, subst, ◌∙◌, refl, Option, ◌+◌, ◌≤◌}
-use Rattle.warp_tag.specs.Moment.{Moment}
-use Rattle.warp_step.specs.Run.{is_after}
+use Rattle.std.proofs.Common.{ap, sym, subst, ◌∙◌, refl, ◌+◌, ◌≤◌}
 use Rattle.warp_line.specs.Timeline.{MovesFloor, rows_before, rows_behind}
 use Rattle.warp_run.specs.Aside.{SetAside}
-use Rattle.warp_run.specs.History.{before, newest, spacing}
+use Rattle.warp_run.specs.History.{before, spacing}
 use Rattle.warp_run.specs.declared.history.Done.{Done}
 use Rattle.warp_run.proofs.RowsCollected.{base_at, base_stays, behind_at, behind_here, behind_still, floor_at, floor_here}
 use Rattle.warp_run.proofs.RowsRejoined.{begins_with}

@@ -1,5 +1,5 @@
 -- what is executed stays, the nodes behind the floor are free, and each list has the room that it had
-use Rattle.std.proofs.Common.{ℕ, List, Option, ap, sym, subst, ◌∙◌, refl}
+use Rattle.std.proofs.Common.{Option, ap, sym, subst, ◌∙◌, refl}
 use Rattle.warp_tag.specs.Moment.{Moment}
 use Rattle.warp_tag.specs.Table.{live}
 use Rattle.warp_arena.specs.Places.{Contents}
