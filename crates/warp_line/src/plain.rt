@@ -58,7 +58,7 @@ impl Timeline for Plain {
         })
     }
 
-    /// It keeps everything.
+    /// Nothing is behind, since it lets go of nothing.
     fn behind(&self, _tag: Tag) -> bool {
         false
     }

@@ -326,8 +326,8 @@ impl Front {
     }
 
     /// Moves the base up to the last row, where that is before the tag, and else to the newest checkpoint that is, if
-    /// there is one. Older checkpoints, and all that are aside, are dropped. What is executed stays, and so does the room
-    /// of each list.
+    /// there is one. Older checkpoints, and all that are aside, are dropped. What is executed stays, and so does the
+    /// room of each list.
     pub fn collect(&mut self, below: Tag)
         ensures others { self.new ≡ record self.old {
           due = self.new.due;

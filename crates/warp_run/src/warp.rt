@@ -25,8 +25,8 @@ use warp_tag::{OutOfMemory, Tag};
 
 /// The timeline that executes at once what it has, and after a change at a tag that is executed already goes back to
 /// the newest checkpoint before that tag. Where the run is then again in a state that it was in, it can go on over what
-/// was executed behind that. Where it collects, it frees the names through a checkpoint, its base, and drops what is
-/// older.
+/// was executed behind that. Where it collects, it frees the names through the last tag of its base, a checkpoint or
+/// the present state, and drops what is older.
 #[derive(Drop)]
 pub struct Warp {
     arena: Arena,
@@ -117,10 +117,10 @@ impl Timeline for Warp {
         Ok(())
     }
 
-    /// The base comes to the present state, where all that is done is before `below`, and else to the newest checkpoint
-    /// whose done tags are all before it, if there is one. The nodes of all names through the base's last tag are freed,
-    /// and older checkpoints are dropped, and so is what a rollback set aside. The work is that of what is freed and
-    /// dropped, and of the checkpoints that stay.
+    /// The base comes to the present state, where all that is done is before `below`, and else to the newest
+    /// checkpoint whose done tags are all before it, if there is one. The nodes of all names through the base's last
+    /// tag are freed, and older checkpoints are dropped, and so is what a rollback set aside. All outputs stay. The
+    /// work is that of what is freed and dropped, and of the checkpoints that stay.
     fn collect(&mut self, below: Tag) {
         self.front.collect(below);
         free_behind(&mut self.arena, self.front.floor());
@@ -140,8 +140,8 @@ impl Timeline for Warp {
 }
 
 impl Warp {
-    /// Its arena: the names that are not behind, in order of tag, then of origin, each with its greatest payload and its
-    /// withdrawn mark.
+    /// Its arena: the names that are not behind, in order of tag, then of origin, each with its greatest payload and
+    /// its withdrawn mark.
     pub fn arena(&self) -> &Arena
         ensures { (m : Standing) → StandsFor self.now m →
             entries_of result.now.places ≡ ahead_of (floor_of self.now) m.table }
