@@ -83,9 +83,9 @@ pub(crate) struct Front {
     every: usize,
     /// With so many rows the next checkpoint is made before one more.
     due: usize,
-    /// After so many rows no checkpoint is older.
+    /// How many rows the base has: no checkpoint has fewer.
     base: usize,
-    /// The tag of the last row of the base.
+    /// The tag of the last of these rows, if there are any.
     floor: Option<Tag>,
     history: History,
     aside: Aside,
