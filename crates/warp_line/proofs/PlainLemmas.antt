@@ -49,6 +49,10 @@ few_before P E trace u n valid fits run =
     let some = count_by-le-length (λ (row : Row). is_before row.tag u) trace in
     omega arith
 
+-- so before any tag few rows of a settled value are done
+pub few_done : (p : Plain) (m : Standing) (u : Moment) (n : ℕ) → p.settled ≡ true → StandsFor p m → rows_before u m.done ≤ n + most_names
+few_done p m u n settled h = few_before m.program (live m.table) m.done u n h.program h.events (run_of p m settled h).done
+
 -- where the live events changed, nothing is known to be done
 changed_stands : (p q : Plain) (m : Standing) (f : Entry → Entry) (origin : ℕ) (tag : Moment) → StandsFor p m
     → q.entries.items ≡ changed f origin tag p.entries.items → IsTable q.entries.items

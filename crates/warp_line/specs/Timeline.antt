@@ -1,11 +1,11 @@
 -- What a timeline stands for, and what its calls do to that.
-use Rattle.std.specs.Prelude.{◌≡◌, ℕ, ◌+◌, ◌≤◌, List, [], ◌∷◌, length, count_by, if◌then◌else◌}
+use Rattle.std.specs.Prelude.{◌≡◌, ℕ, ◌+◌, ◌≤◌, ◌⊎◌, Bool, not, IsTrue, Option, List, [], ◌∷◌, length, count_by, if◌then◌else◌}
 use Rattle.warp_tag.specs.Lists.{StartsWith}
 use Rattle.warp_tag.specs.Moment.{Moment, is_before}
 use Rattle.warp_tag.specs.Table.{live}
 use Rattle.warp_tag.specs.declared.entry.Entry.{Entry}
 use Rattle.warp_step.specs.Program.{Program}
-use Rattle.warp_step.specs.Run.{Row, Run}
+use Rattle.warp_step.specs.Run.{Row, Run, is_after}
 
 -- a program, a table of names, and the rows of the run over its live events that are done: a front of the trace
 pub record Standing : Type 0 where
@@ -56,3 +56,16 @@ TakesNoRoom [] [] = Unit {0}
 TakesNoRoom [] (new ∷ news) = ⊥
 TakesNoRoom (old ∷ olds) [] = ⊥
 TakesNoRoom (old ∷ olds) (new ∷ news) = (new ≤ old) × TakesNoRoom olds news
+
+-- a tag is behind a floor, the last tag through which names were let go of: it is not after it
+abbrev pub is_behind : Option Moment → Moment → Bool
+is_behind floor tag = not (is_after floor tag)
+
+-- The floor stays or comes up: what was behind is behind, and what came behind is before the tag.
+pub record MovesFloor (below : Moment) (old new : Option Moment) : Type 0 where
+  pub kept : (t : Moment) → IsTrue (is_behind old t) → IsTrue (is_behind new t)
+  pub bound : (t : Moment) → IsTrue (is_behind new t) → IsTrue (is_behind old t) ⊎ IsTrue (is_before t below)
+
+-- how many rows stand behind a floor
+abbrev pub rows_behind : Option Moment → List Row → ℕ
+rows_behind floor rows = count_by (λ row. is_behind floor row.tag) rows

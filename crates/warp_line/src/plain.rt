@@ -27,6 +27,10 @@ impl Timeline for Plain {
 
     ghost settled = { λ p. p.settled };
 
+    ghost use Rattle.std.specs.Prelude.{None};
+
+    ghost floor = { λ p. None };
+
     ghost SLACK = { most_names };
 
     ghost use Rattle.std.proofs.Common.{inl, inr};
@@ -52,6 +56,11 @@ impl Timeline for Plain {
             outputs: Vec::new(alloc),
             settled: false,
         })
+    }
+
+    /// Nothing is behind, since it lets go of nothing.
+    fn behind(&self, _tag: Tag) -> bool {
+        false
     }
 
     fn prepare(&mut self, _alloc: Global) -> Result<(), OutOfMemory> {
@@ -81,7 +90,7 @@ impl Timeline for Plain {
         Ok(())
     }
 
-    /// It keeps everything, since it runs from the start.
+    /// It lets go of nothing, since it runs from the start.
     fn collect(&mut self, _below: Tag) {}
 
     fn is_settled(&self) -> bool {

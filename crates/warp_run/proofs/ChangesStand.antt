@@ -9,10 +9,10 @@ use Rattle.warp_tag.specs.Table.{Event, IsTable, changed, fresh, known, live, li
 use Rattle.warp_tag.specs.declared.entry.Entry.{Entry}
 use Rattle.warp_tag.proofs.Known.{before_change_known}
 use Rattle.warp_tag.proofs.Lists.{same_some}
-use Rattle.warp_tag.proofs.Tables.{KeepsNames, before_change, live_shows_at, live_stays_at}
+use Rattle.warp_tag.proofs.Tables.{KeepsNames, before_change, live_shows_at, live_stays_at, table_changed}
 use Rattle.warp_tag.proofs.Tags.{not_before_self}
 use Rattle.warp_step.specs.Program.{Program}
-use Rattle.warp_step.specs.Run.{Row, Run}
+use Rattle.warp_step.specs.Run.{Row, Run, is_after}
 use Rattle.warp_step.specs.Events.{event_fits}
 use Rattle.warp_arena.specs.Places.{Contents, Reaches, entries_of, entry_of, with_change}
 use Rattle.warp_arena.proofs.Handles.{entry_of-with_change_same}
@@ -20,10 +20,11 @@ use Rattle.warp_line.specs.Timeline.{Standing, NowStands}
 use Rattle.warp_run.specs.Front.{GoesBack, IsAt, KeepsRoom}
 use Rattle.warp_run.specs.History.{spacing}
 use Rattle.warp_run.specs.Walk.{AreThrough, ahead}
-use Rattle.warp_run.specs.Warp.{NamesAt, StandsFor, latest_with, room_in}
+use Rattle.warp_run.specs.Warp.{NamesAt, StandsFor, ahead_of, latest_with, room_in}
 use Rattle.warp_run.specs.declared.front.Front.{Front}
 use Rattle.warp_run.specs.declared.warp.Warp.{Warp}
 use Rattle.warp_run.proofs.ChangesEvents.{early_stay, known_tag, late_stay}
+use Rattle.warp_run.proofs.ChangesFloor.{changed_ahead, known_ahead}
 use Rattle.warp_run.proofs.ChangesPlaces.{ahead_stays}
 use Rattle.warp_run.proofs.ChangesRows.{keeps_done}
 use Rattle.warp_run.proofs.RowsMoved.{moved}
@@ -46,30 +47,36 @@ module _ (f : Entry → Entry) (names : KeepsNames f) {origin : ℕ} {tag : Mome
       (ahead_stays f node names new.front.last new.arena.places new.cursor is.cursor)
 
   -- of what is known of the name, before and after the change
-  module _ (ordered : IsTable (entries_of old.arena.places)) {e d : Entry} (found : entry_of node new.arena.places ≡ Some e) (after : d ≡ f e)
+  module _ (later : is_after old.front.floor tag ≡ true) {e d : Entry} (found : entry_of node new.arena.places ≡ Some e) (after : d ≡ f e)
       {m : Standing} (h : StandsFor old m) where
     origins_are : arena.origins ≡ m.program.origins
     origins_are = ap (λ a. a.origins) made ∙ is.origins ∙ h.origins
 
-    table_is : entries_of arena.places ≡ changed f origin tag m.table
-    table_is = ap (λ a. entries_of a.places) made ∙ is.change f ∙ ap (changed f origin tag) h.table
+    table_is : entries_of arena.places ≡ ahead_of old.front.floor (changed f origin tag m.table)
+    table_is =
+        ap (λ a. entries_of a.places) made ∙ is.change f ∙ ap (changed f origin tag) h.table
+        ∙ changed_ahead old.front.floor origin tag later f names m.table
+
+    ordered_is : IsTable (changed f origin tag m.table)
+    ordered_is = table_changed f names origin tag m.table h.ordered
 
     front_at : IsAt m.program (live m.table) new.front m.done
     front_at = subst (λ x. IsAt m.program (live m.table) x m.done) (sym (ap (λ w. w.front) is.others)) h.front
 
     change_from : before_change origin tag m.table ≡ e
     change_from =
-        subst (λ es. before_change origin tag es ≡ e) h.table
-        (before_change_known origin tag (entries_of old.arena.places) ordered ∙ same_some _ _ (sym is.entry ∙ found))
+        before_change_known origin tag m.table h.ordered
+        ∙ ap (λ k. unwrap_or k (fresh origin tag)) (sym (known_ahead old.front.floor origin tag later m.table) ∙ ap (known origin tag) (sym h.table))
+        ∙ same_some _ _ (sym is.entry ∙ found)
 
     -- where what counts of it changed, what a `Warp` that went back has left is done
     pub undone_stands : (live_event d ≡ live_event e → ⊥) → IsTrue (list_all (event_fits m.program) (live (changed f origin tag m.table)))
         → AreThrough (latest_with tag old.latest) (live (changed f origin tag m.table))
-        → (w : Warp) → w.arena ≡ arena → w.latest ≡ latest_with tag new.latest → w.settled ≡ false
+        → (w : Warp) → w.arena ≡ arena → w.front.floor ≡ new.front.floor → w.latest ≡ latest_with tag new.latest → w.settled ≡ false
         → ((P : Program) (E : List Event) (done : List Row) → IsAt P E new.front done → GoesBack P E tag done w.front)
         → (Reaches arena.places (ahead new.front.last arena.places) new.cursor → Reaches w.arena.places (ahead w.front.last w.arena.places) w.cursor)
         → NowStands StandsFor spacing tag w m (changed f origin tag m.table)
-    undone_stands differs fits through w kept latest unsettled back cursor =
+    undone_stands differs fits through w kept floor latest unsettled back cursor =
         let E : List Event = live (changed f origin tag m.table) in
         let goes = back m.program (live m.table) m.done front_at in
         let early = early_stay f names origin tag m.table in
@@ -79,7 +86,9 @@ module _ (f : Entry → Entry) (names : KeepsNames f) {origin : ℕ} {tag : Mome
           record {
             program = h.program;
             origins = ap (λ a. a.origins) kept ∙ origins_are;
-            table = ap (λ a. entries_of a.places) kept ∙ table_is;
+            table = ap (λ a. entries_of a.places) kept ∙ table_is
+                ∙ ap (λ o. ahead_of o (changed f origin tag m.table)) (sym (floor ∙ ap (λ v. v.front.floor) is.others));
+            ordered = ordered_is;
             events = fits;
             front = moved m.program (live m.table) E tag w.front (take goes.left m.done) (early tag (not_before_self tag))
                 (late_stay f names origin tag m.table) goes.before goes.aside goes.at;
@@ -105,7 +114,8 @@ module _ (f : Entry → Entry) (names : KeepsNames f) {origin : ℕ} {tag : Mome
           record {
             program = h.program;
             origins = origins_are;
-            table = table_is;
+            table = table_is ∙ ap (λ o. ahead_of o (changed f origin tag m.table)) (sym (ap (λ v. v.front.floor) is.others));
+            ordered = ordered_is;
             events = subst (λ E. IsTrue (list_all (event_fits m.program) E)) lives h.events;
             front = subst (λ E. IsAt m.program E new.front m.done) lives front_at;
             cursor = cursor_stays;

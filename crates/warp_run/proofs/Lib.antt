@@ -1,4 +1,8 @@
 pub mod RowsBegun
+pub mod RowsFloor
+pub mod RowsCollected
+pub mod MarksCut
+pub mod ChangesFloor
 pub mod RowsAside
 pub mod RowsRejoined
 pub mod RowsMoved

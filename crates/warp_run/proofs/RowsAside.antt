@@ -96,39 +96,39 @@ module _ (P : Program) (E : List Event) (done : List Row) (begin : Begin P E don
 
   module _ (tag : Moment) where
     -- the earliest has no more outputs than any
-    earliest_least : (c : Saved) (old cs : List Saved) (first : ℕ) → AreSaved P done (c ∷ cs)
+    earliest_least : (base : ℕ) (c : Saved) (old cs : List Saved) (first : ℕ) → AreSaved base P done (c ∷ cs)
         → IfSome (newest (set_aside tag cs (c ∷ old))) (λ e. first ≡ e.outputs) → first ≤ c.done.outputs
-    earliest_least c old [] first h is = omega arith
-    earliest_least c old (d ∷ ds) first h is = elim (cases_Bool (is_after d.done.last tag)) [
+    earliest_least base c old [] first h is = omega arith
+    earliest_least base c old (d ∷ ds) first h is = elim (cases_Bool (is_after d.done.last tag)) [
       | inl early ↦ let same : first ≡ c.done.outputs = rw early at is in omega arith
       | inr late ↦
-          let rest = earliest_least d (c ∷ old) ds first h.3 (rw late at is) in
+          let rest = earliest_least base d (c ∷ old) ds first h.3 (rw late at is) in
           let older = outputs_grow d c h.3.0 h.0 h.2.0 in
           omega arith
     ]
 
     module _ (first : ℕ) (outputs : List Out) (kept : outputs ≡ drop first (outputs_of done)) where
       -- with more in front of those that are aside
-      aside_more : (c : Saved) (old cs : List Saved) → AreSaved P done (c ∷ cs)
+      aside_more : (base : ℕ) (c : Saved) (old cs : List Saved) → AreSaved base P done (c ∷ cs)
           → IfSome (newest (set_aside tag cs (c ∷ old))) (λ e. first ≡ e.outputs)
           → AreAside P E first outputs (c ∷ old) → AreAside P E first outputs (set_aside tag cs (c ∷ old))
-      aside_more c old [] h is aside = aside
-      aside_more c old (d ∷ ds) h is aside = elim (cases_Bool (is_after d.done.last tag)) [
+      aside_more base c old [] h is aside = aside
+      aside_more base c old (d ∷ ds) h is aside = elim (cases_Bool (is_after d.done.last tag)) [
         | inl early ↦ rw early aside
         | inr late ↦
             let left : IfSome (newest (set_aside tag ds (d ∷ c ∷ old))) (λ e. first ≡ e.outputs) = rw late at is in
-            let start = earliest_least d (c ∷ old) ds first h.3 left in
+            let start = earliest_least base d (c ∷ old) ds first h.3 left in
             rw late
-            (aside_more d (c ∷ old) ds h.3 left (h.3.0.ready, leads d c h.3.0 h.0 h.2.0 first outputs h.1 start kept, aside))
+            (aside_more base d (c ∷ old) ds h.3 left (h.3.0.ready, leads d c h.3.0 h.0 h.2.0 first outputs h.1 start kept, aside))
       ]
 
       -- where nothing was aside before
-      aside_all : (cs : List Saved) → AreSaved P done cs → IfSome (newest (set_aside tag cs [])) (λ e. first ≡ e.outputs)
+      aside_all : (base : ℕ) (cs : List Saved) → AreSaved base P done cs → IfSome (newest (set_aside tag cs [])) (λ e. first ≡ e.outputs)
           → AreAside P E first outputs (set_aside tag cs [])
-      aside_all [] h is = tt
-      aside_all (c ∷ cs) h is = elim (cases_Bool (is_after c.done.last tag)) [
+      aside_all base [] h is = tt
+      aside_all base (c ∷ cs) h is = elim (cases_Bool (is_after c.done.last tag)) [
         | inl early ↦ rw early tt
-        | inr late ↦ rw late (aside_more c [] cs h (rw late at is) (h.0.ready, tt, tt))
+        | inr late ↦ rw late (aside_more base c [] cs h (rw late at is) (h.0.ready, tt, tt))
       ]
 
 -- the earliest is not before the tag
@@ -147,17 +147,17 @@ from_all tag (c ∷ cs) = elim (cases_Bool (is_after c.done.last tag)) [
 ]
 
 -- so it is with what a rollback took, with the outputs from the earliest on
-pub taken_aside : (P : Program) (E : List Event) (tag : Moment) (done : List Row) (saves : List Saved) (outputs : List Out) (a : SetAside)
-    → Begin P E done → outputs ≡ outputs_of done → AreSaved P done saves
+pub taken_aside : (base : ℕ) (P : Program) (E : List Event) (tag : Moment) (done : List Row) (saves : List Saved) (outputs : List Out) (a : SetAside)
+    → Begin P E done → outputs ≡ outputs_of done → AreSaved base P done saves
     → (a.history.saves ≡ []) ⊎ KeepsFrom (set_aside tag saves []) outputs a
     → AreAside P E a.first a.outputs a.history.saves × IsFrom tag a.history.saves
-taken_aside P E tag done saves outputs a begin all h (inl none) = (
+taken_aside base P E tag done saves outputs a begin all h (inl none) = (
   subst (AreAside P E a.first a.outputs) (sym none) tt,
   subst (IsFrom tag) (sym none) tt,
 )
-taken_aside P E tag done saves outputs a begin all h (inr keeps) = (
+taken_aside base P E tag done saves outputs a begin all h (inr keeps) = (
   subst (AreAside P E a.first a.outputs) (sym keeps.saves)
-      (aside_all P E done begin tag a.first a.outputs (keeps.outputs ∙ ap (drop a.first) all) saves h keeps.first),
+      (aside_all P E done begin tag a.first a.outputs (keeps.outputs ∙ ap (drop a.first) all) base saves h keeps.first),
   subst (IsFrom tag) (sym keeps.saves) (from_all tag saves),
 )
 

@@ -1,5 +1,5 @@
 -- Going back to the newest checkpoint before a tag.
-use Rattle.std.proofs.Common.{◌≡◌, ℕ, zero, suc, ◌+◌, ◌≤◌, ◌⊎◌, true, false, cond, List, [], ◌∷◌, ◌++◌, length, take, drop, filter, ap, sym, subst, ◌∙◌, refl, inl, inr, arith, Option, Some, None, length-take}
+use Rattle.std.proofs.Common.{◌≡◌, ℕ, ◌+◌, ◌≤◌, ◌⊎◌, true, false, cond, List, [], ◌∷◌, ◌++◌, length, take, drop, filter, ap, sym, subst, ◌∙◌, refl, inl, inr, arith, Option, Some, None, length-take}
 use Rattle.std.specs.List.{AllByRecursion}
 use Rattle.std.proofs.lemmas.Bool.{cases_Bool}
 use Rattle.std.proofs.lemmas.Grind.{flat_map-append}
@@ -28,61 +28,83 @@ use Rattle.warp_run.proofs.RowsSaved.{all_older, saved_on}
 
 -- What is left of checkpoints after a cut: the newest is before the tag, and at most sixteen rows behind it the rows end at a
 -- tag that is not.
-record IsCut (P : Program) (done : List Row) (tag : Moment) (saves : List Saved) : Type 0 where
+pub record IsCut (base : ℕ) (P : Program) (done : List Row) (tag : Moment) (saves : List Saved) : Type 0 where
   pub newest : Saved
   pub others : List Saved
   pub kept : before tag saves ≡ newest ∷ others
-  pub saved : AreSaved P done (newest ∷ others)
+  pub saved : AreSaved base P done (newest ∷ others)
+  pub from : AllByRecursion (λ c. base ≤ c.done.rows) (newest ∷ others)
   pub early : is_after newest.done.last tag ≡ true
   pub count : ℕ
   pub few : count ≤ newest.done.rows + spacing
   pub late : is_after (last_after None (take count done)) tag ≡ false
 
--- where so many rows, as many as checkpoints stand for, end at a tag that is not before, one is left, since the oldest is before all rows
-is_cut : (P : Program) (done : List Row) (tag : Moment) (saves : List Saved) (n : ℕ) → AreSaved P done saves → n ≤ reach saves
-    → is_after (last_after None (take n done)) tag ≡ false → IsCut P done tag saves
-is_cut P done tag [] zero h few late = let never : true ≡ false = late in cc
-is_cut P done tag [] (suc n) h few late = absurd (omega arith)
-is_cut P done tag (c ∷ cs) n h few late = elim (cases_Bool (is_after c.done.last tag)) [
+-- no checkpoint is left, and the rows of the base end at a tag that is not before
+pub record IsBare (base : ℕ) (done : List Row) (tag : Moment) (saves : List Saved) : Type 0 where
+  pub none : before tag saves ≡ []
+  pub late : is_after (last_after None (take base done)) tag ≡ false
+
+-- where so many rows, as many as checkpoints stand for, end at a tag that is not before, one is left, or none is before the tag
+is_cut : (base : ℕ) (P : Program) (done : List Row) (tag : Moment) (saves : List Saved) (n : ℕ) → AreSaved base P done saves
+    → AllByRecursion (λ c. base ≤ c.done.rows) saves → base ≤ n → n ≤ reach base saves
+    → is_after (last_after None (take n done)) tag ≡ false → IsCut base P done tag saves ⊎ IsBare base done tag saves
+is_cut base P done tag [] n h from least few late =
+    let all : n ≡ base = omega arith in
+    inr (record { none = refl; late = ap (λ (k : ℕ). is_after (last_after None (take k done)) tag) (sym all) ∙ late })
+is_cut base P done tag (c ∷ cs) n h from least few late = elim (cases_Bool (is_after c.done.last tag)) [
   | inl early ↦
-      record {
+      inl (record {
         newest = c;
         others = cs;
         kept = ap (λ b. cond b (c ∷ cs) (before tag cs)) early;
         saved = h;
+        from = from;
         early = early;
         count = n;
         few = few;
         late = late;
-      }
+      })
   | inr past ↦
-      let rest = is_cut P done tag cs c.done.rows h.3 h.1 (ap (λ (o : Option Moment). is_after o tag) (sym h.0.last) ∙ past) in
-      record {
-        newest = rest.newest;
-        others = rest.others;
-        kept = ap (λ b. cond b (c ∷ cs) (before tag cs)) past ∙ rest.kept;
-        saved = rest.saved;
-        early = rest.early;
-        count = rest.count;
-        few = rest.few;
-        late = rest.late;
-      }
+      let here : before tag (c ∷ cs) ≡ before tag cs = ap (λ b. cond b (c ∷ cs) (before tag cs)) past in
+      elim (is_cut base P done tag cs c.done.rows h.3 from.1 from.0 h.1 (ap (λ (o : Option Moment). is_after o tag) (sym h.0.last) ∙ past)) [
+        | inl rest ↦
+            inl (record {
+              newest = rest.newest;
+              others = rest.others;
+              kept = here ∙ rest.kept;
+              saved = rest.saved;
+              from = rest.from;
+              early = rest.early;
+              count = rest.count;
+              few = rest.few;
+              late = rest.late;
+            })
+        | inr bare ↦ inr (record { none = here ∙ bare.none; late = bare.late })
+      ]
 ]
 
 -- so it is with what is executed, at a tag that is not after the last row
-cut : (P : Program) (E : List Event) (tag : Moment) (x : Front) (done : List Row) → IsAt P E x done → is_after x.last tag ≡ false
-    → IsCut P done tag x.history.saves
-cut P E tag x done h late =
+pub cut_or_bare : (P : Program) (E : List Event) (tag : Moment) (x : Front) (done : List Row) → IsAt P E x done → is_after x.last tag ≡ false
+    → IsCut x.base P done tag x.history.saves ⊎ IsBare x.base done tag x.history.saves
+cut_or_bare P E tag x done h late =
     let rows = h.rows in
     let near = h.near in
     let all : last_after None (take (length done) done) ≡ x.last = ap (last_after None) (take_all (length done) done (omega arith)) ∙ sym h.last in
-    is_cut P done tag x.history.saves (length done) h.saved (omega arith) (ap (λ (o : Option Moment). is_after o tag) all ∙ late)
+    is_cut x.base P done tag x.history.saves (length done) h.saved h.from h.base (omega arith) (ap (λ (o : Option Moment). is_after o tag) all ∙ late)
+
+-- and where the tag is after the floor, one is left, since the oldest is not after the floor
+cut : (P : Program) (E : List Event) (tag : Moment) (x : Front) (done : List Row) → IsAt P E x done → is_after x.last tag ≡ false
+    → is_after x.floor tag ≡ true → IsCut x.base P done tag x.history.saves
+cut P E tag x done h late ahead = elim (cut_or_bare P E tag x done h late) [
+  | inl left ↦ left
+  | inr bare ↦ let never : true ≡ false = sym ahead ∙ ap (λ (o : Option Moment). is_after o tag) h.floor ∙ bare.late in cc
+]
 
 -- a checkpoint is left there
 pub always_left : (P : Program) (E : List Event) (tag : Moment) (x : Front) (done : List Row) → IsAt P E x done → is_after x.last tag ≡ false
-    → newest (before tag x.history.saves) ≡ None → ⊥
-always_left P E tag x done h late none =
-    let left = cut P E tag x done h late in
+    → is_after x.floor tag ≡ true → newest (before tag x.history.saves) ≡ None → ⊥
+always_left P E tag x done h late ahead none =
+    let left = cut P E tag x done h late ahead in
     let never : Some left.newest.done ≡ None = sym (ap newest left.kept) ∙ none in cc
 
 -- the rows of a run behind a front of it are a run from there on
@@ -98,7 +120,7 @@ none_behind P E tag None s rows late run = let never : true ≡ false = late in 
 none_behind P E tag (Some t) s rows late run = none_early tag P E t s rows late run
 
 -- where so many of the rows that are done end at a tag that is not before another, the run has no more rows before that
-few_before : (P : Program) (E : List Event) (tag : Moment) (done trace : List Row) (n : ℕ) → Begin P E done
+pub few_before : (P : Program) (E : List Event) (tag : Moment) (done trace : List Row) (n : ℕ) → Begin P E done
     → is_after (last_after None (take n done)) tag ≡ false → Run P E trace → rows_before tag trace ≤ n
 few_before P E tag done trace n begin late run =
     let front = take n done in
@@ -139,12 +161,14 @@ pub record Returns (x y : Front) (tag : Moment) (c : Done) : Type 0 where
   pub every : y.every ≡ x.every
   pub due : y.due ≤ c.rows + y.every
   pub scratch : y.scratch ≡ x.scratch
+  pub base : y.base ≡ x.base
+  pub floor : y.floor ≡ x.floor
 
 -- then what was executed is cut to a front that ends before the tag
 pub goes_back : (P : Program) (E : List Event) (tag : Moment) (x y : Front) (c : Done) (done : List Row) → Returns x y tag c → IsAt P E x done
-    → is_after x.last tag ≡ false → GoesBack P E tag done y
-goes_back P E tag x y c done back h late =
-    let left = cut P E tag x done h late in
+    → is_after x.last tag ≡ false → is_after x.floor tag ≡ true → GoesBack P E tag done y
+goes_back P E tag x y c done back h late ahead =
+    let left = cut P E tag x done h late ahead in
     let n = left.newest in
     let saves : y.history.saves ≡ n ∷ left.others = ap (λ (z : Saves). z.saves) back.history ∙ left.kept in
     let one : Some n.done ≡ Some c = sym (ap newest saves) ∙ back.newest in
@@ -159,7 +183,7 @@ goes_back P E tag x y c done back h late =
     let every : y.every ≤ spacing = subst (λ (k : ℕ). k ≤ spacing) (sym back.every) h.every in
     let due = back.due in
     let counted : c.rows ≡ n.done.rows = ap (λ (d : Done). d.rows) same in
-    let taken = taken_aside P E tag done x.history.saves x.outputs.items y.aside h.begin h.outputs h.saved back.aside in
+    let taken = taken_aside x.base P E tag done x.history.saves x.outputs.items y.aside h.begin h.outputs h.saved back.aside in
     record {
       left = n.done.rows;
       within = saved.within;
@@ -173,12 +197,17 @@ goes_back P E tag x y c done back h late =
             ∙ ap (λ (os : List Out). take (length (outputs_of front)) os) h.outputs ∙ outputs_take n.done.rows done;
         ready = subst (λ (o : Option Moment). IsReady P o y.state) (sym last) (subst (IsReady P n.done.last) (sym state) saved.ready);
         width = ap (λ (z : Saves). z.width) back.history ∙ h.width;
-        saved = subst (AreSaved P front) (sym saves)
-            (saved_on P done front n.done.rows (n ∷ left.others) fits (λ k few. sym (take-take k n.done.rows done few))
-            (all_older P done n left.others left.saved) left.saved);
-        near = subst (λ (cs : List Saved). y.rows ≤ reach cs) (sym saves) (omega arith);
+        base = omega (arith, back.base, left.from.0);
+        floor = back.floor ∙ h.floor ∙ ap (last_after None) (sym (take-take x.base n.done.rows done left.from.0))
+            ∙ ap (λ (k : ℕ). last_after None (take k front)) (sym back.base);
+        from = subst (λ (k : ℕ). AllByRecursion (λ d. k ≤ d.done.rows) y.history.saves) (sym back.base)
+            (subst (λ (cs : List Saved). AllByRecursion (λ d. x.base ≤ d.done.rows) cs) (sym saves) left.from);
+        saved = subst (λ (k : ℕ). AreSaved k P front y.history.saves) (sym back.base) (subst (AreSaved x.base P front) (sym saves)
+            (saved_on x.base P done front n.done.rows (n ∷ left.others) fits (λ k few. sym (take-take k n.done.rows done few))
+            (all_older x.base P done n left.others left.saved) left.saved));
+        near = subst (λ (cs : List Saved). y.rows ≤ reach y.base cs) (sym saves) (omega arith);
         every = every;
-        due = subst (λ (cs : List Saved). y.due ≤ reach cs) (sym saves) (omega arith);
+        due = subst (λ (cs : List Saved). y.due ≤ reach y.base cs) (sym saves) (omega arith);
         aside_width = back.aside_width ∙ h.aside_width;
         aside = taken.0;
         scratch = back.scratch ∙ h.scratch;

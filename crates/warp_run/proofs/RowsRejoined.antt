@@ -1,5 +1,6 @@
 -- Going on over what is aside.
-use Rattle.std.proofs.Common.{◌≡◌, inl, true, ℕ, ◌+◌, ◌-◌, ◌≤◌, List, [], ◌∷◌, ◌++◌, length, drop, ap, sym, subst, ◌∙◌, refl, arith, IsSomeAnd, Option, Some, None, length-append}
+use Rattle.std.specs.List.{AllByRecursion}
+use Rattle.std.proofs.Common.{◌≡◌, inl, true, ℕ, ◌+◌, ◌-◌, ◌≤◌, List, [], ◌∷◌, ◌++◌, length, take, drop, ap, sym, subst, ◌∙◌, refl, arith, IsSomeAnd, Option, Some, None, length-append}
 use Rattle.std.proofs.lemmas.Grind.{flat_map-append}
 use Rattle.std.proofs.lemmas.List.{append-nil, append_assoc, take_all}
 use Rattle.warp_tag.specs.Moment.{Moment}
@@ -17,6 +18,7 @@ use Rattle.warp_run.specs.declared.front.Front.{Front}
 use Rattle.warp_run.specs.declared.history.Done.{Done}
 use Rattle.warp_run.proofs.RowsAside.{aside_since, from_since}
 use Rattle.warp_run.proofs.RowsBegun.{begin_append}
+use Rattle.warp_run.proofs.RowsFloor.{few_more, still_floor, still_from, still_near}
 use Rattle.warp_run.proofs.RowsSaved.{last_append, saved_more, state_append}
 
 -- the newest is the first
@@ -45,6 +47,9 @@ module _ (P : Program) (E : List Event) (x : Front) (done : List Row) (h : IsAt 
     outputs = h.outputs;
     ready = h.ready;
     width = h.width;
+    base = h.base;
+    floor = h.floor;
+    from = h.from;
     saved = h.saved;
     near = h.near;
     every = h.every;
@@ -82,8 +87,10 @@ is_met t s (c ∷ cs) last state = record { earliest = c; others = cs; aside = r
 -- so no row is gone over
 pub past_none : (x : Front) (a : SetAside) (tag : Moment)
     → a ≡ record x.aside { history = record x.aside.history { saves = since tag x.aside.history.saves } } → GoesOn x (record x { aside = a })
-past_none x a tag is = λ P E done at.
-    ([], subst (IsAt P E (record x { aside = a })) (sym (append-nil done)) (without_past P E x done at a tag is))
+past_none x a tag is = record {
+  floor = refl;
+  rows = λ P E done at. ([], subst (IsAt P E (record x { aside = a })) (sym (append-nil done)) (without_past P E x done at a tag is));
+}
 
 -- and what is executed is all kept at a tag after the last row
 pub lets_go : (P : Program) (E : List Event) (x : Front) (done : List Row) (a : SetAside) (tag : Moment) → is_after x.last tag ≡ true
@@ -100,10 +107,13 @@ lets_go P E x done a tag after is h = record {
 
 -- rows are gone over, and then more
 pub goes_further : (x y z : Front) → GoesOn x y → GoesOn y z → GoesOn x z
-goes_further x y z h k = λ P E done at.
-    let first = h P E done at in
-    let second = k P E (done ++ first.0) first.1 in
-    (first.0 ++ second.0, subst (IsAt P E z) (append_assoc done first.0 second.0) second.1)
+goes_further x y z h k = record {
+  floor = k.floor ∙ h.floor;
+  rows = λ P E done at.
+      let first = h.rows P E done at in
+      let second = k.rows P E (done ++ first.0) first.1 in
+      (first.0 ++ second.0, subst (IsAt P E z) (append_assoc done first.0 second.0) second.1);
+}
 
 -- a front that differs in room alone is of the same rows
 pub same_rows : (P : Program) (E : List Event) (x y : Front) (done : List Row)
@@ -117,10 +127,17 @@ same_rows P E x y done is same history aside h = record {
   outputs = same ∙ h.outputs;
   ready = subst (λ (f : Front). IsReady P f.last f.state) (sym is) h.ready;
   width = ap (λ (z : Saves). z.width) history ∙ h.width;
-  saved = subst (λ (z : Saves). AreSaved P done z.saves) (sym history) h.saved;
-  near = subst (λ (z : Saves). y.rows ≤ reach z.saves) (sym history) (subst (λ (f : Front). f.rows ≤ reach x.history.saves) (sym is) h.near);
+  base = subst (λ (f : Front). f.base ≤ length done) (sym is) h.base;
+  floor = subst (λ (f : Front). f.floor ≡ last_after None (take f.base done)) (sym is) h.floor;
+  from = subst (λ (z : Saves). AllByRecursion (λ c. y.base ≤ c.done.rows) z.saves) (sym history)
+      (subst (λ (f : Front). AllByRecursion (λ c. f.base ≤ c.done.rows) x.history.saves) (sym is) h.from);
+  saved = subst (λ (z : Saves). AreSaved y.base P done z.saves) (sym history)
+      (subst (λ (f : Front). AreSaved f.base P done x.history.saves) (sym is) h.saved);
+  near = subst (λ (z : Saves). y.rows ≤ reach y.base z.saves) (sym history)
+      (subst (λ (f : Front). f.rows ≤ reach f.base x.history.saves) (sym is) h.near);
   every = subst (λ (f : Front). f.every ≤ spacing) (sym is) h.every;
-  due = subst (λ (z : Saves). y.due ≤ reach z.saves) (sym history) (subst (λ (f : Front). f.due ≤ reach x.history.saves) (sym is) h.due);
+  due = subst (λ (z : Saves). y.due ≤ reach y.base z.saves) (sym history)
+      (subst (λ (f : Front). f.due ≤ reach f.base x.history.saves) (sym is) h.due);
   aside_width = ap (λ (a : SetAside). a.history.width) aside ∙ h.aside_width;
   aside = subst (λ (a : SetAside). AreAside P E a.first a.outputs a.history.saves) (sym aside) h.aside;
   scratch = ap (λ (f : Front). f.scratch) is ∙ h.scratch;
@@ -138,7 +155,7 @@ goes_none P E x y done is same history aside h =
 pub record Jumps (x y : Front) (c d : Saved) : Type 0 where
   pub last : x.last ≡ c.done.last
   pub state : x.state ≡ c.state
-  pub room : x.rows + (d.done.rows - c.done.rows) ≤ reach x.history.saves
+  pub room : x.rows + (d.done.rows - c.done.rows) ≤ reach x.base x.history.saves
   pub new_rows : y.rows ≡ x.rows + (d.done.rows - c.done.rows)
   pub new_last : y.last ≡ d.done.last
   pub new_state : y.state ≡ d.state
@@ -146,6 +163,8 @@ pub record Jumps (x y : Front) (c d : Saved) : Type 0 where
   pub new_aside : IsSameAside x.aside y.aside
   pub every : y.every ≡ x.every
   pub due : y.due ≡ x.due
+  pub base : y.base ≡ x.base
+  pub floor : y.floor ≡ x.floor
   pub history : y.history ≡ x.history
   pub scratch : y.scratch ≡ x.scratch
 
@@ -176,10 +195,14 @@ jumps P E x y done c d j on ready h =
             ∙ sym (flat_map-append (λ (r : Row). r.outputs) done rows);
         ready = subst (λ (o : Option Moment). IsReady P o y.state) (sym j.new_last) (subst (IsReady P d.done.last) (sym j.new_state) ready);
         width = ap (λ (z : _). z.width) j.history ∙ h.width;
-        saved = subst (λ (z : _). AreSaved P (done ++ rows) z.saves) (sym j.history) (saved_more P done rows x.history.saves h.saved);
-        near = subst (λ (z : _). y.rows ≤ reach z.saves) (sym j.history) (omega arith);
+        base = few_more y x done rows j.base h.base;
+        floor = still_floor y x done rows j.base j.floor h.base h.floor;
+        from = still_from y x j.base j.history h.from;
+        saved = subst (λ (n : ℕ). AreSaved n P (done ++ rows) y.history.saves) (sym j.base)
+            (subst (λ (z : _). AreSaved x.base P (done ++ rows) z.saves) (sym j.history) (saved_more x.base P done rows x.history.saves h.saved));
+        near = still_near y x y.rows j.base j.history (omega arith);
         every = subst (λ (n : ℕ). n ≤ spacing) (sym j.every) h.every;
-        due = subst (λ (z : _). y.due ≤ reach z.saves) (sym j.history) (subst (λ (n : ℕ). n ≤ reach x.history.saves) (sym j.due) h.due);
+        due = still_near y x y.due j.base j.history (subst (λ (n : ℕ). n ≤ reach x.base x.history.saves) (sym j.due) h.due);
         aside_width = ap (λ (a : SetAside). a.history.width) j.new_aside ∙ h.aside_width;
         aside = subst (λ (a : SetAside). AreAside P E a.first a.outputs a.history.saves) (sym j.new_aside) h.aside;
         scratch = j.scratch ∙ h.scratch;

@@ -40,25 +40,25 @@ saved_same P a b c within same h = record {
 }
 
 -- so are checkpoints of which none has more rows than begin both
-pub saved_on : (P : Program) (a b : List Row) (n : ℕ) (cs : List Saved) → n ≤ length b → ((k : ℕ) → k ≤ n → take k a ≡ take k b)
-    → AllByRecursion (λ c. c.done.rows ≤ n) cs → AreSaved P a cs → AreSaved P b cs
-saved_on P a b n [] within same few h = tt
-saved_on P a b n (c ∷ cs) within same few h =
+pub saved_on : (base : ℕ) (P : Program) (a b : List Row) (n : ℕ) (cs : List Saved) → n ≤ length b → ((k : ℕ) → k ≤ n → take k a ≡ take k b)
+    → AllByRecursion (λ c. c.done.rows ≤ n) cs → AreSaved base P a cs → AreSaved base P b cs
+saved_on base P a b n [] within same few h = tt
+saved_on base P a b n (c ∷ cs) within same few h =
     let less = few.0 in
     let there : c.done.rows ≤ length b = omega arith in
-    (saved_same P a b c there (same c.done.rows few.0) h.0, h.1, h.2, saved_on P a b n cs within same few.1 h.3)
+    (saved_same P a b c there (same c.done.rows few.0) h.0, h.1, h.2, saved_on base P a b n cs within same few.1 h.3)
 
 -- none has more rows than there are, nor more than the newest
-pub all_within : (P : Program) (rows : List Row) (cs : List Saved) → AreSaved P rows cs → AllByRecursion (λ c. c.done.rows ≤ length rows) cs
-all_within P rows [] h = tt
-all_within P rows (c ∷ cs) h = (h.0.within, all_within P rows cs h.3)
+pub all_within : (base : ℕ) (P : Program) (rows : List Row) (cs : List Saved) → AreSaved base P rows cs → AllByRecursion (λ c. c.done.rows ≤ length rows) cs
+all_within base P rows [] h = tt
+all_within base P rows (c ∷ cs) h = (h.0.within, all_within base P rows cs h.3)
 
-pub all_older : (P : Program) (rows : List Row) (c : Saved) (cs : List Saved) → AreSaved P rows (c ∷ cs)
+pub all_older : (base : ℕ) (P : Program) (rows : List Row) (c : Saved) (cs : List Saved) → AreSaved base P rows (c ∷ cs)
     → AllByRecursion (λ d. d.done.rows ≤ c.done.rows) (c ∷ cs)
-all_older P rows c cs h = (omega arith, h.2)
+all_older base P rows c cs h = (omega arith, h.2)
 
 -- they stay where more rows are executed
-pub saved_more : (P : Program) (rows more : List Row) (cs : List Saved) → AreSaved P rows cs → AreSaved P (rows ++ more) cs
-saved_more P rows more cs h =
-    saved_on P rows (rows ++ more) (length rows) cs (omega (arith, length-append rows more))
-    (λ k few. sym (take-append-le k rows more few)) (all_within P rows cs h) h
+pub saved_more : (base : ℕ) (P : Program) (rows more : List Row) (cs : List Saved) → AreSaved base P rows cs → AreSaved base P (rows ++ more) cs
+saved_more base P rows more cs h =
+    saved_on base P rows (rows ++ more) (length rows) cs (omega (arith, length-append rows more))
+    (λ k few. sym (take-append-le k rows more few)) (all_within base P rows cs h) h

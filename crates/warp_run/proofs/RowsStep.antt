@@ -20,6 +20,7 @@ use Rattle.warp_run.specs.Aside.{AreAside}
 use Rattle.warp_run.specs.Front.{AreSaved, CanGive, IsAt}
 use Rattle.warp_run.specs.History.{IsReady, reach, spacing}
 use Rattle.warp_run.specs.declared.front.Front.{Front}
+use Rattle.warp_run.proofs.RowsFloor.{few_more, still_floor, still_from, still_near}
 use Rattle.warp_run.proofs.RowsSaved.{last_more, state_more, saved_more}
 
 -- where an event stands at a tag, something is given
@@ -71,11 +72,13 @@ pub record Steps (P : Program) (x y : Front) (tag : Moment) (X : List Given) (ou
   pub last : y.last ≡ Some tag
   pub every : y.every ≡ x.every
   pub due : y.due ≡ x.due
+  pub base : y.base ≡ x.base
+  pub floor : y.floor ≡ x.floor
   pub history : y.history ≡ x.history
   pub scratch : y.scratch ≡ x.scratch
   pub ready : IsReady P (Some tag) y.state
   pub aside : y.aside ≡ x.aside
-  pub room : x.rows + 1 ≤ reach x.history.saves
+  pub room : x.rows + 1 ≤ reach x.base x.history.saves
 
 -- then one more row is executed
 pub stepped : (P : Program) (E : List Event) (x y : Front) (done : List Row) (tag : Moment) (X : List Given) (outs : List Out)
@@ -101,10 +104,15 @@ stepped P E x y done tag X outs steps h next is =
             ∙ search (rules, flat_map-append (λ (r : Row). r.outputs) done (row ∷ []));
         ready = subst (λ (o : Option Moment). IsReady P o y.state) (sym steps.last) steps.ready;
         width = ap (λ (z : _). z.width) steps.history ∙ h.width;
-        saved = subst (λ (z : _). AreSaved P (done ++ row ∷ []) z.saves) (sym steps.history) (saved_more P done (row ∷ []) x.history.saves h.saved);
-        near = subst (λ (z : _). y.rows ≤ reach z.saves) (sym steps.history) (omega arith);
+        base = few_more y x done (row ∷ []) steps.base h.base;
+        floor = still_floor y x done (row ∷ []) steps.base steps.floor h.base h.floor;
+        from = still_from y x steps.base steps.history h.from;
+        saved = subst (λ (n : ℕ). AreSaved n P (done ++ row ∷ []) y.history.saves) (sym steps.base)
+            (subst (λ (z : _). AreSaved x.base P (done ++ row ∷ []) z.saves) (sym steps.history)
+            (saved_more x.base P done (row ∷ []) x.history.saves h.saved));
+        near = still_near y x y.rows steps.base steps.history (omega arith);
         every = subst (λ (n : ℕ). n ≤ spacing) (sym steps.every) h.every;
-        due = subst (λ (z : _). y.due ≤ reach z.saves) (sym steps.history) (subst (λ (n : ℕ). n ≤ reach x.history.saves) (sym steps.due) h.due);
+        due = still_near y x y.due steps.base steps.history (subst (λ (n : ℕ). n ≤ reach x.base x.history.saves) (sym steps.due) h.due);
         aside_width = ap (λ (z : _). z.history.width) steps.aside ∙ h.aside_width;
         aside = subst (λ (z : _). AreAside P E z.first z.outputs z.history.saves) (sym steps.aside) h.aside;
         scratch = steps.scratch ∙ h.scratch;

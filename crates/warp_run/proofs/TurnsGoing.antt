@@ -3,11 +3,10 @@ use Rattle.std.proofs.Common.{◌≡◌, ℕ, ◌+◌, ◌-◌, ◌<◌, ◌≤�
 use Rattle.std.specs.Prelude.{IsErr, OnOk}
 use Rattle.std.specs.List.{list_all, list_any}
 use Rattle.std.proofs.lemmas.Bool.Decides.{nat_tests}
+use Rattle.warp_tag.specs.Limits.{most_names}
 use Rattle.warp_tag.specs.Moment.{Moment, is_same}
 use Rattle.warp_tag.specs.Table.{Event, live}
-use Rattle.warp_tag.specs.declared.entry.Entry.{Entry}
 use Rattle.warp_tag.proofs.Tags.{is_same_self}
-use Rattle.warp_arena.specs.Places.{entries_of}
 use Rattle.warp_step.specs.Program.{Program}
 use Rattle.warp_step.specs.Snapshot.{Snapshot, start_state}
 use Rattle.warp_step.specs.Run.{Row, is_after, waits}
@@ -16,7 +15,7 @@ use Rattle.warp_line.specs.Begin.{last_after}
 use Rattle.warp_run.specs.Walk.{AreThrough}
 use Rattle.warp_run.specs.Warp.{Goes, StandsFor}
 use Rattle.warp_run.specs.declared.warp.Warp.{Warp}
-use Rattle.warp_run.proofs.TurnsRuns.{begin_length, begin_within, trace_of, run_ends}
+use Rattle.warp_run.proofs.TurnsRuns.{begin_length, begin_names, run_ends}
 
 -- what goes on from where the first came to
 pub goes_on : (P : Program) (a b c : Warp) (i j k : ℕ) → Goes P a b i → Goes P b c j → k ≡ i + j → Goes P a c k
@@ -31,15 +30,12 @@ goes_on P a b c i j k g h is = λ m stands same.
       omega arith,
     )
 
--- a row more leaves fewer
+-- a row more leaves fewer, since they are no more than there may be names
 pub fewer_left : (P : Program) (v w : Warp) (m : Standing) (rows : List Row) → StandsFor v m
     → StandsFor w (record m { done = m.done ++ rows }) → m.program ≡ P → 1 ≤ length rows
-    → length (trace_of P (live (entries_of w.arena.places))) - w.front.rows < length (trace_of P (live (entries_of v.arena.places))) - v.front.rows
+    → most_names - w.front.rows < most_names - v.front.rows
 fewer_left P v w m rows h k same one =
-    let program = ap (λ (Q : Program). length (trace_of Q (live m.table))) same in
-    let before = ap (λ (es : List Entry). length (trace_of P (live es))) h.table in
-    let after = ap (λ (es : List Entry). length (trace_of P (live es))) k.table in
-    let most = begin_within m.program (live m.table) (m.done ++ rows) k.front.begin in
+    let most = begin_names m.program (live m.table) h.program h.events (m.done ++ rows) k.front.begin in
     let lengths = length-append m.done rows in
     let was = h.front.rows in
     let are = k.front.rows in

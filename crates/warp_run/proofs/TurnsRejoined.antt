@@ -60,10 +60,10 @@ pub rejoined : (P : Program) (w v : Warp) → w.settled ≡ false → v.arena �
     → ((m : Standing) → StandsFor w m → Reaches w.arena.places (ahead v.front.last (ahead w.front.last w.arena.places)) v.cursor)
     → Goes P w v 0
 rejoined P w v unsettled arena latest settled on cursor = λ m h same.
-    let more = on m.program (live m.table) m.done h.front in
+    let more = on.rows m.program (live m.table) m.done h.front in
     let places = w.arena.places in (
       more.0,
-      stands_on w v m (m.done ++ more.0) h arena more.1
+      stands_on w v m (m.done ++ more.0) h arena on.floor more.1
           (subst (λ (qs : List Place). Reaches places qs v.cursor)
           (ahead_on m.program (live m.table) w.front v.front m.done more.0 places h.front more.1) (cursor m h))
           (subst (λ (l : Option Moment). AreThrough l (live m.table)) (sym latest) h.latest)

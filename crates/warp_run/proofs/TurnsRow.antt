@@ -29,7 +29,7 @@ still_next E t x y same next =
 
 -- what is executed is the same as itself
 pub same_front : (x : Front) → IsSame x x
-same_front x = record { last = refl; state = refl; rows = refl; outputs = refl; aside = refl; kept = λ P E done h. h }
+same_front x = record { last = refl; state = refl; rows = refl; outputs = refl; floor = refl; aside = refl; kept = λ P E done h. h }
 
 -- what the places up to the tag give
 abbrev pub given_through : Warp → Moment → List Given
@@ -64,17 +64,17 @@ module _ (P : Program) (w : Warp) (t : Moment) (n : NextAt P w t) where
 
   -- and where it was made, and the cursor is behind the tag, one more row is done
   pub row_done : (v : Warp) (x : Front) (X : List Given) (count : ℕ) → IsSame w.front x → X ≡ given_through w t → w.settled ≡ false
-      → v.arena ≡ w.arena → v.latest ≡ w.latest → v.settled ≡ w.settled → v.front.last ≡ Some t
+      → v.arena ≡ w.arena → v.latest ≡ w.latest → v.settled ≡ w.settled → v.front.last ≡ Some t → v.front.floor ≡ x.floor
       → Reaches w.arena.places (ahead (Some t) (ahead w.front.last w.arena.places)) v.cursor
       → ((E : List Event) (done : List Row) → IsAt P E x done → IsNext E x.last x.state t → X ≡ given_at t E
       → (row : Row) × IsAt P E v.front (done ++ row ∷ []))
       → count ≤ 1 → Goes P w v count
-  row_done v x X count alike is waits arena latest settled last cursor stepped most = λ m h same.
+  row_done v x X count alike is waits arena latest settled last floor cursor stepped most = λ m h same.
       let next = same_next w n.0 m t n.1 h n.3 in
       let at = alike.kept P (live m.table) m.done (subst (λ (Q : Program). IsAt Q (live m.table) w.front m.done) same h.front) in
       let row = stepped (live m.table) m.done at (still_next (live m.table) t w.front x alike next) (given_is w m h t next X X refl is) in (
         row.0 ∷ [],
-        stands_on w v m (m.done ++ row.0 ∷ []) h arena
+        stands_on w v m (m.done ++ row.0 ∷ []) h arena (floor ∙ alike.floor)
             (subst (λ (Q : Program). IsAt Q (live m.table) v.front (m.done ++ row.0 ∷ [])) (sym same) row.1)
             (cursor_next w m h t next v.cursor cursor v.front.last last)
             (subst (λ (l : Option Moment). AreThrough l (live m.table)) (sym latest) h.latest)
@@ -87,7 +87,7 @@ pub row_failed : (P : Program) (w v : Warp) (count : ℕ) → v.arena ≡ w.aren
     → v.settled ≡ w.settled → IsSame w.front v.front → count ≤ 0 → Goes P w v count
 row_failed P w v count arena cursor latest settled same none = λ m h is. (
   [],
-  stays w v m h arena (same.kept m.program (live m.table) m.done h.front)
+  stays w v m h arena same.floor (same.kept m.program (live m.table) m.done h.front)
       (subst (λ (l : Option Moment). Reaches w.arena.places (ahead l w.arena.places) v.cursor) (sym same.last)
       (subst (λ o. Reaches w.arena.places (ahead w.front.last w.arena.places) o) (sym cursor) h.cursor))
       latest settled,

@@ -1,6 +1,7 @@
 -- One turn: what is given at the next tag may be stepped with, and the cursor goes behind it.
-use Rattle.std.proofs.Common.{◌≡◌, inl, inr, ◌<◌, true, false, nat_lt, not, List, [], ◌∷◌, ◌++◌, length, map, ap, sym, subst, ◌∙◌, refl, arith, filter, IsTrue, Option, Some, None}
-use Rattle.std.specs.List.{list_all}
+use Rattle.std.proofs.Common.{◌≡◌, inl, inr, ◌<◌, true, false, ◌&&◌, ◌||◌, nat_lt, not, List, [], ◌∷◌, ◌++◌, length, map, ap, sym, subst, ◌∙◌, refl, arith, filter, IsTrue, Option, Some, None}
+use Rattle.std.specs.List.{list_all, list_any}
+use Rattle.std.proofs.lemmas.Map.Views.{any-filter_same}
 use Rattle.std.proofs.lemmas.Bool.{cases_Bool}
 use Rattle.std.proofs.lemmas.Bool.Decides.{nat_tests}
 use Rattle.std.proofs.lemmas.List.{append-nil}
@@ -13,7 +14,8 @@ use Rattle.warp_arena.proofs.Tables.{IsTable-filter}
 use Rattle.warp_step.specs.Events.{event_fits}
 use Rattle.warp_step.specs.Snapshot.{Snapshot, start_state}
 use Rattle.warp_step.specs.Step.{CanStep}
-use Rattle.warp_step.specs.Run.{Row, IsNext, given_at, given_of, state_at_end}
+use Rattle.warp_tag.proofs.Tags.{same_is}
+use Rattle.warp_step.specs.Run.{Row, IsNext, given_at, given_of, is_after, state_at_end, waits}
 use Rattle.warp_step.specs.declared.given.Given.{Given}
 use Rattle.warp_step.proofs.TagsOfRun.{none_before, waits_after}
 use Rattle.warp_line.specs.Timeline.{Standing, IsDone}
@@ -23,7 +25,7 @@ use Rattle.warp_line.proofs.ReplayLemmas.{can_step}
 use Rattle.warp_line.proofs.RunLemmas.{stands}
 use Rattle.warp_run.specs.Front.{CanGive, IsAt}
 use Rattle.warp_run.specs.Walk.{AreThrough, ahead, given_by, through}
-use Rattle.warp_run.specs.Warp.{StandsFor}
+use Rattle.warp_run.specs.Warp.{StandsFor, ahead_of}
 use Rattle.warp_run.specs.declared.warp.Warp.{Warp}
 use Rattle.warp_run.proofs.TurnsLive.{ahead_twice, all_kept, at_next, live_kept, live_places}
 use Rattle.warp_line.proofs.ProgressLemmas.{turned}
@@ -56,13 +58,14 @@ waiting_given E last s t next =
     ]
 
 -- a value with the same arena, of which these rows are done
-pub stands_on : (w v : Warp) (m : Standing) (done : List Row) → StandsFor w m → v.arena ≡ w.arena → IsAt m.program (live m.table) v.front done
+pub stands_on : (w v : Warp) (m : Standing) (done : List Row) → StandsFor w m → v.arena ≡ w.arena → v.front.floor ≡ w.front.floor → IsAt m.program (live m.table) v.front done
     → Reaches w.arena.places (ahead v.front.last w.arena.places) v.cursor → AreThrough v.latest (live m.table)
     → (IsTrue v.settled → IsDone (record m { done = done })) → StandsFor v (record m { done = done })
-stands_on w v m done h arena front cursor latest settled = record {
+stands_on w v m done h arena floor front cursor latest settled = record {
   program = h.program;
   origins = ap (λ (a : Contents). a.origins) arena ∙ h.origins;
-  table = ap (λ (a : Contents). entries_of a.places) arena ∙ h.table;
+  table = ap (λ (a : Contents). entries_of a.places) arena ∙ h.table ∙ ap (λ (o : Option Moment). ahead_of o m.table) (sym floor);
+  ordered = h.ordered;
   events = h.events;
   front = front;
   cursor = subst (λ (a : Contents). Reaches a.places (ahead v.front.last a.places) v.cursor) (sym arena) cursor;
@@ -71,18 +74,34 @@ stands_on w v m done h arena front cursor latest settled = record {
 }
 
 -- where no row was done more
-pub stays : (w v : Warp) (m : Standing) → StandsFor w m → v.arena ≡ w.arena → IsAt m.program (live m.table) v.front m.done
+pub stays : (w v : Warp) (m : Standing) → StandsFor w m → v.arena ≡ w.arena → v.front.floor ≡ w.front.floor → IsAt m.program (live m.table) v.front m.done
     → Reaches w.arena.places (ahead v.front.last w.arena.places) v.cursor → v.latest ≡ w.latest → v.settled ≡ w.settled
     → StandsFor v (record m { done = m.done ++ [] })
-stays w v m h arena front cursor latest settled =
+stays w v m h arena floor front cursor latest settled =
     subst (λ (rows : List Row). StandsFor v (record m { done = rows })) (sym (append-nil m.done))
-    (stands_on w v m m.done h arena front cursor (subst (λ (l : Option Moment). AreThrough l (live m.table)) (sym latest) h.latest)
+    (stands_on w v m m.done h arena floor front cursor (subst (λ (l : Option Moment). AreThrough l (live m.table)) (sym latest) h.latest)
     (λ is. h.settled (sym settled ∙ is)))
 
--- the next tag of one standing is that of each with the same table
+-- where the events after the last row are the same, so is what waits
+waits_ahead : (last : Option Moment) (s : Snapshot) (D E : List Event) → filter (λ e. is_after last e.tag) D ≡ filter (λ e. is_after last e.tag) E
+    → (t : Moment) → waits D last s t ≡ waits E last s t
+waits_ahead last s D E same t = elim (cases_Bool (is_after last t)) [
+  | inl later ↦
+      let at = (λ (e : Event). is_same t e.tag) in
+      let kept = any-filter_same at (λ (e : Event). is_after last e.tag) true (λ e here. ap (is_after last) (sym (same_is t e.tag here)) ∙ later) in
+      ap (λ b. is_after last t && (b || list_any (λ w. is_same t w.tag) s.pending)) (sym (kept D) ∙ ap (list_any at) same ∙ kept E)
+  | inr early ↦ rw early refl
+]
+
+-- so the next tag of one standing is that of each that the value has
 pub same_next : (w : Warp) (m n : Standing) (t : Moment) → StandsFor w m → StandsFor w n → IsNext (live m.table) w.front.last w.front.state t
     → IsNext (live n.table) w.front.last w.front.state t
-same_next w m n t h k next = subst (λ (es : List Entry). IsNext (live es) w.front.last w.front.state t) (sym h.table ∙ k.table) next
+same_next w m n t h k next =
+    let same = waits_ahead w.front.last w.front.state (live m.table) (live n.table) (sym (ahead_events w m h) ∙ ahead_events w n k) in
+    record {
+      waiting = sym (same t) ∙ next.waiting;
+      least = λ u waiting. next.least u (same u ∙ waiting);
+    }
 
 module _ (w : Warp) (m : Standing) (h : StandsFor w m) (t : Moment) (next : IsNext (live m.table) w.front.last w.front.state t) where
   -- what the places up to the next tag give is what is given at it
@@ -99,7 +118,7 @@ module _ (w : Warp) (m : Standing) (h : StandsFor w m) (t : Moment) (next : IsNe
   -- and a step can be made with it
   pub can_give : (X : List Given) → IsOrdered w.arena → X ≡ given_at t (live m.table) → CanGive m.program t X
   can_give X ordered is =
-      let table : IsTable m.table = subst IsTable h.table ordered.table in
+      let table : IsTable m.table = h.ordered in
       let es : List Entry = filter (λ d. is_same t d.tag) m.table in
       let lives : live es ≡ filter (λ e. is_same t e.tag) (live m.table) = live_kept (is_same t) m.table in
       let fits : IsTrue (list_all (event_fits m.program) (live es)) =

@@ -1,5 +1,5 @@
 -- What a `Warp` stands for, and the next tag that waits.
-use Rattle.std.proofs.Common.{◌≡◌, false, not, ap, sym, subst, ◌∙◌, filter, IsTrue, Option, Some, None}
+use Rattle.std.proofs.Common.{◌≡◌, Bool, false, not, ap, sym, subst, ◌∙◌, filter, IsTrue, Option, Some, None}
 use Rattle.warp_tag.specs.Moment.{Moment}
 use Rattle.warp_tag.specs.Table.{Event, live}
 use Rattle.warp_step.specs.Snapshot.{least_pending, start_state}
@@ -11,7 +11,9 @@ use Rattle.warp_arena.specs.Places.{IsOrdered}
 use Rattle.warp_run.specs.Walk.{AreThrough, ahead, first_tag, live_of}
 use Rattle.warp_run.specs.Warp.{StandsFor}
 use Rattle.warp_run.specs.declared.warp.Warp.{Warp}
-use Rattle.warp_run.proofs.TurnsLive.{all_kept, live_places}
+use Rattle.warp_run.proofs.ChangesFloor.{both_after}
+use Rattle.warp_run.proofs.RowsFloor.{after_floor}
+use Rattle.warp_run.proofs.TurnsLive.{all_kept, both_filters, live_kept, live_places}
 use Rattle.warp_run.proofs.TurnsNext.{AreSorted, IsFirst, IsLeast, first_is, first_none, least_is, live_sorted}
 use Rattle.warp_run.proofs.TurnsRuns.{begin_whole}
 
@@ -20,7 +22,10 @@ module _ (w : Warp) (m : Standing) (h : StandsFor w m) where
   pub ahead_events : live_of (ahead w.front.last w.arena.places) ≡ filter (λ e. is_after w.front.last e.tag) (live m.table)
   ahead_events =
       live_places (is_after w.front.last) w.arena.places
-      ∙ ap (filter (λ (e : Event). is_after w.front.last e.tag)) (ap live h.table)
+      ∙ ap (filter (λ (e : Event). is_after w.front.last e.tag)) (ap live h.table ∙ live_kept (is_after w.front.floor) m.table)
+      ∙ both_filters (λ (e : Event). is_after w.front.floor e.tag) (λ e. is_after w.front.last e.tag) (live m.table)
+      ∙ ap (λ (test : Event → Bool). filter test (live m.table))
+      (λ i e. both_after w.front.floor w.front.last (after_floor m.program (live m.table) w.front m.done h.front) e.tag i)
 
   -- none is after the latest tag
   pub ahead_through : AreThrough w.latest (live_of (ahead w.front.last w.arena.places))
@@ -29,7 +34,7 @@ module _ (w : Warp) (m : Standing) (h : StandsFor w m) where
       (all_kept (λ (e : Event). is_after w.front.last e.tag) (λ e. not (is_after w.latest e.tag)) (live m.table) h.latest)
 
   sorted : IsOrdered w.arena → AreSorted (live m.table)
-  sorted ordered = subst (λ es. AreSorted (live es)) h.table (live_sorted _ ordered.table)
+  sorted ordered = live_sorted m.table h.ordered
 
   -- the first of them, where there is one
   pub first_event : (o : Option Moment) (a : Moment) → IsOrdered w.arena → o ≡ first_tag (live_of (ahead w.front.last w.arena.places)) → o ≡ Some a

@@ -24,15 +24,16 @@ pub record IsSaved (P : Program) (rows : List Row) (c : Saved) : Type 0 where
   pub outputs : c.done.outputs ≡ length (outputs_of (take c.done.rows rows))
   pub ready : IsReady P c.done.last c.state
 
--- the newest first, each at most sixteen rows after the one before it, the oldest before the first row
-abbrev pub AreSaved : Program → List Row → List Saved → Type 0
-AreSaved P rows [] = Unit {0}
-AreSaved P rows (c ∷ cs) =
-    IsSaved P rows c × (c.done.rows ≤ reach cs) × AllByRecursion (λ d. d.done.rows ≤ c.done.rows) cs × AreSaved P rows cs
+-- the newest first, each at most sixteen rows after the one before it, the oldest after no more rows than the base's
+abbrev pub AreSaved : ℕ → Program → List Row → List Saved → Type 0
+AreSaved base P rows [] = Unit {0}
+AreSaved base P rows (c ∷ cs) =
+    IsSaved P rows c × (c.done.rows ≤ reach base cs) × AllByRecursion (λ d. d.done.rows ≤ c.done.rows) cs × AreSaved base P rows cs
 
 -- What is executed are these rows, which begin the run: the state is that after them, the outputs are theirs, and at
--- most sixteen are after the newest checkpoint, also where the next is made as late as it is due; what is set aside may be
--- gone on over where the run meets it.
+-- most sixteen are after the newest checkpoint, also where the next is made as late as it is due; no checkpoint is before
+-- the base, so many of the rows, of which the last is at the floor; what is set aside may be gone on over where the run
+-- meets it.
 pub record IsAt (P : Program) (E : List Event) (x : Front) (done : List Row) : Type 0 where
   pub begin : Begin P E done
   pub rows : x.rows ≡ length done
@@ -41,10 +42,13 @@ pub record IsAt (P : Program) (E : List Event) (x : Front) (done : List Row) : T
   pub outputs : x.outputs.items ≡ outputs_of done
   pub ready : IsReady P x.last x.state
   pub width : x.history.width ≡ length P.variables
-  pub saved : AreSaved P done x.history.saves
-  pub near : x.rows ≤ reach x.history.saves
+  pub base : x.base ≤ length done
+  pub floor : x.floor ≡ last_after None (take x.base done)
+  pub from : AllByRecursion (λ c. x.base ≤ c.done.rows) x.history.saves
+  pub saved : AreSaved x.base P done x.history.saves
+  pub near : x.rows ≤ reach x.base x.history.saves
   pub every : x.every ≤ spacing
-  pub due : x.due ≤ reach x.history.saves
+  pub due : x.due ≤ reach x.base x.history.saves
   pub aside_width : x.aside.history.width ≡ length P.variables
   pub aside : AreAside P E x.aside.first x.aside.outputs x.aside.history.saves
   pub scratch : IsRoomOf P x.scratch
@@ -59,10 +63,10 @@ pub record CanGive (P : Program) (tag : Moment) (X : List Given) : Type 0 where
 abbrev pub AreFew : Program → List Event → Type 0
 AreFew P E = (rows : List Row) → Begin P E rows → length rows ≤ most_names
 
--- more rows are executed
-abbrev pub GoesOn : Front → Front → Type 0
-GoesOn x y =
-    (P : Program) (E : List Event) (done : List Row) → IsAt P E x done → (rows : List Row) × IsAt P E y (done ++ rows)
+-- more rows are executed, and the floor stays
+pub record GoesOn (x y : Front) : Type 0 where
+  pub floor : y.floor ≡ x.floor
+  pub rows : (P : Program) (E : List Event) (done : List Row) → IsAt P E x done → (rows : List Row) × IsAt P E y (done ++ rows)
 
 -- What was executed is cut to a front that ends before the tag, with nothing aside that is before the tag: it is all of
 -- it, or the run has at most sixteen rows more before the tag.
@@ -80,6 +84,7 @@ pub record IsSame (x y : Front) : Type 0 where
   pub state : y.state ≡ x.state
   pub rows : y.rows ≡ x.rows
   pub outputs : y.outputs.items ≡ x.outputs.items
+  pub floor : y.floor ≡ x.floor
   pub aside : IsSameAside x.aside y.aside
   pub kept : (P : Program) (E : List Event) (done : List Row) → IsAt P E x done → IsAt P E y done
 
@@ -92,5 +97,5 @@ pub record KeepsRoom (x y : Front) : Type 0 where
 
 -- there is room for one more row: a checkpoint is near enough, and the row's outputs need no memory
 pub record IsRoom (P : Program) (x : Front) : Type 0 where
-  pub near : x.rows + 1 ≤ reach x.history.saves
+  pub near : x.rows + 1 ≤ reach x.base x.history.saves
   pub outputs : vec_len x.outputs + length P.outputs ≤ vec_capacity x.outputs

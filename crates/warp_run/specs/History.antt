@@ -62,10 +62,11 @@ pub record IsReady (P : Program) (last : Option Moment) (s : Snapshot) : Type 0 
   pub of_program : IsStateOf P s
   pub later : IsTrue (list_all (λ w. is_after last w.tag) s.pending)
 
--- how many rows may be done with these checkpoints, the newest first: sixteen more than at the newest
-abbrev pub reach : List Saved → ℕ
-reach [] = 0
-reach (c ∷ cs) = c.done.rows + spacing
+-- how many rows may be done with these checkpoints, the newest first: sixteen more than at the newest, and those of the
+-- base where there is none
+abbrev pub reach : ℕ → List Saved → ℕ
+reach base [] = base
+reach base (c ∷ cs) = c.done.rows + spacing
 
 -- the checkpoint of a state that is reached
 abbrev pub saved_at : Done → Snapshot → Saved
@@ -85,6 +86,11 @@ IsOfState (c ∷ cs) s = s ≡ c.state
 abbrev pub before : Moment → List Saved → List Saved
 before tag [] = []
 before tag (c ∷ cs) = if is_after c.done.last tag then c ∷ cs else before tag cs
+
+-- from the newest down to the newest that is before the tag, and all where none is
+abbrev pub down_to : Moment → List Saved → List Saved
+down_to tag [] = []
+down_to tag (c ∷ cs) = if is_after c.done.last tag then c ∷ [] else c ∷ down_to tag cs
 
 -- these checkpoints, and in front of them those of the marks, the last first: each takes its values and entries off the front of what is left
 abbrev pub saves_of : ℕ → List Saved → List Mark → List ℤ → List Waiting → List Saved

@@ -1,8 +1,8 @@
 -- What a `Warp` stands for.
-use Rattle.std.specs.Prelude.{◌≡◌, ℕ, ◌<◌, ◌≤◌, ◌++◌, IsTrue, List, [], ◌∷◌, length, Option, Some, unwrap_or, vec_capacity, if◌then◌else◌}
+use Rattle.std.specs.Prelude.{◌≡◌, ℕ, ◌<◌, ◌≤◌, ◌++◌, IsTrue, List, [], ◌∷◌, length, filter, Option, Some, unwrap_or, vec_capacity, if◌then◌else◌}
 use Rattle.std.specs.List.{list_all}
 use Rattle.warp_tag.specs.Moment.{Moment}
-use Rattle.warp_tag.specs.Table.{fresh, known, changed, live}
+use Rattle.warp_tag.specs.Table.{IsTable, fresh, known, changed, live}
 use Rattle.warp_tag.specs.declared.entry.Entry.{Entry}
 use Rattle.warp_step.specs.Program.{Program}
 use Rattle.warp_step.specs.Run.{Row, is_after}
@@ -14,12 +14,22 @@ use Rattle.warp_run.specs.Front.{IsAt}
 use Rattle.warp_run.specs.Walk.{AreThrough, ahead}
 use Rattle.warp_run.specs.declared.warp.Warp.{Warp}
 
--- The program is valid; the arena holds the table, with events that the program takes; what is executed are the done rows;
--- the cursor is at the first place after the last of them; and no live event is after the latest tag.
+-- the last tag through which names were let go of
+abbrev pub floor_of : Warp → Option Moment
+floor_of w = w.front.floor
+
+-- the entries that are not behind a floor
+abbrev pub ahead_of : Option Moment → List Entry → List Entry
+ahead_of floor entries = filter (λ e. is_after floor e.tag) entries
+
+-- The program is valid; the table is sorted, with events that the program takes, and the arena holds what is not behind;
+-- what is executed are the done rows; the cursor is at the first place after the last of them; and no live event is after
+-- the latest tag.
 pub record StandsFor (w : Warp) (m : Standing) : Type 0 where
   pub program : IsTrue (is_valid m.program)
   pub origins : w.arena.origins ≡ m.program.origins
-  pub table : entries_of w.arena.places ≡ m.table
+  pub table : entries_of w.arena.places ≡ ahead_of w.front.floor m.table
+  pub ordered : IsTable m.table
   pub events : IsTrue (list_all (event_fits m.program) (live m.table))
   pub front : IsAt m.program (live m.table) w.front m.done
   pub cursor : Reaches w.arena.places (ahead w.front.last w.arena.places) w.cursor

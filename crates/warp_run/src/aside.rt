@@ -70,6 +70,13 @@ impl Aside {
         self.outputs.try_reserve(more)
     }
 
+    /// Drops all that is aside. The room stays as it is.
+    pub fn clear(&mut self)
+        ensures { self.new ≡ record self.old { history = record self.old.history { saves = [] } } }
+    {
+        self.history.clear();
+    }
+
     /// Sets the checkpoints aside whose last row is not before the tag, in the place of all that was, with their
     /// outputs, of which these are all. Where there is no room, or it was in vain too often, nothing is aside. The room
     /// stays as it is.

@@ -4,13 +4,15 @@ ghost use Rattle.std.specs.Prelude.{IfOk, IsOk, OnOk, OnErr, vec_len, vec_capaci
 ghost use Rattle.warp_tag.specs.Limits.{most_names};
 ghost use Rattle.warp_tag.specs.Table.{Event};
 ghost use Rattle.warp_step.specs.Program.{Program};
-ghost use Rattle.warp_step.specs.Run.{Row, IsNext, given_at, is_after};
+ghost use Rattle.warp_step.specs.Run.{Row, Run, IsNext, given_at, is_after};
+ghost use Rattle.warp_line.specs.Timeline.{MovesFloor, rows_before, rows_behind};
 ghost use Rattle.warp_run.specs.Aside.{IsMet, IsSameAside};
 ghost use Rattle.warp_run.specs.Front.{AreFew, CanGive, GoesBack, GoesOn, IsAt, IsRoom, IsSame, KeepsRoom};
 ghost use Rattle.warp_run.specs.History.{HasRoomFor, IsAtLeast, reach, spacing};
 
 use crate::aside::Aside;
 use crate::history::{Done, History};
+use crate::walk::is_after;
 use std::alloc::Global;
 use warp_step::{Given, Meter, Out, Program, Scratch, State, step};
 use warp_tag::{OutOfMemory, Tag};
@@ -81,6 +83,10 @@ pub(crate) struct Front {
     every: usize,
     /// With so many rows the next checkpoint is made before one more.
     due: usize,
+    /// How many rows the base has: no checkpoint has fewer.
+    base: usize,
+    /// The tag of the last of these rows, if there are any.
+    floor: Option<Tag>,
     history: History,
     aside: Aside,
     scratch: Scratch,
@@ -99,6 +105,8 @@ impl Front {
             last: None,
             every: spacing_of(program),
             due: 0,
+            base: 0,
+            floor: None,
             history: History::new(alloc, program.variables().len()),
             aside: Aside::new(alloc, program.variables().len()),
             scratch: Scratch::new(alloc, program)?,
@@ -110,6 +118,13 @@ impl Front {
         ensures { result ≡ self.now.last }
     {
         self.last
+    }
+
+    /// The tag of the last row of the base, if it has one.
+    pub fn floor(&self) -> Option<Tag>
+        ensures { result ≡ self.now.floor }
+    {
+        self.floor
     }
 
     /// The state after the last row.
@@ -153,6 +168,7 @@ impl Front {
             IsNext E self.old.last self.old.state tag → given.now ≡ given_at tag E →
             (row : Row) × IsAt program.now E self.new (done ++ row ∷ []) }
         ensures last { self.new.last ≡ Some tag }
+        ensures floor { self.new.floor ≡ self.old.floor }
         ensures ticked { M.ticks meter.new ≡ M.ticks meter.old + 1 }
     {
         step(
@@ -177,7 +193,7 @@ impl Front {
         ensures aside { IsSameAside self.old.aside self.new.aside }
         ensures kept { (P : Program) (E : List Event) (done : List Row) → IsAt P E self.old done →
             IsAt P E self.new done }
-        ensures room { OnOk result (self.new.rows + 1 ≤ reach self.new.history.saves) }
+        ensures room { OnOk result (self.new.rows + 1 ≤ reach self.new.base self.new.history.saves) }
         ensures fits { HasRoomFor self.old.history self.old.state → IsOk result }
     {
         if self.rows < self.due {
@@ -195,7 +211,7 @@ impl Front {
         ensures aside { IsSameAside self.old.aside self.new.aside }
         ensures kept { (P : Program) (E : List Event) (done : List Row) → IsAt P E self.old done →
             IsAt P E self.new done }
-        ensures room { OnOk result (self.new.rows + more ≤ reach self.new.history.saves) }
+        ensures room { OnOk result (self.new.rows + more ≤ reach self.new.base self.new.history.saves) }
         ensures fits { HasRoomFor self.old.history self.old.state → IsOk result }
     {
         if self.is_near(more) {
@@ -213,7 +229,7 @@ impl Front {
         ensures aside { IsSameAside self.old.aside self.new.aside }
         ensures kept { (P : Program) (E : List Event) (done : List Row) → IsAt P E self.old done →
             IsAt P E self.new done }
-        ensures room { OnOk result (self.new.rows + spacing ≤ reach self.new.history.saves) }
+        ensures room { OnOk result (self.new.rows + spacing ≤ reach self.new.base self.new.history.saves) }
         ensures fits { HasRoomFor self.old.history self.old.state → IsOk result }
     {
         if self.add_in_room() {
@@ -231,7 +247,7 @@ impl Front {
         ensures aside { IsSameAside self.old.aside self.new.aside }
         ensures kept { (P : Program) (E : List Event) (done : List Row) → IsAt P E self.old done →
             IsAt P E self.new done }
-        ensures room { OnOk result (self.new.rows + spacing ≤ reach self.new.history.saves) }
+        ensures room { OnOk result (self.new.rows + spacing ≤ reach self.new.base self.new.history.saves) }
         ensures covered { OnOk result (IsAtLeast self.new.history.room self.new.aside.history.room) }
     {
         self.history.reserve(&self.state)?;
@@ -248,7 +264,7 @@ impl Front {
         ensures others { self.new ≡ record self.old { due = self.new.due; history = self.new.history } }
         ensures kept { (P : Program) (E : List Event) (done : List Row) → IsAt P E self.old done →
             IsAt P E self.new done }
-        ensures room { IsTrue result → self.new.rows + spacing ≤ reach self.new.history.saves }
+        ensures room { IsTrue result → self.new.rows + spacing ≤ reach self.new.base self.new.history.saves }
         ensures fits { HasRoomFor self.old.history self.old.state → IsTrue result }
         ensures capacity { self.new.history.room ≡ self.old.history.room }
     {
@@ -268,7 +284,7 @@ impl Front {
     fn is_near(&self, more: usize) -> bool
         requires at { (P : Program) × (E : List Event) × (done : List Row) × IsAt P E self.now done }
         requires few { more ≤ spacing }
-        ensures { IsTrue result → self.now.rows + more ≤ reach self.now.history.saves }
+        ensures { IsTrue result → self.now.rows + more ≤ reach self.now.base self.now.history.saves }
     {
         match self.history.newest() {
             Some(newest) => self.rows - newest.rows + more <= SPACING,
@@ -276,14 +292,16 @@ impl Front {
         }
     }
 
-    /// Goes back to the newest checkpoint before a tag that is not after the last row, and sets those after it aside.
-    /// The room of each list stays as it is.
+    /// Goes back to the newest checkpoint before a tag that is not after the last row, but after the floor, and sets
+    /// those after it aside. The room of each list stays as it is.
     #[inline(never)]
     pub fn go_back(&mut self, tag: Tag)
         requires at { (P : Program) × (E : List Event) × (done : List Row) × IsAt P E self.old done }
         requires late { is_after self.old.last tag ≡ false }
+        requires ahead { is_after self.old.floor tag ≡ true }
         ensures back { (P : Program) (E : List Event) (done : List Row) → IsAt P E self.old done →
             GoesBack P E tag done self.new }
+        ensures floor { self.new.floor ≡ self.old.floor }
         ensures room { KeepsRoom self.old self.new }
     {
         self.aside.take_from(tag, &mut self.history, &self.outputs);
@@ -305,6 +323,38 @@ impl Front {
         ensures room { KeepsRoom self.old self.new }
     {
         self.aside.let_go_before(tag);
+    }
+
+    /// Moves the base up to the last row, where that is before the tag, and else to the newest checkpoint that is, if
+    /// there is one. Older checkpoints, and all that are aside, are dropped. What is executed stays, and so does the
+    /// room of each list.
+    pub fn collect(&mut self, below: Tag)
+        ensures others { self.new ≡ record self.old {
+          due = self.new.due;
+          base = self.new.base;
+          floor = self.new.floor;
+          history = self.new.history;
+          aside = self.new.aside;
+        } }
+        ensures kept { (P : Program) (E : List Event) (done : List Row) → IsAt P E self.old done →
+            IsAt P E self.new done }
+        ensures floor { (P : Program) (E : List Event) (done : List Row) → IsAt P E self.old done →
+            MovesFloor below self.old.floor self.new.floor }
+        ensures behind { (P : Program) (E : List Event) (done : List Row) → IsAt P E self.old done → Run P E done →
+            rows_before below done ≤ rows_behind self.new.floor done + spacing }
+        ensures room { KeepsRoom self.old self.new }
+    {
+        self.aside.clear();
+        if is_after(self.last, below) {
+            // The next row makes a checkpoint first.
+            self.history.clear();
+            self.due = self.rows;
+            self.base = self.rows;
+            self.floor = self.last;
+        } else if let Some(done) = self.history.drop_older(below) {
+            self.base = done.rows;
+            self.floor = done.last;
+        }
     }
 
     /// Whether the run has come to the earliest checkpoint that is aside.

@@ -1,10 +1,11 @@
 //! The checkpoints of a run, in lists that they share: one more is appended to each, and going back cuts them.
 ghost use Rattle.std.specs.Prelude.{◌≡◌, ◌+◌, ◌<◌, ◌≤◌, ◌-◌, ◌↔◌, List, [], ◌∷◌, ◌++◌, length, take, drop, IsTrue};
-ghost use Rattle.std.specs.Prelude.{if◌then◌else◌, OnOk, vec_len, vec_capacity};
+ghost use Rattle.std.specs.Prelude.{if◌then◌else◌, Some, None, IfSome, OnOk, vec_len, vec_capacity};
 ghost use Rattle.warp_tag.specs.Limits.{most_pending};
 ghost use Rattle.warp_step.specs.Snapshot.{AreInOrder, Snapshot};
 ghost use Rattle.warp_run.specs.Aside.{set_aside, since};
-ghost use Rattle.warp_run.specs.History.{HasRoomFor, IsAtLeast, IsOfState, Saved, before, newest, no_saves, saved_at};
+ghost use Rattle.warp_run.specs.History.{HasRoomFor, IsAtLeast, IsOfState, Saved, before, down_to, newest, no_saves};
+ghost use Rattle.warp_run.specs.History.{saved_at};
 
 use std::alloc::Global;
 use std::marker::Model;
@@ -131,6 +132,17 @@ fn fill<T: Copy>(list: &mut Vec<T>, len: usize, block: &[T]) -> Result<(), OutOf
     }
     list.extend_from_slice(&block[..len - list.len()])?;
     Ok(())
+}
+
+/// Moves the items behind the first so many up to so many to the front. No other item is of use after it.
+fn move_front<T: Copy>(list: &mut Vec<T>, from: usize, to: usize)
+    requires order { from ≤ to }
+    requires within { to ≤ vec_len list.old }
+    ensures items { take (to - from) list.new.items ≡ drop from (take to list.old.items) }
+    ensures len { vec_len list.new ≡ vec_len list.old }
+    ensures capacity { vec_capacity list.new ≡ vec_capacity list.old }
+{
+    list.copy_within(from..to, 0);
 }
 
 /// Appends items to a list that has room for them.
@@ -355,6 +367,58 @@ impl History {
         {
             self.drop_newest();
         }
+    }
+
+    /// Drops the checkpoints older than the newest one that is before the tag, and answers how far that one is. Where
+    /// none is before the tag, none is dropped. The room stays as it is.
+    pub fn drop_older(&mut self, tag: Tag) -> Option<Done>
+        ensures left { self.new ≡ record self.old { saves = down_to tag self.old.saves } }
+        ensures newest { result ≡ newest (before tag self.old.saves) }
+    {
+        let (older, done) = self.newest_before(tag)?;
+        self.drop_oldest(older);
+        Some(done)
+    }
+
+    /// How many checkpoints are older than the newest one that is before the tag, if there is one, and how far that is.
+    fn newest_before(&self, tag: Tag) -> Option<(usize, Done)>
+        ensures none { result ≡ None → (newest (before tag self.now.saves) ≡ None) ×
+            (down_to tag self.now.saves ≡ self.now.saves) }
+        ensures some { IfSome result (λ found. (found.0 ≤ length self.now.saves) ×
+            (newest (before tag self.now.saves) ≡ Some found.1) ×
+            (down_to tag self.now.saves ≡ take (length self.now.saves - found.0) self.now.saves)) }
+    {
+        let mut at = self.marks.len();
+        while at > 0 {
+            at -= 1;
+            let done = self.marks[at].done;
+            if done.is_before(tag) {
+                return Some((at, done));
+            }
+        }
+        None
+    }
+
+    /// Drops so many of the oldest checkpoints. The room stays as it is.
+    fn drop_oldest(&mut self, count: usize)
+        requires { count ≤ length self.old.saves }
+        ensures { self.new ≡ record self.old { saves = take (length self.old.saves - count) self.old.saves } }
+    {
+        let mut values = 0;
+        let mut entries = 0;
+        let mut at = 0;
+        while at < count {
+            values += self.width;
+            entries += self.marks[at].pending;
+            at += 1;
+        }
+        move_front(&mut self.values, values, self.values_used);
+        self.values_used -= values;
+        move_front(&mut self.entries, entries, self.entries_used);
+        self.entries_used -= entries;
+        let marks = self.marks.len();
+        move_front(&mut self.marks, count, marks);
+        self.marks.truncate(marks - count);
     }
 
     /// Drops the checkpoints whose last row is not before the tag.

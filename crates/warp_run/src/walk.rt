@@ -1,6 +1,6 @@
 //! Walks along the places of an arena.
-ghost use Rattle.std.specs.Prelude.{◌≡◌, ◌++◌, ◌∷◌, [], true, IsTrue, List, Some, map, IfOk, IfSome, OnOk, IsSomeAnd};
-ghost use Rattle.std.specs.Prelude.{if◌then◌else◌};
+ghost use Rattle.std.specs.Prelude.{◌≡◌, ◌≤◌, ◌++◌, ◌∷◌, [], true, IsTrue, List, Some, map, IfOk, IfSome, OnOk};
+ghost use Rattle.std.specs.Prelude.{if◌then◌else◌, IsSomeAnd};
 ghost use Rattle.std.specs.Option.{option_map};
 ghost use Rattle.warp_tag.specs.Table.{live, live_event};
 ghost use Rattle.warp_step.specs.Run.{given_of, is_after};
@@ -18,6 +18,16 @@ pub(crate) fn is_after(last: Option<Tag>, tag: Tag) -> bool
     match last {
         Some(last) => last.is_before(tag),
         None => true,
+    }
+}
+
+/// Frees the nodes whose tags are not after the floor, if there is one.
+pub(crate) fn free_behind(arena: &mut Arena, floor: Option<Tag>)
+    ensures places { arena.new ≡ record arena.old { places = ahead floor arena.old.places; free = arena.new.free } }
+    ensures free { arena.old.free ≤ arena.new.free }
+{
+    if let Some(floor) = floor {
+        arena.free_through(floor);
     }
 }
 

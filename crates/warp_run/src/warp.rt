@@ -1,19 +1,19 @@
 //! The timeline with rollback.
 ghost use Rattle.std.specs.Prelude.{◌≡◌, ◌+◌, ◌-◌, ◌≤◌, false, true, IsTrue, List, None, IfSome, OnOk, OnErr};
-ghost use Rattle.std.specs.Prelude.{IsSomeAnd};
+ghost use Rattle.std.specs.Prelude.{IsSomeAnd, length};
 ghost use Rattle.warp_tag.specs.Table.{Event, live};
 ghost use Rattle.warp_step.specs.Program.{Program};
 ghost use Rattle.warp_step.specs.Events.{IsNameOf};
 ghost use Rattle.warp_step.specs.Run.{Row, IsNext, is_after};
-ghost use Rattle.warp_arena.specs.Places.{Reaches, entry_of};
+ghost use Rattle.warp_arena.specs.Places.{Reaches, entries_of, entry_of};
 ghost use Rattle.warp_line.specs.Timeline.{Standing, IsDone};
 ghost use Rattle.warp_run.specs.Walk.{IsAhead, IsAtFirst, ahead, tag_of_next};
 ghost use Rattle.warp_run.specs.Front.{GoesBack, IsAt, KeepsRoom};
-ghost use Rattle.warp_run.specs.Warp.{Goes, HasRoom, NamesAt, StandsFor, latest_with};
+ghost use Rattle.warp_run.specs.Warp.{Goes, HasRoom, NamesAt, StandsFor, ahead_of, floor_of, latest_with};
 
 use crate::front::Front;
 use crate::walk::{
-    Live, Next, first_after, first_from, gather_from, is_after, is_past, next_event,
+    Live, Next, first_after, first_from, free_behind, gather_from, is_after, is_past, next_event,
 };
 use std::alloc::Global;
 use std::slice;
@@ -25,7 +25,8 @@ use warp_tag::{OutOfMemory, Tag};
 
 /// The timeline that executes at once what it has, and after a change at a tag that is executed already goes back to
 /// the newest checkpoint before that tag. Where the run is then again in a state that it was in, it can go on over what
-/// was executed behind that.
+/// was executed behind that. Where it collects, it frees the names through the last tag of its base, a checkpoint or
+/// the present state, and drops what is older.
 #[derive(Drop)]
 pub struct Warp {
     arena: Arena,
@@ -50,6 +51,10 @@ impl Timeline for Warp {
 
     ghost settled = { λ w. w.settled };
 
+    ghost use Rattle.warp_run.specs.Warp.{floor_of};
+
+    ghost floor = { floor_of };
+
     ghost SLACK = { 16 };
 
     ghost use Rattle.warp_tag.specs.Table.{live};
@@ -72,12 +77,15 @@ impl Timeline for Warp {
         })
     }
 
+    fn behind(&self, tag: Tag) -> bool {
+        !is_after(self.front.floor(), tag)
+    }
+
     fn prepare(&mut self, alloc: Global) -> Result<(), OutOfMemory> {
         self.arena.reserve_one(alloc)
     }
 
     fn put(&mut self, origin: u32, tag: Tag, input: u32, value: i64) {
-        self.arena.ordered();
         let node = self.node(origin, tag);
         let changes = self.arena.entry(node).note_event(input, value);
         self.arena.set_event(node, input, value);
@@ -87,7 +95,6 @@ impl Timeline for Warp {
     }
 
     fn withdraw(&mut self, origin: u32, tag: Tag) {
-        self.arena.ordered();
         let node = self.node(origin, tag);
         let changes = self.arena.entry(node).withdraw();
         self.arena.set_withdrawn(node);
@@ -110,8 +117,14 @@ impl Timeline for Warp {
         Ok(())
     }
 
-    /// It keeps everything.
-    fn collect(&mut self, _below: Tag) {}
+    /// The base comes to the present state, where all that is done is before `below`, and else to the newest
+    /// checkpoint whose done tags are all before it, if there is one. The nodes of all names through the base's last
+    /// tag are freed, and older checkpoints are dropped, and so is what a rollback set aside. All outputs stay. The
+    /// work is that of what is freed and dropped, and of the checkpoints that stay.
+    fn collect(&mut self, below: Tag) {
+        self.front.collect(below);
+        free_behind(&mut self.arena, self.front.floor());
+    }
 
     fn is_settled(&self) -> bool {
         self.settled
@@ -127,6 +140,22 @@ impl Timeline for Warp {
 }
 
 impl Warp {
+    /// Its arena: the names that are not behind, in order of tag, then of origin, each with its greatest payload and
+    /// its withdrawn mark.
+    pub fn arena(&self) -> &Arena
+        ensures { (m : Standing) → StandsFor self.now m →
+            entries_of result.now.places ≡ ahead_of (floor_of self.now) m.table }
+    {
+        &self.arena
+    }
+
+    /// How many names its arena holds: those that are not behind.
+    pub fn held(&self) -> usize
+        ensures { (m : Standing) → StandsFor self.now m → result ≡ length (ahead_of (floor_of self.now) m.table) }
+    {
+        self.arena.len()
+    }
+
     /// Executes rows until none waits.
     fn catch_up<M: Meter>(&mut self, program: &Program, meter: &mut M) -> Result<(), OutOfMemory>
         requires stands { (m : Standing) × StandsFor self.old m × (m.program ≡ program.now) }
@@ -134,6 +163,7 @@ impl Warp {
         ensures goes { Goes program.now self.old self.new (M.ticks meter.new - M.ticks meter.old) }
         ensures ticked { M.ticks meter.old ≤ M.ticks meter.new }
         ensures unsettled { self.new.settled ≡ false }
+        ensures floor { self.new.front.floor ≡ self.old.front.floor }
         ensures done { OnOk result ((m : Standing) → StandsFor self.new m → m.program ≡ program.now → IsDone m) }
     {
         while let Some(next) = self.next_row() {
@@ -152,6 +182,7 @@ impl Warp {
         requires unsettled { self.old.settled ≡ false }
         ensures goes { (P : Program) → Goes P self.old self.new 0 }
         ensures unsettled { self.new.settled ≡ false }
+        ensures floor { self.new.front.floor ≡ self.old.front.floor }
     {
         let rejoined = self.front.rejoin();
         if let Some(last) = self.front.last() {
@@ -199,6 +230,7 @@ impl Warp {
         ensures ticked { OnOk result (M.ticks meter.new ≡ M.ticks meter.old + 1) }
         ensures stays { OnErr result (M.ticks meter.new ≡ M.ticks meter.old) }
         ensures unsettled { self.new.settled ≡ false }
+        ensures floor { self.new.front.floor ≡ self.old.front.floor }
     {
         match *next {
             Next::AtEvent(live) => self.turn_at_event(program, &live, meter),
@@ -223,6 +255,7 @@ impl Warp {
         ensures ticked { OnOk result (M.ticks meter.new ≡ M.ticks meter.old + 1) }
         ensures stays { OnErr result (M.ticks meter.new ≡ M.ticks meter.old) }
         ensures unsettled { self.new.settled ≡ false }
+        ensures floor { self.new.front.floor ≡ self.old.front.floor }
     {
         self.arena.ordered();
         let behind = self.arena.next(first.node);
@@ -251,6 +284,7 @@ impl Warp {
         ensures ticked { OnOk result (M.ticks meter.new ≡ M.ticks meter.old + 1) }
         ensures stays { OnErr result (M.ticks meter.new ≡ M.ticks meter.old) }
         ensures unsettled { self.new.settled ≡ false }
+        ensures floor { self.new.front.floor ≡ self.old.front.floor }
     {
         self.arena.ordered();
         if !is_past(&self.arena, &self.cursor, tag) {
@@ -276,6 +310,7 @@ impl Warp {
         ensures ticked { OnOk result (M.ticks meter.new ≡ M.ticks meter.old + 1) }
         ensures stays { OnErr result (M.ticks meter.new ≡ M.ticks meter.old) }
         ensures unsettled { self.new.settled ≡ false }
+        ensures floor { self.new.front.floor ≡ self.old.front.floor }
     {
         self.arena.ordered();
         self.given.clear();
@@ -311,10 +346,11 @@ impl Warp {
         node
     }
 
-    /// Goes back behind a tag at which the live events changed, if it is executed.
+    /// Goes back behind a tag after the floor at which the live events changed, if it is executed.
     fn undo_from(&mut self, node: NodeId, tag: Tag)
         requires named { IsSomeAnd (entry_of node self.old.arena.places) (λ e. e.tag ≡ tag) }
         requires front { (P : Program) × (E : List Event) × (done : List Row) × IsAt P E self.old.front done }
+        requires ahead { is_after self.old.front.floor tag ≡ true }
         ensures arena { self.new.arena ≡ self.old.arena }
         ensures latest { self.new.latest ≡ latest_with tag self.old.latest }
         ensures unsettled { self.new.settled ≡ false }
@@ -328,6 +364,7 @@ impl Warp {
         ensures cursor { Reaches self.old.arena.places
             (ahead self.old.front.last self.old.arena.places) self.old.cursor →
             Reaches self.new.arena.places (ahead self.new.front.last self.new.arena.places) self.new.cursor }
+        ensures floor { self.new.front.floor ≡ self.old.front.floor }
     {
         self.settled = false;
         if is_after(self.latest, tag) {

@@ -22,10 +22,12 @@ returns-in-Some-clause-back c = λ P E done at.
       every = refl;
       due = search rules;
       scratch = refl;
+      base = refl;
+      floor = refl;
     })
-    at c.requires.late
+    at c.requires.late c.requires.ahead
 
 pub returns-in_default-clause-back : goal.returns-in_default-clause-back
 returns-in_default-clause-back c = λ P E done at.
-    absurd (always_left P E c.args.tag c.args.self.now done at c.requires.late
+    absurd (always_left P E c.args.tag c.args.self.now done at c.requires.late c.requires.ahead
     (ap (λ (h : Saves). newest h.saves) (sym c.take_from.ensures.left) ∙ sym c.in_default.ensures))

@@ -19,7 +19,7 @@ loop-init c =
 pub loop-preserved : goal.loop-preserved
 loop-preserved c =
     let i = c.loop.invariant in
-    let on = c.jump.ensures.on i.at.0 i.at.1 i.at.2 i.at.3 in
+    let on = c.jump.ensures.on.rows i.at.0 i.at.1 i.at.2 i.at.3 in
     record {
       at = (i.at.0, i.at.1, i.at.2 ++ on.0, on.1, i.at.4);
       on = goes_further c.args.self.now c.loop.self c.jump.new.self i.on c.jump.ensures.on;

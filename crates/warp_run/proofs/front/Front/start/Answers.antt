@@ -17,6 +17,9 @@ returns c = λ E. record {
   outputs = c.new.ensures.items;
   ready = record { of_program = c.in_ok-start.ensures.of_program; later = all_after_none c.in_ok-start.field-0.pending };
   width = search rules;
+  base = search rules;
+  floor = refl;
+  from = search rules;
   saved = search rules;
   near = search rules;
   every = search rules;

@@ -19,6 +19,8 @@ returns-clause-stepped g c = λ E done at next is.
       every = refl;
       due = refl;
       history = refl;
+      base = refl;
+      floor = refl;
       aside = refl;
       scratch = c.step.ensures.scratch;
       ready = record { of_program = c.step.ensures.of_program; later = c.step.ensures.later };

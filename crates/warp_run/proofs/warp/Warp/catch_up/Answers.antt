@@ -1,5 +1,5 @@
 -- each turn goes on by a row, and then over what is aside
-use Rattle.std.proofs.Common.{◌++◌, refl, arith}
+use Rattle.std.proofs.Common.{◌++◌, ◌∙◌, refl, arith}
 use Rattle.warp_run.proofs.TurnsGoing.{fewer_left, goes_on}
 use Rattle.warp_run.proofs.warp.Warp.catch_up.Goals as goal
 
@@ -24,6 +24,7 @@ loop-next-preserved g c =
       goes = goes_on P c.args.self.now c.loop-next.self c.turn.new.self _ _ _ i.goes c.turn.ensures.goes (omega arith);
       ticked = omega arith;
       unsettled = c.turn.ensures.unsettled;
+      floor = c.turn.ensures.floor ∙ i.floor;
       stands = (record n.0 { done = n.0.done ++ turn.0 }, turn.1, n.2);
     }
 
@@ -56,6 +57,7 @@ loop-next-preserved-in-Continue-branch-2 g c =
           (goes_on P c.args.self.now c.loop-next.self c.turn.new.self _ _ _ i.goes c.turn.ensures.goes refl) (c.rejoin.ensures.goes P) (omega arith);
       ticked = omega arith;
       unsettled = c.rejoin.ensures.unsettled;
+      floor = c.rejoin.ensures.floor ∙ c.turn.ensures.floor ∙ i.floor;
       stands = (record n.0 { done = (n.0.done ++ turn.0) ++ on.0 }, on.1, n.2);
     }
 

@@ -41,4 +41,4 @@ returns-clause-goes g c =
     let gathered = c.in_ok-cursor.ensures (ahead w.front.last w.arena.places) c.requires.next.1.cursor in
     row_done c.args.program.now w c.args.tag c.requires.next _ c.get_ready.new.self c.deref.result.now _ c.get_ready.ensures.same
     (c.deref.ensures.value ∙ gathered.1 ∙ ap (λ xs. xs ++ given_through w c.args.tag) c.clear.ensures.items)
-    c.requires.unsettled refl refl refl did.last gathered.0 did.stepped (omega arith)
+    c.requires.unsettled refl refl refl did.last did.floor gathered.0 did.stepped (omega arith)

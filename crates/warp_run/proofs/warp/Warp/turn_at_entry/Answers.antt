@@ -34,4 +34,4 @@ returns-clause-goes g c =
     let ticked = did.ticked in
     let past = c.is_past.ensures c.if-not-is_past.false (ahead w.front.last w.arena.places) c.requires.next.1.cursor in
     row_done c.args.program.now w c.args.tag c.requires.next _ c.get_ready.new.self _ _ c.get_ready.ensures.same (sym past.1)
-    c.requires.unsettled refl refl refl did.last past.0 did.stepped (omega arith)
+    c.requires.unsettled refl refl refl did.last did.floor past.0 did.stepped (omega arith)

@@ -37,4 +37,4 @@ returns-clause-goes g c =
     let ticked = did.ticked in
     let past = c.is_past.ensures c.if-not-is_past.false (places_after l.node w.arena.places) c.next-behind.ensures in
     row_done c.args.program.now w l.tag c.requires.next _ c.get_ready.new.self c.from_ref-alone.result.now _ c.get_ready.ensures.same (c.from_ref-alone.ensures.value ∙ alone_given w l c.requires.event past.1)
-    c.requires.unsettled refl refl refl did.last (cursor_behind w l c.requires.event _ past.0) did.stepped (omega arith)
+    c.requires.unsettled refl refl refl did.last did.floor (cursor_behind w l c.requires.event _ past.0) did.stepped (omega arith)

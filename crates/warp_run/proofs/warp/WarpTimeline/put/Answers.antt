@@ -10,6 +10,7 @@ use Rattle.warp_run.specs.Front.{KeepsRoom}
 use Rattle.warp_run.specs.Warp.{latest_with}
 use Rattle.warp_run.specs.declared.front.Front.{Front}
 use Rattle.warp_run.specs.declared.warp.Warp.{Warp}
+use Rattle.warp_run.proofs.ChangesFloor.{not_behind}
 use Rattle.warp_run.proofs.ChangesEvents.{all_through, one_through}
 use Rattle.warp_run.proofs.ChangesStand.{keeps_room, named_after, never_same, same_room, same_stands, undone_stands}
 use Rattle.warp_run.proofs.warp.WarpTimeline.put.Goals as goal
@@ -18,6 +19,17 @@ pub undo_from-requires-clause-named : goal.undo_from-requires-clause-named
 undo_from-requires-clause-named c =
     let made = rw (to_z-of_z w64 c.args.value c.ranges.value) at c.set_event.ensures.places in
     named_after (with_event c.args.input c.args.value) (with_event_names c.args.input c.args.value) c.node-node.ensures.names made
+
+pub undo_from-requires-clause-ahead : goal.undo_from-requires-clause-ahead
+undo_from-requires-clause-ahead c =
+    ap (λ (w : Warp). is_after w.front.floor c.args.tag) c.node-node.ensures.names.others
+    ∙ not_behind c.args.self.now.front.floor c.args.tag c.requires.ahead
+
+pub returns-then-changes-clause-floor : goal.returns-then-changes-clause-floor
+returns-then-changes-clause-floor c = c.undo_from.ensures.floor ∙ ap (λ (w : Warp). w.front.floor) c.node-node.ensures.names.others
+
+pub returns-else-changes-clause-floor : goal.returns-else-changes-clause-floor
+returns-else-changes-clause-floor c = ap (λ (w : Warp). w.front.floor) c.node-node.ensures.names.others
 
 pub returns-then-changes-clause-stands : goal.returns-then-changes-clause-stands
 returns-then-changes-clause-stands c = λ m h good.
@@ -29,22 +41,22 @@ returns-then-changes-clause-stands c = λ m h good.
     (all_through c.args.tag latest _ h.latest) (one_through c.args.tag latest) in
     let u = c.undo_from.ensures in
     undone_stands (with_event c.args.input c.args.value) (with_event_names c.args.input c.args.value) c.node-node.ensures.names made
-    c.ordered.ensures.order.table c.entry.ensures.entry noted h (c.note_event-changes.ensures.changes c.if-changes.true) fits through
-    c.undo_from.new.self u.arena u.latest u.unsettled u.front u.cursor
+    (not_behind c.args.self.now.front.floor c.args.tag c.requires.ahead) c.entry.ensures.entry noted h (c.note_event-changes.ensures.changes c.if-changes.true) fits through
+    c.undo_from.new.self u.arena u.floor u.latest u.unsettled u.front u.cursor
 
 pub returns-else-changes-clause-stands : goal.returns-else-changes-clause-stands
 returns-else-changes-clause-stands c = λ m h good.
     let made = rw (to_z-of_z w64 c.args.value c.ranges.value) at c.set_event.ensures.places in
     let noted = rw (to_z-of_z w64 c.args.value c.ranges.value) at c.note_event-changes.ensures.entry in
     same_stands (with_event c.args.input c.args.value) (with_event_names c.args.input c.args.value) c.node-node.ensures.names made
-    c.ordered.ensures.order.table c.entry.ensures.entry noted h (c.note_event-changes.ensures.same c.if-changes.false)
+    (not_behind c.args.self.now.front.floor c.args.tag c.requires.ahead) c.entry.ensures.entry noted h (c.note_event-changes.ensures.same c.if-changes.false)
 
 pub returns-then-changes-clause-settled : goal.returns-then-changes-clause-settled
 returns-then-changes-clause-settled c = λ m h good same.
     let made = rw (to_z-of_z w64 c.args.value c.ranges.value) at c.set_event.ensures.places in
     let noted = rw (to_z-of_z w64 c.args.value c.ranges.value) at c.note_event-changes.ensures.entry in
     absurd (never_same (with_event c.args.input c.args.value) (with_event_names c.args.input c.args.value) c.node-node.ensures.names made
-    c.ordered.ensures.order.table c.entry.ensures.entry noted h (c.note_event-changes.ensures.changes c.if-changes.true) same)
+    (not_behind c.args.self.now.front.floor c.args.tag c.requires.ahead) c.entry.ensures.entry noted h (c.note_event-changes.ensures.changes c.if-changes.true) same)
 
 pub returns-else-changes-clause-settled : goal.returns-else-changes-clause-settled
 returns-else-changes-clause-settled c = λ m h good same. ap (λ (w : Warp). w.settled) c.node-node.ensures.names.others

@@ -1,0 +1,15 @@
+use Rattle.std.proofs.Common.{◌≤◌, ◌-◌, length, take}
+use Rattle.warp_run.proofs.MarksCut.{IsCutOff}
+use Rattle.warp_run.proofs.history.History.drop_oldest.Given as goal
+
+-- so many are cut off
+abbrev pub invariant-loop-at : goal.invariant-loop-at
+invariant-loop-at l = record {
+  most : l.at ≤ l.count;
+  within : l.count ≤ length l.self-inside.marks.items;
+  cut : IsCutOff l.self-inside.width l.self-inside.marks.items (take l.self-inside.values_used l.self-inside.values.items)
+      (take l.self-inside.entries_used l.self-inside.entries.items) l.at l.values l.entries;
+}
+
+abbrev pub decreases-loop-at : goal.decreases-loop-at
+decreases-loop-at l = l.count - l.at
