@@ -1,12 +1,12 @@
 -- What is known of the names of a table, put into an empty table in any order, gives that table.
-use Rattle.std.proofs.Common.{◌≡◌, ◌⊎◌, inl, inr, ℕ, ℤ, ◌+◌, ◌*◌, ◌≤◌, Bool, true, false, cond, List, [], ◌∷◌, All, Contains, fold, length, Option, Some, None, IsTrue, refl, sym, ap, subst, ◌∙◌, arith}
+use Rattle.std.proofs.Common.{◌≡◌, ◌⊎◌, inl, inr, ℕ, ℤ, ◌+◌, ◌≤◌, Bool, true, false, cond, List, [], ◌∷◌, All, Contains, fold, length, Option, Some, None, refl, sym, ap, subst, ◌∙◌, arith}
 use Rattle.std.specs.Option.{unwrap_or}
-use Rattle.std.proofs.lemmas.Bool.{both_ways, cases_Bool, true≢false}
+use Rattle.std.proofs.lemmas.Bool.{both_ways, cases_Bool}
 use Rattle.std.proofs.lemmas.List.Elements.{All-contains}
 use Rattle.warp_tag.specs.Moment.{Moment}
-use Rattle.warp_tag.specs.Table.{IsTable, changed, fresh, greater, has_name, is_lesser, known, with_event, with_withdrawal}
+use Rattle.warp_tag.specs.Table.{IsTable, fresh, has_name, is_lesser, known, with_event, with_withdrawal}
 use Rattle.warp_tag.specs.declared.entry.Entry.{Entry}
-use Rattle.warp_tag.proofs.Known.{known_changed, known_elsewhere, named_self, same_table}
+use Rattle.warp_tag.proofs.Known.{known_changed, known_elsewhere, same_table}
 use Rattle.warp_tag.proofs.Lists.{some_not_none}
 use Rattle.warp_tag.proofs.Names.{named_is}
 use Rattle.warp_tag.proofs.Tables.{length-changed, table_changed, with_event_names}

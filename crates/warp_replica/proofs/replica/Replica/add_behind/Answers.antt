@@ -1,5 +1,5 @@
 -- The record is new, as no place was found for it, and the fresh timeline stands for the names of all records.
-use Rattle.std.proofs.Common.{◌≡◌, ◌+◌, true, List, ◌∷◌, [], ◌++◌, length, Contains, None, Ok, inl, inr, sym, ap, subst, ◌∙◌, arith}
+use Rattle.std.proofs.Common.{◌≡◌, true, length, None, Ok, inl, inr, sym, ap, subst, ◌∙◌, arith}
 use Rattle.std.proofs.lemmas.Bool.{cases_Bool}
 use Rattle.std.proofs.lemmas.List.Elements.{All-push}
 use Rattle.warp_record.specs.declared.record.Record.{Record}

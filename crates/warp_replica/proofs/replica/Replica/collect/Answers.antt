@@ -1,9 +1,8 @@
 -- It collects to the one horizon, and what is done is the one run.
-use Rattle.std.proofs.Common.{◌≤◌, ◌+◌, None, sym, subst}
+use Rattle.std.proofs.Common.{◌≤◌, ◌+◌, None, subst}
 use Rattle.warp_tag.specs.Moment.{Moment}
 use Rattle.warp_tag.specs.Table.{live}
 use Rattle.warp_step.specs.Snapshot.{start_state}
-use Rattle.warp_step.specs.Run.{Row}
 use Rattle.warp_step.proofs.TraceLemmas.{one_rest}
 use Rattle.warp_line.specs.Timeline.{MovesFloor, rows_before, rows_behind}
 use Rattle.warp_table.specs.Records.{set_of}
