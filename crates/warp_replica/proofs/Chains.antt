@@ -1,5 +1,5 @@
 -- A chain of takings is a chain of changes of what the timeline stands for.
-use Rattle.std.proofs.Common.{◌≡◌, ℕ, ◌+◌, ◌≤◌, true, false, List, [], ◌∷◌, Result, Ok, Err, IsTrue, inl, inr, sym, ap, subst}
+use Rattle.std.proofs.Common.{◌≡◌, ℕ, ◌+◌, ◌≤◌, true, false, Option, List, [], ◌∷◌, Result, Ok, Err, IsTrue, inl, inr, sym, ap, subst}
 use Rattle.std.proofs.lemmas.Bool.{cases_Bool}
 use Rattle.warp_tag.specs.Moment.{Moment}
 use Rattle.warp_tag.specs.Table.{live}
@@ -11,9 +11,10 @@ use Rattle.warp_record.specs.declared.record.Record.{Record}
 use Rattle.warp_record.specs.declared.reply.Refusal.{Refusal}
 use Rattle.warp_table.specs.Table.{table_of}
 use Rattle.warp_step.specs.Program.{Program}
+use Rattle.warp_replica.specs.Floor.{comes_behind}
 use Rattle.warp_replica.specs.Gives.{Takes, came_in, tag_of}
 use Rattle.warp_replica.specs.Replica.{ReplicaState, standing_of, Stands}
-use Rattle.warp_replica.specs.Chain.{Taking, TakesIn, TakeAll, ChangeFrom, ChangeNone, IsAllDone, SettlesWith}
+use Rattle.warp_replica.specs.Chain.{Taking, TakesIn, TakeAll, ComeAhead, ChangeFrom, ChangeNone, IsAllDone, SettlesWith}
 use Rattle.warp_replica.specs.declared.took.Took.{Took}
 use Rattle.warp_replica.specs.declared.took.Took.TheVariants.{New, Known}
 
@@ -24,7 +25,7 @@ same_log P records said (Ok (New place)) after t none = let no : true ≡ false 
 same_log P records said (Ok (Known place)) after t none = t.2
 same_log P records said (Err refusal) after t none = t.1
 
-module _ {T : Type 0} (stands_for : T → Standing → Type 0) (slack : ℕ) where
+module _ {T : Type 0} (stands_for : T → Standing → Type 0) (floor : T → Option Moment) (slack : ℕ) where
   -- what the timeline stands for at last came of this by changes, which are of the live events where those of the records are
   abbrev Changed : Standing → ReplicaState T → List (Taking T) → ReplicaState T → Type 0
   Changed m r takings last =
@@ -34,18 +35,18 @@ module _ {T : Type 0} (stands_for : T → Standing → Type 0) (slack : ℕ) whe
       × (ChangeNone r takings → ChangeNothing m changes)
 
   -- a record that came in is one change more
-  came : (r last : ReplicaState T) (done : List Row) (taking : Taking T) (more : List (Taking T)) → TakesIn stands_for slack r taking
-      → IsTrue (came_in taking.result) → Stands stands_for r done
+  came : (r last : ReplicaState T) (done : List Row) (taking : Taking T) (more : List (Taking T)) → TakesIn stands_for floor slack r taking
+      → IsTrue (came_in taking.result) → comes_behind (floor r.timeline) taking.said ≡ false → Stands stands_for r done
       → ((after : List Row) → Stands stands_for taking.after after → Changed (standing_of taking.after after) taking.after more last)
       → Changed (standing_of r done) r (taking ∷ more) last
-  came r last done taking more takes in_now stood go =
-      let new = takes.new in_now done stood in
+  came r last done taking more takes in_now ahead stood go =
+      let new = takes.new in_now ahead done stood in
       let rest = go new.0 new.1 in
       let change : Change = record { tag = tag_of taking.said; after = standing_of taking.after new.0 } in
       (change ∷ rest.0, rest.1, rest.2, (takes.program, new.2, rest.3), (λ tag c. (c.0, rest.4 tag c.1)), λ c. (c.0, rest.5 c.1))
 
   -- one that did not is none
-  stayed : (r last : ReplicaState T) (done : List Row) (taking : Taking T) (more : List (Taking T)) → TakesIn stands_for slack r taking
+  stayed : (r last : ReplicaState T) (done : List Row) (taking : Taking T) (more : List (Taking T)) → TakesIn stands_for floor slack r taking
       → came_in taking.result ≡ false → Changed (standing_of taking.after done) taking.after more last
       → Changed (standing_of r done) r (taking ∷ more) last
   stayed r last done taking more takes none rest =
@@ -55,25 +56,26 @@ module _ {T : Type 0} (stands_for : T → Standing → Type 0) (slack : ℕ) whe
       (here.0, here.1, here.2, here.3, (λ tag c. here.4 tag c.1), λ c. here.5 c.1)
 
   changed : (r last : ReplicaState T) (done : List Row) (takings : List (Taking T)) → Stands stands_for r done
-      → TakeAll stands_for slack r takings last → Changed (standing_of r done) r takings last
-  changed r last done [] stood same =
+      → TakeAll stands_for floor slack r takings last → ComeAhead floor r takings → Changed (standing_of r done) r takings last
+  changed r last done [] stood same ahead =
       ([], done, subst (λ (x : ReplicaState T). Stands stands_for x done) (sym same) stood, ap (λ (x : ReplicaState T). standing_of x done) same, (λ tag c. tt), λ c. tt)
-  changed r last done (taking ∷ more) stood all = elim (cases_Bool (came_in taking.result)) [
-    | inl in_now ↦ came r last done taking more all.0 in_now stood (λ after stands. changed taking.after last after more stands all.1)
-    | inr none ↦ stayed r last done taking more all.0 none (changed taking.after last done more (all.0.kept none done stood) all.1)
+  changed r last done (taking ∷ more) stood all ahead = elim (cases_Bool (came_in taking.result)) [
+    | inl in_now ↦
+        came r last done taking more all.0 in_now (ahead.0 in_now) stood (λ after stands. changed taking.after last after more stands all.1 ahead.1)
+    | inr none ↦ stayed r last done taking more all.0 none (changed taking.after last done more (all.0.kept none done stood) all.1 ahead.1)
   ]
 
   -- so settling after them ticks as after changes
   pub few : (r last settled : ReplicaState T) (takings : List (Taking T)) (tag : Moment) (ticks : ℕ) (trace : List Row)
-      → IsAllDone stands_for r → TakeAll stands_for slack r takings last → ChangeFrom tag r takings → SettlesWith stands_for last ticks settled
-      → Run last.program (live (table_of last.records)) trace → ticks ≤ rework tag trace + slack
-  few r last settled takings tag ticks trace whole all late settles run =
-      let h = changed r last whole.0 takings whole.1 all in
+      → IsAllDone stands_for r → TakeAll stands_for floor slack r takings last → ComeAhead floor r takings → ChangeFrom tag r takings
+      → SettlesWith stands_for last ticks settled → Run last.program (live (table_of last.records)) trace → ticks ≤ rework tag trace + slack
+  few r last settled takings tag ticks trace whole all ahead late settles run =
+      let h = changed r last whole.0 takings whole.1 all ahead in
       few_ticks slack (standing_of r whole.0) (standing_of last h.1) h.0 tag ticks trace whole.2 h.3 (h.4 tag late) (settles h.1 h.2).1.bound run
 
   pub none : (r last settled : ReplicaState T) (takings : List (Taking T)) (ticks : ℕ)
-      → IsAllDone stands_for r → TakeAll stands_for slack r takings last → ChangeNone r takings → SettlesWith stands_for last ticks settled
-      → ticks ≡ 0
-  none r last settled takings ticks whole all same settles =
-      let h = changed r last whole.0 takings whole.1 all in
+      → IsAllDone stands_for r → TakeAll stands_for floor slack r takings last → ComeAhead floor r takings → ChangeNone r takings
+      → SettlesWith stands_for last ticks settled → ticks ≡ 0
+  none r last settled takings ticks whole all ahead same settles =
+      let h = changed r last whole.0 takings whole.1 all ahead in
       no_ticks slack (standing_of r whole.0) (standing_of last h.1) h.0 ticks whole.2 h.3 (h.5 same) (settles h.1 h.2).1.bound

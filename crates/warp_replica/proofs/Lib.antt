@@ -10,3 +10,5 @@ pub mod PulledRecords
 pub mod Lengths
 pub mod Chains
 pub mod MergeChains
+pub mod AnewTables
+pub mod AnewNames

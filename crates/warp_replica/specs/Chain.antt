@@ -1,5 +1,5 @@
 -- Chains of takings: records that are put to a replica one after another.
-use Rattle.std.specs.Prelude.{◌≡◌, ℕ, false, IsTrue, List, [], ◌∷◌, map, Result}
+use Rattle.std.specs.Prelude.{◌≡◌, ℕ, false, IsTrue, Option, List, [], ◌∷◌, map, Result}
 use Rattle.warp_tag.specs.Lists.{StartsWith}
 use Rattle.warp_tag.specs.Moment.{Moment, is_before}
 use Rattle.warp_tag.specs.Table.{live}
@@ -8,6 +8,7 @@ use Rattle.warp_record.specs.declared.record.Record.{Record}
 use Rattle.warp_record.specs.declared.reply.Refusal.{Refusal}
 use Rattle.warp_line.specs.Timeline.{Standing, IsDone, KeepsDone, Settles}
 use Rattle.warp_table.specs.Table.{table_of}
+use Rattle.warp_replica.specs.Floor.{comes_behind, floor_after}
 use Rattle.warp_replica.specs.Gives.{Takes, came_in, tag_of}
 use Rattle.warp_replica.specs.Replica.{ReplicaState, standing_of, Stands}
 use Rattle.warp_replica.specs.declared.took.Took.{Took}
@@ -19,27 +20,38 @@ pub record Taking (T : Type 0) : Type 0 where
   pub after : ReplicaState T
 
 -- what taking a record does: the clauses of `Replica::take`
-pub record TakesIn {T : Type 0} (stands_for : T → Standing → Type 0) (slack : ℕ) (r : ReplicaState T) (taking : Taking T)
-    : Type 0 where
+pub record TakesIn {T : Type 0} (stands_for : T → Standing → Type 0) (floor : T → Option Moment) (slack : ℕ)
+    (r : ReplicaState T) (taking : Taking T) : Type 0 where
   pub takes : Takes r.program r.records taking.said taking.result taking.after.records
   pub program : taking.after.program ≡ r.program
-  pub new : IsTrue (came_in taking.result) → (done : List Row) → Stands stands_for r done → (after : List Row)
-      × Stands stands_for taking.after after
+  pub new : IsTrue (came_in taking.result) → comes_behind (floor r.timeline) taking.said ≡ false
+      → (done : List Row) → Stands stands_for r done → (after : List Row) × Stands stands_for taking.after after
       × KeepsDone slack (tag_of taking.said) (standing_of r done) (standing_of taking.after after)
+  pub anew : IsTrue (came_in taking.result) → IsTrue (comes_behind (floor r.timeline) taking.said)
+      → (done : List Row) × Stands stands_for taking.after done
+  pub floor_is : floor taking.after.timeline ≡ floor_after (floor r.timeline) taking.said taking.result
   pub kept : came_in taking.result ≡ false → (done : List Row) → Stands stands_for r done
       → Stands stands_for taking.after done
 
 -- the takings lead from a replica to a replica
-abbrev pub TakeAll : {T : Type 0} → (T → Standing → Type 0) → ℕ → ReplicaState T → List (Taking T) → ReplicaState T
-    → Type 0
-TakeAll stands_for slack r [] last = last ≡ r
-TakeAll stands_for slack r (taking ∷ more) last =
-    TakesIn stands_for slack r taking × TakeAll stands_for slack taking.after more last
+abbrev pub TakeAll : {T : Type 0} → (T → Standing → Type 0) → (T → Option Moment) → ℕ → ReplicaState T → List (Taking T)
+    → ReplicaState T → Type 0
+TakeAll stands_for floor slack r [] last = last ≡ r
+TakeAll stands_for floor slack r (taking ∷ more) last =
+    TakesIn stands_for floor slack r taking × TakeAll stands_for floor slack taking.after more last
+
+-- none that came in came behind the floor
+abbrev pub ComeAhead : {T : Type 0} → (T → Option Moment) → ReplicaState T → List (Taking T) → Type 0
+ComeAhead floor r [] = Unit {0}
+ComeAhead floor r (taking ∷ more) =
+    (IsTrue (came_in taking.result) → comes_behind (floor r.timeline) taking.said ≡ false)
+    × ComeAhead floor taking.after more
 
 -- takings of the first records of a log, in its order
-abbrev pub TakeFirst : {T : Type 0} → (T → Standing → Type 0) → ℕ → ReplicaState T → List Record → ReplicaState T → Type 0
-TakeFirst {T} stands_for slack r log last =
-    (takings : List (Taking T)) × TakeAll stands_for slack r takings last
+abbrev pub TakeFirst : {T : Type 0} → (T → Standing → Type 0) → (T → Option Moment) → ℕ → ReplicaState T → List Record
+    → ReplicaState T → Type 0
+TakeFirst {T} stands_for floor slack r log last =
+    (takings : List (Taking T)) × TakeAll stands_for floor slack r takings last
     × StartsWith log (map (λ (taking : Taking T). taking.said) takings)
 
 -- each record that changed the live events is at a tag that is not before this one

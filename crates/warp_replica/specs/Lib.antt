@@ -2,6 +2,8 @@ pub mod Replica
 pub mod Answers
 pub mod Release
 pub mod Gives
+pub mod Floor
+pub mod Anew
 pub mod Merge
 pub mod Desk
 pub mod Length

@@ -7,6 +7,7 @@
 //! (`rework_after_takes`).
 #![tactic(auto)]
 
+mod anew;
 mod asking;
 mod idle;
 mod law;

@@ -1,24 +1,26 @@
 //! A replica: a program, the table of the records that it took, and the timeline that runs them.
 ghost use Rattle.std.specs.Prelude.{◌≡◌, ◌↔◌, ℕ, ◌+◌, ◌-◌, ◌<◌, ◌≤◌, [], ◌∷◌, ◌++◌, false, None, Ok, length, List};
 ghost use Rattle.std.specs.Prelude.{All, Contains, IsTrue, IfSome, IfNone, IsOk, IfOk, IfErr, OnOk, OnErr};
-ghost use Rattle.warp_tag.specs.Limits.{most_outputs, most_records};
+ghost use Rattle.warp_tag.specs.Limits.{most_origins, most_outputs, most_records};
 ghost use Rattle.warp_record.specs.declared.line.Query.{Query};
 ghost use Rattle.warp_record.specs.declared.record.Record.{Record};
 ghost use Rattle.warp_record.specs.declared.reply.Reply.{Reply};
 ghost use Rattle.warp_record.specs.Record.{IsRecord};
 ghost use Rattle.warp_record.specs.Reply.{IsOut, IsReply};
 ghost use Rattle.warp_step.specs.Run.{Row};
-ghost use Rattle.warp_line.specs.Timeline.{Standing, IsDone, KeepsDone, NowStands, Settles};
+ghost use Rattle.warp_line.specs.Timeline.{IsDone, KeepsDone, Settles};
 ghost use Rattle.warp_table.specs.Log.{EachOnce, IsAt};
-ghost use Rattle.warp_table.specs.Table.{with_record};
 ghost use Rattle.warp_table.specs.Check.{refusal_of};
+ghost use Rattle.warp_table.specs.Names.{origin_of};
 ghost use Rattle.warp_table.specs.Records.{set_of};
 ghost use Rattle.warp_replica.specs.Answers.{IsReleased};
 ghost use Rattle.warp_replica.specs.Chain.{TakeFirst};
+ghost use Rattle.warp_replica.specs.Floor.{CollectsTo, comes_behind, floor_after};
 ghost use Rattle.warp_replica.specs.Merge.{Merges};
 ghost use Rattle.warp_replica.specs.Replica.{AreAllowed, standing_of, Stands};
 ghost use Rattle.warp_replica.specs.Gives.{GivesQuery, Takes, came_in, tag_of, told};
 
+use crate::anew::{anew, comes_behind, enter};
 use crate::took::Took;
 use std::alloc::Global;
 use std::marker::Model;
@@ -58,13 +60,12 @@ impl<T: Timeline> Model for Replica<T> {
 }
 
 impl<T: Timeline> Replica<T> {
-    /// A replica of this program that has taken no record, and of which nothing is done.
+    /// A replica of this program that has taken no record, and of which nothing is done, nor let go of.
     pub fn new(alloc: Global, program: Program) -> Result<Replica<T>, OutOfMemory>
-    where
-        T: Drop,
         ensures program { IfOk result (λ r. r.program ≡ program) }
         ensures records { IfOk result (λ r. r.records ≡ []) }
         ensures stands { IfOk result (λ r. Stands T.stands_for r []) }
+        ensures floor { IfOk result (λ r. T.floor r.timeline ≡ None) }
     {
         let timeline = T::start(alloc, &program)?;
         Ok(Replica {
@@ -118,13 +119,20 @@ impl<T: Timeline> Replica<T> {
 
     /// Takes a record. `Err` says the first reason against it: one of the program's, a full log, or no memory; it
     /// changes neither the records nor what is done, nor does a record that was there before.
+    ///
+    /// An event or a withdrawal that is new, and behind what was let go of, makes the run anew from the names of all
+    /// records: then nothing is let go of any more, and settling executes the run from its start.
     #[inline(always)]
     pub fn take(&mut self, alloc: Global, record: &Record) -> Result<Took, Refusal>
         ensures takes { Takes self.old.program self.old.records «record».now result self.new.records }
         ensures program { self.new.program ≡ self.old.program }
-        ensures new { IsTrue (came_in result) → (done : List Row) → Stands T.stands_for self.old done →
+        ensures new { IsTrue (came_in result) → comes_behind (T.floor self.old.timeline) «record».now ≡ false →
+            (done : List Row) → Stands T.stands_for self.old done →
             (after : List Row) × Stands T.stands_for self.new after
             × KeepsDone T.SLACK (tag_of «record».now) (standing_of self.old done) (standing_of self.new after) }
+        ensures anew { IsTrue (came_in result) → IsTrue (comes_behind (T.floor self.old.timeline) «record».now) →
+            (done : List Row) × Stands T.stands_for self.new done }
+        ensures floor { T.floor self.new.timeline ≡ floor_after (T.floor self.old.timeline) «record».now result }
         ensures kept { came_in result ≡ false → (done : List Row) → Stands T.stands_for self.old done →
             Stands T.stands_for self.new done }
         ensures settled { came_in result ≡ false → T.settled self.new.timeline ≡ T.settled self.old.timeline }
@@ -164,9 +172,15 @@ impl<T: Timeline> Replica<T> {
         ensures err { OnErr result (self.new.records ≡ self.old.records) }
         ensures program { self.new.program ≡ self.old.program }
         ensures new { IfOk result
-            (λ took. IsTrue (came_in (Ok took)) → (done : List Row) → Stands T.stands_for self.old done →
+            (λ took. IsTrue (came_in (Ok took)) → comes_behind (T.floor self.old.timeline) «record».now ≡ false →
+            (done : List Row) → Stands T.stands_for self.old done →
             (after : List Row) × Stands T.stands_for self.new after
             × KeepsDone T.SLACK (tag_of «record».now) (standing_of self.old done) (standing_of self.new after)) }
+        ensures anew { IfOk result
+            (λ took. IsTrue (came_in (Ok took)) → IsTrue (comes_behind (T.floor self.old.timeline) «record».now) →
+            (done : List Row) × Stands T.stands_for self.new done) }
+        ensures floor { IfOk result
+            (λ took. T.floor self.new.timeline ≡ floor_after (T.floor self.old.timeline) «record».now (Ok took)) }
         ensures kept { IfOk result
             (λ took. came_in (Ok took) ≡ false → (done : List Row) → Stands T.stands_for self.old done →
             Stands T.stands_for self.new done) }
@@ -175,16 +189,45 @@ impl<T: Timeline> Replica<T> {
         ensures kept_at_err { OnErr result
             ((done : List Row) → Stands T.stands_for self.old done → Stands T.stands_for self.new done) }
         ensures settled_at_err { OnErr result (T.settled self.new.timeline ≡ T.settled self.old.timeline) }
+        ensures floor_at_err { OnErr result (T.floor self.new.timeline ≡ T.floor self.old.timeline) }
         ensures reply { IfOk result (λ took. IsReply (told (Ok took))) }
     {
         // The table keeps a place for each origin up to the record's.
         record_in_range(&self.program, record);
+        if comes_behind(&self.timeline, record) {
+            return self.add_behind(alloc, record);
+        }
         self.timeline.prepare(alloc)?;
         let added = self.table.add(record)?;
         if !added.is_new {
             return Ok(Took::Known(added.place));
         }
         enter(&mut self.timeline, record);
+        Ok(Took::New(added.place))
+    }
+
+    /// `add` for a record behind what the timeline let go of. A new one makes the run anew, aside, and the old one goes
+    /// when nothing can fail any more. An `Err`, and a record that was there before, change nothing.
+    #[inline(never)]
+    fn add_behind(&mut self, alloc: Global, record: &Record) -> Result<Took, OutOfMemory>
+        requires allowed { refusal_of self.old.program «record».now ≡ None }
+        requires room { length self.old.records < most_records }
+        requires origin { origin_of «record».now < most_origins }
+        ensures takes { IfOk result
+            (λ took. Takes self.old.program self.old.records «record».now (Ok took) self.new.records) }
+        ensures program { self.new.program ≡ self.old.program }
+        ensures new { IfOk result (λ took. IsTrue (came_in (Ok took)) → (T.floor self.new.timeline ≡ None) ×
+            ((done : List Row) × Stands T.stands_for self.new done)) }
+        ensures known { IfOk result (λ took. came_in (Ok took) ≡ false → self.new ≡ self.old) }
+        ensures err { OnErr result (self.new ≡ self.old) }
+        ensures reply { IfOk result (λ took. IsReply (told (Ok took))) }
+    {
+        if let Some(place) = self.table.position(record) {
+            return Ok(Took::Known(place));
+        }
+        let fresh = anew(alloc, &self.program, &self.table, record)?;
+        let added = self.table.add(record)?;
+        self.timeline = fresh;
         Ok(Took::New(added.place))
     }
 
@@ -198,6 +241,7 @@ impl<T: Timeline> Replica<T> {
             × OnOk result (IsDone (standing_of self.new after)) }
         ensures program { self.new.program ≡ self.old.program }
         ensures records { self.new.records ≡ self.old.records }
+        ensures floor { T.floor self.new.timeline ≡ T.floor self.old.timeline }
         ensures ticked { M.ticks meter.old ≤ M.ticks meter.new }
         ensures settled { OnOk result (IsTrue (T.settled self.new.timeline)) }
         ensures unsettled { OnErr result (T.settled self.new.timeline ≡ false) }
@@ -390,7 +434,7 @@ impl<T: Timeline> Replica<T> {
     }
 
     /// Lets go of what is not needed before the horizon, and tells how many records there are. It changes no answer,
-    /// and what is done stays done.
+    /// and what is done stays done. All rows before the horizon are behind then, but for at most `SLACK`.
     pub fn collect(&mut self) -> Reply
         requires { IsTrue (T.settled self.old.timeline) }
         ensures reply { result ≡ Reply.Collected (length self.old.records) }
@@ -399,7 +443,11 @@ impl<T: Timeline> Replica<T> {
         ensures records { self.new.records ≡ self.old.records }
         ensures stands { (done : List Row) → Stands T.stands_for self.old done → Stands T.stands_for self.new done }
         ensures settled { IsTrue (T.settled self.new.timeline) }
+        ensures collects { CollectsTo T.SLACK self.old.program self.old.records
+            (T.floor self.old.timeline) (T.floor self.new.timeline) }
     {
+        // All rows of the run are done, which a look at the state shows.
+        let _state = self.timeline.state();
         let horizon = self.table.horizon(&self.program);
         self.timeline.collect(horizon);
         Reply::Collected {
@@ -425,7 +473,7 @@ impl<T: Timeline> Replica<T> {
         requires { self.old.program ≡ other.now.program }
         ensures merges { Merges self.old.records other.now.records result self.new.records }
         ensures program { self.new.program ≡ self.old.program }
-        ensures chain { TakeFirst T.stands_for T.SLACK self.old other.now.records self.new }
+        ensures chain { TakeFirst T.stands_for T.floor T.SLACK self.old other.now.records self.new }
         ensures kept { self.new.records ≡ self.old.records → (done : List Row) → Stands T.stands_for self.old done →
             Stands T.stands_for self.new done }
         ensures settled { self.new.records ≡ self.old.records →
@@ -441,26 +489,6 @@ impl<T: Timeline> Replica<T> {
             count += 1;
         }
         Ok(count)
-    }
-}
-
-/// Puts a record that the program has no reason against into a run that has room for it.
-fn enter<T: Timeline>(timeline: &mut T, record: &Record)
-    requires prepared { T.is_prepared timeline.old }
-    requires allowed { (m : Standing) × T.stands_for timeline.old m × (refusal_of m.program «record».now ≡ None) }
-    ensures { (m : Standing) → T.stands_for timeline.old m → refusal_of m.program «record».now ≡ None →
-        NowStands T.stands_for T.SLACK (tag_of «record».now) timeline.new m (with_record m.table «record».now) }
-{
-    match *record {
-        Record::Event {
-            origin,
-            tag,
-            input,
-            value,
-        } => timeline.put(origin, tag, input, value),
-        Record::Withdraw { origin, tag } => timeline.withdraw(origin, tag),
-        // What it says counts for no event.
-        Record::Announce { .. } => {}
     }
 }
 

@@ -5,21 +5,22 @@ ghost use Rattle.warp_tag.specs.Table.{live};
 ghost use Rattle.warp_step.specs.Run.{Row, Run};
 ghost use Rattle.warp_line.specs.Rework.{rework};
 ghost use Rattle.warp_table.specs.Table.{table_of};
-ghost use Rattle.warp_replica.specs.Chain.{Taking, TakeAll, ChangeFrom, ChangeNone, IsAllDone, SettlesWith};
+ghost use Rattle.warp_replica.specs.Chain.{Taking, TakeAll, ComeAhead, ChangeFrom, ChangeNone};
+ghost use Rattle.warp_replica.specs.Chain.{IsAllDone, SettlesWith};
 ghost use Rattle.warp_replica.specs.Replica.{ReplicaState};
 
 use warp_line::Timeline;
 
-/// A law: after a settled replica took records, one after another, settling it ticks at most once for each row of the
-/// run over its records then that is not before the least tag at which a record changed the live events, and `SLACK`
-/// times more; not at all where none changed them. What is asked of each taking is what `Replica::take` ensures, and of
-/// settling what `Replica::settle` does.
+/// A law: after a settled replica took records, one after another, none of which came in behind what was let go of,
+/// settling it ticks at most once for each row of the run over its records then that is not before the least tag at
+/// which a record changed the live events, and `SLACK` times more; not at all where none changed them. What is asked of
+/// each taking is what `Replica::take` ensures, and of settling what `Replica::settle` does.
 pub fn rework_after_takes<T: Timeline>()
     ensures bound { (r last settled : ReplicaState T) (takings : List (Taking T)) (tag : Moment) (ticks : ℕ)
-        (trace : List Row) → IsAllDone T.stands_for r → TakeAll T.stands_for T.SLACK r takings last →
-        ChangeFrom tag r takings → SettlesWith T.stands_for last ticks settled →
+        (trace : List Row) → IsAllDone T.stands_for r → TakeAll T.stands_for T.floor T.SLACK r takings last →
+        ComeAhead T.floor r takings → ChangeFrom tag r takings → SettlesWith T.stands_for last ticks settled →
         Run last.program (live (table_of last.records)) trace → ticks ≤ rework tag trace + T.SLACK }
     ensures idle { (r last settled : ReplicaState T) (takings : List (Taking T)) (ticks : ℕ) →
-        IsAllDone T.stands_for r → TakeAll T.stands_for T.SLACK r takings last → ChangeNone r takings →
-        SettlesWith T.stands_for last ticks settled → ticks ≡ 0 }
+        IsAllDone T.stands_for r → TakeAll T.stands_for T.floor T.SLACK r takings last → ComeAhead T.floor r takings →
+        ChangeNone r takings → SettlesWith T.stands_for last ticks settled → ticks ≡ 0 }
 {}

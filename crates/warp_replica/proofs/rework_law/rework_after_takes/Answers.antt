@@ -3,7 +3,7 @@ use Rattle.warp_replica.proofs.Chains.{few, none}
 use Rattle.warp_replica.proofs.rework_law.rework_after_takes.Goals as goal
 
 pub returns-clause-bound : goal.returns-clause-bound
-returns-clause-bound g c = few g.T.Timeline.stands_for g.T.Timeline.SLACK
+returns-clause-bound g c = few g.T.Timeline.stands_for g.T.Timeline.floor g.T.Timeline.SLACK
 
 pub returns-clause-idle : goal.returns-clause-idle
-returns-clause-idle g c = none g.T.Timeline.stands_for g.T.Timeline.SLACK
+returns-clause-idle g c = none g.T.Timeline.stands_for g.T.Timeline.floor g.T.Timeline.SLACK

@@ -1,4 +1,4 @@
-use Rattle.std.proofs.Common.{◌≡◌, ◌-◌, List, None, refl, sym, ap, subst, length, arith}
+use Rattle.std.proofs.Common.{◌≡◌, ◌-◌, false, List, None, refl, sym, ap, subst, ◌∙◌, length, arith}
 use Rattle.std.proofs.lemmas.Option.{slice_get_within}
 use Rattle.std.proofs.lemmas.List.Elements.{All-push}
 use Rattle.warp_step.specs.Run.{Row}
@@ -8,6 +8,7 @@ use Rattle.warp_table.specs.Check.{refusal_of}
 use Rattle.warp_table.proofs.BlockLists.{not_false, not_true}
 use Rattle.warp_table.proofs.Sizes.{length-table_of}
 use Rattle.warp_replica.specs.Replica.{AreAllowed, ReplicaState, standing_of, Stands}
+use Rattle.warp_replica.specs.Floor.{comes_behind}
 use Rattle.warp_replica.specs.Gives.{tag_of}
 use Rattle.warp_replica.proofs.Standings.{with_more}
 use Rattle.warp_replica.proofs.replica.Replica.add.Goals as goal
@@ -24,7 +25,7 @@ returns-then-not-added-clause-reply g c =
     (at.0, omega (arith, within, c.requires.room, ap (λ r. length r.records) c.self.view_is))
 
 pub returns-clause-new : goal.returns-clause-new
-returns-clause-new g c came done stood =
+returns-clause-new g c came ahead done stood =
     let stands = g.T.Timeline.stands_for in
     let slack = g.T.Timeline.SLACK in
     let said = c.args.record.now in
@@ -33,7 +34,7 @@ returns-clause-new g c came done stood =
     let is : old ≡ c.args.self.now = c.self.view_is in
     let allowed = subst (λ r. refusal_of r.program said ≡ None) (sym is) c.requires.allowed in
     let before = subst (λ r. Stands stands r done) (sym is) stood in
-    let entered = c.enter.ensures _ (c.prepare.ensures.stands _ before) allowed in
+    let entered = c.enter.ensures.stands _ (c.prepare.ensures.stands _ before) allowed in
     let more = with_more stands slack said old new done refl (c.in_ok-added.ensures.new (not_false c.in_ok-added.added.is_new c.if-not-added.false)).2 entered in
     subst (λ r. (after : List Row) × Stands stands new after × KeepsDone slack (tag_of said) (standing_of r done) (standing_of new after)) is more
 
@@ -45,5 +46,6 @@ invariant_of-self-2 g c =
     let fits = subst (λ r. refusal_of r.program said ≡ None) (sym is) c.requires.allowed in
     let allowed = All-push (λ (one : Record). refusal_of P one ≡ None) c.self.inside.table said c.self.invariant.0 fits in
     let done = c.self.invariant.1.0 in
-    let more = returns-clause-new g c refl done (subst (λ r. Stands g.T.Timeline.stands_for r done) is c.self.invariant.1.1) in
+    let ahead = subst (λ r. comes_behind (g.T.Timeline.floor r.timeline) said ≡ false) is (sym c.comes_behind.ensures ∙ c.if-comes_behind.false) in
+    let more = returns-clause-new g c refl ahead done (subst (λ r. Stands g.T.Timeline.stands_for r done) is c.self.invariant.1.1) in
     (subst (AreAllowed P) (sym (c.in_ok-added.ensures.new (not_false c.in_ok-added.added.is_new c.if-not-added.false)).2) allowed, (more.0, more.1))
