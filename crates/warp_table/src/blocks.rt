@@ -12,8 +12,8 @@ ghost use Rattle.warp_table.specs.inner.Blocks.{IsLonger, begins_beyond, flat, w
 use std::alloc::AllocError;
 use warp_tag::Tag;
 
-/// So many items a block has at most.
-const MOST: usize = 512;
+/// So many items a block has at most: what comes late moves so many at most, and parts one in so many times.
+const MOST: usize = 128;
 
 /// What stands in order of tags.
 pub(crate) trait Tagged {
@@ -138,7 +138,7 @@ fn cut_of<T: Tagged>(blocks: &[Vec<T>], at: usize, tag: Tag) -> usize
     requires within { at < length blocks.now }
     requires in_order { AreOrdered T.tag_of (flat vec_items blocks.now) }
     ensures some { 0 < result }
-    ensures less { result < 512 }
+    ensures less { result < 128 }
 {
     if at + 1 == blocks.len() && is_behind_all(&blocks[at], tag) {
         MOST - 1
@@ -147,14 +147,15 @@ fn cut_of<T: Tagged>(blocks: &[Vec<T>], at: usize, tag: Tag) -> usize
     }
 }
 
-/// Cuts the items from this place on off, and gives them. An `Err` changes nothing.
+/// Cuts the items from this place on off, and gives them with room for a whole block. An `Err` changes nothing.
 fn cut_off<T: Copy + Drop>(block: &mut Vec<T>, cut: usize) -> Result<Vec<T>, AllocError>
     requires { cut ≤ vec_len block.old }
     ensures ok { IfOk result (λ more. (block.new.items ≡ take cut block.old.items) × (more.items ≡ drop cut block.old.items)) }
     ensures err { OnErr result (block.new.items ≡ block.old.items) }
 {
     let alloc = *block.allocator();
-    let more = Vec::from_slice(alloc, &block[cut..])?;
+    let mut more = Vec::with_capacity(alloc, MOST)?;
+    more.extend_from_slice(&block[cut..])?;
     block.truncate(cut);
     Ok(more)
 }
