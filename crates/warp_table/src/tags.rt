@@ -20,7 +20,8 @@ impl Tagged for Tag {
     }
 }
 
-/// The place of the first one beyond the tag: at the end, where what comes in order of tag lands, and else sought by halves.
+/// The place of the first one beyond the tag: at the end, where what comes in order of tag lands, and else sought by
+/// halves.
 pub(crate) fn place<T: Tagged>(items: &[T], tag: Tag) -> usize
     requires { AllPairs (λ a b. is_before (T.tag_of b) (T.tag_of a) ≡ false) items.now }
     ensures place { result ≡ position_or_len (λ a. is_before tag (T.tag_of a)) items.now }
@@ -56,7 +57,8 @@ fn count_in_order(tags: &[Tag], tag: Tag) -> usize
     tags.partition_point(|t| t.is_before(tag))
 }
 
-/// How many of the tags of these blocks are before this one. `len` are there in all: the blocks behind it are counted off.
+/// How many of the tags of these blocks are before this one. `len` are there in all: the blocks behind it are counted
+/// off.
 fn count_in_blocks(blocks: &[Vec<Tag>], len: usize, tag: Tag) -> usize
     requires in_order { AreOrdered (λ t. t) (flat vec_items blocks.now) }
     requires len { len ≡ length (flat vec_items blocks.now) }
