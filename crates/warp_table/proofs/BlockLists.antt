@@ -143,6 +143,11 @@ module _ {X : Type 0} (tag_of : X → Moment) (x : X) where
         | inr b ↦ rw b (AllPairs-cons R y (with_item tag_of x xs) (All-with_item (R y) xs b behind) (ordered-with_item xs (AllPairs-tail R y xs h)))
       ]
 
+-- what has none beyond the tag does not begin beyond it
+pub begins_none : {X : Type 0} (tag_of : X → Moment) (tag : Moment) (xs : List X) → All (λ x. is_before tag (tag_of x) ≡ false) xs → begins_beyond tag_of tag xs ≡ false
+begins_none tag_of tag [] h = refl
+begins_none {X} tag_of tag (x ∷ xs) h = All-head (λ (y : X). is_before tag (tag_of y) ≡ false) x xs h
+
 -- of tags
 pub item_tag : (tag : Moment) (tags : List Moment) → with_item (λ t. t) tag tags ≡ with_tag tag tags
 item_tag tag [] = refl
@@ -163,7 +168,7 @@ module _ {B X : Type 0} (items : B → List X) where
   before_head R (z ∷ zs) ys x head h =
       All-cons (λ y. R y x) z zs (head (R z) (All-right (R z) zs ys (AllPairs-first R z (zs ++ ys) h))) (before_head R zs ys x head (AllPairs-tail R z (zs ++ ys) h))
 
-  front_of : (R : X → X → Type 0) (bs : List B) (n : ℕ) (d : B) (x : X) (xs : List X) → n < length bs → AllPairs R (flat items bs) → items (get_or bs n d) ≡ x ∷ xs → All (λ z. R z x) (flat items (take n bs))
+  pub front_of : (R : X → X → Type 0) (bs : List B) (n : ℕ) (d : B) (x : X) (xs : List X) → n < length bs → AllPairs R (flat items bs) → items (get_or bs n d) ≡ x ∷ xs → All (λ z. R z x) (flat items (take n bs))
   front_of R [] n d x xs within h is = absurd (omega (arith, within))
   front_of R (b ∷ bs) zero d x xs within h is = All-nil (λ z. R z x)
   front_of R (b ∷ bs) (suc n) d x xs within h is =

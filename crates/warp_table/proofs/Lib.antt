@@ -23,6 +23,7 @@ pub mod Horizons
 pub mod BelowHorizon
 pub mod InOrder
 pub mod BlockLists
+pub mod CountedTags
 pub mod Tallies
 pub mod AnnouncedBlocks
 pub mod Heard

@@ -219,7 +219,31 @@ impl Block {
     }
 }
 
-/// The place of the first block in which a name of this tag is counted, sought from the newest end.
+/// The place of the first block in which a name of this tag is counted, sought by halves.
+#[inline(never)]
+fn first_by_halves(blocks: &[Block], tag: Tag) -> usize
+    requires some { AreSome blocks.now }
+    requires in_order { AreInOrder (all_of blocks.now) }
+    ensures within { result ≤ length blocks.now }
+    ensures none { All (λ t. is_before tag t.tag ≡ false) (all_of (take result blocks.now)) }
+    ensures some { result < length blocks.now →
+        list_any (λ t. is_before tag t.tag) (get_or blocks.now result []) ≡ true }
+{
+    let mut low = 0;
+    let mut high = blocks.len();
+    while low < high {
+        let middle = low + (high - low) / 2;
+        if blocks[middle].has_beyond(tag) {
+            high = middle;
+        } else {
+            low = middle + 1;
+        }
+    }
+    low
+}
+
+/// The place of the first block in which a name of this tag is counted: past the last, where it comes in order, or else
+/// sought.
 fn first_beyond(blocks: &[Block], tag: Tag) -> usize
     requires some { AreSome blocks.now }
     requires in_order { AreInOrder (all_of blocks.now) }
@@ -228,11 +252,14 @@ fn first_beyond(blocks: &[Block], tag: Tag) -> usize
     ensures some { result < length blocks.now →
         list_any (λ t. is_before tag t.tag) (get_or blocks.now result []) ≡ true }
 {
-    let mut at = blocks.len();
-    while at > 0 && blocks[at - 1].has_beyond(tag) {
-        at -= 1;
+    let count = blocks.len();
+    if count == 0 {
+        return 0;
     }
-    at
+    if blocks[count - 1].has_beyond(tag) {
+        return first_by_halves(blocks, tag);
+    }
+    count
 }
 
 /// Counts a new name in each of these blocks.

@@ -12,8 +12,8 @@ ghost use Rattle.warp_table.specs.inner.Blocks.{IsLonger, begins_beyond, flat, w
 use std::alloc::AllocError;
 use warp_tag::Tag;
 
-/// So many items a block has at most.
-const MOST: usize = 512;
+/// So many items a block has at most: what comes late moves so many at most, and parts one in so many times.
+const MOST: usize = 128;
 
 /// What stands in order of tags.
 pub(crate) trait Tagged {
@@ -77,7 +77,7 @@ pub(crate) fn block_of<T: Tagged>(blocks: &[Vec<T>], tag: Tag) -> usize
 }
 
 /// Whether none of these, which stand in order, is beyond the tag.
-fn is_behind_all<T: Tagged>(items: &[T], tag: Tag) -> bool
+pub(crate) fn is_behind_all<T: Tagged>(items: &[T], tag: Tag) -> bool
     requires { AreOrdered T.tag_of items.now }
     ensures { result ≡ true → All (λ x. is_before tag (T.tag_of x) ≡ false) items.now }
 {
@@ -88,7 +88,7 @@ fn is_behind_all<T: Tagged>(items: &[T], tag: Tag) -> bool
 }
 
 /// The place of the first one beyond the tag, sought by halves.
-fn place_by_halves<T: Tagged>(items: &[T], tag: Tag) -> usize
+pub(crate) fn place_by_halves<T: Tagged>(items: &[T], tag: Tag) -> usize
     requires { AreOrdered T.tag_of items.now }
     ensures place { result ≡ position_or_len (λ x. is_before tag (T.tag_of x)) items.now }
     ensures within { result ≤ length items.now }
@@ -138,7 +138,7 @@ fn cut_of<T: Tagged>(blocks: &[Vec<T>], at: usize, tag: Tag) -> usize
     requires within { at < length blocks.now }
     requires in_order { AreOrdered T.tag_of (flat vec_items blocks.now) }
     ensures some { 0 < result }
-    ensures less { result < 512 }
+    ensures less { result < 128 }
 {
     if at + 1 == blocks.len() && is_behind_all(&blocks[at], tag) {
         MOST - 1
@@ -147,14 +147,15 @@ fn cut_of<T: Tagged>(blocks: &[Vec<T>], at: usize, tag: Tag) -> usize
     }
 }
 
-/// Cuts the items from this place on off, and gives them. An `Err` changes nothing.
+/// Cuts the items from this place on off, and gives them with room for a whole block. An `Err` changes nothing.
 fn cut_off<T: Copy + Drop>(block: &mut Vec<T>, cut: usize) -> Result<Vec<T>, AllocError>
     requires { cut ≤ vec_len block.old }
     ensures ok { IfOk result (λ more. (block.new.items ≡ take cut block.old.items) × (more.items ≡ drop cut block.old.items)) }
     ensures err { OnErr result (block.new.items ≡ block.old.items) }
 {
     let alloc = *block.allocator();
-    let more = Vec::from_slice(alloc, &block[cut..])?;
+    let mut more = Vec::with_capacity(alloc, MOST)?;
+    more.extend_from_slice(&block[cut..])?;
     block.truncate(cut);
     Ok(more)
 }
@@ -197,7 +198,61 @@ fn prepare<T: Tagged + Copy + Drop>(blocks: &mut Vec<Vec<T>>, tag: Tag) -> Resul
     part(blocks, at, cut)
 }
 
-/// Makes room for one more item of a tag, and gives its block. The items stay, also on an `Err`.
+/// The block of a tag, which has fewer items than a block has at most: the first one is made, and a full one parted. The
+/// items stay, also on an `Err`.
+fn block_for<T: Tagged + Copy + Drop>(
+    blocks: &mut Vec<Vec<T>>,
+    tag: Tag,
+) -> Result<usize, AllocError>
+    requires kept { AreBlocks vec_items blocks.old.items }
+    requires in_order { AreOrdered T.tag_of (flat vec_items blocks.old.items) }
+    ensures items { flat vec_items blocks.new.items ≡ flat vec_items blocks.old.items }
+    ensures kept { AreBlocks vec_items blocks.new.items }
+    ensures block { IfOk result (λ at. IsBlockOf vec_items T.tag_of tag blocks.new.items at) }
+{
+    if !blocks.is_empty() {
+        let at = block_of(blocks, tag);
+        if blocks[at].len() < MOST {
+            return Ok(at);
+        }
+    }
+    prepare(blocks, tag)?;
+    Ok(block_of(blocks, tag))
+}
+
+/// Makes room for one more item of a tag, wherever it goes, and gives its block. The items stay, also on an `Err`.
+#[inline(never)]
+fn make_room_anywhere<T: Tagged + Copy + Drop>(
+    blocks: &mut Vec<Vec<T>>,
+    tag: Tag,
+) -> Result<usize, AllocError>
+    requires kept { AreBlocks vec_items blocks.old.items }
+    requires in_order { AreOrdered T.tag_of (flat vec_items blocks.old.items) }
+    ensures items { flat vec_items blocks.new.items ≡ flat vec_items blocks.old.items }
+    ensures kept { AreBlocks vec_items blocks.new.items }
+    ensures block { IfOk result (λ at. IsBlockOf vec_items T.tag_of tag blocks.new.items at) }
+    ensures room { IfOk result (λ at. HasRoom vec_len vec_capacity blocks.new.items at) }
+{
+    let at = block_for(blocks, tag)?;
+    blocks[at].reserve(1)?;
+    Ok(at)
+}
+
+/// Whether an item of this tag goes behind all of a block's, and there is room for it.
+fn has_room_behind<T: Tagged>(block: &Vec<T>, tag: Tag) -> bool
+    requires { AreOrdered T.tag_of block.now.items }
+    ensures behind { result ≡ true → All (λ x. is_before tag (T.tag_of x) ≡ false) block.now.items }
+    ensures room { result ≡ true → vec_len block.now < vec_capacity block.now }
+{
+    if block.len() == block.capacity() {
+        return false;
+    }
+    is_behind_all(block, tag)
+}
+
+/// Makes room for one more item of a tag, and gives its block: behind all where it comes in order, and there is room at
+/// once. The items stay, also on an `Err`.
+#[inline(always)]
 pub(crate) fn make_room<T: Tagged + Copy + Drop>(
     blocks: &mut Vec<Vec<T>>,
     tag: Tag,
@@ -209,8 +264,9 @@ pub(crate) fn make_room<T: Tagged + Copy + Drop>(
     ensures block { IfOk result (λ at. IsBlockOf vec_items T.tag_of tag blocks.new.items at) }
     ensures room { IfOk result (λ at. HasRoom vec_len vec_capacity blocks.new.items at) }
 {
-    prepare(blocks, tag)?;
-    let at = block_of(blocks, tag);
-    blocks[at].reserve(1)?;
-    Ok(at)
+    let count = blocks.len();
+    if count > 0 && has_room_behind(&blocks[count - 1], tag) {
+        return Ok(count - 1);
+    }
+    make_room_anywhere(blocks, tag)
 }

@@ -3,11 +3,11 @@ ghost use Rattle.std.specs.Prelude.{◌≡◌, ◌+◌, ◌<◌, ◌≤◌, ◌^
 ghost use Rattle.std.specs.List.{position_or_len};
 ghost use Rattle.std.specs.Vec.{vec_items};
 ghost use Rattle.warp_tag.specs.Moment.{is_before};
-ghost use Rattle.warp_table.specs.inner.Blocks.{AreOrdered, flat};
+ghost use Rattle.warp_table.specs.inner.Blocks.{AreOrdered, begins_before, flat};
 ghost use Rattle.warp_table.specs.inner.Heard.{count_before as tags_before, with_tag};
 
 pub(crate) use crate::blocks::Tagged;
-use crate::blocks::{make_room, put};
+use crate::blocks::{is_behind_all, make_room, place_by_halves, put};
 use std::alloc::{AllocError, Global};
 use std::marker::Model;
 use warp_tag::Tag;
@@ -20,39 +20,61 @@ impl Tagged for Tag {
     }
 }
 
-/// The place of the first one beyond the tag, sought from the newest end, where what comes in order of tag lands.
+/// The place of the first one beyond the tag: at the end, where what comes in order of tag lands, and else sought by
+/// halves.
 pub(crate) fn place<T: Tagged>(items: &[T], tag: Tag) -> usize
     requires { AllPairs (λ a b. is_before (T.tag_of b) (T.tag_of a) ≡ false) items.now }
     ensures place { result ≡ position_or_len (λ a. is_before tag (T.tag_of a)) items.now }
     ensures within { result ≤ length items.now }
 {
-    let mut at = items.len();
-    while at > 0 && items[at - 1].is_beyond(tag) {
-        at -= 1;
+    if is_behind_all(items, tag) {
+        return items.len();
     }
-    at
+    place_by_halves(items, tag)
 }
 
-/// How many of the tags, which stand in order, are before this one.
+/// Whether the first of the tags is before this one.
+fn begins_before(tags: &[Tag], tag: Tag) -> bool
+    ensures { result ≡ begins_before tag tags.now }
+{
+    match tags.first() {
+        Some(first) => first.is_before(tag),
+        None => false,
+    }
+}
+
+/// How many of the tags, which stand in order, are before this one: all, or sought by halves.
 fn count_in_order(tags: &[Tag], tag: Tag) -> usize
     requires { AreOrdered (λ t. t) tags.now }
     ensures count { result ≡ tags_before tag tags.now }
     ensures within { result ≤ length tags.now }
 {
+    if let Some(last) = tags.last() {
+        if last.is_before(tag) {
+            return tags.len();
+        }
+    }
     tags.partition_point(|t| t.is_before(tag))
 }
 
-/// How many of the tags of these blocks are before this one.
-fn count_in_blocks(blocks: &[Vec<Tag>], tag: Tag) -> usize
+/// How many of the tags of these blocks are before this one. `len` are there in all: the blocks behind it are counted
+/// off.
+fn count_in_blocks(blocks: &[Vec<Tag>], len: usize, tag: Tag) -> usize
     requires in_order { AreOrdered (λ t. t) (flat vec_items blocks.now) }
-    requires few { length (flat vec_items blocks.now) < 2 ^ 64 }
+    requires len { len ≡ length (flat vec_items blocks.now) }
     ensures { result ≡ tags_before tag (flat vec_items blocks.now) }
 {
-    let mut count = 0;
-    for block in blocks {
-        count += count_in_order(block, tag);
+    let mut count = len;
+    let mut at = blocks.len();
+    while at > 0 {
+        at -= 1;
+        let block = &blocks[at];
+        if begins_before(block, tag) {
+            return count - (block.len() - count_in_order(block, tag));
+        }
+        count -= block.len();
     }
-    count
+    0
 }
 
 /// Tags, seen as their one list in order.
@@ -108,9 +130,6 @@ impl Tags {
     pub(crate) fn count_before(&self, tag: Tag) -> usize
         ensures { result ≡ tags_before tag self.now }
     {
-        if self.len == 0 {
-            return 0;
-        }
-        count_in_blocks(&self.blocks, tag)
+        count_in_blocks(&self.blocks, self.len, tag)
     }
 }

@@ -29,6 +29,11 @@ abbrev pub begins_beyond : {X : Type 0} → (X → Moment) → Moment → List X
 begins_beyond tag_of tag [] = false
 begins_beyond tag_of tag (x ∷ xs) = is_before tag (tag_of x)
 
+-- the first of the tags is before one
+abbrev pub begins_before : Moment → List Moment → Bool
+begins_before tag [] = false
+begins_before tag (t ∷ tags) = is_before t tag
+
 -- the block of a tag: what stands before the block is not beyond the tag, and what stands behind it is
 pub record IsBlockOf {B X : Type 0} (items : B → List X) (tag_of : X → Moment) (tag : Moment) (bs : List B) (at : ℕ) : Type 0 where
   pub within : at < length bs
