@@ -2,3 +2,4 @@ pub mod Growing
 pub mod Serving
 pub mod Publishing
 pub mod SentEngines
+pub mod DrainedLanes

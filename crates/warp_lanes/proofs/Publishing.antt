@@ -67,7 +67,7 @@ behind [] (y ∷ ys) (suc n) s = absurd (cc (s.1))
 behind (x ∷ xs) (y ∷ ys) (suc n) s = behind xs ys n (s.0, cc (s.1))
 
 -- fronts of fronts
-front_of_front : {X : Type 0} (xs ys zs : List X) → StartsWith xs ys → StartsWith ys zs → StartsWith xs zs
+pub front_of_front : {X : Type 0} (xs ys zs : List X) → StartsWith xs ys → StartsWith ys zs → StartsWith xs zs
 front_of_front xs ys zs p q = (q.0 ++ p.0, p.1 ∙ ap (λ l. l ++ p.0) q.1 ∙ append_assoc zs q.0 p.0)
 
 -- two filters, one after the other, are one

@@ -1,5 +1,5 @@
 -- What a served command keeps of the linear history of the lanes.
-use Rattle.std.proofs.Common.{◌≡◌, ℕ, suc, ◌+◌, ◌<◌, ◌≤◌, List, [], ◌∷◌, ◌++◌, length, take, refl, sym, ap, subst, arith, length-append, Some, inl, inr, ◌⊎◌, ◌==◌, zero, ◌≢◌}
+use Rattle.std.proofs.Common.{◌≡◌, ℕ, Bool, suc, ◌+◌, ◌<◌, ◌≤◌, List, [], ◌∷◌, ◌++◌, length, take, refl, sym, ap, subst, ◌∙◌, arith, length-append, append-nil, Some, inl, inr, ◌⊎◌, ◌==◌, zero, ◌≢◌}
 use Rattle.std.specs.Prelude.{slice_get}
 use Rattle.std.specs.List.{AllByRecursion}
 use Rattle.std.proofs.Math.ListN.{set}
@@ -16,7 +16,7 @@ use Rattle.warp_lanes.specs.declared.answer.Answer.{Answer}
 use Rattle.warp_replica.specs.Replica.{ReplicaState}
 use Rattle.warp_lanes.specs.declared.turn.Turn.{Turn}
 use Rattle.warp_lanes.specs.declared.turn.Turn.TheVariants.{Served, Empty, Stalled}
-use Rattle.warp_lanes.specs.Engine.{TurnsLane, AreFresh}
+use Rattle.warp_lanes.specs.Engine.{TurnsLane, AreFresh, ids_of}
 use Rattle.warp_lanes.specs.Lanes.{LaneState}
 use Rattle.warp_lanes.proofs.Growing.{Grows, grown, same, grows, begins}
 use Rattle.warp_lanes.specs.History.{IsGiven, AreGiven, AreRising, told_at, times_told, times_taken, IsServed, IsHistory}
@@ -72,7 +72,7 @@ all_set P [] k lane all one = tt
 all_set P (l ∷ lanes) zero lane all one = (one, all.1)
 all_set P (l ∷ lanes) (suc k) lane all one = (all.0, all_set P lanes k lane all.1 one)
 
-at_place : (P : LaneState → Type 0) (lanes : List LaneState) (k : ℕ) (lane : LaneState) → AllByRecursion P lanes → slice_get lanes k ≡ Some lane → P lane
+pub at_place : (P : LaneState → Type 0) (lanes : List LaneState) (k : ℕ) (lane : LaneState) → AllByRecursion P lanes → slice_get lanes k ≡ Some lane → P lane
 at_place P [] k lane all e = absurd (grind (e, arith))
 at_place P (l ∷ lanes) zero lane all e = subst P (grind (e, arith)) all.0
 at_place P (l ∷ lanes) (suc k) lane all e = at_place P lanes k lane all.1 (grind (e, arith))
@@ -158,19 +158,19 @@ module _ (P : Program) (log : List Record) (began : ℕ) (lanes : List LaneState
         never = λ place out. tally_never P log began lanes s log' gr place out (sum_at place lanes k lane lane' (told_at place answer.reply) at (one_told place lane.answers answer));
       }
 
-set_same : (lanes : List LaneState) (k : ℕ) (lane : LaneState) → slice_get lanes k ≡ Some lane → set lanes k lane ≡ lanes
+pub set_same : (lanes : List LaneState) (k : ℕ) (lane : LaneState) → slice_get lanes k ≡ Some lane → set lanes k lane ≡ lanes
 set_same [] k lane e = absurd (grind (e, arith))
 set_same (l ∷ lanes) zero lane e = (let here : lane ≡ l = grind (e, arith) in ap (λ (x : LaneState). x ∷ lanes) here)
 set_same (l ∷ lanes) (suc k) lane e = ap (λ (xs : List LaneState). l ∷ xs) (set_same lanes k lane (grind (e, arith)))
 
 -- a turn keeps what was served
-module _ {T : Type 0} (r r' : ReplicaState T) (began : ℕ) (lanes : List LaneState) (k : ℕ) (lane lane' : LaneState) where
+module _ {T : Type 0} (settled : T → Bool) (r r' : ReplicaState T) (began : ℕ) (lanes : List LaneState) (k : ℕ) (lane lane' : LaneState) where
   still : IsHistory r.program r.records began lanes → slice_get lanes k ≡ Some lane → r' ≡ r → lane' ≡ lane → IsHistory r'.program r'.records began (set lanes k lane')
   still s at r_is lane_is = rw (r_is, lane_is, set_same lanes k lane at) s
 
-  pub turn_keeps : (turn : Turn) → IsHistory r.program r.records began lanes → slice_get lanes k ≡ Some lane → TurnsLane r lane turn r' lane'
+  pub turn_keeps : (turn : Turn) → IsHistory r.program r.records began lanes → slice_get lanes k ≡ Some lane → TurnsLane settled r lane turn r' lane'
       → IsHistory r'.program r'.records began (set lanes k lane')
-  turn_keeps Served s at (said, answer, t) = rw (t.1, t.4) (one_more r.program r.records began lanes k lane said answer r'.records s at t.0 t.2)
+  turn_keeps Served s at (said, answer, t) = rw (t.0.1, t.1) (one_more r.program r.records began lanes k lane said answer r'.records s at t.0.0 t.0.2)
   turn_keeps Empty s at t = still s at t.0 t.1
   turn_keeps Stalled s at t = still s at t.0 t.1
 
@@ -193,7 +193,27 @@ fresh_served P log began lanes e f =
       never = λ place out. fresh_none place lanes f;
     }
 
-pub turns_program : {T : Type 0} (r r' : ReplicaState T) (lane lane' : LaneState) (turn : Turn) → TurnsLane r lane turn r' lane' → r'.program ≡ r.program
-turns_program {T} r r' lane lane' Served (said, answer, t) = t.1
-turns_program {T} r r' lane lane' Empty t = ap (λ (x : ReplicaState T). x.program) t.0
-turns_program {T} r r' lane lane' Stalled t = ap (λ (x : ReplicaState T). x.program) t.0
+pub turns_program : {T : Type 0} (settled : T → Bool) (r r' : ReplicaState T) (lane lane' : LaneState) (turn : Turn) → TurnsLane settled r lane turn r' lane'
+    → r'.program ≡ r.program
+turns_program {T} settled r r' lane lane' Served (said, answer, t) = t.0.1
+turns_program {T} settled r r' lane lane' Empty t = ap (λ (x : ReplicaState T). x.program) t.0
+turns_program {T} settled r r' lane lane' Stalled t = ap (λ (x : ReplicaState T). x.program) t.0
+
+-- which lanes there are stays
+pub same_ids : (lanes : List LaneState) (k : ℕ) (lane lane' : LaneState) → slice_get lanes k ≡ Some lane → lane'.lane ≡ lane.lane → ids_of (set lanes k lane') ≡ ids_of lanes
+same_ids [] k lane lane' e id = absurd (grind (e, arith))
+same_ids (l ∷ lanes) zero lane lane' e id =
+    let here : l ≡ lane = grind (e, arith) in
+    λ i. (id ∙ sym (ap (λ (x : LaneState). x.lane) here)) i ∷ ids_of lanes
+same_ids (l ∷ lanes) (suc k) lane lane' e id = ap (λ ids. l.lane ∷ ids) (same_ids lanes k lane lane' (grind (e, arith)) id)
+
+-- one more in front of what is empty
+pub before_none : {X : Type 0} (new old last : List X) (x : X) → last ≡ [] → new ≡ old ++ x ∷ [] → new ++ last ≡ (old ++ last) ++ x ∷ []
+before_none new old last x none e =
+    ap (λ l. new ++ l) none ∙ append-nil new ∙ e ∙ ap (λ l. l ++ x ∷ []) (sym (ap (λ l. old ++ l) none ∙ append-nil old))
+
+pub turns_id : {T : Type 0} (settled : T → Bool) (r r' : ReplicaState T) (lane lane' : LaneState) (turn : Turn) → TurnsLane settled r lane turn r' lane'
+    → lane'.lane ≡ lane.lane
+turns_id {T} settled r r' lane lane' Served (said, answer, t) = ap (λ (x : LaneState). x.lane) t.1
+turns_id {T} settled r r' lane lane' Empty t = ap (λ (x : LaneState). x.lane) t.1
+turns_id {T} settled r r' lane lane' Stalled t = ap (λ (x : LaneState). x.lane) t.1

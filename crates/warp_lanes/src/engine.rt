@@ -1,16 +1,22 @@
 //! The engine: the thread that holds the replica serves all lanes.
 //!
 //! What the lanes received and sent is always a linear history of the replica's program and log.
-ghost use Rattle.std.specs.Prelude.{◌≡◌, ◌<◌, ◌≤◌, [], false, IsTrue, List, length};
+ghost use Rattle.std.specs.Prelude.{◌≡◌, ◌<◌, ◌≤◌, [], ℕ, false, IfOk, IsOk, IsTrue, List, OnErr, OnOk, Some};
+ghost use Rattle.std.specs.Prelude.{length, slice_get};
 ghost use Rattle.warp_tag.specs.declared.out.Out.{Out};
 ghost use Rattle.warp_table.specs.Records.{set_of};
+ghost use Rattle.warp_step.specs.Run.{Row};
+ghost use Rattle.warp_line.specs.Timeline.{IsDone, Settles};
 ghost use Rattle.warp_replica.specs.Answers.{IsReleased};
-ghost use Rattle.warp_lanes.specs.Engine.{AreFresh, Turns, TurnsLane, most_lanes};
+ghost use Rattle.warp_replica.specs.Replica.{Stands, standing_of};
+ghost use Rattle.warp_lanes.specs.Engine.{AreFresh, Drains, Turns, TurnsLane, ids_of, most_lanes};
 ghost use Rattle.warp_lanes.specs.History.{IsHistory};
 ghost use Rattle.warp_lanes.specs.Publish.{AreReleased, HasNews, Publishes};
 
 use crate::answer::Answer;
+use crate::draining::drain;
 use crate::executor_end::Lane;
+use crate::port::PortEnd;
 use crate::publish::{Published, news, publish, rows_before};
 use crate::turn::Turn;
 use std::alloc::Global;
@@ -18,7 +24,7 @@ use std::marker::Model;
 use warp_board::{Board, Writer};
 use warp_line::Timeline;
 use warp_replica::Replica;
-use warp_tag::Tag;
+use warp_tag::{OutOfMemory, Tag};
 
 /// A replica, the lanes that it serves, and the writer of its board. Contracts see these three, and the length that the
 /// log had when the engine was made.
@@ -104,14 +110,16 @@ impl<T: Timeline> Engine<T> {
     }
 
     /// Serves the next command of a lane as a replica without peers would, if one is found and its answer has a place.
-    /// `alloc` is the replica's.
+    /// `alloc` is the replica's. It settles as `Replica::ask` does: where there was no memory for it, `settle` may be
+    /// called later.
     pub fn turn(&mut self, alloc: Global, lane: usize) -> Turn
         requires { lane < length self.old.lanes }
-        ensures turns { Turns self.old lane result self.new }
+        ensures turns { Turns T.settled self.old lane result self.new }
         ensures program { self.new.replica.program ≡ self.old.replica.program }
         ensures writer { self.new.writer ≡ self.old.writer }
         ensures began { self.new.began ≡ self.old.began }
         ensures lanes { length self.new.lanes ≡ length self.old.lanes }
+        ensures ids { ids_of self.new.lanes ≡ ids_of self.old.lanes }
     {
         // A program has an origin, and each record is in its log once.
         self.replica.program().valid();
@@ -121,9 +129,54 @@ impl<T: Timeline> Engine<T> {
         turn
     }
 
+    /// Executes what is not done of its replica, as `Replica::settle_uncounted` does: `Err` leaves it done through some
+    /// tag, and it may be settled later. Nothing else changes, and of a settled replica nothing does.
+    pub fn settle(&mut self, alloc: Global) -> Result<(), OutOfMemory>
+        ensures stands { (done : List Row) → Stands T.stands_for self.old.replica done →
+            (ticks : ℕ) × (after : List Row)
+            × Settles T.stands_for self.new.replica.timeline (standing_of self.old.replica done) ticks after
+            × OnOk result (IsDone (standing_of self.new.replica after)) }
+        ensures settled { OnOk result (IsTrue (T.settled self.new.replica.timeline)) }
+        ensures unsettled { OnErr result (T.settled self.new.replica.timeline ≡ false) }
+        ensures idle { IsTrue (T.settled self.old.replica.timeline) → IsOk result × (self.new ≡ self.old) }
+        ensures others { self.new ≡ record self.old {
+          replica = record self.old.replica { timeline = self.new.replica.timeline };
+        } }
+    {
+        self.replica.settle_uncounted(alloc)
+    }
+
+    /// Ends a lane with the end of its port: receives what the port sent and no turn received, and hands out, in order,
+    /// the answers that the port did not fetch, those of earlier turns and those that it makes. Of these it keeps a
+    /// copy beside the lane. The room for all is taken first: at `Err` nothing was received, and the port's end is
+    /// gone. `alloc` is the replica's.
+    pub fn drain(
+        &mut self,
+        alloc: Global,
+        lane: usize,
+        end: PortEnd,
+    ) -> Result<Vec<Answer>, OutOfMemory>
+        requires { slice_get (ids_of self.old.lanes) lane ≡ Some end.lane }
+        ensures drains { IfOk result (λ handed. Drains T.settled self.old lane end handed.items self.new) }
+        ensures err { OnErr result (self.new ≡ self.old) }
+        ensures program { self.new.replica.program ≡ self.old.replica.program }
+        ensures writer { self.new.writer ≡ self.old.writer }
+        ensures began { self.new.began ≡ self.old.began }
+        ensures ids { ids_of self.new.lanes ≡ ids_of self.old.lanes }
+    {
+        // A program has an origin, and each record is in its log once.
+        self.replica.program().valid();
+        self.replica.valid();
+        let handed = drain(&mut self.lanes[lane], &mut self.replica, alloc, end)?;
+        // Records of any tag may have come in.
+        self.sure = 0;
+        self.replica.valid();
+        Ok(handed)
+    }
+
     /// Appends to the board the released outputs that are missing, as many as it has room for, and tells how many rows
     /// there are; or freezes it for good, where its rows no longer begin what is released. The replica is settled. It
-    /// looks at no row that no record since can have changed.
+    /// looks at no row that no record since can have changed, but at each once a lane was drained.
     pub fn publish(&mut self, board: &Board) -> Published
         requires settled { IsTrue (T.settled self.old.replica.timeline) }
         requires board { self.old.writer.board ≡ board.now }
@@ -146,11 +199,15 @@ fn serve<T: Timeline>(
     replica: &mut Replica<T>,
     alloc: Global,
 ) -> (Turn, Option<Tag>)
-    ensures turns { TurnsLane replica.old lane.old result.0 replica.new lane.new }
+    ensures turns { TurnsLane T.settled replica.old lane.old result.0 replica.new lane.new }
     ensures news { HasNews replica.old.program replica.old.records result.1 replica.new.records }
 {
     if lane.answers.is_full() {
         return (Turn::Stalled, None);
+    }
+    if !lane.last.is_empty() {
+        // It was drained: its port has ended.
+        return (Turn::Empty, None);
     }
     let Ok(line) = lane.commands.pop() else {
         return (Turn::Empty, None);

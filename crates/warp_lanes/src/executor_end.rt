@@ -11,9 +11,12 @@ use warp_record::Line;
 pub struct Lane {
     pub(crate) commands: Consumer<Line, Global>,
     pub(crate) answers: Producer<Answer, Global, SaysLength>,
+    // Copies of the answers that were made when the lane was drained: nobody fetches them.
+    pub(crate) last: Vec<Answer>,
 }
 
 impl Model for Lane {
+    ghost use Rattle.std.specs.Prelude.{◌++◌};
     ghost use Rattle.rtrb.specs.Ring.{sent, received};
     ghost use Rattle.warp_lanes.specs.Lanes.{LaneState};
 
@@ -26,6 +29,6 @@ impl Model for Lane {
             record { words = l.answers.end.words; slots = l.answers.end.slots; names = l.answers.end.names },
           );
           commands = received l.commands;
-          answers = sent l.answers;
+          answers = sent l.answers ++ l.last.items;
         } };
 }

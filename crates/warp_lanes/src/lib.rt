@@ -8,6 +8,7 @@
 #![tactic(auto)]
 
 mod answer;
+mod draining;
 mod engine;
 mod executor_end;
 mod law;

@@ -27,6 +27,7 @@ pub fn lane(alloc: Global) -> Result<(Port, Lane), OutOfMemory>
     let lane = Lane {
         commands: commands_out,
         answers: answers_in,
+        last: Vec::new(alloc),
     };
     Ok((port, lane))
 }
