@@ -1,4 +1,5 @@
 pub mod Stream
 pub mod Session
 pub mod LocalSession
+pub mod PortDesk
 pub mod inner

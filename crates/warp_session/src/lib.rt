@@ -6,8 +6,11 @@
 
 mod desk_session;
 mod local_session;
+mod patience;
+mod port_desk;
 mod stream;
 
 pub use desk_session::{SessionEnd, session};
 pub use local_session::run_session;
+pub use port_desk::PortDesk;
 pub use stream::{Failed, Sink, Source, Stream, write_all};
