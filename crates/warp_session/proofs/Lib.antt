@@ -1,3 +1,4 @@
 pub mod Fronts
 pub mod TurnsLemmas
 pub mod LocalSessions
+pub mod PullsLemmas

@@ -2,4 +2,5 @@ pub mod Stream
 pub mod Session
 pub mod LocalSession
 pub mod PortDesk
+pub mod Pull
 pub mod inner

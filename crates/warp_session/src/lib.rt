@@ -5,12 +5,15 @@
 #![tactic(auto)]
 
 mod desk_session;
+mod inbox;
 mod local_session;
 mod patience;
 mod port_desk;
+mod pulling;
 mod stream;
 
 pub use desk_session::{SessionEnd, session};
 pub use local_session::run_session;
 pub use port_desk::PortDesk;
+pub use pulling::{PullEnd, pull};
 pub use stream::{Failed, Sink, Source, Stream, write_all};
