@@ -3,4 +3,5 @@ pub mod Session
 pub mod LocalSession
 pub mod PortDesk
 pub mod Pull
+pub mod Serve
 pub mod inner

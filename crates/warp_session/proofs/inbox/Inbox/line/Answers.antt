@@ -1,4 +1,4 @@
-use Rattle.std.proofs.Common.{◌≡◌, ℕ, ◌+◌, ◌-◌, ◌≤◌, List, drop, take, length, length-take, length-drop, min, ap, sym, ◌∙◌, drop-drop, arith}
+use Rattle.std.proofs.Common.{◌≡◌, ℕ, ◌+◌, ◌-◌, ◌≤◌, List, drop, take, length, length-take, min, ap, sym, ◌∙◌, drop-drop, arith}
 use Rattle.std.proofs.lemmas.List.{drop-take}
 use Rattle.warp_record.specs.Lines.{first_end}
 use Rattle.warp_session.specs.inner.Inbox.{InboxState}

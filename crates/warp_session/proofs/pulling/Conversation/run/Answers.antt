@@ -1,6 +1,5 @@
-use Rattle.std.proofs.Common.{◌≡◌, ℕ, ap, sym, subst, ◌∙◌, arith}
-use Rattle.warp_exchange.specs.Pulls.{Pulls}
-use Rattle.warp_session.specs.Pull.{levels_with, last_levels}
+use Rattle.std.proofs.Common.{ℕ, ap, sym, ◌∙◌}
+use Rattle.warp_session.specs.Pull.{levels_with}
 use Rattle.warp_session.proofs.PullsLemmas.{more, PullsAll-more, AllGoOn-more, last_levels-more, levels_few, ends_behind}
 use Rattle.warp_session.proofs.pulling.Conversation.run.Goals as goal
 
