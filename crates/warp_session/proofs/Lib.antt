@@ -1,3 +1,6 @@
 pub mod Fronts
 pub mod TurnsLemmas
 pub mod LocalSessions
+pub mod PullsLemmas
+pub mod SentTimelines
+pub mod SentExecutors

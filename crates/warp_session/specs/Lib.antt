@@ -1,4 +1,7 @@
 pub mod Stream
 pub mod Session
 pub mod LocalSession
+pub mod PortDesk
+pub mod Pull
+pub mod Serve
 pub mod inner

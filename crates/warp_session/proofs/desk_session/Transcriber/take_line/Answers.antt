@@ -1,4 +1,4 @@
-use Rattle.std.proofs.Common.{◌≡◌, ℕ, ◌+◌, ap, sym, subst, ◌∙◌, refl, take, List}
+use Rattle.std.proofs.Common.{◌≡◌, ℕ, ◌+◌, ap, sym, subst, ◌∙◌, take}
 use Rattle.warp_record.specs.Lines.{first_end}
 use Rattle.warp_record.specs.Lines.Piece.{Whole}
 use Rattle.warp_session.specs.inner.Turns.{Held, TakesBytes, at}

@@ -1,0 +1,17 @@
+-- An executor, which is an engine and a board, may go to another thread where its timeline may.
+use denote.RattleType.{RattleType}
+use denote.Ref.{NamedLft, ShrRef}
+use denote.Struct.Field.{row_field}
+use denote.Param.Send.{IsSend, shr_send}
+use denote.Param.SendFields.{declared_send, as_row_send}
+use Rattle.warp_line.specs.declared.timeline.Timeline as timeline
+use Rattle.warp_board.specs.contracts.words.Board as board
+use Rattle.warp_board.proofs.words.Board.TheSendSync as board_crosses
+use Rattle.warp_lanes.proofs.SentEngines.{engine_send}
+use Rattle.warp_session.specs.contracts.executor.Executor as executor
+
+module _ (l : NamedLft) (T : RattleType) (g : timeline.Ghosts T.Denot) (s : IsSend T) where
+  pub executor_send : IsSend (executor.the_row l T g)
+  executor_send =
+      declared_send (executor.the_type l T g)
+      (engine_send T g s, (as_row_send (row_field (ShrRef l.mir l.lft board.the_row)) (shr_send l.mir l.lft board.the_row board_crosses.the_sync), tt))

@@ -1,0 +1,9 @@
+use Rattle.std.proofs.Common.{◌≡◌, length}
+use Rattle.warp_lanes.specs.Engine.{AreFresh}
+use Rattle.warp_session.proofs.serving.make_desks.Given as goal
+
+abbrev pub invariant-loop : goal.invariant-loop
+invariant-loop g l =
+    (l.reader.board ≡ l.board)
+    × (length l.lanes.items ≡ l.counter)
+    × AreFresh l.lanes.items

@@ -1,0 +1,99 @@
+-- Pulling the log of another replica over a connection: what its replies led to, and how it ended.
+use Rattle.std.specs.Prelude.{◌≡◌, ◌⊎◌, ℕ, ◌+◌, ◌≤◌, List, [], ◌∷◌, ◌++◌, Option}
+use Rattle.std.specs.List.{AllByRecursion}
+use Rattle.warp_record.specs.declared.line.Line.{Line}
+use Rattle.warp_record.specs.declared.line.Line.TheVariants.{Ask}
+use Rattle.warp_record.specs.declared.line.Query.TheVariants.{Log}
+use Rattle.warp_record.specs.declared.reply.Reply.{Reply}
+use Rattle.warp_record.specs.declared.reply.Refusal.{Refusal}
+use Rattle.warp_record.specs.declared.reply.Refusal.TheVariants.{NoMemory, Busy}
+use Rattle.warp_record.specs.Line.{spelling}
+use Rattle.warp_exchange.specs.declared.puller.Pulled.{Pulled}
+use Rattle.warp_exchange.specs.declared.puller.Pulled.TheVariants as pulled
+use Rattle.warp_exchange.specs.Pulls.{Pulls}
+use Rattle.warp_session.specs.declared.pulling.PullEnd.{PullEnd}
+use Rattle.warp_session.specs.declared.pulling.PullEnd.TheVariants as end
+
+-- a reply of the other replica, if it reads, and what it led to
+pub record Heard : Type 0 where
+  pub reply : Option Reply
+  pub pulled : Pulled
+
+-- One after another these replies led to this: the place that is asked for and the state of the desk went from the former to the
+-- latter.
+abbrev pub PullsAll : {S : Type 0} → (S → Line → Reply → S → Type 0) → S → ℕ → List Heard → ℕ → S → Type 0
+PullsAll gives s next [] next' s' = (next' ≡ next) × (s' ≡ s)
+PullsAll {S} gives s next (heard ∷ rest) next' s' =
+    (place : ℕ) × (mid : S)
+    × Pulls gives s next heard.reply (record { pulled = heard.pulled; next = place }) mid
+    × PullsAll gives mid place rest next' s'
+
+-- with one outcome more, so many of the last ones are Level
+abbrev pub levels_with : ℕ → Pulled → ℕ
+levels_with count pulled.Level = count + 1
+levels_with count other = 0
+
+-- how many Levels in a row are the last outcomes, behind so many before them
+abbrev pub last_levels : ℕ → List Heard → ℕ
+last_levels count [] = count
+last_levels count (heard ∷ rest) = last_levels (levels_with count heard.pulled) rest
+
+-- a refusal that passes: the other replica or the desk had no memory, or was busy
+abbrev pub passes : Refusal → Type 0
+passes NoMemory = Unit {0}
+passes Busy = Unit {0}
+passes other = ⊥
+
+-- pulling goes on behind this outcome
+abbrev pub GoesOn : Pulled → Type 0
+GoesOn pulled.Got = Unit {0}
+GoesOn pulled.Level = Unit {0}
+GoesOn (pulled.Held refusal) = passes refusal
+GoesOn pulled.Strange = ⊥
+
+-- pulling went on behind each outcome
+abbrev pub AllGoOn : List Heard → Type 0
+AllGoOn heard = AllByRecursion (λ (one : Heard). GoesOn one.pulled) heard
+
+-- pulling went on behind each outcome but the last, which is this
+abbrev pub EndsWith : Pulled → List Heard → Type 0
+EndsWith last heard =
+    (front : List Heard) × (reply : Option Reply)
+    × (heard ≡ front ++ record { reply = reply; pulled = last } ∷ []) × AllGoOn front
+
+-- What the outcomes were, where pulling ended so: at Quiet the last of them were Level, as many in a row as were asked for; at Strange
+-- and Held the last one was that; else pulling went on behind all of them.
+abbrev pub EndsSo : ℕ → List Heard → PullEnd → Type 0
+EndsSo quiet heard end.Quiet = (quiet ≤ last_levels 0 heard) × AllGoOn heard
+EndsSo quiet heard end.Strange = EndsWith pulled.Strange heard
+EndsSo quiet heard (end.Held refusal) = EndsWith (pulled.Held refusal) heard × (passes refusal → ⊥)
+EndsSo quiet heard other = AllGoOn heard
+
+-- what an outcome, of which so many of the last were level, ends with
+abbrev pub EndsBehind : ℕ → ℕ → Pulled → PullEnd → Type 0
+EndsBehind quiet levels pulled.Level ended = (ended ≡ end.Quiet) × (quiet ≤ levels)
+EndsBehind quiet levels pulled.Strange ended = ended ≡ end.Strange
+EndsBehind quiet levels (pulled.Held refusal) ended = (ended ≡ end.Held refusal) × (passes refusal → ⊥)
+EndsBehind quiet levels pulled.Got ended = ⊥
+
+-- the connection ended it: a read or a write failed, or the bytes ended
+abbrev pub IsCut : PullEnd → Type 0
+IsCut end.Fault = Unit {0}
+IsCut end.End = Unit {0}
+IsCut other = ⊥
+
+-- From this state of the desk pulling may end so, and leave that state: of some replies, each of which led to its outcome.
+abbrev pub PullsTo : {S : Type 0} → (S → Line → Reply → S → Type 0) → S → ℕ → PullEnd → S → Type 0
+PullsTo gives s quiet ended s' =
+    (heard : List Heard) × (next : ℕ) × PullsAll gives s 1 heard next s' × EndsSo quiet heard ended
+
+-- the counts of failed reads and of failed writes, before and after: one of them grew by one where pulling ended for that, and
+-- else none did
+abbrev pub PullFails : PullEnd → ℕ → ℕ → ℕ → ℕ → Type 0
+PullFails end.Fault reads reads-after writes writes-after =
+    ((reads-after ≡ reads + 1) × (writes-after ≡ writes)) ⊎ ((reads-after ≡ reads) × (writes-after ≡ writes + 1))
+PullFails other reads reads-after writes writes-after = (reads-after ≡ reads) × (writes-after ≡ writes)
+
+-- the question for a place of the log, with its line feed
+abbrev pub question : ℕ → List ℕ
+question place = spelling (Ask (Log place)) ++ 10 ∷ []

@@ -1,0 +1,236 @@
+//! Pulling the log of another replica over a connection, into a desk.
+ghost use Rattle.std.specs.Prelude.{◌≡◌, ◌≢◌, ◌+◌, ◌<◌, ◌≤◌, [], true, IfErr, IfNone, IfOk, IfSome, MatchBool, OnOk};
+ghost use Rattle.std.specs.Prelude.{Option};
+ghost use Rattle.warp_record.specs.declared.reply.Reply.{Reply};
+ghost use Rattle.warp_record.specs.Reply.{IsReply};
+ghost use Rattle.warp_exchange.specs.Pulls.{Pulls};
+ghost use Rattle.warp_session.specs.Pull.{EndsBehind, GoesOn, IsCut, PullFails, PullsTo, levels_with, passes, question};
+ghost use Rattle.warp_session.specs.Stream.{CountsFailures};
+
+use crate::inbox::Inbox;
+use crate::stream::{Failed, Sink, Source, write_all};
+use arrayvec::ArrayVec;
+use itoa::Buffer;
+use std::alloc::{AllocError, Global};
+use std::thread;
+use std::time::{Clock, Duration};
+use warp_exchange::{Desk, Pulled, Puller};
+use warp_record::{Fed, Refusal, Reply, read_reply};
+
+/// The most turns of a pull: one is a question to the other replica, or a read.
+const MAX_TURNS: u32 = 1_000_000;
+
+/// How a pull ended.
+#[derive(Clone, Copy, Debug, PartialEq, Eq)]
+pub enum PullEnd {
+    /// The other log had nothing new, as often in a row as was asked for.
+    Quiet,
+    /// A reply of the other replica answers no question of a pull, or does not read; or the desk's own does.
+    Strange,
+    /// The other replica, or the desk, refused for this reason, which does not pass.
+    Held(Refusal),
+    /// A read or a write failed.
+    Fault,
+    /// The bytes ended before a whole reply.
+    End,
+    /// 1,000,000 turns came to no other end.
+    TooManyTurns,
+    /// No memory was to be had; nothing was read or written.
+    NoMemory,
+}
+
+/// The reply that a line spells, if it does; one of more than 128 bytes spells none.
+fn reply_of(fed: &Fed) -> Option<Reply>
+    ensures { IfSome result IsReply }
+{
+    match fed {
+        Fed::Text(bytes) => read_reply(bytes),
+        _ => None,
+    }
+}
+
+/// Whether a refusal passes: there was no memory, or the server was busy.
+fn is_passing(refusal: Refusal) -> bool
+    ensures { MatchBool result (passes refusal) (passes refusal → ⊥) }
+{
+    matches!(refusal, Refusal::NoMemory | Refusal::Busy)
+}
+
+/// The most bytes of a question.
+const QUESTION_ROOM: usize = 32;
+
+/// The question for a place of the log, with its line feed.
+fn question_for(place: u32) -> ArrayVec<u8, QUESTION_ROOM>
+    ensures { result.items ≡ question place }
+{
+    let mut digits = Buffer::new();
+    let mut line = ArrayVec::new();
+    // There is room, so nothing can be refused.
+    let _ = line.try_extend_from_slice(b"log ");
+    let _ = line.try_extend_from_slice(digits.format(place).as_bytes());
+    let _ = line.try_extend_from_slice(b"\n");
+    line
+}
+
+/// How pulling ends behind an outcome, of which so many of the last were level, if it does.
+fn end_of(pulled: Pulled, levels: u32, quiet: u32) -> Option<PullEnd>
+    ensures some { IfSome result (EndsBehind quiet levels «pulled») }
+    ensures none { IfNone result (GoesOn «pulled») }
+{
+    match pulled {
+        Pulled::Got => None,
+        Pulled::Level if levels >= quiet => Some(PullEnd::Quiet),
+        Pulled::Level => None,
+        Pulled::Held(refusal) if is_passing(refusal) => None,
+        Pulled::Held(refusal) => Some(PullEnd::Held(refusal)),
+        Pulled::Strange => Some(PullEnd::Strange),
+    }
+}
+
+/// Whether the same question is asked again behind this outcome, and so after a pause.
+fn rests(pulled: Pulled) -> bool {
+    matches!(pulled, Pulled::Level | Pulled::Held(_))
+}
+
+/// A pull under way: what another replica is asked, and what it replied.
+#[derive(Drop)]
+struct Conversation {
+    puller: Puller,
+    inbox: Inbox,
+    // A question was asked, and its reply did not come yet.
+    waits: bool,
+    // So many of the last replies in a row were level.
+    levels: u32,
+    ghost looked: { waits ≡ true → inbox.came ≡ [] },
+}
+
+impl Conversation {
+    /// Nothing was asked yet.
+    fn new(alloc: Global) -> Result<Conversation, AllocError>
+        ensures { IfOk result (λ made. (made.puller ≡ 1) × (made.levels ≡ 0)) }
+    {
+        let inbox = Inbox::new(alloc)?;
+        Ok(Conversation {
+            puller: Puller::new(),
+            inbox,
+            waits: false,
+            levels: 0,
+        })
+    }
+
+    /// Asks for the next place.
+    fn ask<W: Sink>(&self, sink: &mut W) -> Result<(), Failed>
+        ensures failures { CountsFailures (W.failures sink.old) (W.failures sink.new) result }
+    {
+        let question = question_for(self.puller.next());
+        write_all(sink, &question)
+    }
+
+    /// Asks for the next place, or reads where it waits for the reply. Gives the reply's line, if all of it came.
+    fn turn<R: Source, W: Sink>(
+        &mut self,
+        source: &mut R,
+        sink: &mut W,
+    ) -> Result<Option<Fed>, PullEnd>
+        ensures ok { OnOk result ((R.failures source.new ≡ R.failures source.old) × (W.failures sink.new ≡ W.failures sink.old)) }
+        ensures err { IfErr result (λ end. IsCut end
+            × PullFails end (R.failures source.old) (R.failures source.new) (W.failures sink.old) (W.failures sink.new)) }
+        ensures puller { self.new.puller ≡ self.old.puller }
+        ensures levels { self.new.levels ≡ self.old.levels }
+    {
+        if self.waits {
+            let Ok(came) = self.inbox.read(source) else {
+                return Err(PullEnd::Fault);
+            };
+            if !came {
+                return Err(PullEnd::End);
+            }
+        } else {
+            let Ok(()) = self.ask(sink) else {
+                return Err(PullEnd::Fault);
+            };
+        }
+        let fed = self.inbox.line();
+        self.waits = fed.is_none();
+        Ok(fed)
+    }
+
+    /// Does what the reply leads to, and counts levels.
+    fn hear<D: Desk>(&mut self, fed: &Fed, desk: &mut D) -> Pulled
+        requires { self.old.levels < MAX_TURNS }
+        ensures pulls { (reply : Option Reply) × Pulls D.gives (D.state desk.old) self.old.puller reply
+            (record { pulled = result; next = self.new.puller }) (D.state desk.new) }
+        ensures levels { self.new.levels ≡ levels_with self.old.levels result }
+    {
+        let pulled = self.puller.on_reply(reply_of(fed), desk);
+        self.levels = if pulled == Pulled::Level {
+            self.levels + 1
+        } else {
+            0
+        };
+        pulled
+    }
+
+    /// Pulls to an end.
+    fn run<X: Clock, R: Source, W: Sink, D: Desk>(
+        &mut self,
+        rt: &X,
+        source: &mut R,
+        sink: &mut W,
+        desk: &mut D,
+        quiet: u32,
+        pause: Duration,
+    ) -> PullEnd
+        requires { (self.old.puller ≡ 1) × (self.old.levels ≡ 0) }
+        ensures pulls { PullsTo D.gives (D.state desk.old) quiet result (D.state desk.new) }
+        ensures failures { PullFails result (R.failures source.old) (R.failures source.new)
+            (W.failures sink.old) (W.failures sink.new) }
+        ensures memory { result ≢ PullEnd.NoMemory }
+    {
+        'turns: for _turn in 0..MAX_TURNS {
+            let fed = match self.turn(source, sink) {
+                Ok(fed) => fed,
+                Err(end) => return end,
+            };
+            let Some(fed) = fed else {
+                continue;
+            };
+            let pulled = self.hear(&fed, desk);
+            if rests(pulled) {
+                thread::sleep(rt, pause);
+            }
+            match end_of(pulled, self.levels, quiet) {
+                Some(end) => return end,
+                None => continue,
+            }
+        }
+        PullEnd::TooManyTurns
+    }
+}
+
+/// Asks the other replica, whose replies come by `source` and whose lines go by `sink`, for its log, place after place,
+/// and puts its records to `desk`. It ends where so many replies in a row, `quiet`, were that the other log has no more;
+/// behind each of these, and behind a refusal that passes, it sleeps for `pause`.
+pub fn pull<X: Clock, R: Source, W: Sink, D: Desk>(
+    rt: &X,
+    alloc: Global,
+    source: &mut R,
+    sink: &mut W,
+    desk: &mut D,
+    quiet: u32,
+    pause: Duration,
+) -> PullEnd
+    // The desk was asked what the replies led to and nothing else, and the last of them are why it ended.
+    ensures pulls { PullsTo D.gives (D.state desk.old) quiet result (D.state desk.new) }
+    // One read has failed, or one write, where it ended for that, and else none.
+    ensures failures { PullFails result (R.failures source.old) (R.failures source.new)
+        (W.failures sink.old) (W.failures sink.new) }
+    // Without memory nothing was read or written.
+    ensures memory { result ≡ PullEnd.NoMemory →
+        (source.new ≡ source.old) × (sink.new ≡ sink.old) × (desk.new ≡ desk.old) }
+{
+    let Ok(mut conversation) = Conversation::new(alloc) else {
+        return PullEnd::NoMemory;
+    };
+    conversation.run(rt, source, sink, desk, quiet, pause)
+}

@@ -1,0 +1,394 @@
+//! Serving many sessions at once: a thread for the replica, one for each session, and one for each pull from a peer.
+ghost use Rattle.std.specs.Prelude.{◌≡◌, ◌+◌, ◌≤◌, IfOk, vec_len};
+ghost use Rattle.warp_lanes.specs.Engine.{AreFresh, most_lanes};
+ghost use Rattle.warp_session.specs.Serve.{Serves};
+
+use crate::desk_session::session;
+use crate::door::{Door, Gate, Peer, ServeFault};
+use crate::executor::Executor;
+use crate::gated::GatedDesk;
+use crate::port_desk::PortDesk;
+use crate::pulling::{PullEnd, pull};
+use crate::stream::{Sink, Source};
+use std::alloc::{AllocError, Global};
+use std::snapshot::Snapshot;
+use std::sync::Wait;
+use std::sync::atomic::{AtomicBool, Ordering};
+use std::thread;
+use std::thread::{JoinHandle, Promise, PromisedHandle, Scope, Threads};
+use std::time::Clock;
+use warp_board::{Board, MAX_ROWS, Reader, board, split_reader};
+use warp_lanes::{Engine, Lane, lane};
+use warp_line::Timeline;
+use warp_replica::Replica;
+use warp_run::Warp;
+use warp_step::Program;
+
+/// What the executor hands back: the engine that it was given, after some turns.
+#[derive(Drop)]
+struct ServesOf<T: Timeline> {
+    given: Snapshot<Engine<T>>,
+}
+
+impl<T: Timeline> Promise<Engine<T>> for ServesOf<T> {
+    ghost kept_by = { λ p e. Serves p.given.value e };
+}
+
+/// So many lanes, and a desk at each.
+fn make_desks<'a, X: Wait + Clock>(
+    rt: &'a X,
+    alloc: Global,
+    board: &'a Board,
+    reader: Reader,
+    count: usize,
+) -> Result<(Vec<PortDesk<'a, X>>, Vec<Lane>), AllocError>
+    requires { reader.board ≡ board.now }
+    ensures lanes { IfOk result (λ made. vec_len made.1 ≡ count) }
+    ensures fresh { IfOk result (λ made. AreFresh made.1.items) }
+{
+    let mut desks = Vec::with_capacity(alloc, count)?;
+    let mut lanes = Vec::with_capacity(alloc, count)?;
+    let mut reader = reader;
+    for _ in 0..count {
+        let (port, end) = lane(alloc)?;
+        let Ok((rest, own)) = split_reader(board, reader) else {
+            unreachable!()
+        };
+        reader = rest;
+        desks.push(PortDesk::new(rt, board, port, own))?;
+        lanes.push(end)?;
+    }
+    Ok((desks, lanes))
+}
+
+/// One session, from its first byte to its end.
+fn attend<X: Wait + Clock, R: Source + Drop, W: Sink + Drop, G: Gate>(
+    alloc: Global,
+    desk: PortDesk<'_, X>,
+    mut source: R,
+    mut sink: W,
+    gate: &G,
+    number: u32,
+) {
+    let mut desk = GatedDesk::new(desk, gate, number);
+    session(alloc, &mut source, &mut sink, &mut desk);
+}
+
+/// Starts the next session that comes.
+fn start_session<'s, E, X: Wait + Clock + Sync + 's, D: Door, G: Gate + Sync + 's>(
+    scope: &'s Scope<'s, E>,
+    alloc: Global,
+    desk: PortDesk<'s, X>,
+    door: &mut D,
+    gate: &'s G,
+    number: u32,
+) -> Result<(), ServeFault>
+where
+    D::R: 's,
+    D::W: 's,
+{
+    let Ok((source, sink)) = door.next() else {
+        return Err(ServeFault::Accept);
+    };
+    match scope.spawn(move || attend(alloc, desk, source, sink, gate, number)) {
+        Ok(_running) => Ok(()),
+        Err(_) => Err(ServeFault::Accept),
+    }
+}
+
+/// Starts a session for each desk, as they come.
+fn start_sessions<'s, E, X: Wait + Clock + Sync + 's, D: Door, G: Gate + Sync + 's>(
+    scope: &'s Scope<'s, E>,
+    alloc: Global,
+    desks: Vec<PortDesk<'s, X>>,
+    door: &mut D,
+    gate: &'s G,
+) -> Result<(), ServeFault>
+where
+    D::R: 's,
+    D::W: 's,
+{
+    let mut number = 0u32;
+    for desk in desks {
+        start_session(scope, alloc, desk, door, gate, number)?;
+        number = number.wrapping_add(1);
+    }
+    Ok(())
+}
+
+/// Pulls from a peer to an end.
+fn pull_peer<X: Wait + Clock, R: Source + Drop, W: Sink + Drop>(
+    rt: &X,
+    alloc: Global,
+    mut desk: PortDesk<'_, X>,
+    peer: Peer<R, W>,
+) -> PullEnd {
+    let Peer {
+        mut source,
+        mut sink,
+        quiet,
+        pause,
+        ..
+    } = peer;
+    pull(rt, alloc, &mut source, &mut sink, &mut desk, quiet, pause)
+}
+
+/// A pull in a thread of its own.
+#[derive(Drop)]
+struct RunningPull {
+    peer: u32,
+    thread: JoinHandle<PullEnd>,
+}
+
+/// How the pull from a peer ended.
+#[derive(Drop)]
+struct EndedPull {
+    peer: u32,
+    end: PullEnd,
+}
+
+/// Starts the pull from a peer.
+fn start_pull<'s, E, X, R, W>(
+    scope: &'s Scope<'s, E>,
+    rt: &'s X,
+    alloc: Global,
+    desk: PortDesk<'s, X>,
+    peer: Peer<R, W>,
+) -> Result<RunningPull, ServeFault>
+where
+    X: Wait + Clock + Sync + 's,
+    R: Source + Send + Drop + 's,
+    W: Sink + Send + Drop + 's,
+{
+    let number = peer.number;
+    match scope.spawn(move || pull_peer(rt, alloc, desk, peer)) {
+        Ok(thread) => Ok(RunningPull {
+            peer: number,
+            thread,
+        }),
+        Err(_) => Err(ServeFault::Accept),
+    }
+}
+
+/// Starts a pull from each peer, with one of the desks, and says which run.
+fn start_pulls<'s, E, X, R, W>(
+    scope: &'s Scope<'s, E>,
+    rt: &'s X,
+    alloc: Global,
+    desks: &mut Vec<PortDesk<'s, X>>,
+    peers: Vec<Peer<R, W>>,
+    running: &mut Vec<RunningPull>,
+) -> Result<(), ServeFault>
+where
+    X: Wait + Clock + Sync + 's,
+    R: Source + Send + Drop + 's,
+    W: Sink + Send + Drop + 's,
+{
+    for peer in peers {
+        let Some(desk) = desks.pop() else {
+            break;
+        };
+        let pull = start_pull(scope, rt, alloc, desk, peer)?;
+        let Ok(()) = running.push(pull) else {
+            return Err(ServeFault::NoMemory);
+        };
+    }
+    Ok(())
+}
+
+/// Waits for the pulls, in their order, and says how each ended.
+fn join_pulls<X: Threads>(rt: &X, running: Vec<RunningPull>, ended: &mut Vec<EndedPull>) {
+    for pull in running {
+        let RunningPull { peer, thread } = pull;
+        let end = thread.join(rt);
+        // There is room, so nothing can be refused.
+        let _ = ended.push(EndedPull { peer, end });
+    }
+}
+
+/// How the pulls ended, and what kept sessions from being served.
+#[derive(Drop)]
+struct Called {
+    ended: Vec<EndedPull>,
+    served: Result<(), ServeFault>,
+}
+
+/// Room for what is kept of so many pulls.
+#[derive(Drop)]
+struct Room {
+    running: Vec<RunningPull>,
+    ended: Vec<EndedPull>,
+}
+
+impl Room {
+    fn new(alloc: Global, pulls: usize) -> Result<Room, ServeFault> {
+        let running = Vec::with_capacity(alloc, pulls)?;
+        let ended = Vec::with_capacity(alloc, pulls)?;
+        Ok(Room { running, ended })
+    }
+}
+
+/// Starts the pulls, and the sessions as they come, and waits for the pulls.
+fn start_all<'s, E, X: Threads + Wait + Clock + Sync + 's, D: Door, G: Gate + Sync + 's>(
+    scope: &'s Scope<'s, E>,
+    rt: &'s X,
+    alloc: Global,
+    mut desks: Vec<PortDesk<'s, X>>,
+    door: &mut D,
+    peers: Vec<Peer<D::R, D::W>>,
+    gate: &'s G,
+    room: Room,
+) -> Called
+where
+    D::R: 's,
+    D::W: 's,
+{
+    let Room {
+        mut running,
+        mut ended,
+    } = room;
+    let mut served = start_pulls(scope, rt, alloc, &mut desks, peers, &mut running);
+    if served.is_ok() {
+        served = start_sessions(scope, alloc, desks, door, gate);
+    }
+    join_pulls(rt, running, &mut ended);
+    Called { ended, served }
+}
+
+/// Serves a session at each desk that no peer needs, pulls from the peers, and returns when all have ended.
+fn call_in<X: Threads + Wait + Clock + Sync, D: Door, G: Gate + Sync>(
+    rt: &X,
+    alloc: Global,
+    desks: Vec<PortDesk<'_, X>>,
+    door: &mut D,
+    peers: Vec<Peer<D::R, D::W>>,
+    gate: &G,
+    room: Room,
+) -> Called {
+    thread::scope(thread::scope_env(), rt, move |scope| {
+        start_all(scope, rt, alloc, desks, door, peers, gate, room)
+    })
+}
+
+/// The same, and tells the door how each pull ended.
+fn call_all<X: Threads + Wait + Clock + Sync, D: Door, G: Gate + Sync>(
+    rt: &X,
+    alloc: Global,
+    desks: Vec<PortDesk<'_, X>>,
+    door: &mut D,
+    peers: Vec<Peer<D::R, D::W>>,
+    gate: &G,
+    room: Room,
+) -> Result<(), ServeFault> {
+    let Called { ended, served } = call_in(rt, alloc, desks, door, peers, gate, room);
+    for pull in ended {
+        door.pull_ended(pull.peer, pull.end);
+    }
+    served
+}
+
+/// Starts the executor in a thread of its own.
+fn start_executor<'s, E, X: Wait + Clock + Sync + 's, T: Timeline + Send + Drop + 's>(
+    scope: &'s Scope<'s, E>,
+    rt: &'s X,
+    alloc: Global,
+    ended: &'s AtomicBool,
+    executor: Executor<'s, T>,
+) -> Result<PromisedHandle<Engine<T>, ServesOf<T>>, ServeFault>
+    ensures { IfOk result (λ h. h.promise.given.value ≡ executor.entry.engine) }
+{
+    let promise = ServesOf {
+        given: Snapshot::of(&executor.engine),
+    };
+    let started = scope.spawn_with(
+        promise,
+        move || -> Engine<T>
+            ensures { Serves executor.entry.engine result }
+        { executor.run(rt, alloc, ended) },
+    );
+    match started {
+        Ok(handle) => Ok(handle),
+        Err(_) => Err(ServeFault::Accept),
+    }
+}
+
+/// Runs the executor beside the sessions and pulls, and gives its engine back once all have ended.
+fn serve_beside<
+    X: Threads + Wait + Clock + Sync,
+    T: Timeline + Send + Drop,
+    D: Door,
+    G: Gate + Sync,
+>(
+    rt: &X,
+    alloc: Global,
+    executor: Executor<'_, T>,
+    desks: Vec<PortDesk<'_, X>>,
+    door: &mut D,
+    peers: Vec<Peer<D::R, D::W>>,
+    gate: &G,
+    room: Room,
+) -> Result<Engine<T>, ServeFault>
+    ensures { IfOk result (λ engine. Serves executor.entry.engine engine) }
+{
+    let ended = AtomicBool::new(false);
+    let ended = &ended;
+    thread::scope(
+        thread::scope_env(),
+        rt,
+        move |scope| -> Result<Engine<T>, ServeFault>
+            ensures { IfOk result (λ engine. Serves executor.entry.engine engine) }
+        {
+            let handle = start_executor(scope, rt, alloc, ended, executor)?;
+            let served = call_all(rt, alloc, desks, door, peers, gate, room);
+            ended.store(true, Ordering::SeqCst);
+            let engine = handle.join(rt);
+            served?;
+            Ok(engine)
+        },
+    )
+}
+
+/// Serves over any timeline.
+fn serve_over<X: Threads + Wait + Clock + Sync, T: Timeline + Send + Drop, D: Door, G: Gate + Sync>(
+    rt: &X,
+    alloc: Global,
+    program: Program,
+    door: &mut D,
+    sessions: usize,
+    peers: Vec<Peer<D::R, D::W>>,
+    gate: &G,
+) -> Result<Engine<T>, ServeFault>
+    requires { sessions + vec_len peers ≤ most_lanes }
+    ensures program { IfOk result (λ engine. engine.replica.program ≡ program) }
+    ensures began { IfOk result (λ engine. engine.began ≡ 0) }
+{
+    let room = Room::new(alloc, peers.len())?;
+    let replica = Replica::new(alloc, program)?;
+    let (board, writer, reader) = board(alloc, MAX_ROWS)?;
+    let board = &board;
+    let (desks, lanes) = make_desks(rt, alloc, board, reader, sessions + peers.len())?;
+    let engine = Engine::new(replica, lanes, writer);
+    let executor = Executor { engine, board };
+    let served = serve_beside(rt, alloc, executor, desks, door, peers, gate, room)?;
+    Ok(served)
+}
+
+/// Serves so many sessions of a replica of this program that has taken no record yet, as they come to the door, each in
+/// a thread of its own, and pulls from the peers, each in a thread of its own. One thread holds the replica and answers all
+/// their lines. It returns when all have ended, and gives back the engine that served them.
+pub fn serve_sessions<X: Threads + Wait + Clock + Sync, D: Door, G: Gate + Sync>(
+    rt: &X,
+    alloc: Global,
+    program: Program,
+    door: &mut D,
+    sessions: usize,
+    peers: Vec<Peer<D::R, D::W>>,
+    gate: &G,
+) -> Result<Engine<Warp>, ServeFault>
+    requires { sessions + vec_len peers ≤ most_lanes }
+    // The engine ran this program, and began with an empty log.
+    ensures program { IfOk result (λ engine. engine.replica.program ≡ program) }
+    ensures began { IfOk result (λ engine. engine.began ≡ 0) }
+{
+    serve_over::<X, Warp, D, G>(rt, alloc, program, door, sessions, peers, gate)
+}
