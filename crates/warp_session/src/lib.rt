@@ -1,7 +1,8 @@
 //! Sessions: lines come in as bytes, from anywhere, and their replies go out as bytes; one alone, or many at once.
 //!
 //! A session knows neither who answers its lines, a desk, nor where bytes come from and go to, a `Source` and a
-//! `Sink`. Many at once have one replica, in a thread of its own. There is no file here, no socket, and no command line.
+//! `Sink`. Many at once have one replica, in a thread of its own. There is no file here, no socket, and no command
+//! line.
 #![tactic(auto)]
 
 mod desk_session;

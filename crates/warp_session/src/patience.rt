@@ -12,8 +12,8 @@ const FIRST_SLEEP: u64 = 50;
 /// The longest sleep, in microseconds.
 const LONGEST_SLEEP: u64 = 1_000;
 
-/// How long to wait before the next look for what another thread does: at first not at all, then longer and longer, up to
-/// a millisecond.
+/// How long to wait before the next look for what another thread does: at first not at all, then longer and longer, up
+/// to a millisecond.
 #[derive(Drop)]
 pub(crate) struct Patience {
     looks: u32,

@@ -78,7 +78,8 @@ fn last_reply<X: Wait + Clock>(rt: &X, port: &mut Port) -> Reply
     unreachable!()
 }
 
-/// Answers a look at the board, whose count it loads anew. The flag is loaded first: what it saw frozen has all its rows.
+/// Answers a look at the board, whose count it loads anew. The flag is loaded first: what it saw frozen has all its
+/// rows.
 fn look(board: &Board, reader: &mut Reader, asked: Look) -> Reply
     requires { reader.old.board ≡ board.now }
     ensures learns { Learns reader.old reader.new }
@@ -111,8 +112,8 @@ impl<'a, X: Wait + Clock> Desk for PortDesk<'a, X> {
 
     ghost gives = { GivesAt };
 
-    /// A line of the board is answered at once. Any other is sent and its answer waited for; where the lane is full it is
-    /// refused 10 and not sent.
+    /// A line of the board is answered at once. Any other is sent and its answer waited for; where the lane is full it
+    /// is refused 10 and not sent.
     fn ask(&mut self, line: Line) -> Reply {
         if let Line::Look(asked) = line {
             return look(self.board, &mut self.reader, asked);

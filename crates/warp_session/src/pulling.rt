@@ -132,9 +132,11 @@ impl Conversation {
         source: &mut R,
         sink: &mut W,
     ) -> Result<Option<Fed>, PullEnd>
-        ensures ok { OnOk result ((R.failures source.new ≡ R.failures source.old) × (W.failures sink.new ≡ W.failures sink.old)) }
+        ensures ok { OnOk result
+            ((R.failures source.new ≡ R.failures source.old) × (W.failures sink.new ≡ W.failures sink.old)) }
         ensures err { IfErr result (λ end. IsCut end
-            × PullFails end (R.failures source.old) (R.failures source.new) (W.failures sink.old) (W.failures sink.new)) }
+            × PullFails end (R.failures source.old) (R.failures source.new)
+            (W.failures sink.old) (W.failures sink.new)) }
         ensures puller { self.new.puller ≡ self.old.puller }
         ensures levels { self.new.levels ≡ self.old.levels }
     {
@@ -209,8 +211,8 @@ impl Conversation {
 }
 
 /// Asks the other replica, whose replies come by `source` and whose lines go by `sink`, for its log, place after place,
-/// and puts its records to `desk`. It ends where so many replies in a row, `quiet`, were that the other log has no more;
-/// behind each of these, and behind a refusal that passes, it sleeps for `pause`.
+/// and puts its records to `desk`. It ends where so many replies in a row, `quiet`, were that the other log has no
+/// more; behind each of these, and behind a refusal that passes, it sleeps for `pause`.
 pub fn pull<X: Clock, R: Source, W: Sink, D: Desk>(
     rt: &X,
     alloc: Global,

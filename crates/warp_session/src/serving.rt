@@ -374,8 +374,8 @@ fn serve_over<X: Threads + Wait + Clock + Sync, T: Timeline + Send + Drop, D: Do
 }
 
 /// Serves so many sessions of a replica of this program that has taken no record yet, as they come to the door, each in
-/// a thread of its own, and pulls from the peers, each in a thread of its own. One thread holds the replica and answers all
-/// their lines. It returns when all have ended, and gives back the engine that served them.
+/// a thread of its own, and pulls from the peers, each in a thread of its own. One thread holds the replica and answers
+/// all their lines. It returns when all have ended, and gives back the engine that served them.
 pub fn serve_sessions<X: Threads + Wait + Clock + Sync, D: Door, G: Gate + Sync>(
     rt: &X,
     alloc: Global,
