@@ -23,7 +23,13 @@ front_send = declared_send front.the_type (
     search (crosses, sendable) depth 60,
     (
       search sendable,
-      (search sendable depth 60, (search sendable, (search sendable, (history.the_send, (aside.the_send, (scratch_send, tt)))))),
+      (
+        search sendable depth 60,
+        (
+          search sendable,
+          (search sendable, (search sendable, (search sendable depth 60, (history.the_send, (aside.the_send, (scratch_send, tt)))))),
+        ),
+      ),
     ),
   ),
 )
