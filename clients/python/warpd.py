@@ -2,11 +2,13 @@
 
     import warpd
 
-    with warpd.Client.run("builtin:twice") as client:      # a process `warpd run` of its own
+    with warpd.Client("127.0.0.1", 7000) as client:        # a session of `warpd serve .. --port 7000`
         client.event(origin=0, time=5, input=0, value=3)
         print(client.var(0).value)
+        for row in client.rows():                          # what is released, as it comes
+            print(row.tag, row.value)
 
-`Client(host, port)` speaks to whatever answers these lines at a TCP port. Standard library alone, Python 3.9 and later.
+`Client.run("builtin:twice")` speaks to a process `warpd run` of its own. Standard library alone, Python 3.9 and later.
 
     python3 -m warpd carry HOST:PORT HOST:PORT..
 
@@ -27,15 +29,15 @@ from itertools import islice
 from typing import NamedTuple, Optional, Union
 
 __all__ = [
-    "Announce", "Announcer", "Board", "Breach", "Client", "Count", "Ended", "Entry", "Event", "Horizon", "Known", "Output",
-    "Refused", "Row", "Tag", "Taken", "Var", "Withdraw", "carry",
+    "Announce", "Announcer", "Board", "Breach", "Client", "Collected", "Count", "Ended", "Entry", "Event", "Horizon", "Known", "Output",
+    "Record", "Refused", "Row", "Tag", "Taken", "Var", "Withdraw", "carry",
 ]
 
 MEANINGS = {
     1: "the line is none, or out of range", 2: "the program has no such origin", 3: "past the program's stop",
     4: "the program has no such input", 5: "the input belongs to another origin", 6: "the program has no such variable",
     7: "the log is full", 8: "no memory", 9: "the line is too long", 10: "busy: 64 lines wait for an answer",
-    11: "there is no board here",
+    11: "there is no board: only a server has one",
 }
 # So many lines are sent before their replies are read: they fit into the buffers on the way, so neither side waits for the other.
 WINDOW = 256
@@ -304,9 +306,11 @@ class Client:
         return self.ask("collect")
 
     def board(self) -> Board:
+        """How many released outputs stand on the board, 4,096 at most, and whether it is frozen; only a server has one."""
         return self.ask("board")
 
     def row(self, number: int) -> Optional[Row]:
+        """The row of the board with this number, from 0."""
         return self.ask(f"row {number}")
 
     def _some(self, line: str):
@@ -324,18 +328,25 @@ class Client:
             for reply in self.many(f"log {place}" for place in range(first, min(first + WINDOW, end))):
                 yield reply.record
 
+    def released_rows(self, start: int = 0) -> Iterator[Row]:
+        """The rows of the board from a number on, up to its present end."""
+        return self._rows(start, self.board().count)
+
     def rows(self, start: int = 0, pause: float = 0.01) -> Iterator[Row]:
         """The rows of the board from a number on, as they come, up to where the board is frozen. It sleeps `pause` seconds
-        between two looks that found nothing."""
+        between two looks that found nothing; readers of the board wait for nobody, and nobody waits for them."""
         while True:
             board = self.board()
-            for number in range(start, board.count):
-                yield self.row(number)
+            yield from self._rows(start, board.count)
             if board.frozen:
                 return
             if board.count <= start:
                 clock.sleep(pause)
             start = max(start, board.count)
+
+    def _rows(self, start: int, end: int) -> Iterator[Row]:
+        for first in range(start, end, WINDOW):
+            yield from self.many(f"row {number}" for number in range(first, min(first + WINDOW, end)))
 
 
 class Announcer:
