@@ -187,6 +187,8 @@ class Talk:
         """The records of the log, in order."""
         count = int(self.ask("horizon").split()[1])
         replies = self.stream([f"log {place}" for place in range(1, count + 1)])
+        for reply in replies:
+            holds(reply.startswith("log "), f"a record of the log, not {reply!r}")
         return [reply.split(" ", 2)[2] for reply in replies]
 
     def end(self):
