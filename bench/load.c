@@ -2,14 +2,15 @@
 
        load PORT CLIENTS KIND SECONDS
 
-   KIND is 'ask' (`var 0`, one by one), 'event' (events in the order of their tags, one by one, 96,000 in all at most) or 'many'
-   (64 times `var 0` at once). It prints how many lines a second were answered, and ends with status 1 where one was not, or
+   KIND is 'ask' (`var 0`, one by one), 'event' (events, one by one, whose times the clients take from one clock; 96,000 in all at
+   most) or 'many' (64 times `var 0` at once). It prints how many lines a second were answered, and ends with status 1 where one was not, or
    not so. */
 #include <arpa/inet.h>
 #include <netinet/tcp.h>
 #include <stdio.h>
 #include <stdlib.h>
 #include <string.h>
+#include <sys/mman.h>
 #include <sys/socket.h>
 #include <sys/wait.h>
 #include <time.h>
@@ -68,18 +69,20 @@ static void converse(int it, const char *lines, size_t length, int count, const 
     }
 }
 
-static struct result client(int it, int number, int clients, const char *kind, double seconds) {
+static struct result client(int it, int number, long *clock, const char *kind, double seconds) {
     char text[AT_ONCE * 64];
-    long most = !strcmp(kind, "event") ? ALL_EVENTS / clients : 1L << 40;
-    int at_once = !strcmp(kind, "many") ? AT_ONCE : 1;
+    int is_event = !strcmp(kind, "event"), at_once = !strcmp(kind, "many") ? AT_ONCE : 1;
     size_t length = 0;
     for (int i = 0; i < at_once; i++) length += sprintf(text + length, "var 0\n");
     double began = now();
     long lines = 0;
-    while (lines < most && now() - began < seconds) {
-        if (!strcmp(kind, "event"))
-            length = sprintf(text, "event %d %ld 0 %d %ld\n", number % 2, lines * clients + number, number % 2, lines % 997);
-        converse(it, text, length, at_once, !strcmp(kind, "event") ? "taken" : "var");
+    while (now() - began < seconds) {
+        if (is_event) {
+            long time = __atomic_fetch_add(clock, 1, __ATOMIC_RELAXED);
+            if (time >= ALL_EVENTS) break;
+            length = sprintf(text, "event %d %ld 0 %d %ld\n", number % 2, time, number % 2, time % 997);
+        }
+        converse(it, text, length, at_once, is_event ? "taken" : "var");
         lines += at_once;
     }
     return (struct result){lines, now() - began};
@@ -89,6 +92,8 @@ int main(int count, char **words) {
     int ready[2], go[2], told[2];
     if (count != 5 || pipe(ready) || pipe(go) || pipe(told)) fail("load PORT CLIENTS KIND SECONDS");
     int port = atoi(words[1]), clients = atoi(words[2]);
+    long *clock = mmap(NULL, sizeof *clock, PROT_READ | PROT_WRITE, MAP_SHARED | MAP_ANONYMOUS, -1, 0);
+    if (clock == MAP_FAILED) fail("no memory");
     for (int number = 0; number < clients; number++) {
         if (fork()) continue;
         char byte = 0;
@@ -96,7 +101,7 @@ int main(int count, char **words) {
         close(go[1]);
         converse(it, "var 0\n", 6, 1, "var");
         if (write(ready[1], &byte, 1) != 1 || read(go[0], &byte, 1) < 0) fail("no start");
-        struct result result = client(it, number, clients, words[3], atof(words[4]));
+        struct result result = client(it, number, clock, words[3], atof(words[4]));
         if (write(told[1], &result, sizeof result) != sizeof result) fail("no result told");
         exit(0);
     }
