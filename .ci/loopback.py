@@ -4,6 +4,7 @@ folder. Nothing here waits for longer than SECONDS, and a server is ended by its
 import os
 import random
 import re
+import resource
 import socket
 import struct
 import subprocess
@@ -61,18 +62,20 @@ def free_port():
 
 
 class Server:
-    """A process `warpd serve`. As a context it ends with its last session, and must end well: status 0, on standard output the
-    line `ready P` alone, on standard error what `errors` says, one text or any of several. A peer may name the server's own port
-    by `{port}`."""
+    """A process `warpd serve`. As a context it ends with its last session, and must end well: with this status, on standard output
+    the line `ready P` alone, on standard error what `errors` says, one text or any of several. A peer may name the server's own
+    port by `{port}`. It may have no more than so many `files` open, where that is given."""
 
-    def __init__(self, program, served, sessions, *peers, errors="", port=None):
-        self.talks, self.errors = [], (errors,) if isinstance(errors, str) else errors
+    def __init__(self, program, served, sessions, *peers, errors="", status=0, port=None, files=None):
+        self.talks, self.errors, self.status = [], (errors,) if isinstance(errors, str) else errors, status
+        limit = (lambda: resource.setrlimit(resource.RLIMIT_NOFILE, (files, files))) if files else None
         for _ in range(5):
             self.port = port or free_port()
             self.files = [tempfile.TemporaryFile() for _ in range(2)]
             words = [program, "serve", served, "--port", str(self.port), "--sessions", str(sessions),
                      *(it.format(port=self.port) for it in peers)]
-            self.process = subprocess.Popen(list(map(str, words)), stdin=subprocess.DEVNULL, stdout=self.files[0], stderr=self.files[1])
+            self.process = subprocess.Popen(list(map(str, words)), stdin=subprocess.DEVNULL, stdout=self.files[0], stderr=self.files[1],
+                                            preexec_fn=limit)
             try:
                 wait_for(lambda: "\n" in self.printed(0) or self.process.poll() is not None, "the line ready")
             except Wrong:
@@ -113,7 +116,7 @@ class Server:
         for talk in self.talks:
             talk.close()
         wait_for(lambda: self.process.poll() is not None, "the server's end")
-        same(self.process.returncode, 0, "the server's status")
+        same(self.process.returncode, self.status, "the server's status")
         same(self.printed(0), f"ready {self.port}\n", "the server's standard output")
         holds(self.printed(1) in self.errors, f"standard error: wanted {' or '.join(map(repr, self.errors))}, got {self.printed(1)!r}")
 
