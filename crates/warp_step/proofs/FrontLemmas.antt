@@ -52,11 +52,11 @@ after_not_same t u h = grind (arith, nat_tests)
 still_after : (t : Moment) (w v : Waiting) → is_before t w.tag ≡ true → key_before w.tag w.target v ≡ true → is_before t v.tag ≡ true
 still_after t w v h k = grind (arith, nat_tests)
 
-other_after : (t u : Moment) → not (is_before u t) ≡ true → is_same u t ≡ false → is_before t u ≡ true
+pub other_after : (t u : Moment) → not (is_before u t) ≡ true → is_same u t ≡ false → is_before t u ≡ true
 other_after t u h k = grind (arith, nat_tests)
 
 -- so none of those above it is taken
-none_at : (t : Moment) (w : Waiting) (ws : List Waiting) → is_before t w.tag ≡ true → Above w.tag w.target ws
+pub none_at : (t : Moment) (w : Waiting) (ws : List Waiting) → is_before t w.tag ≡ true → Above w.tag w.target ws
     → (filter (λ v. is_same v.tag t) ws ≡ []) × (filter (λ v. not (is_same v.tag t)) ws ≡ ws)
 none_at t w [] h all = (refl, refl)
 none_at t w (v ∷ ws) h all =
