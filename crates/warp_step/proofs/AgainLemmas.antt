@@ -315,6 +315,16 @@ repeats_are P t ws s ordered here fits =
     (λ m. timers_with ws (absent P) m own
     ∙ ap (λ (o : Option ℤ). is_some o || list_any (is_target (to.Timer m)) (targets ws)) (none_at (length P.timers) m))
 
+-- where one target alone is present, it is again alone
+pub alone_again : (P : Program) (t : Moment) (k : Target) (v : ℤ) (s : Snapshot) → IsTrue (target_fits (program_places P) k)
+    → with_repeats P t (with_value k v (absent P)) 0 P.timers s ≡ again P t k s
+alone_again P t k v s fits =
+    let own : IsTrue (target_fits (places_of (absent P)) k) = subst (λ (places : Places). IsTrue (target_fits places k)) (sym (absent_places P)) fits in
+    of_targets P t (with_value k v (absent P)) (k ∷ []) s (and_from (target_fits (program_places P) k) true fits refl) (tt, tt)
+    (λ m. timer_with k v (absent P) m own
+    ∙ ap (λ (o : Option ℤ). is_some o || is_target (to.Timer m) k) (none_at (length P.timers) m)
+    ∙ or_false (is_target (to.Timer m) k))
+
 -- a state with a front of entries before those that are pending
 abbrev pub with_front : List Waiting → Snapshot → Snapshot
 with_front ws s = record s { pending = ws ++ s.pending }

@@ -220,3 +220,8 @@ pub repeat_here : (P : Program) (t : Moment) (ws : List Waiting) (s : Snapshot) 
 repeat_here P t ws s present ordered fits arrives =
     ap (λ (p : Presence). with_repeats P t p 0 P.timers s) arrives
     ∙ repeats_are P t (here t ws) s (order_here t ws ordered) (all_here t ws) (here_pass (λ w. target_fits (program_places P) w.target) t ws fits)
+
+-- what holds of all holds of the first
+pub first_passes : (q : Waiting → Bool) (ws : List Waiting) → IsTrue (list_all q ws) → IsTrue (list_all q (take 1 ws))
+first_passes q [] all = refl
+first_passes q (w ∷ ws) all = and_from (q w) true (and_parts (q w) (list_all q ws) all).0 refl

@@ -83,52 +83,10 @@ impl State {
         ensures due { AreDue program.now present.new result.marks.word }
         ensures sure { IsSure program.now present.new result.first }
     {
-        let first = self.pending.as_slice()[0];
-        self.pending.drop_front(1);
-        self.arrive_alone(program, plan, tag, present, first.target, first.value)
-    }
-
-    /// Makes a target alone present, and pending again if it is a timer with a period. Answers whom it concerns.
-    #[inline(always)]
-    fn arrive_alone(
-        &mut self,
-        program: &Program,
-        plan: &Plan,
-        tag: Tag,
-        present: &mut Present,
-        target: Target,
-        value: i64,
-    ) -> Concerned
-        requires time { tag.time ≤ program.now.stop }
-        requires target { IsTrue (target_fits (program_places program.now) target) }
-        requires plan { plan.now ≡ plan_of program.now }
-        requires absent { present.old ≡ absent program.now }
-        ensures state { self.new ≡ with_repeats program.now tag present.new 0 program.now.timers self.old }
-        ensures present { present.new ≡ with_value target value (absent program.now) }
-        ensures places { places_of present.new ≡ places_of present.old }
-        ensures sources { present.new.sources ≡ present.old.sources }
-        ensures due { AreDue program.now present.new result.marks.word }
-        ensures sure { IsSure program.now present.new result.first }
-    {
         program.valid();
         let mut due = Marks::none();
         let mut sure = NO_REACTION;
-        // A timer is what is mostly pending: where its kind is known, nothing asks for it again.
-        match target {
-            Target::Timer(n) => {
-                put(
-                    program,
-                    plan,
-                    &mut due,
-                    &mut sure,
-                    present,
-                    Target::Timer(n),
-                    value,
-                );
-                self.repeat_timer(program, tag, n, &program.timers()[n as usize]);
-            }
-            _ => put(program, plan, &mut due, &mut sure, present, target, value),
-        }
+        self.take_first(program, plan, &mut due, &mut sure, tag, present);
         Concerned {
             marks: due,
             first: sure,
@@ -235,11 +193,11 @@ impl State {
     {
         let first = self.pending.as_slice()[0];
         self.pending.drop_front(1);
-        self.arrive_next(program, plan, due, sure, tag, present, first.target, first.value);
+        self.arrive_next(program, plan, due, sure, tag, present, first);
     }
 
-    /// Makes a target present, and pending again if it is a timer with a period. Whom it concerns is due, and the first
-    /// reaction that it triggers is sure.
+    /// Makes the target of an entry present, and pending again if it is a timer with a period. Whom it concerns is due,
+    /// and the first reaction that it triggers is sure.
     #[inline(always)]
     fn arrive_next(
         &mut self,
@@ -249,16 +207,15 @@ impl State {
         sure: &mut usize,
         tag: Tag,
         present: &mut Present,
-        target: Target,
-        value: i64,
+        entry: Waiting,
     )
         requires time { tag.time ≤ program.now.stop }
-        requires target { IsTrue (target_fits (program_places program.now) target) }
+        requires target { IsTrue (target_fits (program_places program.now) entry.target) }
         requires places { places_of present.old ≡ program_places program.now }
         requires plan { plan.now ≡ plan_of program.now }
         requires own { present.old.sources ≡ sources_of program.now }
-        ensures state { self.new ≡ again program.now tag target self.old }
-        ensures present { present.new ≡ with_value target value present.old }
+        ensures state { self.new ≡ again program.now tag entry.target self.old }
+        ensures present { present.new ≡ with_value entry.target entry.value present.old }
         ensures places { places_of present.new ≡ places_of present.old }
         ensures sources { present.new.sources ≡ present.old.sources }
         ensures due { AreDue program.now present.old due.old.word → AreDue program.now present.new due.new.word }
@@ -266,12 +223,20 @@ impl State {
     {
         program.valid();
         // A timer is what is mostly pending: where its kind is known, nothing asks for it again.
-        match target {
+        match entry.target {
             Target::Timer(n) => {
-                put(program, plan, due, sure, present, Target::Timer(n), value);
+                put(
+                    program,
+                    plan,
+                    due,
+                    sure,
+                    present,
+                    Target::Timer(n),
+                    entry.value,
+                );
                 self.repeat_timer(program, tag, n, &program.timers()[n as usize]);
             }
-            _ => put(program, plan, due, sure, present, target, value),
+            _ => put(program, plan, due, sure, present, entry.target, entry.value),
         }
     }
 }
