@@ -1,11 +1,10 @@
 -- Which timers repeat: those that are present alone count, so where one place alone is present, it is that one or none.
-use Rattle.std.proofs.Common.{◌≡◌, ◌≢◌, ℕ, ℤ, zero, suc, ◌+◌, ◌<◌, ◌&&◌, nat_lt, List, [], ◌∷◌, length, get_or, Option, None, Some, is_some, if◌then◌else◌, refl, sym, ap, ◌∙◌, subst, arith}
+use Rattle.std.proofs.Common.{◌≡◌, ℕ, ℤ, ◌+◌, ◌&&◌, nat_lt, List, [], ◌∷◌, length, get_or, Option, None, is_some, if◌then◌else◌, refl, sym, ap, ◌∙◌, subst}
 use Rattle.std.specs.Prelude.{pos}
 use Rattle.std.proofs.lemmas.Bool.{cond-false}
-use Rattle.std.proofs.lemmas.List.{get_or-set_other, get_or-set_same, length-replicate}
+use Rattle.std.proofs.lemmas.List.{length-replicate}
 use Rattle.warp_tag.specs.Moment.{Moment}
-use Rattle.warp_body.specs.Presence.{Presence, places_of, present_at, with_value}
-use Rattle.warp_body.specs.declared.place.Target.{Target}
+use Rattle.warp_body.specs.Presence.{Presence, places_of, present_at}
 use Rattle.warp_body.specs.declared.place.Target.TheVariants as to
 use Rattle.warp_step.specs.Program.{Program}
 use Rattle.warp_step.specs.Valid.{program_places}

@@ -1,7 +1,7 @@
 -- What is not marked may be left out: reactions, links and program outputs that stand between two numbers, none of them
 -- marked, change nothing.
-use Rattle.std.proofs.Common.{◌≡◌, inl, inr, ℕ, ℤ, zero, suc, ◌+◌, ◌-◌, ◌<◌, ◌≤◌, nat_lt, true, false, ◌&&◌, ◌||◌, List, [], ◌∷◌, length, drop, get_or, Option, None, Some, is_some, if◌then◌else◌, refl, sym, ap, ◌∙◌, arith}
-use Rattle.std.specs.Prelude.{slice_get, pos}
+use Rattle.std.proofs.Common.{◌≡◌, inl, inr, ℕ, ℤ, zero, suc, ◌+◌, ◌-◌, ◌<◌, ◌≤◌, true, false, ◌||◌, List, [], ◌∷◌, length, drop, get_or, Option, None, Some, is_some, refl, sym, ap, ◌∙◌, arith}
+use Rattle.std.specs.Prelude.{slice_get}
 use Rattle.std.specs.List.{list_any}
 use Rattle.std.proofs.lemmas.Bool.{cases_lt, cond-false}
 use Rattle.std.proofs.lemmas.List.{at_drop_all, drop_more}
@@ -13,11 +13,10 @@ use Rattle.warp_body.specs.declared.place.Target.TheVariants as to
 use Rattle.warp_step.specs.inner.Marks.{first_reaction, mark_at, marks_from}
 use Rattle.warp_step.specs.inner.Plan.{link_heeds, output_heeds, reaction_heeds, source_if_delayed}
 use Rattle.warp_step.specs.Program.{Program, Rule}
-use Rattle.warp_step.specs.Snapshot.{Snapshot, landed}
-use Rattle.warp_step.specs.Step.{Reacting, after_reactions, delivered, is_triggered, numbers, outputs_from, repeats, with_links, with_output, with_repeats}
+use Rattle.warp_step.specs.Snapshot.{Snapshot}
+use Rattle.warp_step.specs.Step.{Reacting, after_reactions, delivered, is_triggered, numbers, outputs_from, with_links, with_output}
 use Rattle.warp_step.specs.declared.parts.Link.{Link}
 use Rattle.warp_tag.specs.declared.out.Out.{Out}
-use Rattle.warp_step.specs.declared.parts.Timer.{Timer}
 use Rattle.warp_step.specs.inner.Due.{AreMarked}
 use Rattle.warp_step.proofs.DueLemmas.{skip, unmarked}
 use Rattle.warp_step.proofs.MarkLemmas.{marks_from_mark}

@@ -1,5 +1,5 @@
 -- Taking the entries at a tag one after another: those that are left stand in front of what is pending else.
-use Rattle.std.proofs.Common.{◌≡◌, inl, inr, ℕ, zero, suc, ◌+◌, ◌-◌, ◌<◌, ◌≤◌, Bool, true, false, not, nat_lt, IsTrue, List, [], ◌∷◌, ◌++◌, length, map, take, drop, filter, get_or, refl, sym, ap, ◌∙◌, subst, arith}
+use Rattle.std.proofs.Common.{◌≡◌, inl, inr, ℕ, zero, suc, ◌+◌, ◌-◌, ◌<◌, ◌≤◌, Bool, true, false, not, nat_lt, IsTrue, List, [], ◌∷◌, ◌++◌, length, take, drop, filter, get_or, refl, sym, ap, ◌∙◌, subst, arith}
 use Rattle.std.specs.List.{list_all}
 use Rattle.std.proofs.lemmas.Bool.{and_from, and_parts, cases_Bool, cases_lt, lt-ltb}
 use Rattle.std.proofs.lemmas.Bool.Decides.{nat_tests}
@@ -17,7 +17,7 @@ use Rattle.warp_step.specs.inner.Again.{again, again_each, period_of}
 use Rattle.warp_step.specs.declared.pending.Waiting.{Waiting}
 use Rattle.warp_step.proofs.AgainLemmas.{again_behind, again_more, repeats_are, targets, with_front}
 use Rattle.warp_step.proofs.PendingLemmas.{Above}
-use Rattle.warp_step.proofs.FrontLemmas.{arrived_more, left_parts, none_at, other_after, stands_at}
+use Rattle.warp_step.proofs.FrontLemmas.{arrived_more, none_at, other_after, stands_at}
 use Rattle.warp_step.proofs.TagsOfStep.{kept_at, repeated_at}
 
 -- the entries at a tag, and the others

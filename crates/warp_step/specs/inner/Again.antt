@@ -5,7 +5,6 @@ use Rattle.warp_body.specs.declared.place.Target.{Target}
 use Rattle.warp_body.specs.declared.place.Target.TheVariants as to
 use Rattle.warp_step.specs.Program.{Program}
 use Rattle.warp_step.specs.Snapshot.{Snapshot, landed}
-use Rattle.warp_step.specs.declared.parts.Timer.{Timer}
 
 -- the period of the timer with this number
 abbrev pub period_of : Program → ℕ → ℕ

@@ -1,6 +1,5 @@
 -- the first entry that is left is taken, as long as it is at the tag
-use Rattle.std.proofs.Common.{◌≡◌, ◌≤◌, Bool, List, IsTrue, length, true, false, rules, refl, sym, ap, ◌∙◌, subst, arith}
-use Rattle.std.specs.List.{list_all}
+use Rattle.std.proofs.Common.{◌≡◌, ◌≤◌, Bool, List, length, rules, refl, sym, ap, ◌∙◌, subst, arith}
 use Rattle.warp_tag.specs.Moment.{Moment}
 use Rattle.warp_body.specs.Presence.{target_fits}
 use Rattle.warp_step.specs.Valid.{program_places}

@@ -1,5 +1,5 @@
 -- so many entries are taken as turns were made, whom they concern is due, and a reaction is sure
-use Rattle.std.proofs.Common.{◌≡◌, IsTrue}
+use Rattle.std.proofs.Common.{◌≡◌}
 use Rattle.warp_body.specs.Presence.{places_of}
 use Rattle.warp_step.specs.inner.Due.{AreDue}
 use Rattle.warp_step.specs.inner.Sure.{IsSure}

@@ -1,5 +1,5 @@
 -- the first entry alone arrives, and is to repeat alone
-use Rattle.std.proofs.Common.{◌≡◌, ◌∷◌, List, IsTrue, drop, take, sym, ap, ◌∙◌, subst, arith}
+use Rattle.std.proofs.Common.{◌≡◌, List, IsTrue, drop, take, sym, ap, ◌∙◌, subst}
 use Rattle.std.specs.List.{list_all}
 use Rattle.std.proofs.lemmas.Bool.{and_parts}
 use Rattle.warp_body.specs.Presence.{Presence, places_of, target_fits, with_value}
