@@ -8,8 +8,8 @@ use Rattle.warp_body.specs.Presence.{Presence, is_target, nothing_present, prese
 use Rattle.warp_body.specs.declared.place.Places.{Places}
 use Rattle.warp_body.specs.declared.place.Target.{Target}
 use Rattle.warp_body.specs.declared.place.Target.TheVariants as to
-use Rattle.warp_step.specs.inner.Marks.{first_link, first_output, first_reaction, first_timer, mark_at, no_marks, with_mark}
-use Rattle.warp_step.specs.inner.Plan.{heeds, heeds_any, link_heeds, marks_of, output_heeds, place_of, reaction_heeds, timer_heeds, with_watchers}
+use Rattle.warp_step.specs.inner.Marks.{first_link, first_output, first_reaction, mark_at, no_marks, with_mark}
+use Rattle.warp_step.specs.inner.Plan.{heeds, heeds_any, link_heeds, marks_of, output_heeds, place_of, reaction_heeds, with_watchers}
 use Rattle.warp_step.specs.Program.{Program}
 use Rattle.warp_step.specs.Step.{sources_of}
 use Rattle.warp_step.specs.inner.Due.{AreDue, AreMarked}
@@ -59,25 +59,20 @@ pub record Marks (P : Program) (places : List Target) (word : ℕ) : Type 0 wher
   pub reactions : MarksAll reaction_heeds first_reaction P.reactions (sources_of P) places word
   pub links : MarksAll link_heeds (first_link P) P.links (sources_of P) places word
   pub outputs : MarksAll output_heeds (first_output P) P.outputs (sources_of P) places word
-  pub timers : MarksAll timer_heeds (first_timer P) P.timers (sources_of P) places word
 
 pub marks_all : (P : Program) (places : List Target) → Marks P places (marks_of P places)
 marks_all P places =
     let ss = sources_of P in
     let a = with_watchers reaction_heeds first_reaction ss places 0 P.reactions no_marks in
     let b = with_watchers link_heeds (first_link P) ss places 0 P.links a in
-    let d = with_watchers output_heeds (first_output P) ss places 0 P.outputs b in
     let keep_b = with_watchers_keep link_heeds (first_link P) ss places 0 P.links a in
-    let keep_d = with_watchers_keep output_heeds (first_output P) ss places 0 P.outputs b in
-    let keep = with_watchers_keep timer_heeds (first_timer P) ss places 0 P.timers d in
+    let keep = with_watchers_keep output_heeds (first_output P) ss places 0 P.outputs b in
     record {
-      reactions = λ n x at heeded. keep (first_reaction + n) (keep_d (first_reaction + n) (keep_b (first_reaction + n)
-          (with_watchers_mark reaction_heeds first_reaction ss places 0 P.reactions no_marks n n x (omega arith) at heeded)));
-      links = λ n x at heeded. keep (first_link P + n) (keep_d (first_link P + n)
-          (with_watchers_mark link_heeds (first_link P) ss places 0 P.links a n n x (omega arith) at heeded));
-      outputs = λ n x at heeded. keep (first_output P + n)
-          (with_watchers_mark output_heeds (first_output P) ss places 0 P.outputs b n n x (omega arith) at heeded);
-      timers = λ n x at heeded. with_watchers_mark timer_heeds (first_timer P) ss places 0 P.timers d n n x (omega arith) at heeded;
+      reactions = λ n x at heeded. keep (first_reaction + n) (keep_b (first_reaction + n)
+          (with_watchers_mark reaction_heeds first_reaction ss places 0 P.reactions no_marks n n x (omega arith) at heeded));
+      links = λ n x at heeded. keep (first_link P + n)
+          (with_watchers_mark link_heeds (first_link P) ss places 0 P.links a n n x (omega arith) at heeded);
+      outputs = λ n x at heeded. with_watchers_mark output_heeds (first_output P) ss places 0 P.outputs b n n x (omega arith) at heeded;
     }
 
 -- a place that a trigger does not heed leaves it
@@ -160,8 +155,6 @@ due_after P places before after old called new own follows is joined were =
           (λ n x at h. all.links n x at (by_own (link_heeds n x) h)) were.links;
       outputs = marked_after output_heeds (first_output P) P.outputs places before after old called follows
           (λ n x at h. all.outputs n x at (by_own (output_heeds n x) h)) were.outputs;
-      timers = marked_after timer_heeds (first_timer P) P.timers places before after old called follows
-          (λ n x at h. all.timers n x at (by_own (timer_heeds n x) h)) were.timers;
     })
 
 -- a list of absent values has none
@@ -191,7 +184,6 @@ none_due P places sources word =
       reactions = λ n x at h. idle (reaction_heeds n x) (first_reaction + n) h;
       links = λ n x at h. idle (link_heeds n x) (first_link P + n) h;
       outputs = λ n x at h. idle (output_heeds n x) (first_output P + n) h;
-      timers = λ n x at h. idle (timer_heeds n x) (first_timer P + n) h;
     }
 
 -- an element that is not marked has no trigger that is present

@@ -6,7 +6,6 @@ use Rattle.std.specs.Option.{option_map_or}
 use Rattle.std.proofs.lemmas.Bool.{and_from, and_parts}
 use Rattle.std.proofs.lemmas.Bool.Decides.{nat_tests}
 use Rattle.std.proofs.lemmas.List.{drop_more}
-use Rattle.std.proofs.lemmas.List.Folds.{list_all_more}
 use Rattle.warp_tag.specs.Moment.{Moment, is_before, is_same}
 use Rattle.warp_body.specs.Presence.{Presence, with_value}
 use Rattle.warp_body.specs.declared.place.Target.{Target}
@@ -39,12 +38,6 @@ pub left_parts : {X : Type 0} (p : X → Bool) (xs : List X) (i : ℕ) (d : X) �
 left_parts {X} p xs i d lt all =
     and_parts (p (get_or xs i d)) (list_all p (drop (i + 1) xs)) (subst (λ (ys : List X). IsTrue (list_all p ys)) (drop_more xs i d lt) all)
 
--- what holds of all so far, and of the next one, holds of all up to it
-pub all_up_to : {X : Type 0} (p : X → Bool) (xs : List X) (i : ℕ) (d : X) → i < length xs → IsTrue (list_all p (take i xs)) → p (get_or xs i d) ≡ true
-    → IsTrue (list_all p (take (i + 1) xs))
-all_up_to p xs i d lt all next =
-    subst IsTrue (sym (list_all_more p xs i d lt)) (and_from (list_all p (take i xs)) (p (get_or xs i d)) all next)
-
 -- an entry after the tag is not at it, nor is one after that
 after_not_same : (t u : Moment) → is_before t u ≡ true → is_same u t ≡ false
 after_not_same t u h = grind (arith, nat_tests)
@@ -52,11 +45,11 @@ after_not_same t u h = grind (arith, nat_tests)
 still_after : (t : Moment) (w v : Waiting) → is_before t w.tag ≡ true → key_before w.tag w.target v ≡ true → is_before t v.tag ≡ true
 still_after t w v h k = grind (arith, nat_tests)
 
-other_after : (t u : Moment) → not (is_before u t) ≡ true → is_same u t ≡ false → is_before t u ≡ true
+pub other_after : (t u : Moment) → not (is_before u t) ≡ true → is_same u t ≡ false → is_before t u ≡ true
 other_after t u h k = grind (arith, nat_tests)
 
 -- so none of those above it is taken
-none_at : (t : Moment) (w : Waiting) (ws : List Waiting) → is_before t w.tag ≡ true → Above w.tag w.target ws
+pub none_at : (t : Moment) (w : Waiting) (ws : List Waiting) → is_before t w.tag ≡ true → Above w.tag w.target ws
     → (filter (λ v. is_same v.tag t) ws ≡ []) × (filter (λ v. not (is_same v.tag t)) ws ≡ ws)
 none_at t w [] h all = (refl, refl)
 none_at t w (v ∷ ws) h all =
@@ -79,12 +72,6 @@ front_at t (w ∷ ws) (suc n) ordered early here other =
     let both = and_parts (is_same w.tag t) (list_all (λ v. is_same v.tag t) (take n ws)) here in
     let rest = front_at t ws n ordered.1 first.1 both.1 other in
     rw both.0 (ap (λ (xs : List Waiting). w ∷ xs) rest.0, rest.1)
-
--- a rest of an order is one
-pub order_drop : (n : ℕ) (ws : List Waiting) → AreInOrder ws → AreInOrder (drop n ws)
-order_drop zero ws ordered = ordered
-order_drop (suc n) [] ordered = tt
-order_drop (suc n) (w ∷ ws) ordered = order_drop n ws ordered.1
 
 -- what is taken of the entries of a state, where so many stand at the tag
 pub record Taken (t : Moment) (old : Snapshot) (left : List Waiting) (before after : Presence) : Type 0 where

@@ -1,3 +1,4 @@
+pub mod AgainLemmas
 pub mod DueBodies
 pub mod DueLemmas
 pub mod EntryMoves
@@ -21,6 +22,7 @@ pub mod SureLemmas
 pub mod TagsOfBox
 pub mod TagsOfRun
 pub mod TagsOfStep
+pub mod TakenLemmas
 pub mod TargetsOfStep
 pub mod TraceExists
 pub mod TraceLemmas

@@ -1,11 +1,10 @@
 -- Which timers repeat: those that are present alone count, so where one place alone is present, it is that one or none.
-use Rattle.std.proofs.Common.{◌≡◌, ◌≢◌, ℕ, ℤ, zero, suc, ◌+◌, ◌<◌, ◌&&◌, nat_lt, List, [], ◌∷◌, length, get_or, Option, None, Some, is_some, if◌then◌else◌, refl, sym, ap, ◌∙◌, subst, arith}
+use Rattle.std.proofs.Common.{◌≡◌, ℕ, ℤ, ◌+◌, ◌&&◌, nat_lt, List, [], ◌∷◌, length, get_or, Option, None, is_some, if◌then◌else◌, refl, sym, ap, ◌∙◌, subst}
 use Rattle.std.specs.Prelude.{pos}
 use Rattle.std.proofs.lemmas.Bool.{cond-false}
-use Rattle.std.proofs.lemmas.List.{get_or-set_other, get_or-set_same, length-replicate}
+use Rattle.std.proofs.lemmas.List.{length-replicate}
 use Rattle.warp_tag.specs.Moment.{Moment}
-use Rattle.warp_body.specs.Presence.{Presence, places_of, present_at, with_value}
-use Rattle.warp_body.specs.declared.place.Target.{Target}
+use Rattle.warp_body.specs.Presence.{Presence, places_of, present_at}
 use Rattle.warp_body.specs.declared.place.Target.TheVariants as to
 use Rattle.warp_step.specs.Program.{Program}
 use Rattle.warp_step.specs.Valid.{program_places}
@@ -56,54 +55,9 @@ module _ (P : Program) (t : Moment) (present : Presence) where
       ap (λ (u : Snapshot). with_repeats P t present (number + 1) ts u) (absent_rests number timer s (none number))
       ∙ none_repeats (number + 1) ts s none
 
-  -- nor do those behind the only one that is present
-  later_rest : (n number : ℕ) (ts : List Timer) (s : Snapshot) → ((m : ℕ) → m ≢ n → present_at present (to.Timer m) ≡ None) → n < number
-      → with_repeats P t present number ts s ≡ s
-  later_rest n number [] s none past = refl
-  later_rest n number (timer ∷ ts) s none past =
-      ap (λ (u : Snapshot). with_repeats P t present (number + 1) ts u) (absent_rests number timer s (none number (omega (arith, past))))
-      ∙ later_rest n (number + 1) ts s none (omega (arith, past))
-
-  -- where one timer alone is present, at most that one repeats
-  pub one_repeats : (n number k : ℕ) (ts : List Timer) (timer : Timer) (s : Snapshot) → ((m : ℕ) → m ≢ n → present_at present (to.Timer m) ≡ None)
-      → number + k ≡ n → k < length ts → timer ≡ get_or ts k timer
-      → with_repeats P t present number ts s ≡ (if repeats present n timer then landed P t timer.period (to.Timer n) (pos 0) s else s)
-  one_repeats n number k [] timer s none sum within is = absurd (omega (arith, within))
-  one_repeats n number zero (own ∷ ts) timer s none sum within is =
-      let here : number ≡ n = omega (arith, sum) in
-      let same : own ≡ timer = sym is in
-      later_rest n (number + 1) ts (if repeats present number own then landed P t own.period (to.Timer number) (pos 0) s else s) none (omega (arith, sum))
-      ∙ (λ i. if repeats present (here i) (same i) then landed P t (same i).period (to.Timer (here i)) (pos 0) s else s)
-  one_repeats n number (suc k) (own ∷ ts) timer s none sum within is =
-      ap (λ (u : Snapshot). with_repeats P t present (number + 1) ts u) (absent_rests number own s (none number (omega (arith, sum))))
-      ∙ one_repeats n (number + 1) k ts timer s none (omega (arith, sum)) (omega (arith, within)) is
-
--- where nothing is present but a timer, no other timer is
-others_absent : (P : Program) (n : ℕ) (v : ℤ) (m : ℕ) → m ≢ n → present_at (with_value (to.Timer n) v (absent P)) (to.Timer m) ≡ None
-others_absent P n v m other = get_or-set_other (absent P).timers n m (Some v) None other ∙ none_at (length P.timers) m
-
--- where one timer alone is present, it repeats if it has a period
-pub timer_alone : (P : Program) (t : Moment) (n : ℕ) (v : ℤ) (timer : Timer) (s : Snapshot) → n < length P.timers → timer ≡ get_or P.timers n timer
-    → with_repeats P t (with_value (to.Timer n) v (absent P)) 0 P.timers s
-    ≡ (if nat_lt 0 timer.period then landed P t timer.period (to.Timer n) (pos 0) s else s)
-timer_alone P t n v timer s lt is =
-    let present = with_value (to.Timer n) v (absent P) in
-    let places : length (absent P).timers ≡ length P.timers = length-replicate {A = Option ℤ} (length P.timers) None in
-    let own : present_at present (to.Timer n) ≡ Some v = get_or-set_same (absent P).timers n (Some v) None (omega (arith, lt, places)) in
-    one_repeats P t present n 0 n P.timers timer s (others_absent P n v) (omega arith) lt is
-    ∙ ap (λ (o : Option ℤ). if is_some o && nat_lt 0 timer.period then landed P t timer.period (to.Timer n) (pos 0) s else s) own
-
 -- where nothing is present, no timer repeats
 pub none_alone : (P : Program) (t : Moment) (s : Snapshot) → with_repeats P t (absent P) 0 P.timers s ≡ s
 none_alone P t s = none_repeats P t (absent P) 0 P.timers s (none_at (length P.timers))
-
--- nor where nothing is present but a target that is no timer
-pub other_alone : (P : Program) (t : Moment) (target : Target) (v : ℤ) (s : Snapshot) → ((n : ℕ) → target ≢ to.Timer n)
-    → with_repeats P t (with_value target v (absent P)) 0 P.timers s ≡ s
-other_alone P t to.Startup v s other = none_repeats P t (with_value to.Startup v (absent P)) 0 P.timers s (none_at (length P.timers))
-other_alone P t (to.Timer n) v s other = absurd (other n refl)
-other_alone P t (to.Action n) v s other = none_repeats P t (with_value (to.Action n) v (absent P)) 0 P.timers s (none_at (length P.timers))
-other_alone P t (to.Port n) v s other = none_repeats P t (with_value (to.Port n) v (absent P)) 0 P.timers s (none_at (length P.timers))
 
 -- where nothing is present, any marks do
 pub absent_due : (P : Program) (present : Presence) (word : ℕ) → present ≡ absent P → AreDue P present word

@@ -1,7 +1,7 @@
--- What is not marked may be left out: reactions, timers, links and program outputs that stand between two numbers, none of them
+-- What is not marked may be left out: reactions, links and program outputs that stand between two numbers, none of them
 -- marked, change nothing.
-use Rattle.std.proofs.Common.{◌≡◌, inl, inr, ℕ, ℤ, zero, suc, ◌+◌, ◌-◌, ◌<◌, ◌≤◌, nat_lt, true, false, ◌&&◌, ◌||◌, List, [], ◌∷◌, length, drop, get_or, Option, None, Some, is_some, if◌then◌else◌, refl, sym, ap, ◌∙◌, arith}
-use Rattle.std.specs.Prelude.{slice_get, pos}
+use Rattle.std.proofs.Common.{◌≡◌, inl, inr, ℕ, ℤ, zero, suc, ◌+◌, ◌-◌, ◌<◌, ◌≤◌, true, false, ◌||◌, List, [], ◌∷◌, length, drop, get_or, Option, None, Some, is_some, refl, sym, ap, ◌∙◌, arith}
+use Rattle.std.specs.Prelude.{slice_get}
 use Rattle.std.specs.List.{list_any}
 use Rattle.std.proofs.lemmas.Bool.{cases_lt, cond-false}
 use Rattle.std.proofs.lemmas.List.{at_drop_all, drop_more}
@@ -11,13 +11,12 @@ use Rattle.warp_body.specs.Effect.{Done}
 use Rattle.warp_body.specs.Presence.{Presence, present_at}
 use Rattle.warp_body.specs.declared.place.Target.TheVariants as to
 use Rattle.warp_step.specs.inner.Marks.{first_reaction, mark_at, marks_from}
-use Rattle.warp_step.specs.inner.Plan.{link_heeds, output_heeds, reaction_heeds, source_if_delayed, timer_heeds}
+use Rattle.warp_step.specs.inner.Plan.{link_heeds, output_heeds, reaction_heeds, source_if_delayed}
 use Rattle.warp_step.specs.Program.{Program, Rule}
-use Rattle.warp_step.specs.Snapshot.{Snapshot, landed}
-use Rattle.warp_step.specs.Step.{Reacting, after_reactions, delivered, is_triggered, numbers, outputs_from, repeats, with_links, with_output, with_repeats}
+use Rattle.warp_step.specs.Snapshot.{Snapshot}
+use Rattle.warp_step.specs.Step.{Reacting, after_reactions, delivered, is_triggered, numbers, outputs_from, with_links, with_output}
 use Rattle.warp_step.specs.declared.parts.Link.{Link}
 use Rattle.warp_tag.specs.declared.out.Out.{Out}
-use Rattle.warp_step.specs.declared.parts.Timer.{Timer}
 use Rattle.warp_step.specs.inner.Due.{AreMarked}
 use Rattle.warp_step.proofs.DueLemmas.{skip, unmarked}
 use Rattle.warp_step.proofs.MarkLemmas.{marks_from_mark}
@@ -76,39 +75,6 @@ module _ (P : Program) (now : Reacting) (word : ℕ) (due : AreMarked reaction_h
 absent : (o : Option ℤ) → (is_some o || false) ≡ false → o ≡ None
 absent None h = refl
 absent (Some v) h = let no : true ≡ false = h in cc
-
--- the timers
-module _ (P : Program) (t : Moment) (present : Presence) (s : Snapshot) (word : ℕ) (first : ℕ) (due : AreMarked timer_heeds first P.timers present word) where
-  -- the timers from a number on
-  abbrev from_timer : ℕ → Snapshot
-  from_timer n = with_repeats P t present n (drop n P.timers) s
-
-  idle_timer : (n : ℕ) → n < length P.timers → mark_at word (first + n) ≡ 0 → from_timer n ≡ from_timer (n + 1)
-  idle_timer n lt idle =
-      let some : Timer = record { reactor = 0; offset = 0; period = 0 } in
-      let timer = get_or P.timers n some in
-      let at : slice_get P.timers n ≡ Some timer = slice_get-get_or P.timers n some lt in
-      let none = absent (present_at present (to.Timer n)) (unmarked timer_heeds first P.timers present word due n timer at idle) in
-      let rests : repeats present n timer ≡ false = λ i. is_some (none i) && nat_lt 0 timer.period in
-      ap (λ (left : List Timer). with_repeats P t present n left s) (drop_more P.timers n some lt)
-      ∙ ap (λ (u : Snapshot). with_repeats P t present (n + 1) (drop (n + 1) P.timers) u)
-      (cond-false (repeats present n timer) (landed P t timer.period (to.Timer n) (pos 0) s) s rests)
-
-  no_timer : (n : ℕ) → length P.timers ≤ n → from_timer n ≡ s
-  no_timer n past = at_drop_all (λ (left : List Timer). with_repeats P t present n left s) P.timers n past
-
-  pub skip_timers : (from to : ℕ) → first ≤ from → from ≤ to → NoneMarked word from to → from_timer (from - first) ≡ from_timer (to - first)
-  skip_timers from to starts order none =
-      skip from_timer word first (idle_or_past from_timer s word first (length P.timers) idle_timer no_timer) (to - from) (from - first) (to - first)
-      (omega (arith, starts, order)) (λ m l below. none m (omega (arith, l)) (omega (arith, below, starts, order)))
-
--- the timers from a number on are the one with it, and those from the next one on
-pub timers_one_more : (P : Program) (t : Moment) (present : Presence) (n : ℕ) (timer : Timer) (s : Snapshot) → n < length P.timers → timer ≡ get_or P.timers n timer
-    → with_repeats P t present n (drop n P.timers) s
-    ≡ with_repeats P t present (n + 1) (drop (n + 1) P.timers) (if repeats present n timer then landed P t timer.period (to.Timer n) (pos 0) s else s)
-timers_one_more P t present n timer s lt is =
-    ap (λ (left : List Timer). with_repeats P t present n left s) (drop_more P.timers n timer lt)
-    ∙ ap (λ (own : Timer). with_repeats P t present (n + 1) (drop (n + 1) P.timers) (if repeats present n own then landed P t own.period (to.Timer n) (pos 0) s else s)) (sym is)
 
 -- the links
 undelivered : (P : Program) (t : Moment) (present : Presence) (target source : ℕ) (o : Option ℤ) (delay : Option ℕ) (s : Snapshot) → o ≡ present_at present (to.Port source)

@@ -73,7 +73,7 @@ module _ (P : Program) (t : Moment) (p : Moment → Bool) (good : (u : Moment) �
   ]
 
   -- timers that are pending again
-  repeated_at : (again : Bool) (period number : ℕ) (s : Snapshot) → all_at p s ≡ true
+  pub repeated_at : (again : Bool) (period number : ℕ) (s : Snapshot) → all_at p s ≡ true
       → all_at p (if again then landed P t period (to.Timer number) (pos 0) s else s) ≡ true
   repeated_at true period number s h = landed_at period (to.Timer number) (pos 0) s h
   repeated_at false period number s h = h
@@ -120,7 +120,7 @@ module _ (P : Program) (t : Moment) (p : Moment → Bool) (good : (u : Moment) �
       links_at r.present P.links (with_all_wishes P t r.wishes second) two
 
 -- a weaker test passes where a stronger does, but for the entries that the step takes out
-kept_at : (p q : Moment → Bool) (t : Moment) → ((u : Moment) → p u ≡ true → is_same u t ≡ false → q u ≡ true) → (ws : List Waiting)
+pub kept_at : (p q : Moment → Bool) (t : Moment) → ((u : Moment) → p u ≡ true → is_same u t ≡ false → q u ≡ true) → (ws : List Waiting)
     → list_all (λ w. p w.tag) ws ≡ true → list_all (λ w. q w.tag) (filter (λ w. not (is_same w.tag t)) ws) ≡ true
 kept_at p q t weaker [] h = refl
 kept_at p q t weaker (w ∷ ws) h =

@@ -1,4 +1,5 @@
 -- What follows the code, and no public contract cites.
+pub mod Again
 pub mod Front
 pub mod Flagged
 pub mod Marks

@@ -1,17 +1,19 @@
 //! What is present at a tag before the reactions run: the entries that are pending there, and what is given. The timers
 //! among the entries are made pending again.
-ghost use Rattle.std.specs.Prelude.{◌≡◌, ◌<◌, ◌≤◌, IsTrue, false, not, length, take, drop, filter, slice_get, List};
+ghost use Rattle.std.specs.Prelude.{◌≡◌, ◌<◌, ◌≤◌, ◌∷◌, IsTrue, false, not, length, map, take, drop, filter, slice_get, List};
 ghost use Rattle.std.specs.Option.{option_map_or};
 ghost use Rattle.std.specs.List.{list_all};
 ghost use Rattle.warp_tag.specs.Moment.{is_before, is_same};
 ghost use Rattle.warp_body.specs.Presence.{places_of, target_fits, with_value};
 ghost use Rattle.warp_step.specs.Valid.{program_places};
-ghost use Rattle.warp_step.specs.Snapshot.{IsStateOf};
+ghost use Rattle.warp_step.specs.Snapshot.{AreInOrder, IsStateOf};
 ghost use Rattle.warp_step.specs.Step.{AreInputs, absent, arrived, arrived_entries, sources_of, with_repeats};
 ghost use Rattle.warp_step.specs.inner.Plan.{plan_of};
 ghost use Rattle.warp_step.specs.Step.{without_entries};
 ghost use Rattle.warp_step.specs.inner.Due.{AreDue};
-ghost use Rattle.warp_step.specs.inner.Front.{HasOtherHead};
+ghost use Rattle.warp_step.specs.inner.Again.{again, again_each};
+ghost use Rattle.warp_tag.specs.Limits.{most_pending};
+ghost use Rattle.warp_step.specs.declared.pending.Waiting.{Waiting};
 ghost use Rattle.warp_step.specs.inner.Sure.{IsSure};
 
 use crate::given::Given;
@@ -81,52 +83,10 @@ impl State {
         ensures due { AreDue program.now present.new result.marks.word }
         ensures sure { IsSure program.now present.new result.first }
     {
-        let first = self.pending.as_slice()[0];
-        self.pending.drop_front(1);
-        self.arrive_alone(program, plan, tag, present, first.target, first.value)
-    }
-
-    /// Makes a target alone present, and pending again if it is a timer with a period. Answers whom it concerns.
-    #[inline(always)]
-    fn arrive_alone(
-        &mut self,
-        program: &Program,
-        plan: &Plan,
-        tag: Tag,
-        present: &mut Present,
-        target: Target,
-        value: i64,
-    ) -> Concerned
-        requires time { tag.time ≤ program.now.stop }
-        requires target { IsTrue (target_fits (program_places program.now) target) }
-        requires plan { plan.now ≡ plan_of program.now }
-        requires absent { present.old ≡ absent program.now }
-        ensures state { self.new ≡ with_repeats program.now tag present.new 0 program.now.timers self.old }
-        ensures present { present.new ≡ with_value target value (absent program.now) }
-        ensures places { places_of present.new ≡ places_of present.old }
-        ensures sources { present.new.sources ≡ present.old.sources }
-        ensures due { AreDue program.now present.new result.marks.word }
-        ensures sure { IsSure program.now present.new result.first }
-    {
         program.valid();
         let mut due = Marks::none();
         let mut sure = NO_REACTION;
-        // A timer is what is mostly pending: where its kind is known, nothing asks for it again.
-        match target {
-            Target::Timer(n) => {
-                put(
-                    program,
-                    plan,
-                    &mut due,
-                    &mut sure,
-                    present,
-                    Target::Timer(n),
-                    value,
-                );
-                self.repeat_timer(program, tag, n, &program.timers()[n as usize]);
-            }
-            _ => put(program, plan, &mut due, &mut sure, present, target, value),
-        }
+        self.take_first(program, plan, &mut due, &mut sure, tag, present);
         Concerned {
             marks: due,
             first: sure,
@@ -161,15 +121,15 @@ impl State {
         let mut due = Marks::none();
         let mut sure = NO_REACTION;
         self.take_each(program, plan, &mut due, &mut sure, tag, present);
-        self.repeat_each(program, tag, due, present);
         Concerned {
             marks: due,
             first: sure,
         }
     }
 
-    /// Makes the targets of the entries at the tag present, and takes these entries out. Whom they concern is due, and
-    /// the first reaction that the last one triggers is sure.
+    /// Makes the targets of the entries at the tag present, one after another, takes these entries out, and makes the
+    /// timers among them that have a period pending again. Whom they concern is due, and the first reaction that the
+    /// last one triggers is sure.
     #[inline(always)]
     fn take_each(
         &mut self,
@@ -181,27 +141,103 @@ impl State {
         present: &mut Present,
     )
         requires state { IsStateOf program.now self.old }
+        requires time { tag.time ≤ program.now.stop }
         requires places { places_of present.old ≡ program_places program.now }
         requires none_before { IsTrue (list_all (λ w. not (is_before w.tag tag)) self.old.pending) }
         requires plan { plan.now ≡ plan_of program.now }
         requires own { present.old.sources ≡ sources_of program.now }
-        ensures state { self.new ≡ without_entries tag self.old }
+        ensures state { self.new ≡ again_each program.now tag
+            (map (λ w. w.target) (filter (λ w. is_same w.tag tag) self.old.pending)) (without_entries tag self.old) }
+        ensures order { AreInOrder self.old.pending }
         ensures present { present.new ≡ arrived_entries (filter (λ w. is_same w.tag tag) self.old.pending) present.old }
         ensures places { places_of present.new ≡ places_of present.old }
         ensures sources { present.new.sources ≡ present.old.sources }
         ensures due { AreDue program.now present.old due.old.word → AreDue program.now present.new due.new.word }
         ensures sure { IsSure program.now present.old sure.old → IsSure program.now present.new sure.new }
     {
-        let count = arrive_entries(
-            self.pending.as_slice(),
-            program,
-            plan,
-            due,
-            sure,
-            tag,
-            present,
-        );
-        self.pending.drop_front(count);
+        for _ in 0..self.pending.len() {
+            if !is_at(self.pending.as_slice(), 0, tag) {
+                return;
+            }
+            self.take_first(program, plan, due, sure, tag, present);
+        }
+    }
+
+    /// Makes the target of the first entry present, takes the entry out, and makes its target pending again if it is a
+    /// timer with a period. Whom it concerns is due, and the first reaction that it triggers is sure.
+    #[inline(always)]
+    fn take_first(
+        &mut self,
+        program: &Program,
+        plan: &Plan,
+        due: &mut Marks,
+        sure: &mut usize,
+        tag: Tag,
+        present: &mut Present,
+    )
+        requires time { tag.time ≤ program.now.stop }
+        requires some { 0 < length self.old.pending }
+        requires targets { IsTrue (list_all (λ w. target_fits (program_places program.now) w.target)
+            (take 1 self.old.pending)) }
+        requires places { places_of present.old ≡ program_places program.now }
+        requires plan { plan.now ≡ plan_of program.now }
+        requires own { present.old.sources ≡ sources_of program.now }
+        ensures state { (first : Waiting) × (self.old.pending ≡ first ∷ drop 1 self.old.pending)
+            × (self.new ≡ again program.now tag first.target (record self.old { pending = drop 1 self.old.pending }))
+            × (present.new ≡ with_value first.target first.value present.old) }
+        ensures few { length self.old.pending ≤ most_pending }
+        ensures places { places_of present.new ≡ places_of present.old }
+        ensures sources { present.new.sources ≡ present.old.sources }
+        ensures due { AreDue program.now present.old due.old.word → AreDue program.now present.new due.new.word }
+        ensures sure { IsSure program.now present.new sure.new }
+    {
+        let first = self.pending.as_slice()[0];
+        self.pending.drop_front(1);
+        self.arrive_next(program, plan, due, sure, tag, present, first);
+    }
+
+    /// Makes the target of an entry present, and pending again if it is a timer with a period. Whom it concerns is due,
+    /// and the first reaction that it triggers is sure.
+    #[inline(always)]
+    fn arrive_next(
+        &mut self,
+        program: &Program,
+        plan: &Plan,
+        due: &mut Marks,
+        sure: &mut usize,
+        tag: Tag,
+        present: &mut Present,
+        entry: Waiting,
+    )
+        requires time { tag.time ≤ program.now.stop }
+        requires target { IsTrue (target_fits (program_places program.now) entry.target) }
+        requires places { places_of present.old ≡ program_places program.now }
+        requires plan { plan.now ≡ plan_of program.now }
+        requires own { present.old.sources ≡ sources_of program.now }
+        ensures state { self.new ≡ again program.now tag entry.target self.old }
+        ensures present { present.new ≡ with_value entry.target entry.value present.old }
+        ensures places { places_of present.new ≡ places_of present.old }
+        ensures sources { present.new.sources ≡ present.old.sources }
+        ensures due { AreDue program.now present.old due.old.word → AreDue program.now present.new due.new.word }
+        ensures sure { IsSure program.now present.new sure.new }
+    {
+        program.valid();
+        // A timer is what is mostly pending: where its kind is known, nothing asks for it again.
+        match entry.target {
+            Target::Timer(n) => {
+                put(
+                    program,
+                    plan,
+                    due,
+                    sure,
+                    present,
+                    Target::Timer(n),
+                    entry.value,
+                );
+                self.repeat_timer(program, tag, n, &program.timers()[n as usize]);
+            }
+            _ => put(program, plan, due, sure, present, entry.target, entry.value),
+        }
     }
 }
 
@@ -214,40 +250,6 @@ fn is_at(entries: &[Waiting], index: usize, tag: Tag) -> bool
         Some(entry) => entry.tag.is_same(tag),
         None => false,
     }
-}
-
-/// Makes the targets of the first entries with this tag present, and says how many have it. Whom they concern is due,
-/// and the first reaction that the last one triggers is sure.
-#[inline(always)]
-fn arrive_entries(
-    entries: &[Waiting],
-    program: &Program,
-    plan: &Plan,
-    due: &mut Marks,
-    sure: &mut usize,
-    tag: Tag,
-    present: &mut Present,
-) -> usize
-    requires plan { plan.now ≡ plan_of program.now }
-    requires places { places_of present.old ≡ program_places program.now }
-    requires own { present.old.sources ≡ sources_of program.now }
-    requires targets { IsTrue (list_all (λ w. target_fits (places_of present.old) w.target) entries.now) }
-    ensures within { result ≤ length entries.now }
-    ensures here { IsTrue (list_all (λ w. is_same w.tag tag) (take result entries.now)) }
-    ensures other { HasOtherHead tag (drop result entries.now) }
-    ensures present { present.new ≡ arrived_entries (take result entries.now) present.old }
-    ensures places { places_of present.new ≡ places_of present.old }
-    ensures sources { present.new.sources ≡ present.old.sources }
-    ensures due { AreDue program.now present.old due.old.word → AreDue program.now present.new due.new.word }
-    ensures sure { IsSure program.now present.old sure.old → IsSure program.now present.new sure.new }
-{
-    for (count, entry) in entries.iter().enumerate() {
-        if !entry.tag.is_same(tag) {
-            return count;
-        }
-        put(program, plan, due, sure, present, entry.target, entry.value);
-    }
-    entries.len()
 }
 
 /// Makes a target present with a value. Whom it concerns is due, and the first reaction that it triggers is sure.

@@ -10,11 +10,11 @@ ghost use Rattle.warp_step.specs.Valid.{link_fits, program_places, program_sizes
 ghost use Rattle.warp_step.specs.Snapshot.{landed};
 ghost use Rattle.warp_step.specs.inner.Due.{AreDue};
 ghost use Rattle.warp_step.specs.inner.Flagged.{HasNone};
-ghost use Rattle.warp_step.specs.Step.{repeats, with_repeats, with_wishes, with_all_wishes, with_links, delivered};
+ghost use Rattle.warp_step.specs.Step.{with_wishes, with_all_wishes, with_links, delivered};
 ghost use Rattle.warp_step.specs.inner.Plan.{plan_of};
 ghost use Rattle.warp_step.specs.inner.Room.{lists_of};
 
-use crate::marks::{Marks, first_link, first_timer};
+use crate::marks::{Marks, first_link};
 use crate::parts::{Link, Timer};
 use crate::plan::Plan;
 use crate::program::Program;
@@ -24,47 +24,6 @@ use warp_body::{Present, Target, Wish, Wishes};
 use warp_tag::Tag;
 
 impl State {
-    /// Looks at the timers that are due, and makes each that is present and has a period pending again.
-    pub(crate) fn repeat_each(&mut self, program: &Program, tag: Tag, due: Marks, present: &Present)
-        requires time { tag.time ≤ program.now.stop }
-        requires places { places_of present.now ≡ program_places program.now }
-        requires due { AreDue program.now present.now due.word }
-        ensures { self.new ≡ with_repeats program.now tag present.now 0 program.now.timers self.old }
-    {
-        program.valid();
-        let timers = program.timers();
-        let first = first_timer(program);
-        let end = first + timers.len();
-        let mut mark = due.next(first);
-        while mark < end {
-            let number = mark - first;
-            self.repeat_if_present(program, tag, present, number as u32, &timers[number]);
-            mark = due.after(mark);
-        }
-    }
-
-    /// Makes the timer with this number pending again if it is present and has a period.
-    #[inline(always)]
-    fn repeat_if_present(
-        &mut self,
-        program: &Program,
-        tag: Tag,
-        present: &Present,
-        number: u32,
-        timer: &Timer,
-    )
-        requires time { tag.time ≤ program.now.stop }
-        requires number { number < length present.now.timers }
-        requires period { timer.now.period ≤ longest_period }
-        ensures { self.new ≡ (if repeats present.now number timer.now
-            then landed program.now tag timer.now.period (to.Timer number) (pos 0) self.old
-            else self.old) }
-    {
-        if present.get(Target::Timer(number)).is_some() {
-            self.repeat_timer(program, tag, number, timer);
-        }
-    }
-
     /// Makes the timer with this number, which is present, pending again if it has a period.
     #[inline(always)]
     pub(crate) fn repeat_timer(&mut self, program: &Program, tag: Tag, number: u32, timer: &Timer)

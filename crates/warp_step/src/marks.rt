@@ -1,7 +1,7 @@
 //! Marks: sets of numbers in one word, by which a step knows whom it may have to look at.
 ghost use Rattle.std.specs.Prelude.{◌≡◌, ℕ, ◌+◌, ◌≤◌, ◌<◌, false, length};
 ghost use Rattle.std.specs.Int.RustNames.{bit_or};
-ghost use Rattle.warp_step.specs.inner.Marks.{first_link, first_output, first_timer, mark_at, marks_from, most_marks};
+ghost use Rattle.warp_step.specs.inner.Marks.{first_link, first_output, mark_at, marks_from, most_marks};
 ghost use Rattle.warp_step.specs.inner.Marks.{no_marks, with_mark};
 
 use crate::program::Program;
@@ -24,16 +24,6 @@ pub(crate) fn first_link(program: &Program) -> usize
 {
     program.valid();
     first_output(program) + program.outputs().len()
-}
-
-/// The number that marks a program's first timer; links have the numbers before it.
-#[inline(always)]
-pub(crate) fn first_timer(program: &Program) -> usize
-    ensures first { result ≡ first_timer program.now }
-    ensures room { result + length program.now.timers ≤ most_marks }
-{
-    program.valid();
-    first_link(program) + program.links().len()
 }
 
 /// A set of numbers, in one word. Numbers that are 64 apart share a bit: they are in together, and where one of them is

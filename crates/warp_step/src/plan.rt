@@ -8,13 +8,13 @@ ghost use Rattle.warp_body.specs.declared.place.Target.TheVariants as to;
 ghost use Rattle.warp_step.specs.inner.Marks.{first_link, first_reaction, marks_from, most_marks, no_marks, with_mark};
 ghost use Rattle.warp_step.specs.inner.Plan.{first_heeding, heeds, heeds_any, is_port, link_heeds, most_places};
 ghost use Rattle.warp_step.specs.inner.Plan.{numbered_place, output_heeds, place_number, place_numbers, place_of};
-ghost use Rattle.warp_step.specs.inner.Plan.{reaction_heeds, timer_heeds, with_watchers};
+ghost use Rattle.warp_step.specs.inner.Plan.{reaction_heeds, with_watchers};
 ghost use Rattle.warp_step.specs.Program.{rule_of};
 ghost use Rattle.warp_step.specs.Step.{sources_of};
 ghost use Rattle.warp_step.specs.inner.Plan.{marks_of, plan_of};
 
-use crate::marks::{Marks, first_link, first_output, first_timer};
-use crate::parts::{Link, Timer};
+use crate::marks::{Marks, first_link, first_output};
+use crate::parts::Link;
 use crate::program::Program;
 use crate::reaction::Reaction;
 use std::alloc::Global;
@@ -125,28 +125,6 @@ fn watch_outputs(marks: &mut Marks, first: usize, ports: &[u32], sources: &[u32]
     }
 }
 
-/// Marks the timers that are one of the places.
-fn watch_timers(
-    marks: &mut Marks,
-    first: usize,
-    timers: &[Timer],
-    sources: &[u32],
-    places: &[Target],
-)
-    requires { first + length timers.now ≤ most_marks }
-    ensures { marks.new.word ≡ with_watchers timer_heeds first sources.now places.now 0 timers.now marks.old.word }
-{
-    for (number, _timer) in timers.iter().enumerate() {
-        watch(
-            marks,
-            first + number,
-            &[Target::Timer(number as u32)],
-            sources,
-            places,
-        );
-    }
-}
-
 /// The marks of those whom the presence of one of the places concerns.
 fn marks_of(program: &Program, sources: &[u32], places: &[Target]) -> Marks
     requires { sources.now ≡ sources_of program.now }
@@ -159,8 +137,6 @@ fn marks_of(program: &Program, sources: &[u32], places: &[Target]) -> Marks
     watch_links(&mut marks, first, program.links(), sources, places);
     let first = first_output(program);
     watch_outputs(&mut marks, first, program.outputs(), sources, places);
-    let first = first_timer(program);
-    watch_timers(&mut marks, first, program.timers(), sources, places);
     marks
 }
 

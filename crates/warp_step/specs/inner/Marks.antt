@@ -1,5 +1,5 @@
--- Marks: a set of numbers, in one word of 64 bits. A program's reactions, program outputs, links and timers each have numbers of
--- their own, one kind behind the other, and numbers that are 64 apart share a bit.
+-- Marks: a set of numbers, in one word of 64 bits. A program's reactions, program outputs and links each have numbers of their
+-- own, one kind behind the other, and numbers that are 64 apart share a bit.
 use Rattle.std.specs.Prelude.{ℕ, zero, suc, ◌+◌, ◌%◌, ◌*◌, ◌^◌, length}
 use Rattle.std.specs.Int.{bit_at}
 use Rattle.std.specs.Int.RustNames.{bit_or}
@@ -14,9 +14,6 @@ first_output P = length P.reactions
 
 abbrev pub first_link : Program → ℕ
 first_link P = length P.reactions + length P.outputs
-
-abbrev pub first_timer : Program → ℕ
-first_timer P = length P.reactions + length P.outputs + length P.links
 
 abbrev pub most_marks : ℕ
 most_marks = 640

@@ -1,5 +1,5 @@
--- Whom a step may have to look at where a place becomes present: the reactions that it may trigger, the links and the program
--- outputs whose port it is, and the timer that it is. Each has its triggers.
+-- Whom a step may have to look at where a place becomes present: the reactions that it may trigger, and the links and the
+-- program outputs whose port it is. Each has its triggers.
 use Rattle.std.specs.Prelude.{ℕ, ◌+◌, ◌-◌, Bool, true, false, nat_lt, nat_eq, List, [], ◌∷◌, length, map, filter, Option, None, Some, slice_index_or, if◌then◌else◌, refl}
 use Rattle.std.specs.Coded.{Coded, code_by, coded×, coded_ℕ, coded_list}
 use Rattle.std.specs.List.{list_any, range_with_len}
@@ -8,11 +8,10 @@ use Rattle.warp_body.specs.Effect.{Body}
 use Rattle.warp_body.specs.Presence.{is_target}
 use Rattle.warp_body.specs.declared.place.Target.{Target}
 use Rattle.warp_body.specs.declared.place.Target.TheVariants as to
-use Rattle.warp_step.specs.inner.Marks.{first_link, first_output, first_reaction, first_timer, marks_from, no_marks, with_mark}
+use Rattle.warp_step.specs.inner.Marks.{first_link, first_output, first_reaction, marks_from, no_marks, with_mark}
 use Rattle.warp_step.specs.Program.{Rule, Program}
 use Rattle.warp_step.specs.Step.{sources_of}
 use Rattle.warp_step.specs.declared.parts.Link.{Link}
-use Rattle.warp_step.specs.declared.parts.Timer.{Timer}
 
 -- the place by whose presence a target is present: of a port its source, else itself
 abbrev pub place_of : List ℕ → Target → Target
@@ -29,8 +28,8 @@ heeds sources triggers place = list_any (λ trigger. is_target place (place_of s
 abbrev pub heeds_any : List ℕ → List Target → List Target → Bool
 heeds_any sources triggers places = list_any (heeds sources triggers) places
 
--- what a reaction, a link, the program output of a port and a timer heed, each with its number; a link without a delay nothing,
--- since its target has the presence of its source
+-- what a reaction, a link and the program output of a port heed, each with its number; a link without a delay nothing, since its
+-- target has the presence of its source
 abbrev pub reaction_heeds : ℕ → Rule → List Target
 reaction_heeds number rule = rule.triggers
 
@@ -43,9 +42,6 @@ link_heeds number link = source_if_delayed link.delay link.source
 
 abbrev pub output_heeds : ℕ → ℕ → List Target
 output_heeds number port = to.Port port ∷ []
-
-abbrev pub timer_heeds : ℕ → Timer → List Target
-timer_heeds number timer = to.Timer number ∷ []
 
 -- with a mark for each element of a list that heeds one of the places; the first mark is at this number, and the elements count
 -- from the next one on
@@ -99,10 +95,9 @@ pub record Plan : Type 0 where
 abbrev pub marks_of : Program → List Target → ℕ
 marks_of P places =
     let sources = sources_of P in
-    with_watchers timer_heeds (first_timer P) sources places 0 P.timers
-    (with_watchers output_heeds (first_output P) sources places 0 P.outputs
+    with_watchers output_heeds (first_output P) sources places 0 P.outputs
     (with_watchers link_heeds (first_link P) sources places 0 P.links
-    (with_watchers reaction_heeds first_reaction sources places 0 P.reactions no_marks)))
+    (with_watchers reaction_heeds first_reaction sources places 0 P.reactions no_marks))
 
 -- whom each place of the program concerns, which reaction first, the bodies of its reactions, whom what each writes concerns, and
 -- all its links

@@ -2,7 +2,7 @@
 use Rattle.std.proofs.Common.{◌≡◌, ◌+◌, ℕ, List, pos, nat_lt, length, drop, get_or, ap, sym, ◌∙◌, rules}
 use Rattle.std.proofs.lemmas.Bool.{ltb-true}
 use Rattle.std.proofs.lemmas.List.{at_drop_all, at_drop_more}
-use Rattle.warp_body.specs.Presence.{Presence, with_value}
+use Rattle.warp_body.specs.Presence.{with_value}
 use Rattle.warp_body.specs.declared.place.Target.TheVariants as to
 use Rattle.warp_step.specs.Step.{arrived}
 use Rattle.warp_step.specs.declared.given.Given.{Given}

@@ -1,5 +1,5 @@
 -- one empty list more
-use Rattle.std.proofs.Common.{◌≡◌, ◌+◌, ◌∷◌, [], ◌++◌, List, ap, ◌∙◌, arith}
+use Rattle.std.proofs.Common.{◌∷◌, [], ◌++◌, ap, ◌∙◌, arith}
 use Rattle.std.proofs.lemmas.List.{map_push, replicate_more}
 use Rattle.arrayvec.specs.ArrayVec.{ArrayVec}
 use Rattle.warp_body.specs.declared.stmt.Wish.{Wish}

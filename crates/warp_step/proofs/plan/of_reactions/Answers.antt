@@ -1,7 +1,6 @@
 -- one more, and at the end all
-use Rattle.std.proofs.Common.{◌≡◌, ℕ, List, filter, map, ap, ◌∙◌}
-use Rattle.warp_body.specs.Effect.{Body, statements_of}
-use Rattle.warp_body.specs.declared.place.Target.{Target}
+use Rattle.std.proofs.Common.{filter, map, ap, ◌∙◌}
+use Rattle.warp_body.specs.Effect.{statements_of}
 use Rattle.warp_step.specs.inner.Plan.{is_port, marks_of}
 use Rattle.warp_step.specs.Program.{Rule, rule_of}
 use Rattle.warp_step.specs.declared.plan.Ready.{Ready}

@@ -1,5 +1,5 @@
 -- one target more is not present, or one is, and at the end none is
-use Rattle.std.proofs.Common.{◌≡◌, ◌+◌, ◌||◌, Bool, true, false, List, IsTrue, drop, get_or, is_some, ap, sym, ◌∙◌}
+use Rattle.std.proofs.Common.{◌+◌, ◌||◌, Bool, drop, is_some, ap, sym, ◌∙◌}
 use Rattle.std.specs.List.{list_any}
 use Rattle.std.proofs.lemmas.List.{at_drop_all, at_drop_more}
 use Rattle.warp_body.specs.Presence.{places_of, present_at, target_fits}

@@ -1,5 +1,5 @@
 -- one copy more, and at the end all
-use Rattle.std.proofs.Common.{◌≡◌, map, ap, ◌∙◌}
+use Rattle.std.proofs.Common.{map, ap, ◌∙◌}
 use Rattle.warp_step.specs.Program.{rule_of}
 use Rattle.warp_step.proofs.PlanLemmas.{made_all, made_more}
 use Rattle.warp_step.proofs.reaction.copy_reactions.Goals as goal

@@ -1,5 +1,5 @@
 -- what is kept for the reaction with this number
-use Rattle.std.proofs.Common.{◌≡◌, ◌<◌, length, get_or, ap, sym, ◌∙◌, arith}
+use Rattle.std.proofs.Common.{◌<◌, length, get_or, ap, sym, ◌∙◌, arith}
 use Rattle.std.proofs.lemmas.List.{get_or-map, length-map}
 use Rattle.warp_step.specs.inner.Plan.{Plan}
 use Rattle.warp_step.specs.declared.plan.Ready.{Ready}

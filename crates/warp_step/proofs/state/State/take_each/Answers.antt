@@ -1,40 +1,82 @@
--- the entries at the tag are the front that is dropped
-use Rattle.std.proofs.Common.{◌≡◌, List, IsTrue, drop, take, rules, sym, subst}
-use Rattle.std.specs.List.{list_all}
-use Rattle.warp_tag.specs.Moment.{is_same}
+-- the first entry that is left is taken, as long as it is at the tag
+use Rattle.std.proofs.Common.{◌≡◌, ◌≤◌, Bool, List, length, rules, refl, sym, ap, ◌∙◌, subst, arith}
+use Rattle.warp_tag.specs.Moment.{Moment}
+use Rattle.warp_body.specs.Presence.{target_fits}
+use Rattle.warp_step.specs.Valid.{program_places}
 use Rattle.warp_step.specs.Snapshot.{AreInOrder}
-use Rattle.warp_step.specs.Step.{arrived_entries}
-use Rattle.warp_step.specs.inner.Front.{HasOtherHead}
 use Rattle.warp_step.specs.declared.pending.Waiting.{Waiting}
-use Rattle.warp_step.proofs.FrontLemmas.{order_drop, Taken, taken}
+use Rattle.warp_step.proofs.FrontLemmas.{stands_at}
+use Rattle.warp_step.proofs.TakenLemmas.{AllTaken, as_many, first_pass, none_so_far, one_more, other_first}
 use Rattle.warp_step.proofs.TargetsOfStep.{fit_targets}
 use Rattle.warp_step.proofs.state.State.take_each.Goals as goal
 
-pub arrive_entries-count-requires-clause-targets : goal.arrive_entries-count-requires-clause-targets
-arrive_entries-count-requires-clause-targets c =
-    let fits = fit_targets c.args.program.now c.args.self.now.pending c.requires.state.entries in
-    let same : c.as_slice.result.now ≡ c.args.self.now.pending = search rules in
-    rw (same, c.requires.places) fits
+in_order : (c : goal.After-len-end) → AreInOrder c.args.self.now.pending
+in_order c =
+    let same : c.self.inside.pending ≡ c.args.self.now.pending = search rules in
+    subst AreInOrder same c.self.invariant.0
 
-pub invariant_of-self : goal.invariant_of-self
-invariant_of-self c =
-    let rest : AreInOrder (drop c.arrive_entries-count.result c.self.inside.pending) = order_drop c.arrive_entries-count.result c.self.inside.pending c.self.invariant.0 in
-    (subst AreInOrder (sym c.drop_front.ensures) rest, c.self.invariant.1)
+pub loop-init : goal.loop-init
+loop-init c = record {
+  so_far = none_so_far c.args.program.now c.args.tag c.args.self.now c.args.present.now (in_order c) c.requires.none_before;
+  places = refl;
+  sources = refl;
+  due = λ were. were;
+  sure = λ was. was;
+}
 
-all : (c : goal.After-drop_front) → Taken c.args.tag c.args.self.now c.drop_front.new.self c.args.present.now c.arrive_entries-count.new.present
+-- whether the first entry that is left is at the tag is what was asked
+asked : (t : Moment) (answer : Bool) (slice inside pending : List Waiting) → answer ≡ stands_at t slice 0 → slice ≡ inside → inside ≡ pending
+    → stands_at t pending 0 ≡ answer
+asked t answer slice inside pending is value same = sym (is ∙ ap (λ (xs : List Waiting). stands_at t xs 0) (value ∙ same))
+
+none : (c : goal.Then-not-is_at) → AllTaken c.args.program.now c.args.tag c.args.self.now c.loop.self c.args.present.now c.loop.present
+none c =
+    let same : c.self-in-loop.inside.pending ≡ c.loop.self.pending = search rules in
+    let stands : stands_at c.args.tag c.loop.self.pending 0 ≡ c.is_at.result =
+    asked c.args.tag c.is_at.result c.as_slice.result.now c.self-in-loop.inside.pending c.loop.self.pending c.is_at.ensures c.as_slice.ensures.value same in
+    other_first c.args.program.now c.args.tag c.args.self.now c.loop.counter c.loop.self c.args.present.now c.loop.present c.loop.invariant.so_far
+    (stands ∙ c.if-not-is_at.true)
+
+pub returns-then-not-is_at-clause-state : goal.returns-then-not-is_at-clause-state
+returns-then-not-is_at-clause-state c = (none c).state
+
+pub returns-then-not-is_at-clause-present : goal.returns-then-not-is_at-clause-present
+returns-then-not-is_at-clause-present c = (none c).present
+
+pub take_first-requires-clause-targets : goal.take_first-requires-clause-targets
+take_first-requires-clause-targets c =
+    let same : c.self-in-loop.inside.pending ≡ c.loop.self.pending = search rules in
+    let stands : stands_at c.args.tag c.loop.self.pending 0 ≡ c.is_at.result =
+    asked c.args.tag c.is_at.result c.as_slice.result.now c.self-in-loop.inside.pending c.loop.self.pending c.is_at.ensures c.as_slice.ensures.value same in
+    let P = c.args.program.now in
+    first_pass (λ (w : Waiting). target_fits (program_places P) w.target) P c.args.tag c.args.self.now c.loop.counter c.loop.self c.args.present.now c.loop.present
+    c.loop.invariant.so_far (stands ∙ c.if-not-is_at.false) (fit_targets P c.args.self.now.pending c.requires.state.entries)
+
+pub loop-preserved : goal.loop-preserved
+loop-preserved c =
+    let same : c.self-in-loop.inside.pending ≡ c.loop.self.pending = search rules in
+    let stands : stands_at c.args.tag c.loop.self.pending 0 ≡ c.is_at.result =
+    asked c.args.tag c.is_at.result c.as_slice.result.now c.self-in-loop.inside.pending c.loop.self.pending c.is_at.ensures c.as_slice.ensures.value same in
+    let state = c.take_first.ensures.state in
+    record {
+      so_far = one_more c.args.program.now c.args.tag c.args.self.now c.loop.counter c.loop.self c.take_first.new.self c.args.present.now c.loop.present c.take_first.new.present
+          state.0 c.loop.invariant.so_far (stands ∙ c.if-not-is_at.false) state.1 c.take_first.ensures.few state.2 state.3;
+      places = c.take_first.ensures.places ∙ c.loop.invariant.places;
+      sources = c.take_first.ensures.sources ∙ c.loop.invariant.sources;
+      due = λ were. c.take_first.ensures.due (c.loop.invariant.due were);
+      sure = λ was. c.take_first.ensures.sure;
+    }
+
+all : (c : goal.After-loop) → AllTaken c.args.program.now c.args.tag c.args.self.now c.loop.self c.args.present.now c.loop.present
 all c =
-    let ws = c.self.inside.pending in
-    let n = c.arrive_entries-count.result in
-    let same : ws ≡ c.args.self.now.pending = search rules in
-    let slice : c.as_slice.result.now ≡ ws = c.as_slice.ensures.value in
-    let here : IsTrue (list_all (λ w. is_same w.tag c.args.tag) (take n ws)) = subst (λ (xs : List Waiting). IsTrue (list_all (λ w. is_same w.tag c.args.tag) (take n xs))) slice c.arrive_entries-count.ensures.here in
-    let other : HasOtherHead c.args.tag (drop n ws) = subst (λ (xs : List Waiting). HasOtherHead c.args.tag (drop n xs)) slice c.arrive_entries-count.ensures.other in
-    let arrives : c.arrive_entries-count.new.present ≡ arrived_entries (take n ws) c.args.present.now =
-    subst (λ (xs : List Waiting). c.arrive_entries-count.new.present ≡ arrived_entries (take n xs) c.args.present.now) slice c.arrive_entries-count.ensures.present in
-    taken c.args.tag c.args.self.now ws c.drop_front.new.self n c.args.present.now c.arrive_entries-count.new.present same c.self.invariant.0 c.requires.none_before here other c.drop_front.ensures arrives
+    let same : c.self.inside.pending ≡ c.args.self.now.pending = search rules in
+    let long = ap (λ (xs : List Waiting). length xs) same in
+    let past : length c.args.self.now.pending ≤ c.loop.counter = omega (arith, long, c.len-end.ensures.value, c.loop-test.false) in
+    as_many c.args.program.now c.args.tag c.args.self.now c.loop.counter c.loop.self c.args.present.now c.loop.present c.loop.invariant.so_far
+    (subst AreInOrder same c.self.invariant.0) c.requires.none_before past
 
 pub returns-clause-state : goal.returns-clause-state
-returns-clause-state c = let rest = (all c).rest in search rules
+returns-clause-state c = (all c).state
 
 pub returns-clause-present : goal.returns-clause-present
 returns-clause-present c = (all c).present

@@ -1,0 +1,23 @@
+-- Timers that are pending again as the entries at a tag are taken one after another.
+use Rattle.std.specs.Prelude.{ℕ, pos, nat_lt, List, [], ◌∷◌, slice_index_or, if◌then◌else◌}
+use Rattle.warp_tag.specs.Moment.{Moment}
+use Rattle.warp_body.specs.declared.place.Target.{Target}
+use Rattle.warp_body.specs.declared.place.Target.TheVariants as to
+use Rattle.warp_step.specs.Program.{Program}
+use Rattle.warp_step.specs.Snapshot.{Snapshot, landed}
+
+-- the period of the timer with this number
+abbrev pub period_of : Program → ℕ → ℕ
+period_of P n = (slice_index_or P.timers n (record { reactor = 0; offset = 0; period = 0 })).period
+
+-- a target that is a timer with a period is pending again
+abbrev pub again : Program → Moment → Target → Snapshot → Snapshot
+again P t to.Startup s = s
+again P t (to.Timer n) s = if nat_lt 0 (period_of P n) then landed P t (period_of P n) (to.Timer n) (pos 0) s else s
+again P t (to.Action n) s = s
+again P t (to.Port n) s = s
+
+-- so is each of these targets, one after another
+abbrev pub again_each : Program → Moment → List Target → Snapshot → Snapshot
+again_each P t [] s = s
+again_each P t (k ∷ ks) s = again_each P t ks (again P t k s)
