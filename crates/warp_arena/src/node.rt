@@ -11,7 +11,7 @@ pub(crate) const NO_NODE: u32 = u32::MAX;
 
 /// A node is a hint where its index is a multiple of this. A prime above the most origins, so that origins which come in
 /// turn have hints alike.
-pub(crate) const HINTED: u32 = 61;
+pub(crate) const HINTED: u32 = 37;
 
 /// Among so many hints at most one of an origin is looked for.
 pub(crate) const MOST_SEEN: usize = 64;

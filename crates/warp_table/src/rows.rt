@@ -7,6 +7,7 @@ ghost use Rattle.warp_table.specs.inner.NamesByOrigin.{AreInOrder, IsWith, row_o
 
 use crate::announcer::Announcer;
 use crate::blocks::{Tagged, block_of, make_room, put};
+use crate::tally::Kind;
 use std::alloc::Global;
 use std::marker::Model;
 use warp_tag::{OutOfMemory, Tag};
@@ -142,9 +143,8 @@ impl Model for Rows {
 
 impl Rows {
     ghost use Rattle.std.specs.Prelude.{◌≡◌, [], None, IsTrue, is_some, Contains, OnOk, OnErr};
-    ghost use Rattle.warp_table.specs.inner.Heard.{with_tag};
-    ghost use Rattle.warp_table.specs.inner.Kept.{nothing_known, with_event_at, with_withdrawal_at};
     ghost use Rattle.warp_table.specs.inner.NamesByOrigin.{IsWith, row_of};
+    ghost use Rattle.warp_table.specs.inner.Tally.{tags_of, with_noted};
 
     /// None yet. They grow in `alloc`.
     pub(crate) fn new(alloc: Global) -> Rows
@@ -175,53 +175,24 @@ impl Rows {
         set_at(&mut self.blocks[at], tag, known);
     }
 
-    /// Puts in the row of a new name that has an event at this place, and tells its origin. An `Err` changes nothing.
-    pub(crate) fn insert_event(
+    /// Puts in the row of a new name of which this is known, and tells its origin that it has an event or a withdrawal. An
+    /// `Err` changes nothing.
+    pub(crate) fn insert(
         &mut self,
         tag: Tag,
-        place: u32,
+        known: Known,
+        kind: Kind,
         announcer: &mut Announcer,
     ) -> Result<(), OutOfMemory>
         requires new { row_of tag self.old ≡ None }
-        requires fresh { ¬ Contains announcer.old.events tag }
-        ensures ok { OnOk result (IsWith tag (with_event_at place nothing_known) self.old self.new) }
-        ensures heard { OnOk result
-            (announcer.new ≡ record announcer.old { events = with_tag tag announcer.old.events }) }
+        requires fresh { ¬ Contains (tags_of kind announcer.old) tag }
+        ensures ok { OnOk result (IsWith tag known self.old self.new) }
+        ensures heard { OnOk result (announcer.new ≡ with_noted kind tag announcer.old) }
         ensures err { OnErr result ((self.new ≡ self.old) × (announcer.new ≡ announcer.old)) }
     {
         let at = make_room(&mut self.blocks, tag)?;
-        announcer.note_event(tag)?;
-        let event = Known::nothing().with_event(place);
-        put(&mut self.blocks, at, Row { tag, known: event });
-        Ok(())
-    }
-
-    /// Puts in the row of a new name that has a withdrawal at this place, and tells its origin. An `Err` changes
-    /// nothing.
-    pub(crate) fn insert_withdrawal(
-        &mut self,
-        tag: Tag,
-        place: u32,
-        announcer: &mut Announcer,
-    ) -> Result<(), OutOfMemory>
-        requires new { row_of tag self.old ≡ None }
-        requires fresh { ¬ Contains announcer.old.withdrawn tag }
-        ensures ok { OnOk result (IsWith tag (with_withdrawal_at place nothing_known) self.old self.new) }
-        ensures heard { OnOk result
-            (announcer.new ≡ record announcer.old { withdrawn = with_tag tag announcer.old.withdrawn }) }
-        ensures err { OnErr result ((self.new ≡ self.old) × (announcer.new ≡ announcer.old)) }
-    {
-        let at = make_room(&mut self.blocks, tag)?;
-        announcer.note_withdrawal(tag)?;
-        let withdrawal = Known::nothing().with_withdrawal(place);
-        put(
-            &mut self.blocks,
-            at,
-            Row {
-                tag,
-                known: withdrawal,
-            },
-        );
+        announcer.note(kind, tag)?;
+        put(&mut self.blocks, at, Row { tag, known });
         Ok(())
     }
 }

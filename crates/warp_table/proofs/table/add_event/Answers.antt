@@ -5,13 +5,13 @@ use Rattle.warp_table.specs.declared.rows.Known.{Known}
 use Rattle.warp_table.proofs.EventPlaces.{first_event}
 use Rattle.warp_table.proofs.table.add_event.Goals as goal
 
-pub returns-in_ok-insert_event-in-None-clause-new : goal.returns-in_ok-insert_event-in-None-clause-new
-returns-in_ok-insert_event-in-None-clause-new c = λ new.
+pub returns-in_ok-insert-in-None-clause-new : goal.returns-in_ok-insert-in-None-clause-new
+returns-in_ok-insert-in-None-clause-new c = λ new.
     let none : known_of c.args.name.now c.args.names.now ≡ nothing_known = search rules in
     let first = c.noted_first-noted.ensures in
-    let ok = c.in_ok-insert_event-in-None.ensures in (
+    let ok = c.in_ok-insert-in-None.ensures in (
       first.0,
       ok.ok ∙ ap (λ (k : Known). put_known c.args.names.now c.args.name.now (with_event_at c.noted_first-noted.result.event k)) (sym none),
-      first_event c.args.records.now c.args.name.now c.args.payload _ c.noted_first-noted.result.event c.args.others.now.entries c.args.announcer.now c.insert_event.new.announcer
+      first_event c.args.records.now c.args.name.now c.args.payload _ c.noted_first-noted.result.event c.args.others.now.entries c.args.announcer.now c.insert.new.announcer
           (ap (λ (k : Known). k.event) none) first.1 ok.heard,
     )

@@ -12,7 +12,7 @@ use Rattle.warp_table.proofs.announcer.Announcer.note_announcement.Goals as goal
 
 -- the announcement, counted
 tally : goal.After-self-1 → Tally
-tally c = record { tag = c.args.tag; events = c.args.events; withdrawn = c.args.withdrawn; events_before = c.count_before.result; withdrawn_before = c.count_before-2.result }
+tally c = record { tag = c.args.tag; events = c.args.events; withdrawn = c.args.withdrawn; events_before = c.in_ok-count_before-events_before.events_before; withdrawn_before = c.in_ok-count_before-withdrawn_before.withdrawn_before }
 
 pub invariant_of-self-2 : goal.invariant_of-self-2
 unfolding tally
