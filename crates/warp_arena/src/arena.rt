@@ -1,7 +1,7 @@
 //! The arena: entries of names, in order, each at a handle.
 use crate::links::{
-    add_node, forget_hint, handle, is_passed, leads_back, next_by_tag, next_of_origin, own_hint, place_of_hint,
-    reserve_hints, stands_behind, tag_hint, thread_node, unthread_node,
+    add_node, forget_hint, handle, is_passed, leads_back, next_by_tag, next_of_origin, own_hint,
+    place_of_hint, reserve_hints, stands_behind, tag_hint, thread_node, unthread_node,
 };
 use crate::node::{Gap, HINTED, Links, MAX_USED, NO_NODE, Node, NodeId, Origin};
 use crate::packed::Packed;

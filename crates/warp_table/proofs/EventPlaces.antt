@@ -155,6 +155,11 @@ put_same name known (kept ∷ names) is = elim (cases_Bool (is_named name.origin
     some_same : {X : Type 0} {x y : X} → Some x ≡ Some y → x ≡ y
     some_same e = cc
 
+-- nor does the event that it keeps
+pub kept_same : (name : Name) (known : Known) (event : ℕ) (names : List (Name × Known)) → lookup (is_named name.origin name.tag) names ≡ Some known → known.event ≡ event →
+    names ≡ put_known names name (with_event_at event known)
+kept_same name known event names is same = subst (λ (e : ℕ). names ≡ put_known names name (with_event_at e known)) same (sym (put_same name known names is))
+
 -- the event that a name keeps is one of its own
 pub holds_own : (records : List Record) (names : List (Name × Known)) (name : Name) → All (λ kept. HoldsEvent records kept.0 kept.1.event) names → HoldsEvent records name (known_of name names).event
 holds_own records names name all = by (lookup (is_named name.origin name.tag) names) refl

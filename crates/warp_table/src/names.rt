@@ -33,6 +33,8 @@ fn keep_up_to(origins: &mut Vec<Rows>, origin: u32) -> Result<(), OutOfMemory>
 pub(crate) struct Names {
     origins: Vec<Rows>,
     order: Vec<Name>,
+    /// Where the row of the name stands that was sought last. It only shortens the search for it.
+    near: usize,
 }
 
 impl Model for Names {
@@ -61,6 +63,7 @@ impl Names {
         Names {
             origins: Vec::new(alloc),
             order: Vec::new(alloc),
+            near: 0,
         }
     }
 
@@ -68,7 +71,18 @@ impl Names {
     pub(crate) fn known(&self, name: Name) -> Option<Known>
         ensures { result ≡ lookup (is_named name.origin name.tag) self.now }
     {
-        self.origins.get(name.origin as usize)?.known(name.tag)
+        let (known, _near) = self.origins.get(name.origin as usize)?.seek(name.tag);
+        known
+    }
+
+    /// What is known of a name, which may change next; `None` where it is not there.
+    pub(crate) fn seek(&mut self, name: Name) -> Option<Known>
+        ensures known { result ≡ lookup (is_named name.origin name.tag) self.old }
+        ensures same { self.new ≡ self.old }
+    {
+        let (known, near) = self.origins.get(name.origin as usize)?.seek(name.tag);
+        self.near = near;
+        known
     }
 
     /// A name by the number of its first coming, from 0, and what is known of it; `None` where there are not so many.
@@ -86,7 +100,7 @@ impl Names {
         requires { IsTrue (is_some (lookup (is_named name.origin name.tag) self.old)) }
         ensures { self.new ≡ put_known self.old name known }
     {
-        self.origins[name.origin as usize].set(name.tag, known);
+        self.origins[name.origin as usize].set(name.tag, known, self.near);
     }
 
     /// Puts in a new name of which this is known, and tells its origin that it has an event or a withdrawal. An `Err`
@@ -106,7 +120,7 @@ impl Names {
     {
         keep_up_to(&mut self.origins, name.origin)?;
         self.order.reserve(1)?;
-        self.origins[name.origin as usize].insert(name.tag, known, kind, announcer)?;
+        self.origins[name.origin as usize].insert(name.tag, known, kind, announcer, self.near)?;
         self.order.push_reserved(name);
         Ok(())
     }

@@ -6,7 +6,7 @@ ghost use Rattle.std.specs.Prelude.{◌≡◌, ◌≤◌, IsTrue, is_some, lengt
 ghost use Rattle.warp_table.specs.inner.NamesByOrigin.{AreInOrder, IsWith, row_of, row_place};
 
 use crate::announcer::Announcer;
-use crate::blocks::{Tagged, block_of, make_room, put};
+use crate::blocks::{Tagged, block_near, block_of, is_beyond_all, make_room, put};
 use crate::tally::Kind;
 use std::alloc::Global;
 use std::marker::Model;
@@ -155,34 +155,47 @@ impl Rows {
         }
     }
 
-    /// What is known of the name of this tag; `None` where it has no row.
-    pub(crate) fn known(&self, tag: Tag) -> Option<Known>
-        ensures { result ≡ row_of tag self.now }
+    /// What is known of the name of this tag, `None` where it has no row; and where to look for its row.
+    pub(crate) fn seek(&self, tag: Tag) -> (Option<Known>, usize)
+        ensures { result.0 ≡ row_of tag self.now }
     {
-        if self.blocks.is_empty() {
-            return None;
+        if is_beyond_all(&self.blocks, tag) {
+            return (None, 0);
         }
-        let at = block_of(&self.blocks, tag);
-        known_at(&self.blocks[at], tag)
+        self.seek_among(tag)
     }
 
-    /// Has this known of the name of this tag, which has a row.
-    pub(crate) fn set(&mut self, tag: Tag, known: Known)
+    /// `seek` where the row may stand among others.
+    #[inline(never)]
+    fn seek_among(&self, tag: Tag) -> (Option<Known>, usize)
+        ensures { result.0 ≡ row_of tag self.now }
+    {
+        if self.blocks.is_empty() {
+            return (None, 0);
+        }
+        let at = block_of(&self.blocks, tag);
+        let known = known_at(&self.blocks[at], tag);
+        (known, at)
+    }
+
+    /// Has this known of the name of this tag, which has a row; it is looked for near this block first.
+    pub(crate) fn set(&mut self, tag: Tag, known: Known, near: usize)
         requires { IsTrue (is_some (row_of tag self.old)) }
         ensures { IsWith tag known self.old self.new }
     {
-        let at = block_of(&self.blocks, tag);
+        let at = block_near(&self.blocks, tag, near);
         set_at(&mut self.blocks[at], tag, known);
     }
 
-    /// Puts in the row of a new name of which this is known, and tells its origin that it has an event or a withdrawal. An
-    /// `Err` changes nothing.
+    /// Puts in the row of a new name of which this is known, near this block, and tells its origin that it has an event or a
+    /// withdrawal. An `Err` changes nothing.
     pub(crate) fn insert(
         &mut self,
         tag: Tag,
         known: Known,
         kind: Kind,
         announcer: &mut Announcer,
+        near: usize,
     ) -> Result<(), OutOfMemory>
         requires new { row_of tag self.old ≡ None }
         requires fresh { ¬ Contains (tags_of kind announcer.old) tag }
@@ -190,7 +203,7 @@ impl Rows {
         ensures heard { OnOk result (announcer.new ≡ with_noted kind tag announcer.old) }
         ensures err { OnErr result ((self.new ≡ self.old) × (announcer.new ≡ announcer.old)) }
     {
-        let at = make_room(&mut self.blocks, tag)?;
+        let at = make_room(&mut self.blocks, tag, near)?;
         announcer.note(kind, tag)?;
         put(&mut self.blocks, at, Row { tag, known });
         Ok(())

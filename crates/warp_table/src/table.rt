@@ -463,6 +463,7 @@ fn note_first_event(
 }
 
 /// Has a name of which this is known keep the event at this place.
+#[tactic(auto, using(crate::proofs::EventPlaces::kept_same))]
 fn keep_event(names: &mut Names, name: Name, known: Known, event: u32)
     requires { lookup (is_named name.origin name.tag) names.old ≡ Some known }
     ensures { names.new ≡ put_known names.old name (with_event_at event known) }
@@ -496,7 +497,7 @@ fn add_event(
     ensures err { OnErr result
         ((names.new ≡ names.old) × (others.new.entries ≡ others.old.entries) × (announcer.new ≡ announcer.old)) }
 {
-    match names.known(*name) {
+    match names.seek(*name) {
         Some(known) => {
             let noted = note_event(records, others, announcer, known.event, name, payload)?;
             if noted.added.is_new {
@@ -560,7 +561,7 @@ fn add_withdrawal(
         (withdrawal_place (known_of name.now names.old).withdrawal ≡ Some added.place)) }
     ensures err { OnErr result ((names.new ≡ names.old) × (announcer.new ≡ announcer.old)) }
 {
-    match names.known(*name) {
+    match names.seek(*name) {
         Some(known) => {
             if known.withdrawal != 0 {
                 return Ok(Added {

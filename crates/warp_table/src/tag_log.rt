@@ -67,7 +67,8 @@ impl TagLog {
         ensures err { OnErr result (self.new ≡ self.old) }
         ensures room { OnOk result (length self.old + 1 < 2 ^ 64) }
     {
-        self.came.push(tag)
+        self.came.push(tag)?;
+        Ok(())
     }
 
     /// How many of them are before this one. They stay.

@@ -3,12 +3,12 @@ use Rattle.std.proofs.Common.{◌≡◌, ◌-◌, ◌≤◌, drop, length}
 use Rattle.warp_table.specs.inner.Heard.{with_tags}
 use Rattle.warp_table.proofs.tag_log.place_all.Given as goal
 
-abbrev pub invariant-loop : goal.invariant-loop
-invariant-loop l = record {
+abbrev pub invariant-loop-placed : goal.invariant-loop-placed
+invariant-loop-placed l = record {
   within : l.placed ≤ length l.came;
   many : length l.in_order ≡ l.placed;
   same : with_tags (drop l.placed l.came) l.in_order ≡ with_tags (drop l.initial.placed l.came) l.initial.in_order;
 }
 
-abbrev pub decreases-loop : goal.decreases-loop
-decreases-loop l = length l.came - l.placed
+abbrev pub decreases-loop-placed : goal.decreases-loop-placed
+decreases-loop-placed l = length l.came - l.placed
