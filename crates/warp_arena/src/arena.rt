@@ -467,8 +467,8 @@ impl Arena {
         }
     }
 
-    /// Where a walk back to this name starts: where `start_of_walk` says, where the name is next to that, or at a hint that
-    /// is nearer.
+    /// Where a walk back to this name starts: where `start_of_walk` says, where the name is next to that, or at a hint
+    /// that is nearer.
     fn start_near(&self, origin: u32, tag: Tag, end: u32) -> u32
         requires { origin < self.now.origins }
         ensures { result ≢ end → IsAfter origin tag result self.now.places }
@@ -517,8 +517,8 @@ impl Arena {
         if own_after == NO_NODE { end } else { own_after }
     }
 
-    /// Where the walk back along the tag list starts: where `start_beside` says, where that is next to the origin's node
-    /// before the name, or at a hint that is nearer.
+    /// Where the walk back along the tag list starts: where `start_beside` says, where that is next to the origin's
+    /// node before the name, or at a hint that is nearer.
     fn start_near_beside(&self, origin: u32, tag: Tag, own_before: u32, end: u32) -> u32
         requires origin { origin < self.now.origins }
         requires own_before { own_before ≡ last_not_after origin tag (places_of origin self.now.places) }

@@ -3,7 +3,8 @@
 //! Each announcement has how many names are before its tag. A new name is counted in the announcements beyond it
 //! (`announced.rt`), so that what comes in order of tag costs no pass over what came before.
 ghost use Rattle.std.specs.Prelude.{◌≡◌, ◌↔◌, ◌⊎◌, Contains, IsTrue, OnOk, OnErr};
-ghost use Rattle.warp_table.specs.inner.Heard.{Announced as Said, IsExceeded, IsHeardTo, earlier_of, nothing_heard, with_tag};
+ghost use Rattle.warp_table.specs.inner.Heard.{Announced as Said, IsExceeded, IsHeardTo, earlier_of, nothing_heard};
+ghost use Rattle.warp_table.specs.inner.Heard.{with_tag};
 ghost use Rattle.warp_table.specs.inner.Tally.{tags_of, with_noted};
 
 use crate::announced::Announced;

@@ -244,8 +244,8 @@ fn prepare<T: Tagged + Copy + Drop>(blocks: &mut Vec<Vec<T>>, tag: Tag) -> Resul
     part(blocks, at, cut)
 }
 
-/// The block of a tag, which has fewer items than a block has at most: the first one is made, and a full one parted. The
-/// items stay, also on an `Err`.
+/// The block of a tag, which has fewer items than a block has at most: the first one is made, and a full one parted.
+/// The items stay, also on an `Err`.
 fn block_for<T: Tagged + Copy + Drop>(
     blocks: &mut Vec<Vec<T>>,
     tag: Tag,
@@ -267,8 +267,8 @@ fn block_for<T: Tagged + Copy + Drop>(
     Ok(block_of(blocks, tag))
 }
 
-/// Makes room for one more item of a tag, wherever it goes, and gives its block, which is looked for near this one first.
-/// The items stay, also on an `Err`.
+/// Makes room for one more item of a tag, wherever it goes, and gives its block, which is this one, where it is, or else
+/// sought. The items stay, also on an `Err`.
 #[inline(never)]
 fn make_room_anywhere<T: Tagged + Copy + Drop>(
     blocks: &mut Vec<Vec<T>>,

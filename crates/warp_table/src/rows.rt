@@ -187,8 +187,8 @@ impl Rows {
         set_at(&mut self.blocks[at], tag, known);
     }
 
-    /// Puts in the row of a new name of which this is known, near this block, and tells its origin that it has an event or a
-    /// withdrawal. An `Err` changes nothing.
+    /// Puts in the row of a new name of which this is known, near this block, and tells its origin that it has an event
+    /// or a withdrawal. An `Err` changes nothing.
     pub(crate) fn insert(
         &mut self,
         tag: Tag,
