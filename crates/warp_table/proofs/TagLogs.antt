@@ -1,7 +1,6 @@
 -- Tags as they came, put in order one after another.
-use Rattle.std.proofs.Common.{◌≡◌, ℕ, suc, ◌+◌, ◌-◌, ◌<◌, ◌≤◌, List, [], ◌∷◌, ◌++◌, drop, length, get_or, ap, sym, ◌∙◌, arith}
-use Rattle.std.proofs.lemmas.List.{drop-append-le, drop_more, length-drop}
-use Rattle.std.proofs.lemmas.List.Sums.{fold-append}
+use Rattle.std.proofs.Common.{◌≡◌, ℕ, suc, ◌+◌, ◌<◌, List, [], ◌∷◌, drop, length, get_or, ap, sym, ◌∙◌, arith}
+use Rattle.std.proofs.lemmas.List.{drop_more}
 use Rattle.warp_tag.specs.Moment.{Moment}
 use Rattle.warp_table.specs.inner.Heard.{with_tag, with_tags}
 use Rattle.warp_table.proofs.BlockLists.{item_tag, length-with_item}
@@ -16,22 +15,15 @@ length-with_tags (t ∷ more) tags =
     let one : length (with_tag t tags) ≡ suc (length tags) = length-with_tag t tags in
     omega (arith, rest, one)
 
-module _ (came : List Moment) (placed : ℕ) (tags : List Moment) (within : placed ≤ length came) where
-  -- one that comes is put in last
-  pub came_last : (tag : Moment) → with_tags (drop placed (came ++ tag ∷ [])) tags ≡ with_tag tag (with_tags (drop placed came) tags)
-  came_last tag = ap (λ (l : List Moment). with_tags l tags) (drop-append-le placed came (tag ∷ []) within) ∙ fold-append (λ now t. with_tag t now) tags (drop placed came) (tag ∷ [])
-
-  -- as many are there as came
-  pub as_many : length tags ≡ placed → length (with_tags (drop placed came) tags) ≡ length came
-  as_many many =
-      let all : length (with_tags (drop placed came) tags) ≡ length tags + length (drop placed came) = length-with_tags (drop placed came) tags in
-      let left : length (drop placed came) ≡ length came - placed = length-drop placed came in
-      omega (arith, all, left, many, within)
+-- as many are there as came
+pub as_many : (came tags : List Moment) → tags ≡ [] → length (with_tags came tags) ≡ length came
+as_many came tags none =
+    let all : length (with_tags came tags) ≡ length tags + length came = length-with_tags came tags in
+    let empty : length tags ≡ 0 = ap (λ (l : List Moment). length l) none in
+    omega (arith, all, empty)
 
 -- one that is put in its place
 pub placed_next : (came : List Moment) (placed : ℕ) (tags now : List Moment) (tag d : Moment) → placed < length came → tag ≡ get_or came placed d → now ≡ with_tag tag tags
-    → (length now ≡ suc (length tags)) × (with_tags (drop (placed + 1) came) now ≡ with_tags (drop placed came) tags)
-placed_next came placed tags now tag d within is put = (
-  ap (λ (l : List Moment). length l) put ∙ length-with_tag tag tags,
-  ap (with_tags (drop (placed + 1) came)) (put ∙ ap (λ (t : Moment). with_tag t tags) is) ∙ sym (ap (λ (l : List Moment). with_tags l tags) (drop_more came placed d within)),
-)
+    → with_tags (drop (placed + 1) came) now ≡ with_tags (drop placed came) tags
+placed_next came placed tags now tag d within is put =
+    ap (with_tags (drop (placed + 1) came)) (put ∙ ap (λ (t : Moment). with_tag t tags) is) ∙ sym (ap (λ (l : List Moment). with_tags l tags) (drop_more came placed d within))

@@ -105,6 +105,7 @@ impl Names {
 
     /// Puts in a new name of which this is known, and tells its origin that it has an event or a withdrawal. An `Err`
     /// changes nothing.
+    #[inline(always)]
     pub(crate) fn insert(
         &mut self,
         name: Name,

@@ -189,6 +189,7 @@ impl Rows {
 
     /// Puts in the row of a new name of which this is known, near this block, and tells its origin that it has an event
     /// or a withdrawal. An `Err` changes nothing.
+    #[inline(always)]
     pub(crate) fn insert(
         &mut self,
         tag: Tag,

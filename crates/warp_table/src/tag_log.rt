@@ -1,8 +1,8 @@
-//! The tags of an origin's names as they came.
+//! The tags of an origin's names: as they came, until an announcement asks how many are before its tag, and in order from
+//! then on.
 //!
-//! Only an announcement asks how many of them are before a tag. So a name costs a push here, and the tags that came
-//! since the last announcement are put in order at the next one, each once.
-ghost use Rattle.std.specs.Prelude.{◌≡◌, ◌+◌, ◌<◌, ◌≤◌, ◌^◌, [], IfOk, OnOk, OnErr, drop, length};
+//! So a name of an origin that announced nothing costs a push here, in any order of tags.
+ghost use Rattle.std.specs.Prelude.{◌≡◌, ◌+◌, ◌<◌, ◌^◌, [], IfOk, OnOk, OnErr, length};
 ghost use Rattle.warp_table.specs.inner.Heard.{count_before as tags_before, with_tag, with_tags};
 
 use crate::tags::Tags;
@@ -10,42 +10,39 @@ use std::alloc::{AllocError, Global};
 use std::marker::Model;
 use warp_tag::Tag;
 
-/// Puts the tags from this place on among those that stand in order. The tags stay, also on an `Err`.
-fn place_all(in_order: &mut Tags, came: &[Tag], placed: &mut usize) -> Result<(), AllocError>
-    requires within { placed.old ≤ length came.now }
-    requires many { length in_order.old ≡ placed.old }
-    ensures within { placed.new ≤ length came.now }
-    ensures many { length in_order.new ≡ placed.new }
-    ensures same { with_tags (drop placed.new came.now) in_order.new ≡ with_tags (drop placed.old came.now) in_order.old }
-    ensures all { OnOk result (placed.new ≡ length came.now) }
+/// These tags in order.
+fn put_in_order(came: &[Tag], alloc: Global) -> Result<Tags, AllocError>
+    ensures { IfOk result (λ tags. tags ≡ with_tags came.now []) }
 {
-    while *placed < came.len() {
-        in_order.insert(came[*placed])?;
-        *placed += 1;
+    let mut in_order = Tags::new(alloc);
+    let mut placed = 0;
+    while placed < came.len() {
+        in_order.insert(came[placed])?;
+        placed += 1;
     }
-    Ok(())
+    Ok(in_order)
 }
 
 /// Tags, seen as their list in order.
 #[derive(Drop)]
 pub(crate) struct TagLog {
-    /// All of them, as they came.
+    /// As they came, where nobody asked yet.
     came: Vec<Tag>,
-    /// So many of them, from the first on, stand in order.
-    placed: usize,
     in_order: Tags,
+    /// Whether they are in order.
+    is_ordered: bool,
 }
 
 impl Model for TagLog {
-    ghost use Rattle.std.specs.Prelude.{◌≡◌, ◌≤◌, List, drop, length};
+    ghost use Rattle.std.specs.Prelude.{◌≡◌, [], List, false, true};
     ghost use Rattle.warp_tag.specs.Moment.{Moment};
     ghost use Rattle.warp_table.specs.inner.Heard.{with_tags};
 
     ghost Value = { List Moment };
 
-    ghost view = { λ l. with_tags (drop l.placed l.came.items) l.in_order };
+    ghost view = { λ l. with_tags l.came.items l.in_order };
 
-    ghost invariant = { λ l. (l.placed ≤ length l.came.items) × (length l.in_order ≡ l.placed) };
+    ghost invariant = { λ l. (l.is_ordered ≡ true → l.came.items ≡ []) × (l.is_ordered ≡ false → l.in_order ≡ []) };
 }
 
 impl TagLog {
@@ -55,8 +52,8 @@ impl TagLog {
     {
         TagLog {
             came: Vec::new(alloc),
-            placed: 0,
             in_order: Tags::new(alloc),
+            is_ordered: false,
         }
     }
 
@@ -67,6 +64,10 @@ impl TagLog {
         ensures err { OnErr result (self.new ≡ self.old) }
         ensures room { OnOk result (length self.old + 1 < 2 ^ 64) }
     {
+        if self.is_ordered {
+            self.in_order.insert(tag)?;
+            return Ok(());
+        }
         self.came.push(tag)?;
         Ok(())
     }
@@ -76,7 +77,15 @@ impl TagLog {
         ensures same { self.new ≡ self.old }
         ensures count { IfOk result (λ count. count ≡ tags_before tag self.old) }
     {
-        place_all(&mut self.in_order, &self.came, &mut self.placed)?;
-        Ok(self.in_order.count_before(tag))
+        if self.is_ordered {
+            return Ok(self.in_order.count_before(tag));
+        }
+        let alloc = *self.came.allocator();
+        let in_order = put_in_order(&self.came, alloc)?;
+        let count = in_order.count_before(tag);
+        self.in_order = in_order;
+        self.came = Vec::new(alloc);
+        self.is_ordered = true;
+        Ok(count)
     }
 }
