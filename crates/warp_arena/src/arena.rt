@@ -1,7 +1,7 @@
 //! The arena: entries of names, in order, each at a handle.
 use crate::links::{
-    add_node, forget_hint, handle, is_passed, next_by_tag, next_of_origin, own_hint, place_of_hint,
-    reserve_hints, tag_hint, thread_node, unthread_node,
+    add_node, forget_hint, handle, is_passed, leads_back, next_by_tag, next_of_origin, own_hint,
+    place_of_hint, reserve_hints, stands_behind, tag_hint, thread_node, unthread_node,
 };
 use crate::node::{Gap, HINTED, Links, MAX_USED, NO_NODE, Node, NodeId, Origin};
 use crate::packed::Packed;
@@ -467,14 +467,19 @@ impl Arena {
         }
     }
 
-    /// Where a walk back to this name starts: where `start_of_walk` says, or at a hint that is nearer.
+    /// Where a walk back to this name starts: where `start_of_walk` says, where the name is next to that, or at a hint
+    /// that is nearer.
     fn start_near(&self, origin: u32, tag: Tag, end: u32) -> u32
         requires { origin < self.now.origins }
         ensures { result ≢ end → IsAfter origin tag result self.now.places }
     {
+        let near = self.start_of_walk(origin, tag, end);
+        if leads_back(&self.nodes, near, origin, tag) {
+            return near;
+        }
         let hint = own_hint(&self.hints, &self.nodes, origin, tag);
         if hint == NO_NODE {
-            return self.start_of_walk(origin, tag, end);
+            return near;
         }
         let touched = self.start_of_walk(origin, tag, hint);
         let hinted = &self.nodes[hint as usize].entry;
@@ -512,15 +517,20 @@ impl Arena {
         if own_after == NO_NODE { end } else { own_after }
     }
 
-    /// Where the walk back along the tag list starts: where `start_beside` says, or at a hint that is nearer.
+    /// Where the walk back along the tag list starts: where `start_beside` says, where that is next to the origin's
+    /// node before the name, or at a hint that is nearer.
     fn start_near_beside(&self, origin: u32, tag: Tag, own_before: u32, end: u32) -> u32
         requires origin { origin < self.now.origins }
         requires own_before { own_before ≡ last_not_after origin tag (places_of origin self.now.places) }
         ensures { result ≢ end → IsBehind origin tag result self.now.places }
     {
+        let beside = self.start_beside(origin, tag, own_before, end);
+        if stands_behind(&self.nodes, beside, own_before) {
+            return beside;
+        }
         let hint = tag_hint(&self.hints, &self.nodes, origin, tag);
         if hint == NO_NODE {
-            return self.start_beside(origin, tag, own_before, end);
+            return beside;
         }
         let own_after = self.start_beside(origin, tag, own_before, hint);
         let hinted = &self.nodes[hint as usize].entry;

@@ -142,6 +142,27 @@ pub(crate) fn tag_hint(hints: &[u32], nodes: &[Node], origin: u32, tag: Tag) -> 
     }
 }
 
+/// Whether the node before the one at this index in its origin's list is not after the name. On this hangs what a walk
+/// costs, and nothing else.
+pub(crate) fn leads_back(nodes: &[Node], at: u32, origin: u32, tag: Tag) -> bool {
+    let Some(node) = nodes.get(at as usize) else {
+        return true;
+    };
+    match nodes.get(node.of_origin.prev as usize) {
+        Some(before) => !before.entry.comes_after(origin, tag),
+        None => true,
+    }
+}
+
+/// Whether the node at this index is the next one by tag behind another. On this hangs what a walk costs, and nothing
+/// else.
+pub(crate) fn stands_behind(nodes: &[Node], at: u32, before: u32) -> bool {
+    match nodes.get(at as usize) {
+        Some(node) => node.by_tag.prev == before,
+        None => false,
+    }
+}
+
 /// Takes the node, which is freed, out of the hints. It stands there only where its index is a multiple of `HINTED`.
 pub(crate) fn forget_hint(hints: &mut Vec<u32>, at: u32)
     ensures { WithoutHint at hints.old.items hints.new.items }

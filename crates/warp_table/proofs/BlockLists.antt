@@ -1,9 +1,10 @@
 -- Lists in order that are kept in blocks: what stands before and behind a block, one item more, a block parted.
-use Rattle.std.proofs.Common.{◌≡◌, ◌⊎◌, ℕ, zero, suc, ◌+◌, ◌<◌, Bool, true, false, not, if◌then◌else◌, IsTrue, List, [], ◌∷◌, ◌++◌, drop, filter, take, length, get_or, set, inl, inr, refl, sym, ap, subst, ◌∙◌, arith}
+use Rattle.std.proofs.Common.{◌≡◌, ◌⊎◌, ℕ, zero, suc, ◌+◌, ◌-◌, ◌<◌, ◌≤◌, Bool, true, false, not, if◌then◌else◌, IsTrue, List, [], ◌∷◌, ◌++◌, drop, filter, take, length, get_or, set, inl, inr, refl, sym, ap, subst, ◌∙◌, arith}
 use Rattle.std.specs.List.{All, AllPairs, insert, position_or_len}
 use Rattle.std.specs.List.Sorted.{IsPartitionedBy}
 use Rattle.std.proofs.lemmas.Bool.{cases_Bool, cases_eq, false≢true}
 use Rattle.std.proofs.lemmas.Bool.Decides.{nat_tests}
+use Rattle.std.proofs.lemmas.List.{append-nil, get_or-append-add, get_or_default, length-append}
 use Rattle.std.proofs.lemmas.List.Elements.{All-append, All-cons, All-head, All-nil, All-set, All-tail, All-weaker}
 use Rattle.std.proofs.lemmas.List.Kept.{AllPairs-cons}
 use Rattle.warp_tag.specs.Moment.{Moment, is_before}
@@ -355,3 +356,48 @@ module _ {B X : Type 0} (items : B → List X) where
             | inr h ↦ rw h rest
           ]
   passing_next p (b ∷ bs) (suc n) d within = passing_next p bs n d (omega (arith, within))
+
+-- Up to a last item that is before a tag all are
+module _ {X : Type 0} (tag_of : X → Moment) (tag : Moment) where
+  whole : (xs : List X) (last d : X) → 0 < length xs → get_or xs (length xs - 1) d ≡ last → AreOrdered tag_of xs → is_before (tag_of last) tag ≡ true → All (λ x. IsTrue (is_before (tag_of x) tag)) xs
+  whole xs last d some read ordered before = λ k e l. elim (cases_eq k (length xs - 1)) [
+    | inl same ↦ rw same (at_last e)
+    | inr other ↦ earlier (tag_of (get_or xs (length xs - 1) e)) (tag_of (get_or xs k e)) (ordered k (length xs - 1) e (omega arith) (omega (arith, some))) (at_last e)
+  ]
+    where
+      earlier : (t u : Moment) → is_before t u ≡ false → is_before t tag ≡ true → is_before u tag ≡ true
+      earlier t u k b = grind (arith, nat_tests)
+
+      at_last : (e : X) → is_before (tag_of (get_or xs (length xs - 1) e)) tag ≡ true
+      at_last e = subst (λ (x : X). is_before (tag_of x) tag ≡ true) (sym read ∙ get_or_default xs (length xs - 1) d e (omega (arith, some))) before
+
+  module _ {B : Type 0} (items : B → List X) where
+    past : (n : ℕ) (bs : List B) → length bs ≤ n → drop n bs ≡ []
+    past zero [] h = refl
+    past (suc n) [] h = refl
+    past zero (b ∷ bs) h = absurd (omega (arith, h))
+    past (suc n) (b ∷ bs) h = past n bs (omega (arith, h))
+
+    last_of : (bs : List B) (d : B) (e : X) → 0 < length bs → 0 < length (items (get_or bs (length bs - 1) d))
+        → get_or (flat items bs) (length (flat items bs) - 1) e ≡ get_or (items (get_or bs (length bs - 1) d)) (length (items (get_or bs (length bs - 1) d)) - 1) e
+    last_of bs d e some any =
+        let n = length bs - 1 in
+        let front = flat items (take n bs) in
+        let own = items (get_or bs n d) in
+        let none : drop (suc n) bs ≡ [] = past (suc n) bs (omega (arith, some)) in
+        let is : flat items bs ≡ front ++ own = parted items bs n d (omega (arith, some)) ∙ ap (λ (cs : List B). front ++ (own ++ flat items cs)) none ∙ ap (λ (l : List X). front ++ l) (append-nil own) in
+        let long : length (front ++ own) ≡ length front + length own = length-append front own in
+        ap (λ (l : List X). get_or l (length l - 1) e) is
+        ∙ ap (λ (k : ℕ). get_or (front ++ own) k e) (omega (arith, long, any))
+        ∙ get_or-append-add front own (length own - 1) e
+
+    pub all_passed : (bs : List B) (d : B) (last : X) → 0 < length bs → 0 < length (items (get_or bs (length bs - 1) d))
+        → last ≡ get_or (items (get_or bs (length bs - 1) d)) (length (items (get_or bs (length bs - 1) d)) - 1) last
+        → AreOrdered tag_of (flat items bs) → is_before (tag_of last) tag ≡ true → All (λ x. IsTrue (is_before (tag_of x) tag)) (flat items bs)
+    all_passed bs d last some any read ordered before =
+        let n = length bs - 1 in
+        let own = items (get_or bs n d) in
+        let long : length (flat items bs) ≡ length (flat items (take n bs)) + length (own ++ flat items (drop (suc n) bs)) =
+        ap (λ (l : List X). length l) (parted items bs n d (omega (arith, some))) ∙ length-append (flat items (take n bs)) (own ++ flat items (drop (suc n) bs)) in
+        let more : length (own ++ flat items (drop (suc n) bs)) ≡ length own + length (flat items (drop (suc n) bs)) = length-append own (flat items (drop (suc n) bs)) in
+        whole (flat items bs) last last (omega (arith, any, long, more)) (last_of bs d last some any ∙ sym read) ordered before

@@ -135,6 +135,31 @@ known_put name other names known =
     of_either true found = refl
     of_either false found = refl
 
+-- what is known already changes nothing
+pub put_same : (name : Name) (known : Known) (names : List (Name × Known)) → lookup (is_named name.origin name.tag) names ≡ Some known → put_known names name known ≡ names
+put_same name known [] is = absurd (none_some is)
+  where
+    none_some : {X : Type 0} {x : X} → None ≡ Some x → ⊥
+    none_some e = cc
+put_same name known (kept ∷ names) is = elim (cases_Bool (is_named name.origin name.tag kept.0)) [
+  | inl b ↦ (
+      let same : Some kept.1 ≡ Some known = rw b at is in
+      rw b (ap (λ (k : Known). (kept.0, k) ∷ names) (sym (some_same same)))
+      )
+  | inr b ↦ (
+      let rest : lookup (is_named name.origin name.tag) names ≡ Some known = rw b at is in
+      rw b (ap (λ (ns : List (Name × Known)). kept ∷ ns) (put_same name known names rest))
+      )
+]
+  where
+    some_same : {X : Type 0} {x y : X} → Some x ≡ Some y → x ≡ y
+    some_same e = cc
+
+-- nor does the event that it keeps
+pub kept_same : (name : Name) (known : Known) (event : ℕ) (names : List (Name × Known)) → lookup (is_named name.origin name.tag) names ≡ Some known → known.event ≡ event →
+    names ≡ put_known names name (with_event_at event known)
+kept_same name known event names is same = subst (λ (e : ℕ). names ≡ put_known names name (with_event_at e known)) same (sym (put_same name known names is))
+
 -- the event that a name keeps is one of its own
 pub holds_own : (records : List Record) (names : List (Name × Known)) (name : Name) → All (λ kept. HoldsEvent records kept.0 kept.1.event) names → HoldsEvent records name (known_of name names).event
 holds_own records names name all = by (lookup (is_named name.origin name.tag) names) refl

@@ -24,6 +24,7 @@ pub mod BelowHorizon
 pub mod InOrder
 pub mod BlockLists
 pub mod CountedTags
+pub mod TagLogs
 pub mod Tallies
 pub mod AnnouncedBlocks
 pub mod Heard

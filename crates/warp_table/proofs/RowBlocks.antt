@@ -49,7 +49,7 @@ row_append tag (r ∷ xs) ys = elim (cases_Bool (is_same tag r.tag)) [
 ]
 
 -- rows before a tag say nothing of it
-none_before : (tag : Moment) (rows : List Row) → All (λ r. IsTrue (is_before r.tag tag)) rows → row_of tag rows ≡ None
+pub none_before : (tag : Moment) (rows : List Row) → All (λ r. IsTrue (is_before r.tag tag)) rows → row_of tag rows ≡ None
 none_before tag [] all = refl
 none_before tag (r ∷ rows) all =
     rw (behind_differs tag r.tag (All-head (λ (q : Row). IsTrue (is_before q.tag tag)) r rows all)) (none_before tag rows (All-tail (λ (q : Row). IsTrue (is_before q.tag tag)) r rows all))

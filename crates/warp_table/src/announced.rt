@@ -1,13 +1,16 @@
-//! The announcements of one origin in order of tags, in blocks of a bounded number, each with how many names are before its tag.
+//! The announcements of one origin in order of tags, in blocks of a bounded number, each with how many names are before
+//! its tag.
 //!
-//! A name that is before all tags of a block is counted once for the whole block, as long as no announcement of it can be met or
-//! exceeded by it: a block knows how many more names it may take so. So a late name costs a walk over the blocks behind it and
-//! over one block, and one that is beyond all announcements costs nothing.
-ghost use Rattle.std.specs.Prelude.{◌≡◌, ◌+◌, ◌<◌, ◌≤◌, ◌^◌, [], ◌∷◌, ◌++◌, All, IfOk, OnOk, OnErr, drop, false, fold, get_or, length, map, take, true};
+//! A name that is before all tags of a block is counted once for the whole block, as long as no announcement of it can
+//! be met or exceeded by it: a block knows how many more names it may take so. So a late name costs a walk over the
+//! blocks behind it and over one block, and one that is beyond all announcements costs nothing.
+ghost use Rattle.std.specs.Prelude.{◌≡◌, ◌+◌, ◌<◌, ◌≤◌, ◌^◌, [], ◌∷◌, ◌++◌, All, IfOk, OnOk, OnErr, drop, false, fold};
+ghost use Rattle.std.specs.Prelude.{get_or, length, map, take, true};
 ghost use Rattle.std.specs.List.{insert, list_any};
 ghost use Rattle.warp_tag.specs.Moment.{is_before};
 ghost use Rattle.warp_table.specs.inner.Tally.{AreInOrder, AreSome, IsJudged, IsSpared, all_of, before_of, beyond};
-ghost use Rattle.warp_table.specs.inner.Tally.{counted, fits, judged_in, no_names, place_of, with_more, with_name, with_tally};
+ghost use Rattle.warp_table.specs.inner.Tally.{counted, fits, judged_in, no_names, place_of, with_more, with_name};
+ghost use Rattle.warp_table.specs.inner.Tally.{with_tally};
 
 use crate::tags::{Tagged, place};
 use crate::tally::{Kind, Numbers, Tally, Verdict};

@@ -3,10 +3,12 @@
 //! Each announcement has how many names are before its tag. A new name is counted in the announcements beyond it
 //! (`announced.rt`), so that what comes in order of tag costs no pass over what came before.
 ghost use Rattle.std.specs.Prelude.{◌≡◌, ◌↔◌, ◌⊎◌, Contains, IsTrue, OnOk, OnErr};
-ghost use Rattle.warp_table.specs.inner.Heard.{Announced as Said, IsExceeded, IsHeardTo, earlier_of, nothing_heard, with_tag};
+ghost use Rattle.warp_table.specs.inner.Heard.{Announced as Said, IsExceeded, IsHeardTo, earlier_of, nothing_heard};
+ghost use Rattle.warp_table.specs.inner.Heard.{with_tag};
+ghost use Rattle.warp_table.specs.inner.Tally.{tags_of, with_noted};
 
 use crate::announced::Announced;
-use crate::tags::Tags;
+use crate::tag_log::TagLog;
 use crate::tally::{Kind, Tally, Verdict};
 use std::alloc::{AllocError, Global};
 use std::marker::Model;
@@ -25,8 +27,8 @@ fn earlier(one: Option<Tag>, other: Tag) -> Tag
 /// What is kept of one origin. It is seen as what is heard of it: the tags of its names, and its announcements.
 #[derive(Drop)]
 pub(crate) struct Announcer {
-    events: Tags,
-    withdrawn: Tags,
+    events: TagLog,
+    withdrawn: TagLog,
     doubled: Option<Tag>,
     announced: Announced,
     verdict: Verdict,
@@ -56,8 +58,8 @@ impl Announcer {
         ensures { result ≡ nothing_heard }
     {
         Announcer {
-            events: Tags::new(alloc),
-            withdrawn: Tags::new(alloc),
+            events: TagLog::new(alloc),
+            withdrawn: TagLog::new(alloc),
             doubled: None,
             announced: Announced::new(alloc),
             verdict: Verdict {
@@ -92,6 +94,19 @@ impl Announcer {
         Ok(())
     }
 
+    /// Notes a new name that has an event, or a withdrawal. An `Err` changes nothing.
+    #[inline(always)]
+    pub(crate) fn note(&mut self, kind: Kind, tag: Tag) -> Result<(), AllocError>
+        requires { ¬ Contains (tags_of kind self.old) tag }
+        ensures ok { OnOk result (self.new ≡ with_noted kind tag self.old) }
+        ensures err { OnErr result (self.new ≡ self.old) }
+    {
+        match kind {
+            Kind::Event => self.note_event(tag),
+            Kind::Withdrawal => self.note_withdrawal(tag),
+        }
+    }
+
     /// Notes that a name has two payloads.
     pub(crate) fn note_two_payloads(&mut self, tag: Tag)
         ensures { self.new ≡ record self.old { doubled = Some (earlier_of self.old.doubled tag) } }
@@ -114,12 +129,14 @@ impl Announcer {
         ensures ok { OnOk result (self.new ≡ record self.old { announced = self.new.announced }) }
         ensures err { OnErr result (self.new ≡ self.old) }
     {
+        let events_before = self.events.count_before(tag)?;
+        let withdrawn_before = self.withdrawn.count_before(tag)?;
         let tally = Tally {
             tag,
             events,
             withdrawn,
-            events_before: self.events.count_before(tag),
-            withdrawn_before: self.withdrawn.count_before(tag),
+            events_before,
+            withdrawn_before,
         };
         self.announced.insert(tally)?;
         let has_doubled = tally.has_doubled(self.doubled);

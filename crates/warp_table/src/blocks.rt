@@ -2,7 +2,7 @@
 //!
 //! No block is empty but the first, which is where nothing came. What comes in order of tags goes to the end of the
 //! last block. On how many items a block has hangs what an insertion costs, and nothing else.
-ghost use Rattle.std.specs.Prelude.{◌≡◌, ◌<◌, ◌≤◌, All, IfOk, OnErr, OnOk, drop, false, length, take, true};
+ghost use Rattle.std.specs.Prelude.{◌≡◌, ◌<◌, ◌≤◌, All, IfOk, IsTrue, OnErr, OnOk, drop, false, length, take, true};
 ghost use Rattle.std.specs.List.{position_or_len};
 ghost use Rattle.std.specs.Vec.{vec_capacity, vec_items, vec_len};
 ghost use Rattle.warp_tag.specs.Moment.{Moment, is_before};
@@ -74,6 +74,52 @@ pub(crate) fn block_of<T: Tagged>(blocks: &[Vec<T>], tag: Tag) -> usize
         return last;
     }
     block_by_halves(blocks, tag)
+}
+
+/// Whether this is the block of a tag.
+fn is_block_of<T: Tagged>(blocks: &[Vec<T>], tag: Tag, at: usize) -> bool
+    requires kept { AreBlocks vec_items blocks.now }
+    requires in_order { AreOrdered T.tag_of (flat vec_items blocks.now) }
+    ensures { result ≡ true → IsBlockOf vec_items T.tag_of tag blocks.now at }
+{
+    if blocks.len() <= at {
+        return false;
+    }
+    if begins_beyond(&blocks[at], tag) {
+        return false;
+    }
+    let next = at + 1;
+    if next == blocks.len() {
+        return true;
+    }
+    begins_beyond(&blocks[next], tag)
+}
+
+/// The block of a tag: this one, where it is, or else sought.
+pub(crate) fn block_near<T: Tagged>(blocks: &[Vec<T>], tag: Tag, near: usize) -> usize
+    requires some { 0 < length blocks.now }
+    requires kept { AreBlocks vec_items blocks.now }
+    requires in_order { AreOrdered T.tag_of (flat vec_items blocks.now) }
+    ensures { IsBlockOf vec_items T.tag_of tag blocks.now result }
+{
+    if is_block_of(blocks, tag, near) {
+        return near;
+    }
+    block_of(blocks, tag)
+}
+
+/// Whether the tag is beyond all items, as the last one tells.
+pub(crate) fn is_beyond_all<T: Tagged>(blocks: &[Vec<T>], tag: Tag) -> bool
+    requires { AreOrdered T.tag_of (flat vec_items blocks.now) }
+    ensures { result ≡ true → All (λ x. IsTrue (is_before (T.tag_of x) tag)) (flat vec_items blocks.now) }
+{
+    let Some(block) = blocks.last() else {
+        return false;
+    };
+    match block.last() {
+        Some(last) => last.tag().is_before(tag),
+        None => false,
+    }
 }
 
 /// Whether none of these, which stand in order, is beyond the tag.
@@ -198,11 +244,12 @@ fn prepare<T: Tagged + Copy + Drop>(blocks: &mut Vec<Vec<T>>, tag: Tag) -> Resul
     part(blocks, at, cut)
 }
 
-/// The block of a tag, which has fewer items than a block has at most: the first one is made, and a full one parted. The
-/// items stay, also on an `Err`.
+/// The block of a tag, which has fewer items than a block has at most: the first one is made, and a full one parted.
+/// The items stay, also on an `Err`.
 fn block_for<T: Tagged + Copy + Drop>(
     blocks: &mut Vec<Vec<T>>,
     tag: Tag,
+    near: usize,
 ) -> Result<usize, AllocError>
     requires kept { AreBlocks vec_items blocks.old.items }
     requires in_order { AreOrdered T.tag_of (flat vec_items blocks.old.items) }
@@ -211,7 +258,7 @@ fn block_for<T: Tagged + Copy + Drop>(
     ensures block { IfOk result (λ at. IsBlockOf vec_items T.tag_of tag blocks.new.items at) }
 {
     if !blocks.is_empty() {
-        let at = block_of(blocks, tag);
+        let at = block_near(blocks, tag, near);
         if blocks[at].len() < MOST {
             return Ok(at);
         }
@@ -220,11 +267,13 @@ fn block_for<T: Tagged + Copy + Drop>(
     Ok(block_of(blocks, tag))
 }
 
-/// Makes room for one more item of a tag, wherever it goes, and gives its block. The items stay, also on an `Err`.
+/// Makes room for one more item of a tag, wherever it goes, and gives its block, which is this one, where it is, or else
+/// sought. The items stay, also on an `Err`.
 #[inline(never)]
 fn make_room_anywhere<T: Tagged + Copy + Drop>(
     blocks: &mut Vec<Vec<T>>,
     tag: Tag,
+    near: usize,
 ) -> Result<usize, AllocError>
     requires kept { AreBlocks vec_items blocks.old.items }
     requires in_order { AreOrdered T.tag_of (flat vec_items blocks.old.items) }
@@ -233,7 +282,7 @@ fn make_room_anywhere<T: Tagged + Copy + Drop>(
     ensures block { IfOk result (λ at. IsBlockOf vec_items T.tag_of tag blocks.new.items at) }
     ensures room { IfOk result (λ at. HasRoom vec_len vec_capacity blocks.new.items at) }
 {
-    let at = block_for(blocks, tag)?;
+    let at = block_for(blocks, tag, near)?;
     blocks[at].reserve(1)?;
     Ok(at)
 }
@@ -251,11 +300,12 @@ fn has_room_behind<T: Tagged>(block: &Vec<T>, tag: Tag) -> bool
 }
 
 /// Makes room for one more item of a tag, and gives its block: behind all where it comes in order, and there is room at
-/// once. The items stay, also on an `Err`.
+/// once, or else near this block. The items stay, also on an `Err`.
 #[inline(always)]
 pub(crate) fn make_room<T: Tagged + Copy + Drop>(
     blocks: &mut Vec<Vec<T>>,
     tag: Tag,
+    near: usize,
 ) -> Result<usize, AllocError>
     requires kept { AreBlocks vec_items blocks.old.items }
     requires in_order { AreOrdered T.tag_of (flat vec_items blocks.old.items) }
@@ -268,5 +318,5 @@ pub(crate) fn make_room<T: Tagged + Copy + Drop>(
     if count > 0 && has_room_behind(&blocks[count - 1], tag) {
         return Ok(count - 1);
     }
-    make_room_anywhere(blocks, tag)
+    make_room_anywhere(blocks, tag, near)
 }

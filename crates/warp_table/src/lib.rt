@@ -14,6 +14,7 @@ mod law;
 mod names;
 mod rows;
 mod table;
+mod tag_log;
 mod tags;
 mod tally;
 

@@ -4,6 +4,7 @@ ghost use Rattle.warp_table.specs.inner.NamesByOrigin.{rows_at};
 
 use crate::announcer::Announcer;
 use crate::rows::{Known, Rows};
+use crate::tally::Kind;
 use std::alloc::Global;
 use std::marker::Model;
 use warp_tag::{OutOfMemory, Tag};
@@ -32,6 +33,8 @@ fn keep_up_to(origins: &mut Vec<Rows>, origin: u32) -> Result<(), OutOfMemory>
 pub(crate) struct Names {
     origins: Vec<Rows>,
     order: Vec<Name>,
+    /// Where the row of the name stands that was sought last. It only shortens the search for it.
+    near: usize,
 }
 
 impl Model for Names {
@@ -50,9 +53,8 @@ impl Model for Names {
 impl Names {
     ghost use Rattle.std.specs.Prelude.{◌≡◌, [], None, Some, IsTrue, is_some, Contains, IfSome, OnOk, OnErr, slice_get};
     ghost use Rattle.std.specs.Map.{lookup};
-    ghost use Rattle.warp_table.specs.inner.Heard.{with_tag};
-    ghost use Rattle.warp_table.specs.inner.Kept.{is_named, nothing_known, put_known, with_event_at};
-    ghost use Rattle.warp_table.specs.inner.Kept.{with_withdrawal_at};
+    ghost use Rattle.warp_table.specs.inner.Kept.{is_named, put_known};
+    ghost use Rattle.warp_table.specs.inner.Tally.{tags_of, with_noted};
 
     /// None yet. They grow in `alloc`.
     pub(crate) fn new(alloc: Global) -> Names
@@ -61,6 +63,7 @@ impl Names {
         Names {
             origins: Vec::new(alloc),
             order: Vec::new(alloc),
+            near: 0,
         }
     }
 
@@ -68,7 +71,18 @@ impl Names {
     pub(crate) fn known(&self, name: Name) -> Option<Known>
         ensures { result ≡ lookup (is_named name.origin name.tag) self.now }
     {
-        self.origins.get(name.origin as usize)?.known(name.tag)
+        let (known, _near) = self.origins.get(name.origin as usize)?.seek(name.tag);
+        known
+    }
+
+    /// What is known of a name, which may change next; `None` where it is not there.
+    pub(crate) fn seek(&mut self, name: Name) -> Option<Known>
+        ensures known { result ≡ lookup (is_named name.origin name.tag) self.old }
+        ensures same { self.new ≡ self.old }
+    {
+        let (known, near) = self.origins.get(name.origin as usize)?.seek(name.tag);
+        self.near = near;
+        known
     }
 
     /// A name by the number of its first coming, from 0, and what is known of it; `None` where there are not so many.
@@ -86,47 +100,28 @@ impl Names {
         requires { IsTrue (is_some (lookup (is_named name.origin name.tag) self.old)) }
         ensures { self.new ≡ put_known self.old name known }
     {
-        self.origins[name.origin as usize].set(name.tag, known);
+        self.origins[name.origin as usize].set(name.tag, known, self.near);
     }
 
-    /// Puts in a new name that has an event at this place, and tells its origin. An `Err` changes nothing.
-    pub(crate) fn insert_event(
+    /// Puts in a new name of which this is known, and tells its origin that it has an event or a withdrawal. An `Err`
+    /// changes nothing.
+    #[inline(always)]
+    pub(crate) fn insert(
         &mut self,
         name: Name,
-        place: u32,
+        known: Known,
+        kind: Kind,
         announcer: &mut Announcer,
     ) -> Result<(), OutOfMemory>
         requires new { lookup (is_named name.origin name.tag) self.old ≡ None }
-        requires fresh { ¬ Contains announcer.old.events name.tag }
-        ensures ok { OnOk result (self.new ≡ put_known self.old name (with_event_at place nothing_known)) }
-        ensures heard { OnOk result
-            (announcer.new ≡ record announcer.old { events = with_tag name.tag announcer.old.events }) }
+        requires fresh { ¬ Contains (tags_of kind announcer.old) name.tag }
+        ensures ok { OnOk result (self.new ≡ put_known self.old name known) }
+        ensures heard { OnOk result (announcer.new ≡ with_noted kind name.tag announcer.old) }
         ensures err { OnErr result ((self.new ≡ self.old) × (announcer.new ≡ announcer.old)) }
     {
         keep_up_to(&mut self.origins, name.origin)?;
         self.order.reserve(1)?;
-        self.origins[name.origin as usize].insert_event(name.tag, place, announcer)?;
-        self.order.push_reserved(name);
-        Ok(())
-    }
-
-    /// Puts in a new name that has a withdrawal at this place, and tells its origin. An `Err` changes nothing.
-    pub(crate) fn insert_withdrawal(
-        &mut self,
-        name: Name,
-        place: u32,
-        announcer: &mut Announcer,
-    ) -> Result<(), OutOfMemory>
-        requires new { lookup (is_named name.origin name.tag) self.old ≡ None }
-        requires fresh { ¬ Contains announcer.old.withdrawn name.tag }
-        ensures ok { OnOk result (self.new ≡ put_known self.old name (with_withdrawal_at place nothing_known)) }
-        ensures heard { OnOk result
-            (announcer.new ≡ record announcer.old { withdrawn = with_tag name.tag announcer.old.withdrawn }) }
-        ensures err { OnErr result ((self.new ≡ self.old) × (announcer.new ≡ announcer.old)) }
-    {
-        keep_up_to(&mut self.origins, name.origin)?;
-        self.order.reserve(1)?;
-        self.origins[name.origin as usize].insert_withdrawal(name.tag, place, announcer)?;
+        self.origins[name.origin as usize].insert(name.tag, known, kind, announcer, self.near)?;
         self.order.push_reserved(name);
         Ok(())
     }

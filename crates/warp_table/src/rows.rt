@@ -6,7 +6,8 @@ ghost use Rattle.std.specs.Prelude.{◌≡◌, ◌≤◌, IsTrue, is_some, lengt
 ghost use Rattle.warp_table.specs.inner.NamesByOrigin.{AreInOrder, IsWith, row_of, row_place};
 
 use crate::announcer::Announcer;
-use crate::blocks::{Tagged, block_of, make_room, put};
+use crate::blocks::{Tagged, block_near, block_of, is_beyond_all, make_room, put};
+use crate::tally::Kind;
 use std::alloc::Global;
 use std::marker::Model;
 use warp_tag::{OutOfMemory, Tag};
@@ -142,9 +143,8 @@ impl Model for Rows {
 
 impl Rows {
     ghost use Rattle.std.specs.Prelude.{◌≡◌, [], None, IsTrue, is_some, Contains, OnOk, OnErr};
-    ghost use Rattle.warp_table.specs.inner.Heard.{with_tag};
-    ghost use Rattle.warp_table.specs.inner.Kept.{nothing_known, with_event_at, with_withdrawal_at};
     ghost use Rattle.warp_table.specs.inner.NamesByOrigin.{IsWith, row_of};
+    ghost use Rattle.warp_table.specs.inner.Tally.{tags_of, with_noted};
 
     /// None yet. They grow in `alloc`.
     pub(crate) fn new(alloc: Global) -> Rows
@@ -155,73 +155,58 @@ impl Rows {
         }
     }
 
-    /// What is known of the name of this tag; `None` where it has no row.
-    pub(crate) fn known(&self, tag: Tag) -> Option<Known>
-        ensures { result ≡ row_of tag self.now }
+    /// What is known of the name of this tag, `None` where it has no row; and where to look for its row.
+    pub(crate) fn seek(&self, tag: Tag) -> (Option<Known>, usize)
+        ensures { result.0 ≡ row_of tag self.now }
     {
-        if self.blocks.is_empty() {
-            return None;
+        if is_beyond_all(&self.blocks, tag) {
+            return (None, 0);
         }
-        let at = block_of(&self.blocks, tag);
-        known_at(&self.blocks[at], tag)
+        self.seek_among(tag)
     }
 
-    /// Has this known of the name of this tag, which has a row.
-    pub(crate) fn set(&mut self, tag: Tag, known: Known)
+    /// `seek` where the row may stand among others.
+    #[inline(never)]
+    fn seek_among(&self, tag: Tag) -> (Option<Known>, usize)
+        ensures { result.0 ≡ row_of tag self.now }
+    {
+        if self.blocks.is_empty() {
+            return (None, 0);
+        }
+        let at = block_of(&self.blocks, tag);
+        let known = known_at(&self.blocks[at], tag);
+        (known, at)
+    }
+
+    /// Has this known of the name of this tag, which has a row; it is looked for near this block first.
+    pub(crate) fn set(&mut self, tag: Tag, known: Known, near: usize)
         requires { IsTrue (is_some (row_of tag self.old)) }
         ensures { IsWith tag known self.old self.new }
     {
-        let at = block_of(&self.blocks, tag);
+        let at = block_near(&self.blocks, tag, near);
         set_at(&mut self.blocks[at], tag, known);
     }
 
-    /// Puts in the row of a new name that has an event at this place, and tells its origin. An `Err` changes nothing.
-    pub(crate) fn insert_event(
+    /// Puts in the row of a new name of which this is known, near this block, and tells its origin that it has an event
+    /// or a withdrawal. An `Err` changes nothing.
+    #[inline(always)]
+    pub(crate) fn insert(
         &mut self,
         tag: Tag,
-        place: u32,
+        known: Known,
+        kind: Kind,
         announcer: &mut Announcer,
+        near: usize,
     ) -> Result<(), OutOfMemory>
         requires new { row_of tag self.old ≡ None }
-        requires fresh { ¬ Contains announcer.old.events tag }
-        ensures ok { OnOk result (IsWith tag (with_event_at place nothing_known) self.old self.new) }
-        ensures heard { OnOk result
-            (announcer.new ≡ record announcer.old { events = with_tag tag announcer.old.events }) }
+        requires fresh { ¬ Contains (tags_of kind announcer.old) tag }
+        ensures ok { OnOk result (IsWith tag known self.old self.new) }
+        ensures heard { OnOk result (announcer.new ≡ with_noted kind tag announcer.old) }
         ensures err { OnErr result ((self.new ≡ self.old) × (announcer.new ≡ announcer.old)) }
     {
-        let at = make_room(&mut self.blocks, tag)?;
-        announcer.note_event(tag)?;
-        let event = Known::nothing().with_event(place);
-        put(&mut self.blocks, at, Row { tag, known: event });
-        Ok(())
-    }
-
-    /// Puts in the row of a new name that has a withdrawal at this place, and tells its origin. An `Err` changes
-    /// nothing.
-    pub(crate) fn insert_withdrawal(
-        &mut self,
-        tag: Tag,
-        place: u32,
-        announcer: &mut Announcer,
-    ) -> Result<(), OutOfMemory>
-        requires new { row_of tag self.old ≡ None }
-        requires fresh { ¬ Contains announcer.old.withdrawn tag }
-        ensures ok { OnOk result (IsWith tag (with_withdrawal_at place nothing_known) self.old self.new) }
-        ensures heard { OnOk result
-            (announcer.new ≡ record announcer.old { withdrawn = with_tag tag announcer.old.withdrawn }) }
-        ensures err { OnErr result ((self.new ≡ self.old) × (announcer.new ≡ announcer.old)) }
-    {
-        let at = make_room(&mut self.blocks, tag)?;
-        announcer.note_withdrawal(tag)?;
-        let withdrawal = Known::nothing().with_withdrawal(place);
-        put(
-            &mut self.blocks,
-            at,
-            Row {
-                tag,
-                known: withdrawal,
-            },
-        );
+        let at = make_room(&mut self.blocks, tag, near)?;
+        announcer.note(kind, tag)?;
+        put(&mut self.blocks, at, Row { tag, known });
         Ok(())
     }
 }

@@ -8,6 +8,7 @@
 ghost use Rattle.std.specs.Prelude.{◌≡◌, ◌↔◌, ◌⊎◌, ℕ, ℤ, ◌+◌, ◌<◌, ◌≤◌, List, [], ◌∷◌, ◌++◌, None, Some, true, false};
 ghost use Rattle.std.specs.Prelude.{length, slice_get, vec_len, Contains, IsTrue, IfSome, IfNone, IfOk, IsOk, OnOk};
 ghost use Rattle.std.specs.Prelude.{OnErr, MatchResult};
+ghost use Rattle.std.specs.Map.{lookup};
 ghost use Rattle.std.specs.Option.{option_copied};
 ghost use Rattle.warp_tag.specs.Limits.{most_origins, most_records};
 ghost use Rattle.warp_step.specs.Events.{is_declared};
@@ -21,13 +22,14 @@ ghost use Rattle.warp_table.specs.Records.{set_of};
 ghost use Rattle.warp_table.specs.Table.{names_of};
 ghost use Rattle.warp_table.specs.inner.Heard.{Announced, AreHeard, IsHeard, heard_at, with_tag};
 ghost use Rattle.warp_table.specs.inner.Kept.{HoldsEvent, IsAdded, Keeps, NotesEvent, counts_less, entry_of};
-ghost use Rattle.warp_table.specs.inner.Kept.{event_place, known_of, other_place, parted_of, payload_at, place_in};
+ghost use Rattle.warp_table.specs.inner.Kept.{event_place, is_named, known_of, other_place, parted_of, payload_at, place_in};
 ghost use Rattle.warp_table.specs.inner.Kept.{put_known, put_other, record_at, stands, with_event_at};
 ghost use Rattle.warp_table.specs.inner.Kept.{with_withdrawal_at, withdrawal_place};
 
 use crate::announcer::Announcer;
 use crate::names::{Name, Names};
 use crate::rows::Known;
+use crate::tally::Kind;
 use indexmap::IndexMap;
 use indexmap::map::Entry as Place;
 use std::alloc::Global;
@@ -460,6 +462,17 @@ fn note_first_event(
     Ok(noted_first(records))
 }
 
+/// Has a name of which this is known keep the event at this place.
+#[tactic(auto, using(crate::proofs::EventPlaces::kept_same))]
+fn keep_event(names: &mut Names, name: Name, known: Known, event: u32)
+    requires { lookup (is_named name.origin name.tag) names.old ≡ Some known }
+    ensures { names.new ≡ put_known names.old name (with_event_at event known) }
+{
+    if known.event != event {
+        names.set(name, known.with_event(event));
+    }
+}
+
 /// Adds an event: known where its name keeps it or the others have it, and else noted and told to its origin. An
 /// `Err` changes nothing.
 fn add_event(
@@ -484,17 +497,18 @@ fn add_event(
     ensures err { OnErr result
         ((names.new ≡ names.old) × (others.new.entries ≡ others.old.entries) × (announcer.new ≡ announcer.old)) }
 {
-    match names.known(*name) {
+    match names.seek(*name) {
         Some(known) => {
             let noted = note_event(records, others, announcer, known.event, name, payload)?;
             if noted.added.is_new {
-                names.set(*name, known.with_event(noted.event));
+                keep_event(names, *name, known, noted.event);
             }
             Ok(noted)
         }
         None => {
             let noted = noted_first(records);
-            names.insert_event(*name, noted.event, announcer)?;
+            let known = Known::nothing().with_event(noted.event);
+            names.insert(*name, known, Kind::Event, announcer)?;
             Ok(noted)
         }
     }
@@ -547,7 +561,7 @@ fn add_withdrawal(
         (withdrawal_place (known_of name.now names.old).withdrawal ≡ Some added.place)) }
     ensures err { OnErr result ((names.new ≡ names.old) × (announcer.new ≡ announcer.old)) }
 {
-    match names.known(*name) {
+    match names.seek(*name) {
         Some(known) => {
             if known.withdrawal != 0 {
                 return Ok(Added {
@@ -558,7 +572,10 @@ fn add_withdrawal(
             announcer.note_withdrawal(name.tag)?;
             names.set(*name, known.with_withdrawal(next));
         }
-        None => names.insert_withdrawal(*name, next, announcer)?,
+        None => {
+            let known = Known::nothing().with_withdrawal(next);
+            names.insert(*name, known, Kind::Withdrawal, announcer)?;
+        }
     }
     Ok(Added {
         place: next,

@@ -120,7 +120,7 @@ impl Tags {
         if self.len == usize::MAX {
             return Err(AllocError);
         }
-        let at = make_room(&mut self.blocks, tag)?;
+        let at = make_room(&mut self.blocks, tag, 0)?;
         put(&mut self.blocks, at, tag);
         self.len += 1;
         Ok(())

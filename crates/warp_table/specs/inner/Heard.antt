@@ -1,5 +1,5 @@
 -- What is kept of one origin, for proofs alone: the tags of its names, and its announcements.
-use Rattle.std.specs.Prelude.{◌≡◌, ◌⊎◌, ℕ, ℤ, ◌<◌, ◌≤◌, ◌↔◌, Bool, false, IsTrue, IfSome, Option, Some, None, List, [], ◌∷◌, length, filter, get_or, Contains, AllPairs, if◌then◌else◌}
+use Rattle.std.specs.Prelude.{◌≡◌, ◌⊎◌, ℕ, ℤ, ◌<◌, ◌≤◌, ◌↔◌, Bool, false, IsTrue, IfSome, Option, Some, None, List, [], ◌∷◌, fold, length, filter, get_or, Contains, AllPairs, if◌then◌else◌}
 use Rattle.warp_tag.specs.Limits.{most_origins}
 use Rattle.warp_tag.specs.Moment.{Moment, is_before}
 use Rattle.warp_record.specs.declared.record.Record.{Record}
@@ -34,6 +34,10 @@ AreAscending tags = AllPairs (λ t u. IsTrue (is_before t u)) tags
 abbrev pub with_tag : Moment → List Moment → List Moment
 with_tag tag [] = tag ∷ []
 with_tag tag (t ∷ tags) = if is_before tag t then tag ∷ t ∷ tags else t ∷ with_tag tag tags
+
+-- tags in order, with more of them, one after another
+abbrev pub with_tags : List Moment → List Moment → List Moment
+with_tags more tags = fold (λ now tag. with_tag tag now) tags more
 
 -- how many of the tags are before one
 abbrev pub count_before : Moment → List Moment → ℕ

@@ -4,12 +4,22 @@ use Rattle.std.specs.Prelude.{◌≡◌, ◌⊎◌, ℕ, ◌+◌, ◌-◌, ◌<�
 use Rattle.std.specs.List.{list_any, position_or_len}
 use Rattle.warp_tag.specs.Moment.{Moment, is_before}
 use Rattle.warp_table.specs.Announced.{beginning}
-use Rattle.warp_table.specs.inner.Heard.{Announced, AreAscending, count_before}
+use Rattle.warp_table.specs.inner.Heard.{Announced, AreAscending, Heard, count_before, with_tag}
 use Rattle.warp_table.specs.declared.tally.Kind.{Kind}
 use Rattle.warp_table.specs.declared.tally.Kind.TheVariants.{Event, Withdrawal}
 use Rattle.warp_table.specs.declared.tally.Numbers.{Numbers}
 use Rattle.warp_table.specs.declared.tally.Tally.{Tally}
 use Rattle.warp_table.specs.declared.tally.Verdict.{Verdict}
+
+-- the tags of the names that have an event, or a withdrawal
+abbrev pub tags_of : Kind → Heard → List Moment
+tags_of Event heard = heard.events
+tags_of Withdrawal heard = heard.withdrawn
+
+-- what is heard, with a new name that has an event, or a withdrawal
+abbrev pub with_noted : Kind → Moment → Heard → Heard
+with_noted Event tag heard = record heard { events = with_tag tag heard.events }
+with_noted Withdrawal tag heard = record heard { withdrawn = with_tag tag heard.withdrawn }
 
 -- the announcement of a tally
 abbrev pub announcement_of : Tally → Announced

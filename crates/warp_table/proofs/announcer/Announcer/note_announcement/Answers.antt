@@ -12,7 +12,7 @@ use Rattle.warp_table.proofs.announcer.Announcer.note_announcement.Goals as goal
 
 -- the announcement, counted
 tally : goal.After-self-1 → Tally
-tally c = record { tag = c.args.tag; events = c.args.events; withdrawn = c.args.withdrawn; events_before = c.count_before.result; withdrawn_before = c.count_before-2.result }
+tally c = record { tag = c.args.tag; events = c.args.events; withdrawn = c.args.withdrawn; events_before = c.in_ok-events_before.events_before; withdrawn_before = c.in_ok-withdrawn_before.withdrawn_before }
 
 pub invariant_of-self-2 : goal.invariant_of-self-2
 unfolding tally
@@ -21,14 +21,16 @@ invariant_of-self-2 c =
     let names : List Moment = was.events in
     let gone : List Moment = was.withdrawn in
     let counts : Counts names gone (tally c) = record {
-      events = c.count_before.ensures;
-      withdrawn = c.count_before-2.ensures;
+      events = c.in_ok-events_before.ensures.count;
+      withdrawn = c.in_ok-withdrawn_before.ensures.count;
     } in
     let judged = c.broken_where-self-inside.ensures
     ∙ (λ i. record { reached = (c.with.ensures i).reached; is_broken = (c.with.ensures i).is_broken || c.has_doubled-has_doubled.ensures i }) in
-    subst (λ (ts : List Tally). AreKept names gone was.doubled ts c.broken_where-self-inside.result) (sym c.in_ok-insert.ensures.ok)
+    subst (λ (ns : List Moment). AreKept ns c.count_before-2.new.self was.doubled c.insert.new.self c.broken_where-self-inside.result) (sym c.count_before.ensures.same)
+    (subst (λ (ns : List Moment). AreKept names ns was.doubled c.insert.new.self c.broken_where-self-inside.result) (sym c.count_before-2.ensures.same)
+    (subst (λ (ts : List Tally). AreKept names gone was.doubled ts c.broken_where-self-inside.result) (sym c.in_ok-insert.ensures.ok)
     (subst (λ (v : Verdict). AreKept names gone was.doubled (insert was.announced (place_of c.args.tag was.announced) (tally c)) v) (sym judged)
-    (kept_announcement (tally c) (place_of c.args.tag was.announced) names gone was.doubled was.announced was.verdict c.self.invariant refl counts))
+    (kept_announcement (tally c) (place_of c.args.tag was.announced) names gone was.doubled was.announced was.verdict c.self.invariant refl counts))))
 
 pub returns-clause-announced : goal.returns-clause-announced
 unfolding tally
