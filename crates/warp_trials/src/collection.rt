@@ -90,14 +90,14 @@ fn holds<T: Holding>(rt: &impl Abort, timeline: &T, after: &Collecting) {
 }
 
 /// Takes forty events and both announcements, and collects.
-fn collect_at<T: Holding>(rt: &impl Abort, alloc: Global, replica: &mut Replica<T>, at: &Collecting) {
+fn collect_at<T: Holding>(rt: &impl Abort, alloc: Global, replica: &mut Replica<T>, row: &Collecting) {
     takes_forty(rt, alloc, replica);
-    let first = announcement(rt, 0, at.end, at.events);
+    let first = announcement(rt, 0, row.end, row.events);
     answers(rt, alloc, replica, first, Reply::Taken(41));
-    let second = announcement(rt, 1, at.end, 0);
+    let second = announcement(rt, 1, row.end, 0);
     answers(rt, alloc, replica, second, Reply::Taken(42));
     answers(rt, alloc, replica, Line::Collect, Reply::Collected { log: 42 });
-    holds(rt, replica.timeline(), at);
+    holds(rt, replica.timeline(), row);
     has_total(rt, alloc, replica, 42, 1_099_511_627_775);
 }
 
@@ -114,9 +114,9 @@ fn has_total<T: Timeline>(
 }
 
 /// A new replica does so.
-fn start_and_collect_at<T: Holding>(rt: &impl Abort, alloc: Global, at: &Collecting) {
+fn start_and_collect_at<T: Holding>(rt: &impl Abort, alloc: Global, row: &Collecting) {
     let mut replica = twice::<T>(rt, alloc);
-    collect_at(rt, alloc, &mut replica, at);
+    collect_at(rt, alloc, &mut replica, row);
 }
 
 /// Takes a record that was let go of, and a new one behind that.
