@@ -27,6 +27,10 @@ impl Timeline for Plain {
 
     ghost settled = { λ p. p.settled };
 
+    ghost use Rattle.std.specs.Prelude.{◌≡◌, false};
+
+    ghost refused = { λ p. p.settled ≡ false };
+
     ghost use Rattle.std.specs.Prelude.{None};
 
     ghost floor = { λ p. None };

@@ -32,6 +32,9 @@ pub trait Timeline: Sized + Drop {
     /// Whether all rows are done and their state and outputs are at hand.
     ghost settled: { Self → Bool };
 
+    /// That settling it lacked memory: no other call says so.
+    ghost refused: { Self → Type 0 };
+
     /// The last tag through which names were let go of; `None` while none were.
     ghost floor: { Self → Option Moment };
 
@@ -106,6 +109,7 @@ pub trait Timeline: Sized + Drop {
         ensures ticked { M.ticks meter.old ≤ M.ticks meter.new }
         ensures settled { OnOk result (IsTrue (settled self.new)) }
         ensures unsettled { OnErr result (settled self.new ≡ false) }
+        ensures refused { OnErr result (refused self.new) }
         ensures idle { IsTrue (settled self.old) → IsOk result × (self.new ≡ self.old) ×
             (M.ticks meter.new ≡ M.ticks meter.old) };
 

@@ -4,6 +4,8 @@ use Rattle.warp_tag.specs.Moment.{Moment}
 use Rattle.warp_tag.specs.Table.{live}
 use Rattle.warp_step.specs.Program.{Program}
 use Rattle.warp_step.specs.Run.{Row, Run}
+use Rattle.warp_record.specs.declared.line.Line.{Line}
+use Rattle.warp_record.specs.declared.line.Line.TheVariants.{Put}
 use Rattle.warp_record.specs.declared.record.Record.{Record}
 use Rattle.warp_record.specs.declared.record.Record.TheVariants.{Event, Withdraw, Announce}
 use Rattle.warp_record.specs.declared.reply.Refusal.{Refusal}
@@ -19,6 +21,11 @@ abbrev pub comes_behind : Option Moment → Record → Bool
 comes_behind floor (Event origin tag input value) = is_behind floor tag
 comes_behind floor (Withdraw origin tag) = is_behind floor tag
 comes_behind floor (Announce origin tag events withdrawn) = false
+
+-- the line brings a record that comes behind the floor
+abbrev pub brings_behind : Option Moment → Line → Bool
+brings_behind floor (Put said) = comes_behind floor said
+brings_behind floor other = false
 
 -- the floor once a record was taken: where it came in and came behind, nothing is behind any more
 abbrev pub floor_after : Option Moment → Record → Result Took Refusal → Option Moment

@@ -21,3 +21,12 @@ SettlesFor (Put said) other had before after = (had ≡ true) × (after ≡ befo
 SettlesFor (Ask asked) reply had before after = SettlesOrRefuses reply had before after
 SettlesFor Collect reply had before after = SettlesOrRefuses reply had before after
 SettlesFor (Look look) reply had before after = (had ≡ true) × (after ≡ before)
+
+-- A replica that answered a line is settled, where it settles for the line and the reply, unless this is so: for a new record,
+-- a query, and collecting.
+abbrev pub SettlesUnless : Line → Reply → Bool → Type 0 → Type 0
+SettlesUnless (Put said) (Taken place) after why = after ≡ false → why
+SettlesUnless (Put said) other after why = Unit {0}
+SettlesUnless (Ask asked) reply after why = after ≡ false → why
+SettlesUnless Collect reply after why = after ≡ false → why
+SettlesUnless (Look look) reply after why = Unit {0}

@@ -43,6 +43,8 @@ pub(crate) fn enter<T: Timeline>(timeline: &mut T, record: &Record)
     requires allowed { (m : Standing) × T.stands_for timeline.old m × (refusal_of m.program «record».now ≡ None) }
     ensures stands { (m : Standing) → T.stands_for timeline.old m → refusal_of m.program «record».now ≡ None →
         NowStands T.stands_for T.SLACK (tag_of «record».now) timeline.new m (with_record m.table «record».now) }
+    ensures settled { (m : Standing) → T.stands_for timeline.old m → refusal_of m.program «record».now ≡ None →
+        live (with_record m.table «record».now) ≡ live m.table → T.settled timeline.new ≡ T.settled timeline.old }
     ensures floor { T.floor timeline.new ≡ T.floor timeline.old }
 {
     match *record {

@@ -8,11 +8,13 @@ ghost use Rattle.warp_record.specs.declared.reply.Reply.{Reply};
 ghost use Rattle.warp_record.specs.Record.{IsRecord};
 ghost use Rattle.warp_record.specs.Reply.{IsOut, IsReply};
 ghost use Rattle.warp_step.specs.Run.{Row};
+ghost use Rattle.warp_tag.specs.Table.{live};
 ghost use Rattle.warp_line.specs.Timeline.{IsDone, KeepsDone, Settles};
 ghost use Rattle.warp_table.specs.Log.{EachOnce, IsAt};
 ghost use Rattle.warp_table.specs.Check.{refusal_of};
 ghost use Rattle.warp_table.specs.Names.{origin_of};
 ghost use Rattle.warp_table.specs.Records.{set_of};
+ghost use Rattle.warp_table.specs.Table.{table_of};
 ghost use Rattle.warp_replica.specs.Answers.{IsReleased};
 ghost use Rattle.warp_replica.specs.Chain.{TakeFirst};
 ghost use Rattle.warp_replica.specs.Floor.{CollectsTo, comes_behind, floor_after};
@@ -121,7 +123,8 @@ impl<T: Timeline> Replica<T> {
     /// changes neither the records nor what is done, nor does a record that was there before.
     ///
     /// An event or a withdrawal that is new, and behind what was let go of, makes the run anew from the names of all
-    /// records: then nothing is let go of any more, and settling executes the run from its start.
+    /// records: then nothing is let go of any more, and settling executes the run from its start. Any other record
+    /// that changes no live event leaves a settled replica settled.
     #[inline(always)]
     pub fn take(&mut self, alloc: Global, record: &Record) -> Result<Took, Refusal>
         ensures takes { Takes self.old.program self.old.records «record».now result self.new.records }
@@ -136,6 +139,9 @@ impl<T: Timeline> Replica<T> {
         ensures kept { came_in result ≡ false → (done : List Row) → Stands T.stands_for self.old done →
             Stands T.stands_for self.new done }
         ensures settled { came_in result ≡ false → T.settled self.new.timeline ≡ T.settled self.old.timeline }
+        ensures calm { comes_behind (T.floor self.old.timeline) «record».now ≡ false →
+            live (table_of self.new.records) ≡ live (table_of self.old.records) →
+            T.settled self.new.timeline ≡ T.settled self.old.timeline }
         ensures reply { IsReply (told result) }
     {
         Table::check(&self.program, record)?;
@@ -186,6 +192,9 @@ impl<T: Timeline> Replica<T> {
             Stands T.stands_for self.new done) }
         ensures settled { IfOk result
             (λ took. came_in (Ok took) ≡ false → T.settled self.new.timeline ≡ T.settled self.old.timeline) }
+        ensures calm { OnOk result (comes_behind (T.floor self.old.timeline) «record».now ≡ false →
+            live (table_of self.new.records) ≡ live (table_of self.old.records) →
+            T.settled self.new.timeline ≡ T.settled self.old.timeline) }
         ensures kept_at_err { OnErr result
             ((done : List Row) → Stands T.stands_for self.old done → Stands T.stands_for self.new done) }
         ensures settled_at_err { OnErr result (T.settled self.new.timeline ≡ T.settled self.old.timeline) }
@@ -245,6 +254,7 @@ impl<T: Timeline> Replica<T> {
         ensures ticked { M.ticks meter.old ≤ M.ticks meter.new }
         ensures settled { OnOk result (IsTrue (T.settled self.new.timeline)) }
         ensures unsettled { OnErr result (T.settled self.new.timeline ≡ false) }
+        ensures refused { OnErr result (T.refused self.new.timeline) }
         ensures idle { IsTrue (T.settled self.old.timeline) → IsOk result × (self.new ≡ self.old) ×
             (M.ticks meter.new ≡ M.ticks meter.old) }
     {

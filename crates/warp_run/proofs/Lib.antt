@@ -2,6 +2,7 @@ pub mod RowsBegun
 pub mod RowsFloor
 pub mod RowsCollected
 pub mod MarksCut
+pub mod MarksParted
 pub mod ChangesFloor
 pub mod RowsAside
 pub mod RowsRejoined

@@ -9,11 +9,11 @@ use Rattle.warp_tag.specs.Moment.{Moment, is_before}
 use Rattle.warp_tag.specs.Table.{Event}
 use Rattle.warp_step.specs.Program.{Program}
 use Rattle.warp_step.specs.Run.{Row, Run, is_after}
-use Rattle.warp_line.specs.Begin.{last_after}
+use Rattle.warp_line.specs.Begin.{Begin, last_after}
 use Rattle.warp_line.specs.Timeline.{MovesFloor, is_behind, rows_before, rows_behind}
 use Rattle.warp_run.specs.Aside.{AreAside, SetAside}
 use Rattle.warp_run.specs.Front.{AreSaved, IsAt, IsSaved}
-use Rattle.warp_run.specs.History.{Saved, Saves, before, down_to, newest, reach, spacing}
+use Rattle.warp_run.specs.History.{ArePartedBy, Saved, Saves, before, down_to, newest, reach, spacing}
 use Rattle.warp_run.specs.declared.front.Front.{Front}
 use Rattle.warp_run.specs.declared.history.Done.{Done}
 use Rattle.warp_run.proofs.RowsBack.{cut_or_bare, few_before}
@@ -124,6 +124,26 @@ from_down base P done tag (d ∷ ds) c others h is = elim (cases_Bool (is_after 
         subst (AreSaved c.done.rows P done) (sym here) (h.0, near, all_down (λ e. e.done.rows ≤ d.done.rows) tag ds h.2, back.1),
       )
 ]
+
+-- ---- they stand in order of their tags
+
+-- where a tag is after the last of so many rows, so it is after that of each checkpoint with no more
+all_early : (base : ℕ) (P : Program) (E : List Event) (done : List Row) (tag : Moment) (n : ℕ) (cs : List Saved) → Begin P E done
+    → AreSaved base P done cs → AllByRecursion (λ d. d.done.rows ≤ n) cs → is_after (last_after None (take n done)) tag ≡ true
+    → AllByRecursion (λ d. is_after d.done.last tag ≡ true) cs
+all_early base P E done tag n [] begin h least early = tt
+all_early base P E done tag n (d ∷ ds) begin h least early = (
+  ap (λ (o : Option Moment). is_after o tag) h.0.last ∙ after_fewer P E done d.done.rows n tag begin least.0 early,
+  all_early base P E done tag n ds begin h.3 least.1 early,
+)
+
+pub in_order : (base : ℕ) (P : Program) (E : List Event) (done : List Row) (tag : Moment) (cs : List Saved) → Begin P E done
+    → AreSaved base P done cs → ArePartedBy tag cs
+in_order base P E done tag [] begin h = tt
+in_order base P E done tag (c ∷ cs) begin h = (
+  λ early. all_early base P E done tag c.done.rows cs begin h.3 h.2 (ap (λ (o : Option Moment). is_after o tag) (sym h.0.last) ∙ early),
+  in_order base P E done tag cs begin h.3,
+)
 
 -- ---- where nothing is aside
 

@@ -1,6 +1,6 @@
 -- Checkpoints: what they hold, and how they stand in lists that they share.
-use Rattle.std.specs.Prelude.{◌≡◌, ℕ, ℤ, ◌+◌, ◌<◌, ◌≤◌, IsTrue, List, [], ◌∷◌, length, take, drop, Option, Some, None, if◌then◌else◌}
-use Rattle.std.specs.List.{list_all}
+use Rattle.std.specs.Prelude.{◌≡◌, ℕ, ℤ, ◌+◌, ◌<◌, ◌≤◌, IsTrue, true, List, [], ◌∷◌, length, take, drop, Option, Some, None, if◌then◌else◌}
+use Rattle.std.specs.List.{AllByRecursion, list_all}
 use Rattle.warp_tag.specs.Limits.{most_pending}
 use Rattle.warp_tag.specs.Moment.{Moment}
 use Rattle.warp_step.specs.Program.{Program}
@@ -86,6 +86,12 @@ IsOfState (c ∷ cs) s = s ≡ c.state
 abbrev pub before : Moment → List Saved → List Saved
 before tag [] = []
 before tag (c ∷ cs) = if is_after c.done.last tag then c ∷ cs else before tag cs
+
+-- each that is older than one before the tag is before it too
+abbrev pub ArePartedBy : Moment → List Saved → Type 0
+ArePartedBy tag [] = Unit {0}
+ArePartedBy tag (c ∷ cs) =
+    (is_after c.done.last tag ≡ true → AllByRecursion (λ d. is_after d.done.last tag ≡ true) cs) × ArePartedBy tag cs
 
 -- from the newest down to the newest that is before the tag, and all where none is
 abbrev pub down_to : Moment → List Saved → List Saved

@@ -4,8 +4,8 @@ ghost use Rattle.std.specs.Prelude.{if◌then◌else◌, Some, None, IfSome, OnO
 ghost use Rattle.warp_tag.specs.Limits.{most_pending};
 ghost use Rattle.warp_step.specs.Snapshot.{AreInOrder, Snapshot};
 ghost use Rattle.warp_run.specs.Aside.{set_aside, since};
-ghost use Rattle.warp_run.specs.History.{HasRoomFor, IsAtLeast, IsOfState, Saved, before, down_to, newest, no_saves};
-ghost use Rattle.warp_run.specs.History.{saved_at};
+ghost use Rattle.warp_run.specs.History.{ArePartedBy, HasRoomFor, IsAtLeast, IsOfState, Saved, before, down_to};
+ghost use Rattle.warp_run.specs.History.{newest, no_saves, saved_at};
 
 use std::alloc::Global;
 use std::marker::Model;
@@ -370,33 +370,37 @@ impl History {
     }
 
     /// Drops the checkpoints older than the newest one that is before the tag, and answers how far that one is. Where
-    /// none is before the tag, none is dropped. The room stays as it is.
+    /// none is before the tag, none is dropped. The room stays as it is. The checkpoints stand in order of their tags,
+    /// so the newest one is found by halving, and where none is dropped none is touched.
     pub fn drop_older(&mut self, tag: Tag) -> Option<Done>
-        ensures left { self.new ≡ record self.old { saves = down_to tag self.old.saves } }
-        ensures newest { result ≡ newest (before tag self.old.saves) }
+        ensures others { self.new ≡ record self.old { saves = self.new.saves } }
+        ensures left { ArePartedBy tag self.old.saves → self.new.saves ≡ down_to tag self.old.saves }
+        ensures newest { ArePartedBy tag self.old.saves → result ≡ newest (before tag self.old.saves) }
     {
         let (older, done) = self.newest_before(tag)?;
-        self.drop_oldest(older);
+        if older > 0 {
+            self.drop_oldest(older);
+        }
         Some(done)
     }
 
     /// How many checkpoints are older than the newest one that is before the tag, if there is one, and how far that is.
     fn newest_before(&self, tag: Tag) -> Option<(usize, Done)>
-        ensures none { result ≡ None → (newest (before tag self.now.saves) ≡ None) ×
-            (down_to tag self.now.saves ≡ self.now.saves) }
-        ensures some { IfSome result (λ found. (found.0 ≤ length self.now.saves) ×
+        ensures none { result ≡ None → ArePartedBy tag self.now.saves →
+            (newest (before tag self.now.saves) ≡ None) × (down_to tag self.now.saves ≡ self.now.saves) }
+        ensures within { IfSome result (λ found. found.0 ≤ length self.now.saves) }
+        ensures some { ArePartedBy tag self.now.saves → IfSome result (λ found.
             (newest (before tag self.now.saves) ≡ Some found.1) ×
             (down_to tag self.now.saves ≡ take (length self.now.saves - found.0) self.now.saves)) }
     {
-        let mut at = self.marks.len();
-        while at > 0 {
-            at -= 1;
-            let done = self.marks[at].done;
-            if done.is_before(tag) {
-                return Some((at, done));
-            }
+        let count = self
+            .marks
+            .partition_point(|mark| mark.done.is_before(tag));
+        if count == 0 {
+            return None;
         }
-        None
+        let older = count - 1;
+        Some((older, self.marks[older].done))
     }
 
     /// Drops so many of the oldest checkpoints. The room stays as it is.

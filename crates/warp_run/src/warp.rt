@@ -51,6 +51,10 @@ impl Timeline for Warp {
 
     ghost settled = { λ w. w.settled };
 
+    ghost use Rattle.std.specs.Prelude.{◌≡◌, false};
+
+    ghost refused = { λ w. w.settled ≡ false };
+
     ghost use Rattle.warp_run.specs.Warp.{floor_of};
 
     ghost floor = { floor_of };

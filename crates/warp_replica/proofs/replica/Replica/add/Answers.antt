@@ -1,12 +1,14 @@
 use Rattle.std.proofs.Common.{◌≡◌, ◌-◌, false, List, None, refl, sym, ap, subst, ◌∙◌, length, arith}
 use Rattle.std.proofs.lemmas.Option.{slice_get_within}
 use Rattle.std.proofs.lemmas.List.Elements.{All-push}
+use Rattle.warp_tag.specs.Table.{live}
 use Rattle.warp_step.specs.Run.{Row}
 use Rattle.warp_record.specs.declared.record.Record.{Record}
 use Rattle.warp_line.specs.Timeline.{KeepsDone}
 use Rattle.warp_table.specs.Check.{refusal_of}
 use Rattle.warp_table.proofs.BlockLists.{not_false, not_true}
-use Rattle.warp_table.proofs.Sizes.{length-table_of}
+use Rattle.warp_table.specs.Table.{table_of, with_record}
+use Rattle.warp_table.proofs.Sizes.{length-table_of, table_more}
 use Rattle.warp_replica.specs.Replica.{AreAllowed, ReplicaState, standing_of, Stands}
 use Rattle.warp_replica.specs.Floor.{comes_behind}
 use Rattle.warp_replica.specs.Gives.{tag_of}
@@ -37,6 +39,18 @@ returns-clause-new g c came ahead done stood =
     let entered = c.enter.ensures.stands _ (c.prepare.ensures.stands _ before) allowed in
     let more = with_more stands slack said old new done refl (c.in_ok-added.ensures.new (not_false c.in_ok-added.added.is_new c.if-not-added.false)).2 entered in
     subst (λ r. (after : List Row) × Stands stands new after × KeepsDone slack (tag_of said) (standing_of r done) (standing_of new after)) is more
+
+pub returns-clause-calm : goal.returns-clause-calm
+returns-clause-calm g c ahead same =
+    let said = c.args.record.now in
+    let old : ReplicaState _ = record { program = c.self.inside.program; records = c.self.inside.table; timeline = c.self.inside.timeline } in
+    let is : old ≡ c.args.self.now = c.self.view_is in
+    let allowed = subst (λ r. refusal_of r.program said ≡ None) (sym is) c.requires.allowed in
+    let added = (c.in_ok-added.ensures.new (not_false c.in_ok-added.added.is_new c.if-not-added.false)).2 in
+    let stay : live (with_record (table_of c.self.inside.table) said) ≡ live (table_of c.self.inside.table) =
+    ap live (sym (ap table_of added ∙ table_more c.self.inside.table said)) ∙ same ∙ ap (λ r. live (table_of r.records)) (sym is) in
+    c.enter.ensures.settled _ (c.prepare.ensures.stands _ c.self.invariant.1.1) allowed stay ∙ c.prepare.ensures.settled
+    ∙ ap (λ r. g.T.Timeline.settled r.timeline) is
 
 pub invariant_of-self-2 : goal.invariant_of-self-2
 invariant_of-self-2 g c =
