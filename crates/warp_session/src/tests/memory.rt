@@ -1,4 +1,6 @@
 //! Connections over memory: pipes between threads, a door that gives them out, and a gate by which sessions meet.
+ghost use Rattle.std.specs.Prelude.{◌≤◌, length};
+
 use crate::door::{Door, DoorFault, Gate};
 use crate::pulling::PullEnd;
 use crate::stream::{Failed, Sink, Source};

@@ -1,4 +1,4 @@
-//! A desk whose lane is full.
+//! A desk whose lane is full, and one that looks at the board before and after a row came.
 ghost use Rattle.std.specs.Prelude.{◌≡◌};
 ghost use Rattle.warp_lanes.specs.Engine.{IsFresh};
 
@@ -11,9 +11,10 @@ use warp_board::{Board, Reader, Writer, board};
 use warp_exchange::Desk;
 use warp_lanes::{Engine, Lane, Port, Turn, lane};
 use warp_line::{Plain, Timeline};
-use warp_record::{Line, Query, Refusal, Reply};
+use warp_record::{Line, Look, Query, Refusal, Reply};
 use warp_replica::Replica;
-use warp_step::Program;
+use warp_step::{Out, Program};
+use warp_tag::Tag;
 
 const LINE: Line = Line::Ask(Query::Outputs);
 
@@ -73,4 +74,36 @@ fn holds_all<T: Timeline + Drop, X: Wait + Clock + Abort>(rt: &X, alloc: Global)
 #[test]
 fn a_full_lane_is_busy(rt: HostRuntime) {
     holds_all::<Plain, HostRuntime>(&rt, rt.alloc());
+}
+
+/// A look at the first row.
+const FIRST: Line = Line::Look(Look::Row(0));
+
+/// A desk that found no row finds the first one once it was appended.
+fn looks_anew<X: Wait + Clock + Abort>(
+    rt: &X,
+    board: &Board,
+    mut writer: Writer,
+    port: Port,
+    reader: Reader,
+)
+    requires writer { writer.board ≡ board.now }
+    requires reader { reader.board ≡ board.now }
+{
+    let row = Out {
+        tag: Tag::new(5, 0).expect(rt, "a tag"),
+        port: 0,
+        value: 3,
+    };
+    let mut desk = PortDesk::new(rt, board, port, reader);
+    assert_eq!(rt; desk.ask(FIRST), Reply::NoRow);
+    assert_eq!(rt; writer.append(board, row), Ok(()));
+    assert_eq!(rt; desk.ask(FIRST), Reply::Row(row));
+}
+
+#[test]
+fn a_desk_looks_anew(rt: HostRuntime) {
+    let (board, writer, reader) = board(rt.alloc(), 1).expect(&rt, "memory");
+    let (port, _lane) = lane(rt.alloc()).expect(&rt, "memory");
+    looks_anew(&rt, &board, writer, port, reader);
 }
