@@ -143,9 +143,11 @@ fn go_on<R: Source, W: Sink>(
     ensures cut { IfErr result (λ end. IsCut end
         × PullFails end (R.failures source.old) (R.failures source.new) (W.failures sink.old) (W.failures sink.new)) }
     ensures asked { OnOk result ((text : List ℕ) × (pending waits puller.now ++ text ≡ question puller.now)
-        × Moves (R.left source.old) (R.left source.new) (W.written sink.old) (W.written sink.new) text inbox.old inbox.new) }
+        × Moves (R.left source.old) (R.left source.new) (W.written sink.old) (W.written sink.new)
+        text inbox.old inbox.new) }
     ensures front { OnErr result ((text : List ℕ) × StartsWith (question puller.now) (pending waits puller.now ++ text)
-        × Moves (R.left source.old) (R.left source.new) (W.written sink.old) (W.written sink.new) text inbox.old inbox.new) }
+        × Moves (R.left source.old) (R.left source.new) (W.written sink.old) (W.written sink.new)
+        text inbox.old inbox.new) }
     ensures none { OnErr result (waits ≡ true → inbox.new.came ≡ []) }
     ensures end { IfErr result (λ end. end ≡ PullEnd.End → (inbox.new.came ≡ []) × IsAtEnd (R.left source.new)) }
 {
@@ -285,8 +287,8 @@ pub fn pull<X: Clock, R: Source, W: Sink, D: Desk>(
     quiet: u32,
     pause: Duration,
 ) -> PullEnd
-    // The replies are what the lines that were read spell, and the questions that they answer were written. The desk was
-    // asked what the replies led to and nothing else, and the last of them are why it ended.
+    // The replies are what the lines that were read spell, and the questions that they answer were written. The desk
+    // was asked what the replies led to and nothing else, and the last of them are why it ended.
     ensures pulls { PullsTo D.gives (D.state desk.old) quiet result (D.state desk.new)
         (R.left source.old) (R.left source.new) (W.written sink.old) (W.written sink.new) }
     // One read has failed, or one write, where it ended for that, and else none.
