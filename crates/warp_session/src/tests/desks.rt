@@ -29,7 +29,7 @@ fn fill(rt: &impl Abort, port: &mut Port) {
 }
 
 /// A desk of this port is busy, and is ended with its lane still there.
-fn is_busy<X: Wait + Clock + Abort>(rt: &X, board: &Board, port: Port, reader: Reader)
+fn is_busy<'a, X: Wait + Clock + Abort>(rt: &'a X, board: &'a Board, port: Port, reader: Reader)
     requires { reader.board ≡ board.now }
 {
     let mut desk = PortDesk::new(rt, board, port, reader);
@@ -80,9 +80,9 @@ fn a_full_lane_is_busy(rt: HostRuntime) {
 const FIRST: Line = Line::Look(Look::Row(0));
 
 /// A desk that found no row finds the first one once it was appended.
-fn looks_anew<X: Wait + Clock + Abort>(
-    rt: &X,
-    board: &Board,
+fn looks_anew<'a, X: Wait + Clock + Abort>(
+    rt: &'a X,
+    board: &'a Board,
     mut writer: Writer,
     port: Port,
     reader: Reader,

@@ -40,10 +40,10 @@ fn serve<'a, X: Threads + Wait + Clock + Abort + Sync, G: Gate + Sync>(
 }
 
 /// Serves a session for each of these connections, which wait for one of them so, and tells the same.
-fn serve_meeting<X: Threads + Wait + Clock + Abort + Sync>(
-    rt: &X,
+fn serve_meeting<'a, X: Threads + Wait + Clock + Abort + Sync>(
+    rt: &'a X,
     alloc: Global,
-    talks: &[Talk],
+    talks: &'a [Talk],
     session: u32,
     ask: u64,
 ) -> Reply {
@@ -162,10 +162,10 @@ fn read_back(rt: HostRuntime) {
 
 /// A server without sessions pulls by this connection until it is quiet, and tells what its engine then answers to
 /// `var 0`.
-fn serve_pulling<X: Threads + Wait + Clock + Abort + Sync>(
-    rt: &X,
+fn serve_pulling<'a, X: Threads + Wait + Clock + Abort + Sync>(
+    rt: &'a X,
     alloc: Global,
-    talk: &Talk,
+    talk: &'a Talk,
 ) -> Reply {
     let (source, sink) = talk.client_end(rt);
     let peer = Peer {
