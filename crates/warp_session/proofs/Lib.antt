@@ -2,5 +2,6 @@ pub mod Fronts
 pub mod TurnsLemmas
 pub mod LocalSessions
 pub mod PullsLemmas
+pub mod WentLemmas
 pub mod SentTimelines
 pub mod SentExecutors

@@ -22,14 +22,14 @@ use Rattle.warp_session.specs.inner.Turns.{At, AreCutOff, Answered, Taken, Takes
 -- ---- whole lines
 
 -- a line with its line feed
-AreCutOff-line : (line : List ℕ) → IsOneLine line → AreCutOff (line ++ 10 ∷ [])
+pub AreCutOff-line : (line : List ℕ) → IsOneLine line → AreCutOff (line ++ 10 ∷ [])
 AreCutOff-line line one more =
     ap lines_of (append_assoc line (10 ∷ []) more)
     ∙ lines_of-ended line more one
     ∙ ap (λ (l : List Piece). l ++ lines_of more) (sym (lines_of-ended line [] one))
 
 -- bytes that are cut off, and more of them
-AreCutOff-append : (a b : List ℕ) → AreCutOff a → AreCutOff b → AreCutOff (a ++ b)
+pub AreCutOff-append : (a b : List ℕ) → AreCutOff a → AreCutOff b → AreCutOff (a ++ b)
 AreCutOff-append a b first second more =
     ap lines_of (append_assoc a b more)
     ∙ first (b ++ more)
@@ -38,7 +38,7 @@ AreCutOff-append a b first second more =
     ∙ ap (λ (l : List Piece). l ++ lines_of more) (sym (first b))
 
 -- the bytes up to and with the first line feed
-up_to_end : (piece : List ℕ) → first_end piece < length piece → take (first_end piece + 1) piece ≡ before_first is_end piece ++ 10 ∷ []
+pub up_to_end : (piece : List ℕ) → first_end piece < length piece → take (first_end piece + 1) piece ≡ before_first is_end piece ++ 10 ∷ []
 up_to_end piece some =
     let is_lf : get_or piece (first_end piece) 0 ≡ 10 = eqb-true (get_or piece (first_end piece) 0) 10 (passes_at_first is_end piece 0 some) in
     take_more piece (first_end piece) 0 some ∙ ap (λ (byte : ℕ). before_first is_end piece ++ byte ∷ []) is_lf

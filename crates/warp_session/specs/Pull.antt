@@ -1,6 +1,8 @@
 -- Pulling the log of another replica over a connection: what its replies led to, and how it ended.
-use Rattle.std.specs.Prelude.{◌≡◌, ◌⊎◌, ℕ, ◌+◌, ◌≤◌, List, [], ◌∷◌, ◌++◌, Option}
-use Rattle.std.specs.List.{AllByRecursion}
+use Rattle.std.specs.Prelude.{◌≡◌, ◌⊎◌, ℕ, ◌+◌, ◌≤◌, List, [], ◌∷◌, ◌++◌, Option, Some, None}
+use Rattle.std.specs.Io.KnownBytes.{Appends, Consumes, IsAtEnd}
+use Rattle.std.specs.List.{AllByRecursion, flat_map}
+use Rattle.warp_tag.specs.Lists.{StartsWith}
 use Rattle.warp_record.specs.declared.line.Line.{Line}
 use Rattle.warp_record.specs.declared.line.Line.TheVariants.{Ask}
 use Rattle.warp_record.specs.declared.line.Query.TheVariants.{Log}
@@ -8,23 +10,27 @@ use Rattle.warp_record.specs.declared.reply.Reply.{Reply}
 use Rattle.warp_record.specs.declared.reply.Refusal.{Refusal}
 use Rattle.warp_record.specs.declared.reply.Refusal.TheVariants.{NoMemory, Busy}
 use Rattle.warp_record.specs.Line.{spelling}
+use Rattle.warp_record.specs.Lines.{Piece, Whole, Long, Torn, IsOneLine, lines_of}
+use Rattle.warp_record.specs.Reply.{IsReply, reply_spelling}
 use Rattle.warp_exchange.specs.declared.puller.Pulled.{Pulled}
 use Rattle.warp_exchange.specs.declared.puller.Pulled.TheVariants as pulled
 use Rattle.warp_exchange.specs.Pulls.{Pulls}
 use Rattle.warp_session.specs.declared.pulling.PullEnd.{PullEnd}
 use Rattle.warp_session.specs.declared.pulling.PullEnd.TheVariants as end
+use Rattle.warp_session.specs.Session.{AreWholeLines}
 
--- a reply of the other replica, if it reads, and what it led to
+-- the place that the other replica was asked for, its reply, if that reads, and what it led to
 pub record Heard : Type 0 where
+  pub place : ℕ
   pub reply : Option Reply
   pub pulled : Pulled
 
--- One after another these replies led to this: the place that is asked for and the state of the desk went from the former to the
--- latter.
+-- One after another these replies to questions for the next place led to this: that place and the state of the desk went from the
+-- former to the latter.
 abbrev pub PullsAll : {S : Type 0} → (S → Line → Reply → S → Type 0) → S → ℕ → List Heard → ℕ → S → Type 0
 PullsAll gives s next [] next' s' = (next' ≡ next) × (s' ≡ s)
 PullsAll {S} gives s next (heard ∷ rest) next' s' =
-    (place : ℕ) × (mid : S)
+    (heard.place ≡ next) × (place : ℕ) × (mid : S)
     × Pulls gives s next heard.reply (record { pulled = heard.pulled; next = place }) mid
     × PullsAll gives mid place rest next' s'
 
@@ -58,8 +64,7 @@ AllGoOn heard = AllByRecursion (λ (one : Heard). GoesOn one.pulled) heard
 -- pulling went on behind each outcome but the last, which is this
 abbrev pub EndsWith : Pulled → List Heard → Type 0
 EndsWith last heard =
-    (front : List Heard) × (reply : Option Reply)
-    × (heard ≡ front ++ record { reply = reply; pulled = last } ∷ []) × AllGoOn front
+    (front : List Heard) × (one : Heard) × (heard ≡ front ++ one ∷ []) × (one.pulled ≡ last) × AllGoOn front
 
 -- What the outcomes were, where pulling ended so: at Quiet the last of them were Level, as many in a row as were asked for; at Strange
 -- and Held the last one was that; else pulling went on behind all of them.
@@ -82,10 +87,51 @@ IsCut end.Fault = Unit {0}
 IsCut end.End = Unit {0}
 IsCut other = ⊥
 
--- From this state of the desk pulling may end so, and leave that state: of some replies, each of which led to its outcome.
-abbrev pub PullsTo : {S : Type 0} → (S → Line → Reply → S → Type 0) → S → ℕ → PullEnd → S → Type 0
-PullsTo gives s quiet ended s' =
+-- the reply that a line of the bytes spells, if it spells one; one of more than 128 bytes spells none
+abbrev pub SpellsReply : Piece → Option Reply → Type 0
+SpellsReply (Whole bytes) (Some reply) = IsReply reply × (bytes ≡ reply_spelling reply)
+SpellsReply (Whole bytes) None = (reply : Reply) → IsReply reply → bytes ≡ reply_spelling reply → ⊥
+SpellsReply Long reply = reply ≡ None
+SpellsReply Torn reply = reply ≡ None
+
+-- what was heard is what these lines spell, one for one
+abbrev pub AreSpelled : List Piece → List Heard → Type 0
+AreSpelled [] [] = Unit {0}
+AreSpelled (line ∷ lines) (heard ∷ rest) = SpellsReply line heard.reply × AreSpelled lines rest
+AreSpelled [] (heard ∷ rest) = ⊥
+AreSpelled (line ∷ lines) [] = ⊥
+
+-- what is left over behind the lines that were heard: at End the beginning of a line, and no byte comes behind it
+abbrev pub IsLeftOver : PullEnd → List ℕ → Option (List ℕ) → Type 0
+IsLeftOver end.End rest left-after = IsOneLine rest × IsAtEnd left-after
+IsLeftOver other rest left-after = Unit {0}
+
+-- of a source that tells its bytes, what was heard is what its first lines spell; the rest that was read is left over
+abbrev pub HasHeard : PullEnd → List Heard → Option (List ℕ) → Option (List ℕ) → Type 0
+HasHeard ended heard left left-after =
+    (lines : List ℕ) × (rest : List ℕ) × Consumes left left-after (lines ++ rest) × AreWholeLines lines
+    × AreSpelled (lines_of lines) heard × IsLeftOver ended rest left-after
+
+-- the question for a place of the log, with its line feed
+abbrev pub question : ℕ → List ℕ
+question place = spelling (Ask (Log place)) ++ 10 ∷ []
+
+-- the questions that were replied to, in order
+abbrev pub questions : List Heard → List ℕ
+questions heard = flat_map (λ (one : Heard). question one.place) heard
+
+-- behind what the sink tells these questions were written, and of the one for the next place a front, or nothing yet
+abbrev pub HasAsked : List Heard → ℕ → Option (List ℕ) → Option (List ℕ) → Type 0
+HasAsked heard next written written-after =
+    (front : List ℕ) × StartsWith (question next) front × Appends written written-after (questions heard ++ front)
+
+-- From this state of the desk pulling may end so, and leave that state: of some replies, which the bytes that were read spell, to
+-- questions that were written, and of which each led to its outcome.
+abbrev pub PullsTo : {S : Type 0} → (S → Line → Reply → S → Type 0) → S → ℕ → PullEnd → S
+    → Option (List ℕ) → Option (List ℕ) → Option (List ℕ) → Option (List ℕ) → Type 0
+PullsTo gives s quiet ended s' left left-after written written-after =
     (heard : List Heard) × (next : ℕ) × PullsAll gives s 1 heard next s' × EndsSo quiet heard ended
+    × HasHeard ended heard left left-after × HasAsked heard next written written-after
 
 -- the counts of failed reads and of failed writes, before and after: one of them grew by one where pulling ended for that, and
 -- else none did
@@ -93,7 +139,3 @@ abbrev pub PullFails : PullEnd → ℕ → ℕ → ℕ → ℕ → Type 0
 PullFails end.Fault reads reads-after writes writes-after =
     ((reads-after ≡ reads + 1) × (writes-after ≡ writes)) ⊎ ((reads-after ≡ reads) × (writes-after ≡ writes + 1))
 PullFails other reads reads-after writes writes-after = (reads-after ≡ reads) × (writes-after ≡ writes)
-
--- the question for a place of the log, with its line feed
-abbrev pub question : ℕ → List ℕ
-question place = spelling (Ask (Log place)) ++ 10 ∷ []

@@ -1,9 +1,9 @@
 //! What came from the other end of a connection, cut into lines one by one.
 ghost use Rattle.std.specs.Prelude.{◌≡◌, ◌+◌, [], false, IfNone, IfOk, OnErr, OnOk, drop, length, min};
-ghost use Rattle.std.specs.Io.KnownBytes.{Consumes, Keeps};
+ghost use Rattle.std.specs.Io.KnownBytes.{Consumes, IsAtEnd, Keeps};
 ghost use Rattle.warp_record.specs.Lines.{first_end};
 ghost use Rattle.warp_session.specs.Stream.{CountsFailures};
-ghost use Rattle.warp_session.specs.inner.Inbox.{empty_inbox};
+ghost use Rattle.warp_session.specs.inner.Inbox.{CutsMore, empty_inbox};
 
 use crate::stream::{Failed, Source};
 use std::alloc::{AllocError, Global};
@@ -53,7 +53,7 @@ impl Inbox {
     pub(crate) fn read<R: Source>(&mut self, source: &mut R) -> Result<bool, Failed>
         requires { self.old.came ≡ [] }
         ensures kept { self.new.kept ≡ self.old.kept }
-        ensures nothing { IfOk result (λ some. some ≡ false → self.new.came ≡ []) }
+        ensures nothing { IfOk result (λ some. some ≡ false → (self.new.came ≡ []) × IsAtEnd (R.left source.new)) }
         ensures ok { OnOk result (Consumes (R.left source.old) (R.left source.new) self.new.came) }
         ensures err { OnErr result (Keeps (R.left source.old) (R.left source.new) × (self.new.came ≡ [])) }
         ensures failures { CountsFailures (R.failures source.old) (R.failures source.new) result }
@@ -69,6 +69,7 @@ impl Inbox {
     pub(crate) fn line(&mut self) -> Option<Fed>
         ensures came { self.new.came ≡ drop (min (first_end self.old.came + 1) (length self.old.came)) self.old.came }
         ensures none { IfNone result (self.new.came ≡ []) }
+        ensures cuts { CutsMore result self.old self.new }
     {
         let came = &self.buffer[self.start..self.end];
         let (count, fed) = self.feed.push(came);

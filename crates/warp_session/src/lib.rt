@@ -16,6 +16,8 @@ mod port_desk;
 mod pulling;
 mod serving;
 mod stream;
+#[cfg(test)]
+mod tests;
 
 pub use desk_session::{SessionEnd, session};
 pub use door::{Door, DoorFault, Gate, Open, Peer, ServeFault};

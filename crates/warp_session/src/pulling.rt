@@ -1,11 +1,16 @@
 //! Pulling the log of another replica over a connection, into a desk.
-ghost use Rattle.std.specs.Prelude.{◌≡◌, ◌≢◌, ◌+◌, ◌<◌, ◌≤◌, [], true, IfErr, IfNone, IfOk, IfSome, MatchBool, OnOk};
-ghost use Rattle.std.specs.Prelude.{Option};
+ghost use Rattle.std.specs.Prelude.{◌≡◌, ◌≢◌, ℕ, ◌+◌, ◌<◌, ◌≤◌, ◌++◌, [], false, true, IfErr, IfNone, IfOk, IfSome};
+ghost use Rattle.std.specs.Prelude.{List, MatchBool, OnErr, OnOk, Option, is_none};
+ghost use Rattle.std.specs.Io.KnownBytes.{Appends, Consumes, IsAtEnd};
+ghost use Rattle.warp_tag.specs.Lists.{StartsWith};
+ghost use Rattle.warp_record.specs.Lines.{piece_of};
 ghost use Rattle.warp_record.specs.declared.reply.Reply.{Reply};
 ghost use Rattle.warp_record.specs.Reply.{IsReply};
 ghost use Rattle.warp_exchange.specs.Pulls.{Pulls};
-ghost use Rattle.warp_session.specs.Pull.{EndsBehind, GoesOn, IsCut, PullFails, PullsTo, levels_with, passes, question};
+ghost use Rattle.warp_session.specs.Pull.{EndsBehind, GoesOn, IsCut, PullFails, PullsTo, SpellsReply, levels_with};
+ghost use Rattle.warp_session.specs.Pull.{passes, question};
 ghost use Rattle.warp_session.specs.Stream.{CountsFailures};
+ghost use Rattle.warp_session.specs.inner.Inbox.{CutsMore, InboxState, Moves, empty_inbox, pending};
 
 use crate::inbox::Inbox;
 use crate::stream::{Failed, Sink, Source, write_all};
@@ -41,7 +46,8 @@ pub enum PullEnd {
 
 /// The reply that a line spells, if it does; one of more than 128 bytes spells none.
 fn reply_of(fed: &Fed) -> Option<Reply>
-    ensures { IfSome result IsReply }
+    ensures reply { IfSome result IsReply }
+    ensures spells { SpellsReply (piece_of fed.now) result }
 {
     match fed {
         Fed::Text(bytes) => read_reply(bytes),
@@ -92,6 +98,68 @@ fn rests(pulled: Pulled) -> bool {
     matches!(pulled, Pulled::Level | Pulled::Held(_))
 }
 
+/// Asks for the next place.
+fn ask<W: Sink>(puller: &Puller, sink: &mut W) -> Result<(), Failed>
+    ensures asked { OnOk result (Appends (W.written sink.old) (W.written sink.new) (question puller.now)) }
+    ensures front { OnErr result ((front : List ℕ) × StartsWith (question puller.now) front
+        × Appends (W.written sink.old) (W.written sink.new) front) }
+    ensures failures { CountsFailures (W.failures sink.old) (W.failures sink.new) result }
+{
+    let question = question_for(puller.next());
+    write_all(sink, &question)
+}
+
+/// Reads more of a reply.
+fn hear_more<R: Source>(inbox: &mut Inbox, source: &mut R) -> Result<(), PullEnd>
+    requires { inbox.old.came ≡ [] }
+    ensures read { Consumes (R.left source.old) (R.left source.new) inbox.new.came }
+    ensures kept { inbox.new.kept ≡ inbox.old.kept }
+    ensures ok { OnOk result (R.failures source.new ≡ R.failures source.old) }
+    ensures cut { IfErr result (λ end. IsCut end
+        × ((writes : ℕ) → PullFails end (R.failures source.old) (R.failures source.new) writes writes)) }
+    ensures none { OnErr result (inbox.new.came ≡ []) }
+    ensures end { IfErr result (λ end. end ≡ PullEnd.End → IsAtEnd (R.left source.new)) }
+{
+    let Ok(came) = inbox.read(source) else {
+        return Err(PullEnd::Fault);
+    };
+    if !came {
+        return Err(PullEnd::End);
+    }
+    Ok(())
+}
+
+/// Asks for the next place, or reads where it waits for the reply.
+fn go_on<R: Source, W: Sink>(
+    waits: bool,
+    puller: &Puller,
+    inbox: &mut Inbox,
+    source: &mut R,
+    sink: &mut W,
+) -> Result<(), PullEnd>
+    requires { waits ≡ true → inbox.old.came ≡ [] }
+    ensures ok { OnOk result
+        ((R.failures source.new ≡ R.failures source.old) × (W.failures sink.new ≡ W.failures sink.old)) }
+    ensures cut { IfErr result (λ end. IsCut end
+        × PullFails end (R.failures source.old) (R.failures source.new) (W.failures sink.old) (W.failures sink.new)) }
+    ensures asked { OnOk result ((text : List ℕ) × (pending waits puller.now ++ text ≡ question puller.now)
+        × Moves (R.left source.old) (R.left source.new) (W.written sink.old) (W.written sink.new)
+        text inbox.old inbox.new) }
+    ensures front { OnErr result ((text : List ℕ) × StartsWith (question puller.now) (pending waits puller.now ++ text)
+        × Moves (R.left source.old) (R.left source.new) (W.written sink.old) (W.written sink.new)
+        text inbox.old inbox.new) }
+    ensures none { OnErr result (waits ≡ true → inbox.new.came ≡ []) }
+    ensures end { IfErr result (λ end. end ≡ PullEnd.End → (inbox.new.came ≡ []) × IsAtEnd (R.left source.new)) }
+{
+    if waits {
+        return hear_more(inbox, source);
+    }
+    let Ok(()) = ask(puller, sink) else {
+        return Err(PullEnd::Fault);
+    };
+    Ok(())
+}
+
 /// A pull under way: what another replica is asked, and what it replied.
 #[derive(Drop)]
 struct Conversation {
@@ -107,7 +175,8 @@ struct Conversation {
 impl Conversation {
     /// Nothing was asked yet.
     fn new(alloc: Global) -> Result<Conversation, AllocError>
-        ensures { IfOk result (λ made. (made.puller ≡ 1) × (made.levels ≡ 0)) }
+        ensures started { IfOk result (λ made. (made.puller ≡ 1) × (made.levels ≡ 0)) }
+        ensures silent { IfOk result (λ made. (made.inbox ≡ empty_inbox) × (made.waits ≡ false)) }
     {
         let inbox = Inbox::new(alloc)?;
         Ok(Conversation {
@@ -118,14 +187,6 @@ impl Conversation {
         })
     }
 
-    /// Asks for the next place.
-    fn ask<W: Sink>(&self, sink: &mut W) -> Result<(), Failed>
-        ensures failures { CountsFailures (W.failures sink.old) (W.failures sink.new) result }
-    {
-        let question = question_for(self.puller.next());
-        write_all(sink, &question)
-    }
-
     /// Asks for the next place, or reads where it waits for the reply. Gives the reply's line, if all of it came.
     fn turn<R: Source, W: Sink>(
         &mut self,
@@ -134,24 +195,24 @@ impl Conversation {
     ) -> Result<Option<Fed>, PullEnd>
         ensures ok { OnOk result
             ((R.failures source.new ≡ R.failures source.old) × (W.failures sink.new ≡ W.failures sink.old)) }
-        ensures err { IfErr result (λ end. IsCut end
+        ensures cut { IfErr result (λ end. IsCut end
             × PullFails end (R.failures source.old) (R.failures source.new)
             (W.failures sink.old) (W.failures sink.new)) }
+        ensures asked { IfOk result (λ fed. (text : List ℕ) × (mid : InboxState)
+            × (pending self.old.waits self.old.puller ++ text ≡ question self.old.puller)
+            × Moves (R.left source.old) (R.left source.new) (W.written sink.old) (W.written sink.new)
+            text self.old.inbox mid × CutsMore fed mid self.new.inbox) }
+        ensures waits { IfOk result (λ fed. self.new.waits ≡ is_none fed) }
+        ensures front { OnErr result ((text : List ℕ)
+            × StartsWith (question self.old.puller) (pending self.old.waits self.old.puller ++ text)
+            × Moves (R.left source.old) (R.left source.new) (W.written sink.old) (W.written sink.new)
+            text self.old.inbox self.new.inbox) }
+        ensures end { IfErr result (λ end. end ≡ PullEnd.End →
+            (self.new.inbox.came ≡ []) × IsAtEnd (R.left source.new)) }
         ensures puller { self.new.puller ≡ self.old.puller }
         ensures levels { self.new.levels ≡ self.old.levels }
     {
-        if self.waits {
-            let Ok(came) = self.inbox.read(source) else {
-                return Err(PullEnd::Fault);
-            };
-            if !came {
-                return Err(PullEnd::End);
-            }
-        } else {
-            let Ok(()) = self.ask(sink) else {
-                return Err(PullEnd::Fault);
-            };
-        }
+        go_on(self.waits, &self.puller, &mut self.inbox, source, sink)?;
         let fed = self.inbox.line();
         self.waits = fed.is_none();
         Ok(fed)
@@ -160,8 +221,10 @@ impl Conversation {
     /// Does what the reply leads to, and counts levels.
     fn hear<D: Desk>(&mut self, fed: &Fed, desk: &mut D) -> Pulled
         requires { self.old.levels < MAX_TURNS }
-        ensures pulls { (reply : Option Reply) × Pulls D.gives (D.state desk.old) self.old.puller reply
+        ensures pulls { (reply : Option Reply) × SpellsReply (piece_of fed.now) reply
+            × Pulls D.gives (D.state desk.old) self.old.puller reply
             (record { pulled = result; next = self.new.puller }) (D.state desk.new) }
+        ensures others { (self.new.inbox ≡ self.old.inbox) × (self.new.waits ≡ self.old.waits) }
         ensures levels { self.new.levels ≡ levels_with self.old.levels result }
     {
         let pulled = self.puller.on_reply(reply_of(fed), desk);
@@ -183,8 +246,10 @@ impl Conversation {
         quiet: u32,
         pause: Duration,
     ) -> PullEnd
-        requires { (self.old.puller ≡ 1) × (self.old.levels ≡ 0) }
-        ensures pulls { PullsTo D.gives (D.state desk.old) quiet result (D.state desk.new) }
+        requires started { (self.old.puller ≡ 1) × (self.old.levels ≡ 0) }
+        requires silent { (self.old.inbox ≡ empty_inbox) × (self.old.waits ≡ false) }
+        ensures pulls { PullsTo D.gives (D.state desk.old) quiet result (D.state desk.new)
+            (R.left source.old) (R.left source.new) (W.written sink.old) (W.written sink.new) }
         ensures failures { PullFails result (R.failures source.old) (R.failures source.new)
             (W.failures sink.old) (W.failures sink.new) }
         ensures memory { result ≢ PullEnd.NoMemory }
@@ -222,8 +287,10 @@ pub fn pull<X: Clock, R: Source, W: Sink, D: Desk>(
     quiet: u32,
     pause: Duration,
 ) -> PullEnd
-    // The desk was asked what the replies led to and nothing else, and the last of them are why it ended.
-    ensures pulls { PullsTo D.gives (D.state desk.old) quiet result (D.state desk.new) }
+    // The replies are what the lines that were read spell, and the questions that they answer were written. The desk
+    // was asked what the replies led to and nothing else, and the last of them are why it ended.
+    ensures pulls { PullsTo D.gives (D.state desk.old) quiet result (D.state desk.new)
+        (R.left source.old) (R.left source.new) (W.written sink.old) (W.written sink.new) }
     // One read has failed, or one write, where it ended for that, and else none.
     ensures failures { PullFails result (R.failures source.old) (R.failures source.new)
         (W.failures sink.old) (W.failures sink.new) }

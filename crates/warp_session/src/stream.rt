@@ -1,8 +1,9 @@
 //! Where a session's bytes come from and go to.
 //!
 //! `Source` and `Sink` are all that a session knows of the world. `Stream` is both over std's `Read` and `Write`.
-ghost use Rattle.std.specs.Prelude.{◌≡◌, ℕ, ◌+◌, ◌<◌, ◌≤◌, IfOk, OnOk, List, Option, length};
+ghost use Rattle.std.specs.Prelude.{◌≡◌, ℕ, ◌+◌, ◌<◌, ◌≤◌, IfOk, OnErr, OnOk, List, Option, length};
 ghost use Rattle.std.specs.Io.KnownBytes.{Appends};
+ghost use Rattle.warp_tag.specs.Lists.{StartsWith};
 ghost use Rattle.warp_step.specs.Counter.{IsUnused};
 ghost use Rattle.warp_session.specs.Stream.{CountsFailures, Reads, Writes};
 
@@ -48,9 +49,11 @@ pub trait Sink {
         ensures failures { CountsFailures (failures self.old) (failures self.new) result };
 }
 
-/// Writes all of the bytes, in as many writes as it takes.
+/// Writes all of the bytes, in as many writes as it takes; where one fails, a front of them was written.
 pub fn write_all<W: Sink>(sink: &mut W, bytes: &[u8]) -> Result<(), Failed>
     ensures bytes { OnOk result (Appends (W.written sink.old) (W.written sink.new) bytes.now) }
+    ensures front { OnErr result ((front : List ℕ) × StartsWith bytes.now front
+        × Appends (W.written sink.old) (W.written sink.new) front) }
     ensures failures { CountsFailures (W.failures sink.old) (W.failures sink.new) result }
 {
     let mut sent = 0;

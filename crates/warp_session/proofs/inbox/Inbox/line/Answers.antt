@@ -2,6 +2,7 @@ use Rattle.std.proofs.Common.{◌≡◌, ℕ, ◌+◌, ◌-◌, ◌≤◌, List,
 use Rattle.std.proofs.lemmas.List.{drop-take}
 use Rattle.warp_record.specs.Lines.{first_end}
 use Rattle.warp_session.specs.inner.Inbox.{InboxState}
+use Rattle.warp_session.proofs.WentLemmas.{CutsMore-pushed}
 use Rattle.warp_session.proofs.inbox.Inbox.line.Goals as goal
 
 -- what is behind some more of the bytes that came
@@ -25,3 +26,15 @@ returns-clause-came c =
     rest_of i.buffer.items i.start c.push-count.result.0 i.end (within_end i.buffer.items i.start c.push-count.result.0 i.end c.self.invariant.0 count)
     ∙ ap (λ (n : ℕ). drop n came) count
     ∙ ap (λ (l : List ℕ). drop (min (first_end l + 1) (length l)) l) view
+
+pub returns-clause-cuts : goal.returns-clause-cuts
+returns-clause-cuts c =
+    let i = c.self.inside in
+    let push = c.push-count in
+    let came = take (i.end - i.start) (drop i.start i.buffer.items) in
+    let count : push.result.0 ≡ min (first_end came + 1) (length came) = rw (← c.deref.ensures.value) push.ensures.taken in
+    let rest = rest_of i.buffer.items i.start push.result.0 i.end (within_end i.buffer.items i.start push.result.0 i.end c.self.invariant.0 count) in
+    rw (← c.self.view_is)
+    (CutsMore-pushed (record { kept = i.feed; came = came }) _ push.result.1 (rest ∙ ap (λ (n : ℕ). drop n came) count)
+    (rw (← c.deref.ensures.value) push.ensures.given) (rw (← c.deref.ensures.value) push.ensures.line) push.ensures.fresh
+    (rw (← c.deref.ensures.value) push.ensures.kept))

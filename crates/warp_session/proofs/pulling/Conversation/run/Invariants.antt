@@ -1,12 +1,16 @@
--- The replies so far led to what is, pulling went on behind each of them, and nothing failed.
+-- The replies so far, which the lines that came spell, led to what is, pulling went on behind each of them, and nothing failed.
 use Rattle.std.proofs.Common.{◌≡◌, ◌≤◌, List}
 use Rattle.warp_session.specs.Pull.{Heard, PullsAll, AllGoOn, last_levels}
+use Rattle.warp_session.specs.inner.Inbox.{pending}
+use Rattle.warp_session.proofs.WentLemmas.{Talked}
 use Rattle.warp_session.proofs.pulling.Conversation.run.Given as goal
 
 abbrev pub invariant-turns : goal.invariant-turns
 invariant-turns g l = record {
   heard : List Heard;
   pulls : PullsAll g.D.Desk.gives (g.D.Desk.state l.initial.desk) 1 heard l.self.puller (g.D.Desk.state l.desk);
+  talked : Talked (g.R.Source.left l.initial.source) (g.R.Source.left l.source)
+      (g.W.Sink.written l.initial.sink) (g.W.Sink.written l.sink) heard (pending l.self.waits l.self.puller) l.self.inbox;
   goes : AllGoOn heard;
   levels : l.self.levels ≡ last_levels 0 heard;
   few : l.self.levels ≤ l._turn;

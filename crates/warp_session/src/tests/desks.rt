@@ -1,0 +1,109 @@
+//! A desk whose lane is full, and one that looks at the board before and after a row came.
+ghost use Rattle.std.specs.Prelude.{◌≡◌};
+ghost use Rattle.warp_lanes.specs.Engine.{IsFresh};
+
+use crate::port_desk::PortDesk;
+use std::alloc::Global;
+use std::process::Abort;
+use std::sync::Wait;
+use std::time::Clock;
+use warp_board::{Board, Reader, Writer, board};
+use warp_exchange::Desk;
+use warp_lanes::{Engine, Lane, Port, Turn, lane};
+use warp_line::{Plain, Timeline};
+use warp_record::{Line, Look, Query, Refusal, Reply};
+use warp_replica::Replica;
+use warp_step::{Out, Program};
+use warp_tag::Tag;
+
+const LINE: Line = Line::Ask(Query::Outputs);
+
+/// How many lines a lane holds.
+const PLACES: u32 = 64;
+
+/// So many lines are sent as the lane holds.
+fn fill(rt: &impl Abort, port: &mut Port) {
+    for _ in 0..PLACES {
+        assert_eq!(rt; port.send(LINE), Ok(()));
+    }
+}
+
+/// A desk of this port is busy, and is ended with its lane still there.
+fn is_busy<'a, X: Wait + Clock + Abort>(rt: &'a X, board: &'a Board, port: Port, reader: Reader)
+    requires { reader.board ≡ board.now }
+{
+    let mut desk = PortDesk::new(rt, board, port, reader);
+    assert_eq!(rt; desk.ask(LINE), Reply::Refused(Refusal::Busy));
+    let (end, _) = desk.finish();
+    assert!(rt; end.is_some());
+}
+
+/// An engine over an empty log, which serves this lane.
+fn engine<T: Timeline + Drop>(rt: &impl Abort, alloc: Global, lane: Lane) -> Engine<T>
+    requires { IsFresh lane }
+{
+    let program = Program::twice(alloc).expect(rt, "memory");
+    let replica = Replica::new(alloc, program).expect(rt, "memory");
+    let (_, writer, _) = board(alloc, 1).expect(rt, "memory");
+    let lanes = vec![in alloc; lane].expect(rt, "memory");
+    Engine::new(replica, lanes, writer)
+}
+
+/// How many lines its lane holds, at most one more than there are places.
+fn lines_of<T: Timeline>(rt: &impl Abort, alloc: Global, engine: &mut Engine<T>) -> u32 {
+    for count in 0..=PLACES {
+        let is_there = 0 < engine.lane_count();
+        assert!(rt; is_there);
+        if engine.turn(alloc, 0) != Turn::Served {
+            return count;
+        }
+    }
+    PLACES + 1
+}
+
+/// The lane of a busy desk holds as many lines as were sent.
+fn holds_all<T: Timeline + Drop, X: Wait + Clock + Abort>(rt: &X, alloc: Global) {
+    let (board, _, reader) = board(alloc, 1).expect(rt, "memory");
+    let (mut port, lane) = lane(alloc).expect(rt, "memory");
+    fill(rt, &mut port);
+    let mut engine = engine::<T>(rt, alloc, lane);
+    is_busy(rt, &board, port, reader);
+    assert_eq!(rt; lines_of(rt, alloc, &mut engine), PLACES);
+}
+
+#[test]
+fn a_full_lane_is_busy(rt: HostRuntime) {
+    holds_all::<Plain, HostRuntime>(&rt, rt.alloc());
+}
+
+/// A look at the first row.
+const FIRST: Line = Line::Look(Look::Row(0));
+
+/// A desk that found no row finds the first one once it was appended.
+fn looks_anew<'a, X: Wait + Clock + Abort>(
+    rt: &'a X,
+    board: &'a Board,
+    mut writer: Writer,
+    port: Port,
+    reader: Reader,
+)
+    requires writer { writer.board ≡ board.now }
+    requires reader { reader.board ≡ board.now }
+{
+    let row = Out {
+        tag: Tag::new(5, 0).expect(rt, "a tag"),
+        port: 0,
+        value: 3,
+    };
+    let mut desk = PortDesk::new(rt, board, port, reader);
+    assert_eq!(rt; desk.ask(FIRST), Reply::NoRow);
+    assert_eq!(rt; writer.append(board, row), Ok(()));
+    assert_eq!(rt; desk.ask(FIRST), Reply::Row(row));
+}
+
+#[test]
+fn a_desk_looks_anew(rt: HostRuntime) {
+    let (board, writer, reader) = board(rt.alloc(), 1).expect(&rt, "memory");
+    let (port, _lane) = lane(rt.alloc()).expect(&rt, "memory");
+    looks_anew(&rt, &board, writer, port, reader);
+}
