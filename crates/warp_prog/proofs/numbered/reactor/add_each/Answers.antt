@@ -1,6 +1,5 @@
 use Rattle.std.proofs.Common.{◌++◌, map, ap, ◌∙◌}
 use Rattle.std.proofs.lemmas.List.{take_all}
-use Rattle.warp_step.specs.declared.parts.Port.{Port}
 use Rattle.warp_prog.specs.File.{Word}
 use Rattle.warp_prog.proofs.Numbers.{pushed_more}
 use Rattle.warp_prog.proofs.numbered.reactor.add_each.Goals as goal
