@@ -1,5 +1,5 @@
 -- How deep an expression is at least.
-use Rattle.std.proofs.Common.{◌≡◌, ℕ, ◌<◌, ◌≤◌, true, ltb, arith}
+use Rattle.std.proofs.Common.{◌≡◌, ℕ, ◌<◌, ◌≤◌, true, ◌||◌, max, ltb, arith}
 use Rattle.std.proofs.lemmas.Bool.Decides.{nat_tests}
 use Rattle.warp_prog.specs.File.{NamedTerm, Literal, Named, PresentNamed, OneNamed, TwoNamed, ChoiceNamed}
 use Rattle.warp_prog.specs.Limits.{term_depth}
@@ -19,3 +19,7 @@ above_none levels n some none = grind (arith, nat_tests)
 -- an expression is deeper than no level
 pub deeper_than_none : (levels : ℕ) (t : NamedTerm) → ¬ (1 ≤ levels) → true ≡ ltb levels (term_depth t)
 deeper_than_none levels t none = above_none levels (term_depth t) (has_level t) none
+
+-- the greater of two numbers is past so many exactly if one of them is
+pub past_greater : (n a b : ℕ) → ltb n (max a b) ≡ (ltb n a || ltb n b)
+past_greater n a b = grind (arith, nat_tests)

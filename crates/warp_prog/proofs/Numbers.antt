@@ -1,8 +1,8 @@
 -- Numbers in the place of names: bodies, and one reactor, one reaction and one name more.
-use Rattle.std.proofs.Common.{◌≡◌, List, [], ◌∷◌, ◌++◌, ℕ, ◌+◌, ◌<◌, ◌≤◌, length, map, drop, get_or, false, bytes_eq, ap, sym, subst, ◌∙◌, refl, arith}
+use Rattle.std.proofs.Common.{◌≡◌, List, [], ◌∷◌, ◌++◌, ℕ, ◌+◌, ◌<◌, ◌≤◌, length, map, drop, take, get_or, false, bytes_eq, ap, sym, subst, ◌∙◌, refl, arith}
 use Rattle.std.specs.Bool.{if◌then◌else◌}
 use Rattle.std.proofs.lemmas.Bool.{cond-false}
-use Rattle.std.proofs.lemmas.List.{append_assoc, append-nil, at_drop_more, drop_all, map-append}
+use Rattle.std.proofs.lemmas.List.{append_assoc, append-nil, at_drop_more, drop_all, map-append, map_more}
 use Rattle.warp_body.specs.declared.place.Target.{Target}
 use Rattle.warp_body.specs.Effect.{Then, body_of}
 use Rattle.warp_step.specs.Valid.{names}
@@ -110,3 +110,10 @@ place_none called things name i past = ap (λ ys. place_among (map called ys) na
 pub port_none : (number : Before → ReactorPart → Word → ℕ) (b : Before) (rs : List Reactor) (i : ℕ) (p : PortName) → length rs ≤ i
     → port_number number b (map reactor_tree (drop i rs)) p ≡ 0
 port_none number b rs i p past = ap (λ ss. port_number number b (map reactor_tree ss) p) (drop_all i rs past)
+
+-- one more is pushed, what stands for the next element
+pub pushed_more : {X A : Type 0} (f : X → A) (old now new : List A) (xs : List X) (i : ℕ) (x : X) → i < length xs → x ≡ get_or xs i x
+    → new ≡ now ++ f x ∷ [] → now ≡ old ++ map f (take i xs) → new ≡ old ++ map f (take (i + 1) xs)
+pushed_more f old now new xs i x within here is so_far =
+    is ∙ ap (λ ys. ys ++ f x ∷ []) so_far ∙ append_assoc old (map f (take i xs)) (f x ∷ [])
+    ∙ ap (λ ys. old ++ ys) (ap (λ y. map f (take i xs) ++ f y ∷ []) here ∙ sym (map_more f xs i x within))

@@ -123,8 +123,7 @@ impl Contents {
         add_ports(&mut self.ports, before, reactor)?;
         add_actions(&mut self.actions, before, reactor)?;
         add_timers(&mut self.timers, before, reactor)?;
-        add_reactions(alloc, &mut self.reactions, before, reactor)?;
-        Ok(())
+        add_reactions(alloc, &mut self.reactions, before, reactor)
     }
 }
 

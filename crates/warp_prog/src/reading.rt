@@ -39,7 +39,9 @@ pub(crate) fn reading(alloc: Global, bytes: &[u8]) -> Result<ProgramFile, LoadEr
     if bytes.len() > LONGEST_FILE {
         return Err(LoadError::Limit);
     }
-    let value = json(alloc, bytes)?.ok_or(LoadError::Json)?;
+    let Some(value) = json(alloc, bytes)? else {
+        return Err(LoadError::Json);
+    };
     match file(alloc, &value) {
         Ok(file) => Ok(file),
         Err(Misread::Shape) => Err(LoadError::Shape),

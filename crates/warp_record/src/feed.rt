@@ -17,7 +17,7 @@ use std::simd::prelude::*;
 pub const MAX_LINE: usize = 128;
 
 /// A line that was cut from the stream.
-#[derive(Debug, Drop, PartialEq, Eq)]
+#[derive(Debug, Drop)]
 pub enum Fed {
     /// A line of at most `MAX_LINE` bytes, without its line feed.
     Text(ArrayVec<u8, MAX_LINE>),

@@ -45,8 +45,7 @@ pub(crate) fn add_ports(
 {
     let number = before.reactors as u32;
     add_each(ports, &reactor.inputs, number, true)?;
-    add_each(ports, &reactor.outputs, number, false)?;
-    Ok(())
+    add_each(ports, &reactor.outputs, number, false)
 }
 
 /// Adds a port of a reactor for each of these names.
