@@ -1,6 +1,6 @@
 -- What a stream is, and what one read and one write do: to the bytes left or written, where they are told, and to the count
 -- of failures.
-use Rattle.std.specs.Prelude.{◌≡◌, ℕ, ◌+◌, ◌<◌, Option, Result, List, take, length, MatchResult, refl}
+use Rattle.std.specs.Prelude.{◌≡◌, ℕ, ◌+◌, ◌<◌, Option, Result, List, ◌++◌, take, length, MatchResult, refl}
 use Rattle.std.specs.Coded.{Coded, code_by, coded×, coded_ℕ}
 use Rattle.std.specs.Io.KnownBytes.{Appends, Consumes, IsAtEnd, Keeps}
 
@@ -31,3 +31,8 @@ Writes written written-after r piece =
 abbrev pub CountsFailures : {T E : Type 0} → ℕ → ℕ → Result T E → Type 0
 CountsFailures failures failures-after r =
     MatchResult r (λ _. failures-after ≡ failures) (λ _. failures-after ≡ failures + 1)
+
+-- a front of these bytes was written behind the told ones, and the rest was not
+abbrev pub WritesFront : Option (List ℕ) → Option (List ℕ) → List ℕ → Type 0
+WritesFront written written-after bytes =
+    (sent : List ℕ) × (lost : List ℕ) × (sent ++ lost ≡ bytes) × Appends written written-after sent
