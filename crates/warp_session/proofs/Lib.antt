@@ -1,5 +1,6 @@
 pub mod Fronts
 pub mod TurnsLemmas
+pub mod BreaksLemmas
 pub mod LocalSessions
 pub mod PullsLemmas
 pub mod WentLemmas

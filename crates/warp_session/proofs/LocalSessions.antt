@@ -6,8 +6,8 @@ use Rattle.warp_record.specs.declared.reply.Reply.{Reply}
 use Rattle.warp_record.specs.Lines.{Piece, Whole, Long, Torn, lines_of}
 use Rattle.warp_replica.specs.Gives.{Gives}
 use Rattle.warp_replica.specs.Desk.{LocalState, LocalGives}
-use Rattle.warp_session.specs.Session.{GivesPiece, GivesAll, Session, Transcribes, TranscribesLines}
-use Rattle.warp_session.specs.LocalSession.{TranscribesAll, TranscribesSoFar}
+use Rattle.warp_session.specs.Session.{GivesPiece, GivesAll, GivesText, Session, Transcribes, TranscribesFront, TranscribesLines}
+use Rattle.warp_session.specs.LocalSession.{TranscribesAll, TranscribesSoFar, TranscribesSome}
 
 -- what a piece gives at a local it gives on the log, and the program stays
 piece_on_log : (s s' : LocalState) (piece : Piece) (reply : Reply) → GivesPiece LocalGives s piece reply s'
@@ -27,16 +27,21 @@ pieces_on_log s s' (piece ∷ pieces) (reply ∷ replies) g =
 pieces_on_log s s' [] (reply ∷ replies) g = absurd g
 pieces_on_log s s' (piece ∷ pieces) [] g = absurd g
 
--- a session at a local that has taken no record is one from the empty log
-session_from_empty : (P : Program) (s s' : LocalState) (bytes text : List ℕ) → s.program ≡ P → s.records ≡ []
-    → Session LocalGives s bytes text s' → Session (Gives P) [] bytes text s'.records
-session_from_empty P s s' bytes text is empty g = (
+-- pieces at a local that has taken no record give what they give on the empty log
+text_from_empty : (P : Program) (s s' : LocalState) (pieces : List Piece) (text : List ℕ) → s.program ≡ P → s.records ≡ []
+    → GivesText LocalGives s pieces text s' → GivesText (Gives P) [] pieces text s'.records
+text_from_empty P s s' pieces text is empty g = (
   g.0,
-  subst (λ (Q : Program). GivesAll (Gives Q) [] (lines_of bytes) g.0 s'.records) is
-      (subst (λ (log : List Record). GivesAll (Gives s.program) log (lines_of bytes) g.0 s'.records) empty
-      (pieces_on_log s s' (lines_of bytes) g.0 g.1)),
+  subst (λ (Q : Program). GivesAll (Gives Q) [] pieces g.0 s'.records) is
+      (subst (λ (log : List Record). GivesAll (Gives s.program) log pieces g.0 s'.records) empty
+      (pieces_on_log s s' pieces g.0 g.1)),
   g.2,
 )
+
+-- so a session at it is one from the empty log
+session_from_empty : (P : Program) (s s' : LocalState) (bytes text : List ℕ) → s.program ≡ P → s.records ≡ []
+    → Session LocalGives s bytes text s' → Session (Gives P) [] bytes text s'.records
+session_from_empty P s s' bytes text is empty g = text_from_empty P s s' (lines_of bytes) text is empty g
 
 -- so is its transcript, of all bytes
 pub from_empty : (P : Program) (s s' : LocalState) (left written written' : Option (List ℕ)) → s.program ≡ P → s.records ≡ []
@@ -50,3 +55,10 @@ pub lines_from_empty : (P : Program) (s s' : LocalState) (left left' written wri
     → TranscribesLines LocalGives s left left' written written' s' → TranscribesSoFar P left left' written written'
 lines_from_empty P s s' left left' written written' is empty t =
     (s'.records, (t.0, t.1, t.2, t.3, t.4, (t.5.0, session_from_empty P s s' t.0 t.5.0 is empty t.5.1, t.5.2)))
+
+-- and a front of the text of some first lines
+pub front_from_empty : (P : Program) (s s' : LocalState) (left written written' : Option (List ℕ)) → s.program ≡ P → s.records ≡ []
+    → TranscribesFront LocalGives s left written written' s' → TranscribesSome P left written written'
+front_from_empty P s s' None written written' is empty t = (s'.records, t)
+front_from_empty P s s' (Some input) written written' is empty t =
+    (s'.records, (t.0, t.1, t.2, (t.3.0, text_from_empty P s s' t.0 t.3.0 is empty t.3.1, t.3.2)))

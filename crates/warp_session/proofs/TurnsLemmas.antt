@@ -55,7 +55,7 @@ module _ {S : Type 0} (gives : S → Line → Reply → S → Type 0) where
   GivesAll-append s mid s' (p ∷ ps) qs (r ∷ rs) ss first second =
       (first.0, first.1, GivesAll-append first.0 mid s' ps qs rs ss first.2 second)
 
-  GivesText-append : (s mid s' : S) (ps qs : List Piece) (text more : List ℕ)
+  pub GivesText-append : (s mid s' : S) (ps qs : List Piece) (text more : List ℕ)
       → GivesText gives s ps text mid → GivesText gives mid qs more s' → GivesText gives s (ps ++ qs) (text ++ more) s'
   GivesText-append s mid s' ps qs text more first second = (
     first.0 ++ second.0,
@@ -65,7 +65,7 @@ module _ {S : Type 0} (gives : S → Line → Reply → S → Type 0) where
   )
 
   -- pieces that were answered, and then more of them
-  Answered-append : (ps qs : List Piece) (a b c : At S) → Answered gives ps a b → Answered gives qs b c → Answered gives (ps ++ qs) a c
+  pub Answered-append : (ps qs : List Piece) (a b c : At S) → Answered gives ps a b → Answered gives qs b c → Answered gives (ps ++ qs) a c
   Answered-append ps qs a b c first second = record {
     text = first.text ++ second.text;
     sent = first.sent ++ second.sent;
@@ -79,7 +79,7 @@ module _ {S : Type 0} (gives : S → Line → Reply → S → Type 0) where
   }
 
   -- where a session is before the answers does not depend on what the feed kept
-  Answered-from : (ps : List Piece) (a b : At S) (kept : Option (List ℕ))
+  pub Answered-from : (ps : List Piece) (a b : At S) (kept : Option (List ℕ))
       → Answered gives ps (record a { held = record { kept = kept; gathered = a.held.gathered } }) b → Answered gives ps a b
   Answered-from ps a b kept was = record { text = was.text; sent = was.sent; given = was.given; out = was.out; rest = was.rest }
 

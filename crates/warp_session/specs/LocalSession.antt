@@ -4,7 +4,7 @@ use Rattle.std.specs.Io.KnownBytes.{Appends}
 use Rattle.warp_step.specs.Program.{Program}
 use Rattle.warp_record.specs.declared.record.Record.{Record}
 use Rattle.warp_replica.specs.Gives.{Gives}
-use Rattle.warp_session.specs.Session.{Session, TranscribesLines}
+use Rattle.warp_session.specs.Session.{Session, TranscribesFront, TranscribesLines}
 
 -- of a source that tells its bytes, the transcript of all of them from the empty log was written behind what the sink tells,
 -- whatever log it leaves
@@ -12,7 +12,11 @@ abbrev pub TranscribesAll : Program → Option (List ℕ) → Option (List ℕ) 
 TranscribesAll P left written written-after = IfSome left (λ input.
     (text : List ℕ) × (log : List Record) × Session (Gives P) [] input text log × Appends written written-after text)
 
--- the same, where a read failed, of the whole lines that the source lost, and of the line behind them nothing
+-- the same, where a read failed or too many came to no end, of the whole lines that the source lost, and of the line behind them nothing
 abbrev pub TranscribesSoFar : Program → Option (List ℕ) → Option (List ℕ) → Option (List ℕ) → Option (List ℕ) → Type 0
 TranscribesSoFar P left left-after written written-after =
     (log : List Record) × TranscribesLines (Gives P) [] left left-after written written-after log
+
+-- the same, where a write failed, of a front of the replies to some first lines
+abbrev pub TranscribesSome : Program → Option (List ℕ) → Option (List ℕ) → Option (List ℕ) → Type 0
+TranscribesSome P left written written-after = (log : List Record) × TranscribesFront (Gives P) [] left written written-after log

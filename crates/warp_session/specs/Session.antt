@@ -10,6 +10,7 @@ use Rattle.warp_record.specs.declared.reply.Refusal.TheVariants.{Syntax, TooLong
 use Rattle.warp_record.specs.Line.{IsLine, spelling}
 use Rattle.warp_record.specs.Lines.{Piece, Whole, Long, Torn, IsOneLine, lines_of}
 use Rattle.warp_record.specs.Reply.{reply_line}
+use Rattle.warp_session.specs.Stream.{WritesFront}
 use Rattle.warp_session.specs.declared.desk_session.SessionEnd.{SessionEnd}
 use Rattle.warp_session.specs.declared.desk_session.SessionEnd.TheVariants.{End, ReadFault, WriteFault, TooManyReads, NoMemory}
 
@@ -59,6 +60,13 @@ abbrev pub TranscribesLines : {S : Type 0} → (S → Line → Reply → S → T
 TranscribesLines gives s left left-after written written-after s' =
     (lines : List ℕ) × (line : List ℕ) × Consumes left left-after (lines ++ line) × AreWholeLines lines × IsOneLine line
     × ((text : List ℕ) × Session gives s lines text s' × Appends written written-after text)
+
+-- Of the pieces of the bytes that a source told some first ones were answered and no other, and a front of their text was written
+-- behind what the sink tells.
+abbrev pub TranscribesFront : {S : Type 0} → (S → Line → Reply → S → Type 0) → S → Option (List ℕ) → Option (List ℕ) → Option (List ℕ) → S → Type 0
+TranscribesFront gives s left written written-after s' =
+    IfSome left (λ input. (answered : List Piece) × (rest : List Piece) × (lines_of input ≡ answered ++ rest)
+    × ((text : List ℕ) × GivesText gives s answered text s' × WritesFront written written-after text))
 
 -- the counts of failed reads and of failed writes, before and after a session that ended so: one of them grew by one where it
 -- ended for that, and else none did

@@ -3,6 +3,7 @@
 use Rattle.std.specs.Prelude.{◌≡◌, ℕ, ◌+◌, ◌<◌, Option, Result, List, take, length, MatchResult, refl}
 use Rattle.std.specs.Coded.{Coded, code_by, coded×, coded_ℕ}
 use Rattle.std.specs.Io.KnownBytes.{Appends, Consumes, IsAtEnd, Keeps}
+use Rattle.warp_tag.specs.Lists.{StartsWith}
 
 -- a stream: the reader or writer below it, and how many of its reads or writes have failed
 pub record StreamState (T : Type 0) : Type 0 where
@@ -31,3 +32,7 @@ Writes written written-after r piece =
 abbrev pub CountsFailures : {T E : Type 0} → ℕ → ℕ → Result T E → Type 0
 CountsFailures failures failures-after r =
     MatchResult r (λ _. failures-after ≡ failures) (λ _. failures-after ≡ failures + 1)
+
+-- a front of these bytes was written behind the told ones, and the rest was not
+abbrev pub WritesFront : Option (List ℕ) → Option (List ℕ) → List ℕ → Type 0
+WritesFront written written-after bytes = (front : List ℕ) × StartsWith bytes front × Appends written written-after front

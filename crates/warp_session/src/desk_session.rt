@@ -1,7 +1,7 @@
 //! A session: lines come in as bytes, in any pieces, and their replies go out as bytes.
 //!
 //! It knows neither who answers them, a `Desk`, nor where bytes come from and go to, a `Source` and a `Sink`.
-ghost use Rattle.std.specs.Prelude.{◌≡◌, ◌≢◌, ℕ, ◌<◌, ◌≤◌, List, [], ◌∷◌, ◌++◌, Option, IfOk, OnOk, IfSome};
+ghost use Rattle.std.specs.Prelude.{◌≡◌, ◌≢◌, ℕ, ◌<◌, ◌≤◌, List, [], ◌∷◌, ◌++◌, Option, IfOk, OnErr, OnOk, IfSome};
 ghost use Rattle.std.specs.Prelude.{length, take, vec_len};
 ghost use Rattle.std.specs.Io.KnownBytes.{Appends};
 ghost use Rattle.warp_tag.specs.Limits.{most_reads};
@@ -9,9 +9,10 @@ ghost use Rattle.warp_step.specs.Counter.{IsUnused};
 ghost use Rattle.warp_record.specs.Lines.{piece_of};
 ghost use Rattle.warp_record.specs.Lines.Piece.{Whole};
 ghost use Rattle.warp_record.specs.Reply.{reply_line};
-ghost use Rattle.warp_session.specs.Session.{FailsSo, GivesPiece, Transcribes, TranscribesLines};
-ghost use Rattle.warp_session.specs.Stream.{CountsFailures};
-ghost use Rattle.warp_session.specs.inner.Turns.{Answered, Turn, TakesBytes, Ends, at, nothing_held, pieces_fed};
+ghost use Rattle.warp_session.specs.Session.{FailsSo, GivesPiece, Transcribes, TranscribesFront, TranscribesLines};
+ghost use Rattle.warp_session.specs.Stream.{CountsFailures, WritesFront};
+ghost use Rattle.warp_session.specs.inner.Turns.{Answered, BreaksAtEnd, BreaksBytes, Broken, Ends, TakesBytes, Turn};
+ghost use Rattle.warp_session.specs.inner.Turns.{at, nothing_held, pieces_fed};
 
 use crate::stream::{Failed, Sink, Source, write_all};
 use std::alloc::{AllocError, Global};
@@ -36,9 +37,9 @@ pub enum SessionEnd {
     End,
     /// A read failed. The answers to all whole lines before it are out.
     ReadFault,
-    /// A write failed.
+    /// A write failed. Replies to some first lines are out, and a front of one perhaps; no line behind these was asked.
     WriteFault,
-    /// 1,000,000,000 reads came to no end.
+    /// 1,000,000,000 reads came to no end. The answers to all whole lines are out.
     TooManyReads,
     /// No memory was to be had; nothing was read.
     NoMemory,
@@ -90,6 +91,7 @@ impl Transcriber {
     fn flush<W: Sink>(&mut self, sink: &mut W) -> Result<(), Failed>
         ensures written { OnOk result (Appends (W.written sink.old) (W.written sink.new) self.old.gathered) }
         ensures empty { OnOk result (self.new.gathered ≡ []) }
+        ensures front { OnErr result (WritesFront (W.written sink.old) (W.written sink.new) self.old.gathered) }
         ensures kept { self.new.kept ≡ self.old.kept }
         ensures failures { CountsFailures (W.failures sink.old) (W.failures sink.new) result }
     {
@@ -103,6 +105,8 @@ impl Transcriber {
     fn gather<W: Sink>(&mut self, sink: &mut W, reply: &Reply) -> Result<(), Failed>
         ensures gathered { OnOk result ((sent : List ℕ) × Appends (W.written sink.old) (W.written sink.new) sent
             × (sent ++ self.new.gathered ≡ self.old.gathered ++ reply_line «reply».now)) }
+        ensures front { OnErr result (WritesFront (W.written sink.old) (W.written sink.new)
+            (self.old.gathered ++ reply_line «reply».now)) }
         ensures kept { self.new.kept ≡ self.old.kept }
         ensures failures { CountsFailures (W.failures sink.old) (W.failures sink.new) result }
     {
@@ -126,6 +130,9 @@ impl Transcriber {
         ensures answered { OnOk result (Answered D.gives (Whole text.now ∷ [])
             (at (D.state desk.old) self.old (W.written sink.old) (W.failures sink.old))
             (at (D.state desk.new) self.new (W.written sink.new) (W.failures sink.new))) }
+        ensures broken { OnErr result (Broken D.gives (Whole text.now ∷ [])
+            (at (D.state desk.old) self.old (W.written sink.old) (W.failures sink.old))
+            (at (D.state desk.new) self.new (W.written sink.new) (W.failures sink.new))) }
         ensures kept { self.new.kept ≡ self.old.kept }
         ensures failures { CountsFailures (W.failures sink.old) (W.failures sink.new) result }
     {
@@ -141,7 +148,7 @@ impl Transcriber {
         sink: &mut W,
         fed: Option<Fed>,
     ) -> Result<(), Failed>
-        ensures turn { Turn (λ _. Answered D.gives (pieces_fed fed))
+        ensures turn { Turn (λ _. Answered D.gives (pieces_fed fed)) (Broken D.gives (pieces_fed fed))
             (at (D.state desk.old) self.old (W.written sink.old) (W.failures sink.old))
             (at (D.state desk.new) self.new (W.written sink.new) (W.failures sink.new)) result }
         ensures kept { self.new.kept ≡ self.old.kept }
@@ -170,7 +177,7 @@ impl Transcriber {
     ) -> Result<usize, Failed>
         requires { 0 < length bytes.now }
         ensures count { IfOk result (λ n. (0 < n) × (n ≤ length bytes.now)) }
-        ensures turn { Turn (λ n. TakesBytes D.gives (take n bytes.now))
+        ensures turn { Turn (λ n. TakesBytes D.gives (take n bytes.now)) (BreaksBytes D.gives bytes.now)
             (at (D.state desk.old) self.old (W.written sink.old) (W.failures sink.old))
             (at (D.state desk.new) self.new (W.written sink.new) (W.failures sink.new)) result }
     {
@@ -191,7 +198,7 @@ impl Transcriber {
         sink: &mut W,
         bytes: &[u8],
     ) -> Result<(), Failed>
-        ensures turn { Turn (λ _. TakesBytes D.gives bytes.now)
+        ensures turn { Turn (λ _. TakesBytes D.gives bytes.now) (BreaksBytes D.gives bytes.now)
             (at (D.state desk.old) self.old (W.written sink.old) (W.failures sink.old))
             (at (D.state desk.new) self.new (W.written sink.new) (W.failures sink.new)) result }
         ensures empty { OnOk result (self.new.gathered ≡ []) }
@@ -206,7 +213,7 @@ impl Transcriber {
 
     /// Answers the last line, which has no line feed, if there is one, and writes all that was gathered.
     fn finish<D: Desk, W: Sink>(&mut self, desk: &mut D, sink: &mut W) -> Result<(), Failed>
-        ensures { Turn (λ _. Ends D.gives)
+        ensures { Turn (λ _. Ends D.gives) (BreaksAtEnd D.gives)
             (at (D.state desk.old) self.old (W.written sink.old) (W.failures sink.old))
             (at (D.state desk.new) self.new (W.written sink.new) (W.failures sink.new)) result }
     {
@@ -231,6 +238,12 @@ impl Transcriber {
             (W.written sink.old) (W.written sink.new) (D.state desk.new) }
         ensures lines { result ≡ SessionEnd.ReadFault →
             TranscribesLines D.gives (D.state desk.old) (R.left source.old) (R.left source.new)
+            (W.written sink.old) (W.written sink.new) (D.state desk.new) }
+        ensures long { result ≡ SessionEnd.TooManyReads →
+            TranscribesLines D.gives (D.state desk.old) (R.left source.old) (R.left source.new)
+            (W.written sink.old) (W.written sink.new) (D.state desk.new) }
+        ensures front { result ≡ SessionEnd.WriteFault →
+            TranscribesFront D.gives (D.state desk.old) (R.left source.old)
             (W.written sink.old) (W.written sink.new) (D.state desk.new) }
         ensures failures { FailsSo result (R.failures source.old) (R.failures source.new)
             (W.failures sink.old) (W.failures sink.new) }
@@ -283,6 +296,14 @@ pub fn session<R: Source, W: Sink, D: Desk>(
     // Before a failed read the lines so far were answered, and no torn one.
     ensures lines { result ≡ SessionEnd.ReadFault →
         TranscribesLines D.gives (D.state desk.old) (R.left source.old) (R.left source.new)
+        (W.written sink.old) (W.written sink.new) (D.state desk.new) }
+    // So they were where too many reads came to no end.
+    ensures long { result ≡ SessionEnd.TooManyReads →
+        TranscribesLines D.gives (D.state desk.old) (R.left source.old) (R.left source.new)
+        (W.written sink.old) (W.written sink.new) (D.state desk.new) }
+    // At a failed write some first lines were answered, no other was put to the desk, and a front of their replies is out.
+    ensures front { result ≡ SessionEnd.WriteFault →
+        TranscribesFront D.gives (D.state desk.old) (R.left source.old)
         (W.written sink.old) (W.written sink.new) (D.state desk.new) }
     // One read has failed, or one write, where it ended for that, and else none.
     ensures failures { FailsSo result (R.failures source.old) (R.failures source.new)

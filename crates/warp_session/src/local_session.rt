@@ -2,7 +2,7 @@
 ghost use Rattle.std.specs.Prelude.{◌≡◌, ◌≤◌, IfSome, length};
 ghost use Rattle.warp_tag.specs.Limits.{most_reads};
 ghost use Rattle.warp_step.specs.Counter.{IsUnused};
-ghost use Rattle.warp_session.specs.LocalSession.{TranscribesAll, TranscribesSoFar};
+ghost use Rattle.warp_session.specs.LocalSession.{TranscribesAll, TranscribesSoFar, TranscribesSome};
 ghost use Rattle.warp_session.specs.Session.{FailsSo};
 
 use crate::desk_session::{SessionEnd, session};
@@ -26,6 +26,12 @@ pub fn run_session<R: Source, W: Sink>(
     // Before a failed read the lines so far were answered, and no torn one.
     ensures lines { result ≡ SessionEnd.ReadFault →
         TranscribesSoFar program (R.left source.old) (R.left source.new) (W.written sink.old) (W.written sink.new) }
+    // So they were where too many reads came to no end.
+    ensures long { result ≡ SessionEnd.TooManyReads →
+        TranscribesSoFar program (R.left source.old) (R.left source.new) (W.written sink.old) (W.written sink.new) }
+    // At a failed write a front of the replies to some first lines is out.
+    ensures front { result ≡ SessionEnd.WriteFault →
+        TranscribesSome program (R.left source.old) (W.written sink.old) (W.written sink.new) }
     // One read has failed, or one write, where it ended for that, and else none.
     ensures failures { FailsSo result (R.failures source.old) (R.failures source.new)
         (W.failures sink.old) (W.failures sink.new) }
@@ -47,6 +53,10 @@ fn run_over<T: Timeline + Drop, R: Source, W: Sink>(
         TranscribesAll program (R.left source.old) (W.written sink.old) (W.written sink.new) }
     ensures lines { result ≡ SessionEnd.ReadFault →
         TranscribesSoFar program (R.left source.old) (R.left source.new) (W.written sink.old) (W.written sink.new) }
+    ensures long { result ≡ SessionEnd.TooManyReads →
+        TranscribesSoFar program (R.left source.old) (R.left source.new) (W.written sink.old) (W.written sink.new) }
+    ensures front { result ≡ SessionEnd.WriteFault →
+        TranscribesSome program (R.left source.old) (W.written sink.old) (W.written sink.new) }
     ensures failures { FailsSo result (R.failures source.old) (R.failures source.new)
         (W.failures sink.old) (W.failures sink.new) }
     ensures many { result ≡ SessionEnd.TooManyReads → IfSome (R.left source.old) (λ input. most_reads ≤ length input) }

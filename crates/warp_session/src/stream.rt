@@ -3,9 +3,8 @@
 //! `Source` and `Sink` are all that a session knows of the world. `Stream` is both over std's `Read` and `Write`.
 ghost use Rattle.std.specs.Prelude.{◌≡◌, ℕ, ◌+◌, ◌<◌, ◌≤◌, IfOk, OnErr, OnOk, List, Option, length};
 ghost use Rattle.std.specs.Io.KnownBytes.{Appends};
-ghost use Rattle.warp_tag.specs.Lists.{StartsWith};
 ghost use Rattle.warp_step.specs.Counter.{IsUnused};
-ghost use Rattle.warp_session.specs.Stream.{CountsFailures, Reads, Writes};
+ghost use Rattle.warp_session.specs.Stream.{CountsFailures, Reads, Writes, WritesFront};
 
 use std::io::{Read, Write};
 use std::marker::Model;
@@ -52,8 +51,7 @@ pub trait Sink {
 /// Writes all of the bytes, in as many writes as it takes; where one fails, a front of them was written.
 pub fn write_all<W: Sink>(sink: &mut W, bytes: &[u8]) -> Result<(), Failed>
     ensures bytes { OnOk result (Appends (W.written sink.old) (W.written sink.new) bytes.now) }
-    ensures front { OnErr result ((front : List ℕ) × StartsWith bytes.now front
-        × Appends (W.written sink.old) (W.written sink.new) front) }
+    ensures front { OnErr result (WritesFront (W.written sink.old) (W.written sink.new) bytes.now) }
     ensures failures { CountsFailures (W.failures sink.old) (W.failures sink.new) result }
 {
     let mut sent = 0;

@@ -1,12 +1,12 @@
 -- How far a session has come: for its loops and the calls inside it alone. No contract of a public call cites this.
-use Rattle.std.specs.Prelude.{◌≡◌, ℕ, List, [], ◌++◌, Option, Result, IfOk}
+use Rattle.std.specs.Prelude.{◌≡◌, ℕ, List, [], ◌++◌, Option, Result, IfErr, IfOk}
 use Rattle.std.specs.Io.KnownBytes.{Appends}
 use Rattle.std.specs.Option.{option_map, option_to_list}
 use Rattle.warp_record.specs.declared.line.Line.{Line}
 use Rattle.warp_record.specs.declared.reply.Reply.{Reply}
 use Rattle.warp_record.specs.declared.feed.Fed.{Fed}
 use Rattle.warp_record.specs.Lines.{Piece, IsOneLine, lines_of, kept_of, piece_of}
-use Rattle.warp_session.specs.Stream.{CountsFailures}
+use Rattle.warp_session.specs.Stream.{CountsFailures, WritesFront}
 use Rattle.warp_session.specs.Session.{GivesText, AreWholeLines}
 
 -- what waits in a session: what the feed keeps of the unfinished line, and the text gathered
@@ -37,9 +37,22 @@ pub record Answered {S : Type 0} (gives : S → Line → Reply → S → Type 0)
   pub out : Appends old.written new.written sent
   pub rest : sent ++ new.held.gathered ≡ old.held.gathered ++ text
 
--- what a call of a session does: at Ok this, and no write failed; at Err one did
-pub record Turn {S T E : Type 0} (Does : T → At S → At S → Type 0) (old new : At S) (result : Result T E) : Type 0 where
+-- these pieces were answered, and of their text behind what was gathered a front went out
+pub record Broken {S : Type 0} (gives : S → Line → Reply → S → Type 0) (pieces : List Piece) (old new : At S) : Type 0 where
+  pub text : List ℕ
+  pub given : GivesText gives old.state pieces text new.state
+  pub out : WritesFront old.written new.written (old.held.gathered ++ text)
+
+-- some first ones of these pieces were answered, until a write failed
+abbrev pub BreaksOff : {S : Type 0} → (S → Line → Reply → S → Type 0) → List Piece → At S → At S → Type 0
+BreaksOff gives pieces old new =
+    (answered : List Piece) × (rest : List Piece) × (pieces ≡ answered ++ rest) × Broken gives answered old new
+
+-- what a call of a session does: at Ok the first, and no write failed; at Err one did, and the second
+pub record Turn {S T E : Type 0} (Does : T → At S → At S → Type 0) (Breaks : At S → At S → Type 0) (old new : At S)
+    (result : Result T E) : Type 0 where
   pub does : IfOk result (λ v. Does v old new)
+  pub breaks : IfErr result (λ _. Breaks old new)
   pub failures : CountsFailures old.failures new.failures result
 
 -- whatever follows these bytes is cut into lines by itself
@@ -61,6 +74,16 @@ pub record Taken {S : Type 0} (gives : S → Line → Reply → S → Type 0) (b
 abbrev pub TakesBytes : {S : Type 0} → (S → Line → Reply → S → Type 0) → List ℕ → At S → At S → Type 0
 TakesBytes {S} gives bytes old new =
     (start : At S) → (seen : List ℕ) → Taken gives seen start old → Taken gives (seen ++ bytes) start new
+
+-- whatever was taken before, and whatever follows, a write failed in the midst of what was taken and of these bytes
+abbrev pub BreaksBytes : {S : Type 0} → (S → Line → Reply → S → Type 0) → List ℕ → At S → At S → Type 0
+BreaksBytes {S} gives bytes old new =
+    (start : At S) → (seen : List ℕ) → Taken gives seen start old → (more : List ℕ) → BreaksOff gives (lines_of ((seen ++ bytes) ++ more)) start new
+
+-- whatever was taken before, all of it, a write failed in its midst
+abbrev pub BreaksAtEnd : {S : Type 0} → (S → Line → Reply → S → Type 0) → At S → At S → Type 0
+BreaksAtEnd {S} gives old new =
+    (start : At S) → (seen : List ℕ) → Taken gives seen start old → BreaksOff gives (lines_of seen) start new
 
 -- whatever was taken before, all of it is answered now, and nothing is gathered any more
 abbrev pub Ends : {S : Type 0} → (S → Line → Reply → S → Type 0) → At S → At S → Type 0

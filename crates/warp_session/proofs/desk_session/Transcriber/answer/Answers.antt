@@ -2,16 +2,18 @@ use Rattle.std.proofs.Common.{refl}
 use Rattle.warp_record.specs.Lines.Piece.{Long, Torn}
 use Rattle.warp_record.specs.declared.reply.Refusal.TheVariants.{Syntax, TooLong}
 use Rattle.warp_record.specs.declared.reply.Reply.TheVariants.{Refused}
+use Rattle.warp_session.proofs.BreaksLemmas.{Broken-gathered, broke_off}
 use Rattle.warp_session.proofs.TurnsLemmas.{Answered-nil, Answered-gathered}
 use Rattle.warp_session.proofs.desk_session.Transcriber.answer.Goals as goal
 
 pub returns-in-None-clause-turn : goal.returns-in-None-clause-turn
-returns-in-None-clause-turn g c = record { does = rw c.in-None.is (Answered-nil g.D.Desk.gives _); failures = refl }
+returns-in-None-clause-turn g c = record { does = rw c.in-None.is (Answered-nil g.D.Desk.gives _); breaks = tt; failures = refl }
 
 pub returns-in_ok-gather-in-Some-TooLong-clause-turn : goal.returns-in_ok-gather-in-Some-TooLong-clause-turn
 returns-in_ok-gather-in-Some-TooLong-clause-turn g c = record {
   does = rw (c.in-Some-TooLong.is, c.in-Some-TooLong.field-0-is)
       (Answered-gathered g.D.Desk.gives Long (Refused TooLong) _ _ (refl, refl) c.in_ok-gather-in-Some-TooLong.ensures.gathered);
+  breaks = tt;
   failures = c.in_ok-gather-in-Some-TooLong.ensures.failures;
 }
 
@@ -19,5 +21,19 @@ pub returns-in_ok-gather-in-Some-Torn-clause-turn : goal.returns-in_ok-gather-in
 returns-in_ok-gather-in-Some-Torn-clause-turn g c = record {
   does = rw (c.in-Some-Torn.is, c.in-Some-Torn.field-0-is)
       (Answered-gathered g.D.Desk.gives Torn (Refused Syntax) _ _ (refl, refl) c.in_ok-gather-in-Some-Torn.ensures.gathered);
+  breaks = tt;
   failures = c.in_ok-gather-in-Some-Torn.ensures.failures;
 }
+
+pub returns-in_err-gather-in-Some-TooLong-clause-turn : goal.returns-in_err-gather-in-Some-TooLong-clause-turn
+returns-in_err-gather-in-Some-TooLong-clause-turn g c = broke_off _ _ _ _ _ c.from_residual.result c.from_residual.ensures.1
+    (rw (c.in-Some-TooLong.is, c.in-Some-TooLong.field-0-is)
+    (Broken-gathered g.D.Desk.gives Long (Refused TooLong) _ _ (refl, refl) c.in_err-gather-in-Some-TooLong.ensures.front))
+    c.in_err-gather-in-Some-TooLong.ensures.failures
+
+pub returns-in_err-gather-in-Some-Torn-clause-turn : goal.returns-in_err-gather-in-Some-Torn-clause-turn
+returns-in_err-gather-in-Some-Torn-clause-turn g c =
+    broke_off _ _ _ _ _ c.from_residual-in_err-gather-in-Some-Torn.result c.from_residual-in_err-gather-in-Some-Torn.ensures.1
+    (rw (c.in-Some-Torn.is, c.in-Some-Torn.field-0-is)
+    (Broken-gathered g.D.Desk.gives Torn (Refused Syntax) _ _ (refl, refl) c.in_err-gather-in-Some-Torn.ensures.front))
+    c.in_err-gather-in-Some-Torn.ensures.failures

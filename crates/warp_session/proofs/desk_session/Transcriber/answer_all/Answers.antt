@@ -1,5 +1,6 @@
 use Rattle.std.proofs.Common.{[], ◌++◌, ◌∙◌, take, refl, arith}
 use Rattle.std.proofs.KnownBytes.{Consumes-nil, Consumes-trans}
+use Rattle.warp_session.proofs.BreaksLemmas.{front_of_all, front_of_bytes}
 use Rattle.warp_session.proofs.TurnsLemmas.{Taken-nil, transcribed, read_more}
 use Rattle.warp_session.proofs.desk_session.Transcriber.answer_all.Goals as goal
 
@@ -33,3 +34,15 @@ reads-init g c = rw c.requires.new (record {
   reads_sound = refl;
   writes_sound = refl;
 })
+
+pub returns-in_default-finish-clause-front : goal.returns-in_default-finish-clause-front
+returns-in_default-finish-clause-front g c = λ _.
+    let was = c.reads.invariant in
+    front_of_all g.D.Desk.gives _ _ _ was.seen c.read.new.buffer c.in-Ok.count _ _ _ refl was.taken c.in_default-finish.ensures.breaks was.read
+    c.in-Ok.ensures.bytes c.if-has_ended.true (omega (arith, c.requires.room, c.read.auto.buffer, c.reads.auto.buffer))
+
+pub returns-in_default-take-clause-front : goal.returns-in_default-take-clause-front
+returns-in_default-take-clause-front g c = λ _.
+    let was = c.reads.invariant in
+    front_of_bytes g.D.Desk.gives _ _ _ was.seen (take c.in-Ok.count c.read.new.buffer) _ _ _ refl was.taken c.in_default-take.ensures.turn.breaks
+    was.read c.in-Ok.ensures.bytes.0

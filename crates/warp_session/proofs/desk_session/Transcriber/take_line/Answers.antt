@@ -2,6 +2,7 @@ use Rattle.std.proofs.Common.{◌≡◌, ℕ, ◌+◌, ap, sym, subst, ◌∙◌
 use Rattle.warp_record.specs.Lines.{first_end}
 use Rattle.warp_record.specs.Lines.Piece.{Whole}
 use Rattle.warp_session.specs.inner.Turns.{Held, TakesBytes, at}
+use Rattle.warp_session.proofs.BreaksLemmas.{BreaksBytes-line, BreaksBytes-pushed, broke_off}
 use Rattle.warp_session.proofs.TurnsLemmas.{TakesBytes-line, TakesBytes-pushed}
 use Rattle.warp_session.proofs.desk_session.Transcriber.take_line.Goals as goal
 
@@ -20,6 +21,7 @@ returns-in-Some-clause-turn g c =
     (λ line is. c.in-Some.ensures.line line (view ∙ is)) (c.answer_text.ensures.kept ∙ sym view ∙ c.in-Some.ensures.fresh) answered in
     record {
       does = subst (λ (n : ℕ). TakesBytes g.D.Desk.gives (take (n + 1) bytes) a b) (sym found.1) takes;
+      breaks = tt;
       failures = c.in_ok-answer_text.ensures.failures;
     }
 
@@ -29,5 +31,22 @@ returns-clause-turn g c = record {
       (TakesBytes-pushed g.D.Desk.gives _ _ c.push-count.new.self c.args.bytes.now c.push-count.result.0 c.push-count.result.1
       c.push-count.ensures.taken c.push-count.ensures.given c.push-count.ensures.line c.push-count.ensures.fresh c.push-count.ensures.kept
       c.answer.ensures.kept c.in_ok-answer.ensures.turn.does);
+  breaks = tt;
   failures = c.in_ok-answer.ensures.turn.failures;
 }
+
+-- a write failed at the answer to it
+pub returns-in_err-answer_text-clause-turn : goal.returns-in_err-answer_text-clause-turn
+returns-in_err-answer_text-clause-turn g c =
+    let view : c.self.inside.feed ≡ c.args.self.now.kept = ap (λ (h : Held). h.kept) c.self.view_is in
+    broke_off _ _ _ _ _ c.from_residual.result c.from_residual.ensures.1
+    (BreaksBytes-line g.D.Desk.gives _ _ c.args.bytes.now (Whole c.in-Some.text.now) c.in-Some.ensures.found.2
+    (λ line is. c.in-Some.ensures.line line (view ∙ is)) c.in_err-answer_text.ensures.broken)
+    c.in_err-answer_text.ensures.failures
+
+pub returns-in_err-answer-clause-turn : goal.returns-in_err-answer-clause-turn
+returns-in_err-answer-clause-turn g c = broke_off _ _ _ _ _ c.from_residual-in_err-answer.result c.from_residual-in_err-answer.ensures.1
+    (rw (← c.self.view_is)
+    (BreaksBytes-pushed g.D.Desk.gives _ _ c.push-count.new.self c.args.bytes.now c.push-count.result.1
+    c.push-count.ensures.given c.push-count.ensures.line c.in_err-answer.ensures.turn.breaks))
+    c.in_err-answer.ensures.turn.failures
