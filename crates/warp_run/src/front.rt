@@ -20,13 +20,17 @@ use warp_tag::{OutOfMemory, Tag};
 /// After how many rows at most a checkpoint stands.
 const SPACING: usize = 16;
 
-/// After how many rows a checkpoint stands where rows of the program are executed: four where it has at most four
-/// variables, eight where it has at most eight, and else sixteen. The fewer values a checkpoint has, the closer they
-/// stand.
+/// After how many rows a checkpoint stands where rows of the program are executed: four where it keeps at most four
+/// values, eight where at most eight, and else sixteen. Those are its variables, and what its timers and actions may
+/// have pending. The fewer values a checkpoint has, the closer they stand.
 fn spacing_of(program: &Program) -> usize
     ensures { result ≤ spacing }
 {
-    match program.variables().len() {
+    let waiting = program
+        .timers()
+        .len()
+        .saturating_add(program.actions().len());
+    match program.variables().len().saturating_add(waiting) {
         0..=4 => 4,
         5..=8 => 8,
         _ => SPACING,
