@@ -1,27 +1,34 @@
 //! Why a file is no program.
 
 use std::alloc::AllocError;
-use std::error::Error;
-use std::fmt;
+use thiserror::Error;
 
 /// Why a file is no program: the first of these faults that it has.
-#[derive(Clone, Copy, Debug, PartialEq, Eq)]
+#[derive(Clone, Copy, Debug, PartialEq, Eq, Error)]
 pub enum LoadError {
     /// It is no JSON text in UTF-8.
+    #[error("no JSON text")]
     Json,
     /// A key or a value is not one that the tables of the format have there.
+    #[error("not in the shape of a program file")]
     Shape,
     /// It is too long, or something in it is past a limit.
+    #[error("past a limit")]
     Limit,
     /// A name is not known where it stands.
+    #[error("a name is not known")]
     Name,
     /// Something is there twice.
+    #[error("something is there twice")]
     Twice,
     /// A link without delay leads back.
+    #[error("a link without delay leads back")]
     Backward,
     /// A body reads or writes what its reaction does not name.
+    #[error("a body uses what its reaction does not declare")]
     Undeclared,
     /// A growth was refused.
+    #[error("out of memory")]
     Memory,
 }
 
@@ -44,29 +51,7 @@ impl LoadError {
             LoadError::Memory => 8,
         }
     }
-
-    /// What is told of it.
-    fn text(self) -> &'static str {
-        match self {
-            LoadError::Json => "no JSON text",
-            LoadError::Shape => "not in the shape of a program file",
-            LoadError::Limit => "past a limit",
-            LoadError::Name => "a name is not known",
-            LoadError::Twice => "something is there twice",
-            LoadError::Backward => "a link without delay leads back",
-            LoadError::Undeclared => "a body uses what its reaction does not declare",
-            LoadError::Memory => "out of memory",
-        }
-    }
 }
-
-impl fmt::Display for LoadError {
-    fn fmt<W: fmt::Write>(&self, f: &mut fmt::Formatter<W>) -> fmt::Result {
-        f.write_str(self.text())
-    }
-}
-
-impl Error for LoadError {}
 
 impl From<AllocError> for LoadError {
     ghost use Rattle.std.specs.Prelude.{◌≡◌};
