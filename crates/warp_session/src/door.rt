@@ -4,6 +4,7 @@ use crate::pulling::PullEnd;
 use crate::stream::{Sink, Source};
 use std::alloc::AllocError;
 use std::time::Duration;
+use thiserror::Error;
 
 /// The next session could not be had: accepting failed.
 #[derive(Clone, Copy, Debug, PartialEq, Eq)]
@@ -61,11 +62,13 @@ pub struct Peer<R, W> {
 }
 
 /// Why sessions were not all served.
-#[derive(Clone, Copy, Debug, PartialEq, Eq)]
+#[derive(Clone, Copy, Debug, PartialEq, Eq, Error)]
 pub enum ServeFault {
     /// The door failed, or a thread could not be started. Sessions before it were served to their end.
+    #[error("a session could not be had")]
     Accept,
     /// No memory was to be had; no session was served.
+    #[error("out of memory")]
     NoMemory,
 }
 
