@@ -49,9 +49,14 @@ fn agree_in_all<T: Timeline, U: Timeline>(rt: &impl Abort, one: &Replica<T>, oth
     for query in QUERIES {
         agree(rt, one, other, query);
     }
-    assert!(rt; one.timeline().outputs().len() <= 1_000);
-    for number in 0..1_000 {
+    let outputs = one.timeline().outputs().len();
+    assert!(rt; outputs < 1_000);
+    for number in 0..1_000_u32 {
         agree(rt, one, other, Query::Output(number));
+        // Behind the last one both answer that there is none.
+        if number as usize > outputs {
+            return;
+        }
     }
 }
 
