@@ -393,9 +393,7 @@ impl History {
             (newest (before tag self.now.saves) ≡ Some found.1) ×
             (down_to tag self.now.saves ≡ take (length self.now.saves - found.0) self.now.saves)) }
     {
-        let count = self
-            .marks
-            .partition_point(|mark| mark.done.is_before(tag));
+        let count = self.marks.partition_point(|mark| mark.done.is_before(tag));
         if count == 0 {
             return None;
         }

@@ -7,13 +7,9 @@
 #[cfg(test)]
 mod arena;
 #[cfg(test)]
-mod collection;
-#[cfg(test)]
 mod convergence;
 #[cfg(test)]
 mod dice;
-#[cfg(test)]
-mod draws;
 #[cfg(test)]
 mod exchange;
 #[cfg(test)]

@@ -58,13 +58,6 @@ pub(crate) fn takes_rows<T: Timeline>(
     assert_eq!(rt; executed, rows, "{record:?}");
 }
 
-/// Takes forty events, each of which executes a row.
-pub(crate) fn takes_forty<T: Timeline>(rt: &impl Abort, alloc: Global, replica: &mut Replica<T>) {
-    for time in 1..=40 {
-        takes_rows(rt, alloc, replica, &event(rt, 0, time, 1), 1);
-    }
-}
-
 /// The first variable of a settled replica has this value.
 pub(crate) fn has_total<T: Timeline>(rt: &impl Abort, replica: &Replica<T>, value: i64)
     requires { IsTrue (T.settled replica.now.timeline) }

@@ -1,17 +1,18 @@
-//! A replica with rollback and collecting beside its slow twin, which runs from the start: they answer the same, and
-//! going back executes no more again than the rows at tags from the least change on, and sixteen, and a record behind
-//! what was let go of no more than the run.
+//! A replica with rollback beside its slow twin, which runs from the start: they answer the same, and going back
+//! executes no more again than the rows at tags from the least change on, and sixteen.
 ghost use Rattle.std.specs.Prelude.{◌≡◌, IsTrue};
 
-use crate::draws::Draws;
+use crate::dice::Dice;
 use crate::programs::{CASCADE, ECHO, LATEST, MIXED};
-use crate::steps::{event, has_total, loaded, record, settle, takes_forty, takes_rows, twice};
+use crate::steps::{event, has_total, loaded, record, settle, takes_rows, twice};
 use std::alloc::Global;
 use std::process::Abort;
 use warp_line::{Plain, Timeline};
-use warp_record::{Query, Record};
+use warp_record::{Count, Query, Record};
 use warp_replica::Replica;
 use warp_run::Warp;
+use warp_step::Out;
+use warp_tag::Tag;
 
 /// Both answer the same to a query.
 fn agree<T: Timeline, U: Timeline>(
@@ -55,20 +56,60 @@ fn agree_in_all<T: Timeline, U: Timeline>(rt: &impl Abort, one: &Replica<T>, oth
     }
 }
 
-/// Both take a record that is drawn, with the same answer.
-fn take_drawn<T: Timeline, U: Timeline>(
-    rt: &impl Abort,
-    alloc: Global,
-    one: &mut Replica<T>,
-    twin: &mut Replica<U>,
-    draws: &mut Draws,
-    record: &Record,
-)
-    ensures one { one.new.program ≡ one.old.program }
-    ensures twin { twin.new.program ≡ twin.old.program }
-{
-    draws.note(one.timeline(), record);
-    take(rt, alloc, one, twin, record);
+/// How many tags before this one have an output.
+fn rows_before(outputs: &[Out], tag: Tag) -> u64 {
+    let mut rows: u64 = 0;
+    let mut last = None;
+    for output in outputs {
+        if output.tag.is_before(tag) && last != Some(output.tag) {
+            rows = rows.wrapping_add(1);
+        }
+        last = Some(output.tag);
+    }
+    rows
+}
+
+/// The tag of an event or a withdrawal, after which rows may change; an announcement changes none.
+fn changed_tag(record: &Record) -> Option<Tag> {
+    match *record {
+        Record::Event { tag, .. } | Record::Withdraw { tag, .. } => Some(tag),
+        Record::Announce { .. } => None,
+    }
+}
+
+/// The earlier of two tags that may be missing.
+fn earlier(one: Option<Tag>, other: Option<Tag>) -> Option<Tag> {
+    match (one, other) {
+        (Some(a), Some(b)) if b.is_before(a) => Some(b),
+        (None, _) => other,
+        _ => one,
+    }
+}
+
+/// A record of two origins: more often an event than a withdrawal or an announcement.
+fn drawn(rt: &impl Abort, dice: &mut Dice) -> Record {
+    let origin = (dice.roll() % 2) as u32;
+    let tag = Tag::new(dice.roll() % 60, (dice.roll() % 3) as u32).expect(rt, "a tag");
+    match dice.roll() % 8 {
+        0 | 1 => Record::Withdraw { origin, tag },
+        2 => Record::Announce {
+            origin,
+            tag,
+            events: count(rt, (dice.roll() % 5) as u32),
+            withdrawn: count(rt, (dice.roll() % 2) as u32),
+        },
+        _ => Record::Event {
+            origin,
+            tag,
+            input: origin,
+            value: (dice.roll() % 7) as i64,
+        },
+    }
+}
+
+/// A number of names.
+fn count(rt: &impl Abort, number: u32) -> Count {
+    Count::new(number).expect(rt, "a count")
 }
 
 /// Both take a record, with the same answer.
@@ -86,60 +127,46 @@ fn take<T: Timeline, U: Timeline>(
     assert!(rt; took == other.take(alloc, record), "{record:?}");
 }
 
-/// Settles a replica with rollback and its slow twin. They answer the same, and the one executes no more rows than it
-/// may; none where the twin executes none, since no live event changed, but where a record came behind.
+/// Settles a replica with rollback and its slow twin. They answer the same, and the one executes at most the rows
+/// from the least changed tag on, and sixteen; none where the twin executes none, since no live event changed.
 fn settle_both<T: Timeline, U: Timeline>(
     rt: &impl Abort,
     alloc: Global,
     one: &mut Replica<T>,
     twin: &mut Replica<U>,
-    draws: &mut Draws,
+    least: Option<Tag>,
 )
     ensures one { one.new.program ≡ one.old.program }
     ensures twin { twin.new.program ≡ twin.old.program }
-    ensures settled { IsTrue (T.settled one.new.timeline) × IsTrue (U.settled twin.new.timeline) }
 {
     let rows = settle(rt, alloc, one);
     let all = settle(rt, alloc, twin);
-    let most = draws.most_rows(all, twin.timeline().outputs());
-    assert!(rt; rows <= most, "{rows} rows of {all}, where {most} may be");
+    let most = match least {
+        Some(tag) if all > 0 => all
+            .wrapping_sub(rows_before(twin.timeline().outputs(), tag))
+            .wrapping_add(16),
+        _ => 0,
+    };
+    assert!(rt; rows <= most, "{rows} rows of {all}, from {least:?}");
     agree_in_all(rt, one, twin);
 }
 
-/// Both let go of what is before the horizon, with the same answer.
-fn collect_both<T: Timeline, U: Timeline>(
-    rt: &impl Abort,
-    one: &mut Replica<T>,
-    twin: &mut Replica<U>,
-)
-    requires { IsTrue (T.settled one.old.timeline) × IsTrue (U.settled twin.old.timeline) }
-    ensures one { one.new.program ≡ one.old.program }
-    ensures twin { twin.new.program ≡ twin.old.program }
-{
-    let collected = one.collect();
-    assert!(rt; collected == twin.collect());
-    agree_in_all(rt, one, twin);
-}
-
-/// Both settle, and then take drawn records and answer the same after each, and let go of what is before the horizon
-/// after some.
+/// Both settle, and then take drawn records and answer the same after each.
 fn answer_alike<T: Timeline, U: Timeline>(
     rt: &impl Abort,
     alloc: Global,
     one: &mut Replica<T>,
     twin: &mut Replica<U>,
-    draws: &mut Draws,
+    seed: u64,
 ) {
-    settle_both(rt, alloc, one, twin, draws);
-    for turn in 0..1_000 {
-        let record = draws.draw(rt);
-        take_drawn(rt, alloc, one, twin, draws, &record);
-        settle_both(rt, alloc, one, twin, draws);
-        if turn % 8 == 0 {
-            collect_both(rt, one, twin);
-        }
+    let mut dice = Dice { state: seed };
+    settle(rt, alloc, one);
+    settle(rt, alloc, twin);
+    for _ in 0..400 {
+        let record = drawn(rt, &mut dice);
+        take(rt, alloc, one, twin, &record);
+        settle_both(rt, alloc, one, twin, changed_tag(&record));
     }
-    assert!(rt; draws.behind > 50, "{} came behind", draws.behind);
 }
 
 /// A replica of this program and its slow twin answer the same after each record that is drawn from this seed.
@@ -151,8 +178,7 @@ fn answer_alike_over<T: Timeline + Drop, U: Timeline + Drop>(
 ) {
     let mut one = loaded::<T>(rt, alloc, text);
     let mut twin = loaded::<U>(rt, alloc, text);
-    let mut draws = Draws::new(seed);
-    answer_alike(rt, alloc, &mut one, &mut twin, &mut draws);
+    answer_alike(rt, alloc, &mut one, &mut twin, seed);
 }
 
 /// Seeds and programs.
@@ -186,63 +212,59 @@ fn merge_all<T: Timeline, U: Timeline>(
     one: &mut Replica<T>,
     twin: &mut Replica<U>,
     peer: &mut Replica<T>,
-)
-    ensures one { one.new.program ≡ one.old.program }
-    ensures twin { twin.new.program ≡ twin.old.program }
-    ensures peer { peer.new.program ≡ peer.old.program }
-{
+) {
     merge(rt, alloc, one, peer);
     merge(rt, alloc, twin, peer);
     merge(rt, alloc, peer, twin);
 }
 
-/// The peer takes a drawn record, or both do, and in some turns all merge. Answers the number of the turn.
+/// The peer takes a drawn record, or both do; and where both take it or all merge, `least` is the least tag that
+/// changed. Answers the number of the turn.
 fn take_turn<T: Timeline, U: Timeline>(
     rt: &impl Abort,
     alloc: Global,
     one: &mut Replica<T>,
     twin: &mut Replica<U>,
     peer: &mut Replica<T>,
-    draws: &mut Draws,
+    dice: &mut Dice,
+    least: &mut Option<Tag>,
 ) -> u64 {
-    let record = draws.draw(rt);
-    let turn = draws.number() % 64;
+    let record = drawn(rt, dice);
+    let turn = dice.roll() % 64;
     if turn < 24 {
         let _ = peer.take(alloc, &record);
     } else {
-        take_drawn(rt, alloc, one, twin, draws, &record);
+        take(rt, alloc, one, twin, &record);
+        *least = earlier(*least, changed_tag(&record));
     }
     if turn == 0 {
-        draws.note_merge(one.timeline());
         merge_all(rt, alloc, one, twin, peer);
+        *least = Some(Tag::beginning_of(0));
     }
     turn
 }
 
-/// Both take drawn records, and merge with the peer, and answer the same when they are settled, and again when they let
-/// go of what is before the horizon.
+/// Both take drawn records, and merge with the peer, and answer the same when they are settled.
 fn merge_alike<T: Timeline, U: Timeline>(
     rt: &impl Abort,
     alloc: Global,
     one: &mut Replica<T>,
     twin: &mut Replica<U>,
     peer: &mut Replica<T>,
-    draws: &mut Draws,
 ) {
-    settle_both(rt, alloc, one, twin, draws);
+    let mut dice = Dice { state: 4 };
+    let mut least = Some(Tag::beginning_of(0));
     for _ in 0..1_000 {
-        let turn = take_turn(rt, alloc, one, twin, peer, draws);
+        let turn = take_turn(rt, alloc, one, twin, peer, &mut dice, &mut least);
         if turn % 4 == 1 {
             settle(rt, alloc, peer);
-            peer.collect();
         }
         if turn % 4 == 2 {
-            settle_both(rt, alloc, one, twin, draws);
-            collect_both(rt, one, twin);
+            settle_both(rt, alloc, one, twin, least);
+            least = None;
         }
     }
     assert!(rt; one.len() > 500);
-    assert!(rt; draws.behind > 20, "{} came behind", draws.behind);
 }
 
 /// A replica of the program, its slow twin and a peer do so.
@@ -254,8 +276,7 @@ fn merge_alike_over<T: Timeline + Drop, U: Timeline + Drop>(
     let mut one = loaded::<T>(rt, alloc, text);
     let mut twin = loaded::<U>(rt, alloc, text);
     let mut peer = loaded::<T>(rt, alloc, text);
-    let mut draws = Draws::new(4);
-    merge_alike(rt, alloc, &mut one, &mut twin, &mut peer, &mut draws);
+    merge_alike(rt, alloc, &mut one, &mut twin, &mut peer);
 }
 
 #[test]
@@ -276,7 +297,9 @@ const AFTER_FORTY: [(Change, u64); 4] = [
 
 /// Takes forty events, each of which costs a row, and then those records.
 fn take_forty<T: Timeline>(rt: &impl Abort, alloc: Global, replica: &mut Replica<T>) {
-    takes_forty(rt, alloc, replica);
+    for time in 1..=40 {
+        takes_rows(rt, alloc, replica, &event(rt, 0, time, 1), 1);
+    }
     for ((origin, time, value), rows) in AFTER_FORTY {
         takes_rows(rt, alloc, replica, &record(rt, origin, time, value), rows);
         has_total(rt, replica, 1_099_511_627_519);
