@@ -16,8 +16,8 @@ use Rattle.warp_lanes.specs.declared.answer.Answer.{Answer}
 use Rattle.warp_replica.specs.Replica.{ReplicaState}
 use Rattle.warp_lanes.specs.declared.turn.Turn.{Turn}
 use Rattle.warp_lanes.specs.declared.turn.Turn.TheVariants.{Served, Empty, Stalled}
-use Rattle.warp_lanes.specs.Engine.{TurnsLane, AreFresh, ids_of}
-use Rattle.warp_lanes.specs.Lanes.{LaneState}
+use Rattle.warp_lanes.specs.Engine.{TurnsLane, AreFresh, HasPlace, ids_of}
+use Rattle.warp_lanes.specs.Lanes.{LaneState, places}
 use Rattle.warp_lanes.proofs.Growing.{Grows, grown, same, grows, begins}
 use Rattle.warp_lanes.specs.History.{IsGiven, AreGiven, AreRising, told_at, times_told, times_taken, IsServed, IsHistory}
 
@@ -76,6 +76,14 @@ pub at_place : (P : LaneState → Type 0) (lanes : List LaneState) (k : ℕ) (la
 at_place P [] k lane all e = absurd (grind (e, arith))
 at_place P (l ∷ lanes) zero lane all e = subst P (grind (e, arith)) all.0
 at_place P (l ∷ lanes) (suc k) lane all e = at_place P lanes k lane all.1 (grind (e, arith))
+
+pub has_place : (lanes : List LaneState) (k : ℕ) (lane : LaneState) → slice_get lanes k ≡ Some lane → HasPlace lanes k → length lane.answers < places
+has_place [] k lane e h = absurd (grind (e, arith))
+has_place (l ∷ lanes) zero lane e h =
+    let here : l ≡ lane = grind (e, arith) in
+    let there : l ≡ h.0 = grind (h.1, arith) in
+    subst (λ (x : LaneState). length x.answers < places) (sym there ∙ here) h.2
+has_place (l ∷ lanes) (suc k) lane e h = has_place lanes k lane e h
 
 sum_at : (place : ℕ) (lanes : List LaneState) (k : ℕ) (lane lane' : LaneState) (n : ℕ)
     → slice_get lanes k ≡ Some lane → times_told place lane'.answers ≡ times_told place lane.answers + n → times_taken place (set lanes k lane') ≡ times_taken place lanes + n

@@ -1,5 +1,5 @@
 -- An engine, and what a turn and draining a lane do.
-use Rattle.std.specs.Prelude.{◌≡◌, ℕ, ◌≤◌, Bool, List, [], ◌∷◌, ◌++◌, length, map, slice_get, Some}
+use Rattle.std.specs.Prelude.{◌≡◌, ℕ, ◌<◌, ◌≤◌, Bool, List, [], ◌∷◌, ◌++◌, length, map, slice_get, Some}
 use Rattle.std.specs.List.{AllByRecursion}
 use Rattle.std.proofs.Math.ListN.{set}
 use Rattle.warp_record.specs.declared.line.Line.{Line}
@@ -10,7 +10,7 @@ use Rattle.warp_board.specs.Board.{WriterState}
 use Rattle.warp_lanes.specs.declared.answer.Answer.{Answer}
 use Rattle.warp_lanes.specs.declared.turn.Turn.{Turn}
 use Rattle.warp_lanes.specs.declared.turn.Turn.TheVariants.{Served, Empty, Stalled}
-use Rattle.warp_lanes.specs.Lanes.{LaneId, LaneState, PortState, IsAnswer}
+use Rattle.warp_lanes.specs.Lanes.{LaneId, LaneState, PortState, IsAnswer, places}
 
 -- how many lanes an engine may serve
 abbrev pub most_lanes : ℕ
@@ -34,6 +34,11 @@ AreFresh lanes = AllByRecursion IsFresh lanes
 -- which lanes these are, each at its place
 abbrev pub ids_of : List LaneState → List LaneId
 ids_of lanes = map (λ lane. lane.lane) lanes
+
+-- the lane of this place sent fewer answers than its ring has places for, so that none can lack one
+abbrev pub HasPlace : List LaneState → ℕ → Type 0
+HasPlace lanes place =
+    (lane : LaneState) × (slice_get lanes place ≡ Some lane) × (length lane.answers < places)
 
 -- The replica was given a line: the reply is what the line gives on its log, with the length of the log that it left;
 -- and by that reply it is settled, or not.

@@ -1,7 +1,8 @@
 -- What the two ends of a lane have sent and received.
-use Rattle.std.specs.Prelude.{ℕ, List, refl}
+use Rattle.std.specs.Prelude.{ℕ, ◌≤◌, List, refl}
 use Rattle.std.specs.Coded.{Coded, code_by, coded×, coded_ℕ}
 use denote.RawPtr.{Ptr, coded_ptr}
+use Rattle.warp_tag.specs.Limits.{most_records}
 use Rattle.warp_record.specs.declared.line.Line.{Line}
 use Rattle.warp_record.specs.Reply.{IsReply}
 use Rattle.warp_replica.specs.Length.{SaysLength}
@@ -36,9 +37,9 @@ ring_id_code =
 abbrev pub lane_id_code : Coded LaneId
 lane_id_code = coded× ring_id_code ring_id_code
 
--- an answer that a lane may carry: a reply in range, and the length that it says
+-- an answer that a lane may carry: a reply in range, and the length that it says, which a log may have
 abbrev pub IsAnswer : Answer → Type 0
-IsAnswer answer = IsReply answer.reply × SaysLength answer.len answer.reply
+IsAnswer answer = IsReply answer.reply × SaysLength answer.len answer.reply × (answer.len ≤ most_records)
 
 -- the lane of a port, the lines that it sent, and the answers that it fetched, each in order
 pub record PortState : Type 0 where

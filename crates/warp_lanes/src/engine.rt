@@ -1,7 +1,7 @@
 //! The engine: the thread that holds the replica serves all lanes.
 //!
 //! What the lanes received and sent is always a linear history of the replica's program and log.
-ghost use Rattle.std.specs.Prelude.{◌≡◌, ◌<◌, ◌≤◌, [], ℕ, false, IfOk, IsOk, IsTrue, List, OnErr, OnOk, Some};
+ghost use Rattle.std.specs.Prelude.{◌≡◌, ◌≢◌, ◌<◌, ◌≤◌, [], ℕ, false, IfOk, IsOk, IsTrue, List, OnErr, OnOk, Some};
 ghost use Rattle.std.specs.Prelude.{length, slice_get};
 ghost use Rattle.warp_tag.specs.declared.out.Out.{Out};
 ghost use Rattle.warp_table.specs.Records.{set_of};
@@ -9,9 +9,11 @@ ghost use Rattle.warp_step.specs.Run.{Row};
 ghost use Rattle.warp_line.specs.Timeline.{IsDone, Settles};
 ghost use Rattle.warp_replica.specs.Answers.{IsReleased};
 ghost use Rattle.warp_replica.specs.Replica.{Stands, standing_of};
-ghost use Rattle.warp_lanes.specs.Engine.{AreFresh, Drains, Turns, TurnsLane, ids_of, most_lanes};
+ghost use Rattle.warp_lanes.specs.Engine.{AreFresh, Drains, HasPlace, Turns, TurnsLane, ids_of, most_lanes};
 ghost use Rattle.warp_lanes.specs.History.{IsHistory};
+ghost use Rattle.warp_lanes.specs.Lanes.{places};
 ghost use Rattle.warp_lanes.specs.Publish.{AreReleased, HasNews, Publishes};
+ghost use Rattle.warp_lanes.specs.declared.turn.Turn.{Turn};
 
 use crate::answer::Answer;
 use crate::draining::drain;
@@ -109,12 +111,13 @@ impl<T: Timeline> Engine<T> {
         self.lanes.len()
     }
 
-    /// Serves the next command of a lane as a replica without peers would, if one is found and its answer has a place.
-    /// `alloc` is the replica's. It settles as `Replica::ask` does: where there was no memory for it, `settle` may be
-    /// called later.
+    /// Serves the next command of a lane as a replica without peers would, if one is found and its answer has a place:
+    /// each of a lane's first 64 answers has. `alloc` is the replica's. It settles as `Replica::ask` does: where there was
+    /// no memory for it, `settle` may be called later.
     pub fn turn(&mut self, alloc: Global, lane: usize) -> Turn
         requires { lane < length self.old.lanes }
         ensures turns { Turns T.settled self.old lane result self.new }
+        ensures first { HasPlace self.old.lanes lane → result ≢ Turn.Stalled }
         ensures program { self.new.replica.program ≡ self.old.replica.program }
         ensures writer { self.new.writer ≡ self.old.writer }
         ensures began { self.new.began ≡ self.old.began }
@@ -175,8 +178,9 @@ impl<T: Timeline> Engine<T> {
     }
 
     /// Appends to the board the released outputs that are missing, as many as it has room for, and tells how many rows
-    /// there are; or freezes it for good, where its rows no longer begin what is released. The replica is settled. It
-    /// looks at no row that no record since can have changed, but at each once a lane was drained.
+    /// there are; or freezes it for good, where its rows no longer begin what is released. The replica is settled.
+    /// Which rows it looks at no clause says: those that a record since may have changed, and all once a lane was
+    /// drained.
     pub fn publish(&mut self, board: &Board) -> Published
         requires settled { IsTrue (T.settled self.old.replica.timeline) }
         requires board { self.old.writer.board ≡ board.now }
@@ -200,6 +204,7 @@ fn serve<T: Timeline>(
     alloc: Global,
 ) -> (Turn, Option<Tag>)
     ensures turns { TurnsLane T.settled replica.old lane.old result.0 replica.new lane.new }
+    ensures first { length lane.old.answers < places → result.0 ≢ Turn.Stalled }
     ensures news { HasNews replica.old.program replica.old.records result.1 replica.new.records }
 {
     if lane.answers.is_full() {

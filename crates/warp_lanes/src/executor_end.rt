@@ -16,9 +16,9 @@ pub struct Lane {
 }
 
 impl Model for Lane {
-    ghost use Rattle.std.specs.Prelude.{◌++◌};
-    ghost use Rattle.rtrb.specs.Ring.{sent, received};
-    ghost use Rattle.warp_lanes.specs.Lanes.{LaneState};
+    ghost use Rattle.std.specs.Prelude.{◌+◌, ◌≤◌, ◌++◌, length};
+    ghost use Rattle.rtrb.specs.Ring.{known_free, sent, received};
+    ghost use Rattle.warp_lanes.specs.Lanes.{LaneState, places};
 
     ghost Value = { LaneState };
 
@@ -31,4 +31,6 @@ impl Model for Lane {
           commands = received l.commands;
           answers = sent l.answers ++ l.last.items;
         } };
+
+    ghost invariant = { λ l. places ≤ known_free l.answers + length (sent l.answers) };
 }

@@ -43,8 +43,8 @@ impl Model for Port {
 }
 
 impl Port {
-    /// Sends a line. It comes back where the ring of commands has no place, or 128 answers are missing, which is where
-    /// both rings are full; of the first 64 lines none does.
+    /// Sends a line; or gives it back, and nothing changes, where the ring of commands is found full or 128 answers are
+    /// missing. Of the first 64 lines none comes back; which of the later ones do, no clause says.
     pub fn send(&mut self, line: Line) -> Result<(), Line>
         ensures ok { OnOk result (self.new ≡ record self.old { sent = self.old.sent ++ «line» ∷ [] }) }
         ensures err { IfErr result (λ back. (back ≡ «line») × (self.new ≡ self.old)) }
@@ -62,7 +62,8 @@ impl Port {
         }
     }
 
-    /// The next answer, if one is missing and is found. It is that of the first line whose answer was not fetched.
+    /// The next answer, if one is missing and one is found, which no clause promises. That it is that of the first line
+    /// whose answer was not fetched is known once the lane is drained with the port's end.
     pub fn reply(&mut self) -> Option<Answer>
         ensures some { IfSome result
             (λ answer. IsAnswer answer × (self.new ≡ record self.old { fetched = self.old.fetched ++ answer ∷ [] })
@@ -89,7 +90,8 @@ impl Port {
         usize::from(self.missing)
     }
 
-    /// Ends the port, and gives what its lane may be drained with; `None` where the other end was dropped before.
+    /// Ends the port, and gives what its lane may be drained with; `None` where the other end was dropped before, as far
+    /// as tests show.
     pub fn finish(self) -> Option<PortEnd>
         ensures { IfSome result (λ end. end ≡ self) }
     {

@@ -21,7 +21,7 @@ returns-clause-turns g c =
           c.ask-reply.ensures.gives,
           c.ask-reply.ensures.program,
           c.len-len.ensures.value,
-          (c.ask-reply.ensures.reply, rw c.len-len.ensures.value c.ask-reply.ensures.length),
+          (c.ask-reply.ensures.reply, rw c.len-len.ensures.value c.ask-reply.ensures.length, c.len-len.ensures.bound),
           c.ask-reply.ensures.settled,
         ),
         rw (← c.lane.view_is)
