@@ -76,6 +76,17 @@ fn a_full_lane_is_busy(rt: HostRuntime) {
     holds_all::<Plain, HostRuntime>(&rt, rt.alloc());
 }
 
+/// A row of port 0.
+fn row(rt: &impl Abort) -> Out
+    ensures { result.port ≡ 0 }
+{
+    Out {
+        tag: Tag::new(5, 0).expect(rt, "a tag"),
+        port: 0,
+        value: 3,
+    }
+}
+
 /// A look at the first row.
 const FIRST: Line = Line::Look(Look::Row(0));
 
@@ -90,15 +101,10 @@ fn looks_anew<'a, X: Wait + Clock + Abort>(
     requires writer { writer.board ≡ board.now }
     requires reader { reader.board ≡ board.now }
 {
-    let row = Out {
-        tag: Tag::new(5, 0).expect(rt, "a tag"),
-        port: 0,
-        value: 3,
-    };
     let mut desk = PortDesk::new(rt, board, port, reader);
     assert_eq!(rt; desk.ask(FIRST), Reply::NoRow);
-    assert_eq!(rt; writer.append(board, row), Ok(()));
-    assert_eq!(rt; desk.ask(FIRST), Reply::Row(row));
+    assert_eq!(rt; writer.append(board, row(rt)), Ok(()));
+    assert_eq!(rt; desk.ask(FIRST), Reply::Row(row(rt)));
 }
 
 #[test]

@@ -191,10 +191,11 @@ fn pulls<X: Threads + Wait + Clock + Abort + Sync>(rt: &X, alloc: Global) {
         rt, "memory",
     );
     let talks = talks.as_slice();
+    let last = talks.last().expect(rt, "a connection");
     let (one, other) = thread::join(
         rt,
         || serve_meeting(rt, alloc, talks, 0, 1),
-        || serve_pulling(rt, alloc, &talks[1]),
+        || serve_pulling(rt, alloc, last),
     );
     assert_eq!(rt; (one, other), (TOTAL, TOTAL));
 }
