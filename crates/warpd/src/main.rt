@@ -1,10 +1,12 @@
 //! The program `warpd`: it reads the words, runs the job, and tells how that ended.
 #![tactic(auto)]
 
+mod connection;
 mod file_bytes;
 mod outcome;
 mod program_file;
 mod schedule_file;
+mod service;
 
 ghost use Rattle.std.specs.Prelude.{◌≡◌, ◌≢◌, ◌<◌, ◌⊎◌, IfErr, IfOk, MatchResult, OnOk, codes, map, string_bytes};
 ghost use Rattle.std.specs.Io.KnownBytes.{Appends};
@@ -22,6 +24,7 @@ use clap::error::ErrorKind;
 use outcome::{Outcome, outcome_of, outcome_of_fault, say, status};
 use program_file::program_named;
 use schedule_file::schedule_bytes;
+use service::{Host, Service, listen, ready_line, serve_at};
 use std::alloc::{AllocError, Global};
 use std::fs::Files;
 use std::io::{Eprint, Print, Read, Write};
@@ -51,7 +54,7 @@ fn main(rt: HostRuntime) -> ExitCode {
 fn start<
     L: Ledger,
     M: Ledger,
-    P: Print + Eprint + Files,
+    P: Host,
     R: Read + Drop,
     W: Write + Drop,
     E: Write,
@@ -131,7 +134,7 @@ fn without_words<P: Eprint>(rt: &P, error: &io::Error) -> Outcome
 
 /// Does what the words ask for, or ends for the reason that there are none; tells the outcome on `errors`, and gives
 /// its exit status. The second part says whether the outcome could be told.
-fn perform<P: Print + Eprint + Files, R: Source, W: Sink, E: Write>(
+fn perform<P: Host, R: Source, W: Sink, E: Write>(
     rt: &P,
     alloc: Global,
     arguments: Result<Vec<String>, Outcome>,
@@ -162,7 +165,7 @@ fn tell<E: Write>(outcome: Outcome, errors: &mut E) -> (ExitCode, io::Result<()>
 }
 
 /// Does what the words ask for.
-fn obey<P: Print + Eprint + Files, R: Source, W: Sink>(
+fn obey<P: Host, R: Source, W: Sink>(
     rt: &P,
     alloc: Global,
     arguments: &[String],
@@ -180,8 +183,8 @@ fn obey<P: Print + Eprint + Files, R: Source, W: Sink>(
 }
 
 /// Does the job.
-fn carry_out<F: Files, R: Source, W: Sink>(
-    files: &F,
+fn carry_out<P: Host, R: Source, W: Sink>(
+    rt: &P,
     alloc: Global,
     job: Job<'_>,
     streams: &mut Streams<R, W>,
@@ -189,8 +192,21 @@ fn carry_out<F: Files, R: Source, W: Sink>(
     ensures { Does (task_of job.entry) streams.old streams.new result }
 {
     match job {
-        Job::Run { program } => run(files, alloc, program, streams),
-        Job::Play { program, schedule } => play(files, alloc, program, schedule, streams),
+        Job::Run { program } => run(rt, alloc, program, streams),
+        Job::Play { program, schedule } => play(rt, alloc, program, schedule, streams),
+        Job::Serve {
+            program,
+            port,
+            sessions,
+            peers,
+        } => {
+            let service = Service {
+                port,
+                sessions,
+                peers,
+            };
+            serve(rt, alloc, program, &service, streams)
+        }
     }
 }
 
@@ -300,6 +316,40 @@ fn play_bytes<R: Source, W: Sink>(
     match play_text::<Warp>(alloc, program, schedule) {
         Ok(text) => print(&text, streams),
         Err(fault) => outcome_of_fault(fault),
+    }
+}
+
+/// Serves sessions of the program of this name over TCP.
+fn serve<H: Host, R: Source, W: Sink>(
+    rt: &H,
+    alloc: Global,
+    name: &str,
+    service: &Service<'_>,
+    streams: &mut Streams<R, W>,
+) -> Outcome {
+    if service.sessions + service.peers.len() > 16 {
+        return Outcome::TooManyLanes;
+    }
+    match program_named(rt, alloc, name) {
+        Ok(program) => serve_program(rt, alloc, program, service, streams),
+        Err(outcome) => outcome,
+    }
+}
+
+/// Serves sessions of the program over TCP.
+fn serve_program<H: Host, R: Source, W: Sink>(
+    rt: &H,
+    alloc: Global,
+    program: Program,
+    service: &Service<'_>,
+    streams: &mut Streams<R, W>,
+) -> Outcome {
+    let Ok(listener) = listen(rt, service.port) else {
+        return Outcome::Listen;
+    };
+    match print(ready_line(service.port).as_str().as_bytes(), streams) {
+        Outcome::Done => serve_at(rt, alloc, program, listener, service),
+        other => other,
     }
 }
 
