@@ -22,10 +22,11 @@ run_command = with_rule (new_app (codes "run")) (wanted_word (codes "PROGRAM"))
 abbrev pub play_command : App
 play_command = with_rule (with_rule (new_app (codes "play")) (wanted_word (codes "PROGRAM"))) (wanted_word (codes "SCHEDULE"))
 
--- an option for a number from 1 to `most`, which has to be there
+-- an option for a number from 1 to `most`, which has to be there; help shows a name for the number
 abbrev pub wanted_number : Text → ℕ → Rule
 wanted_number name most = record (new_rule name) {
   long = Some name;
+  value_names = 1;
   parser = Some (Unsigned 1 most);
   required = true;
 }

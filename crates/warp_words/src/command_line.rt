@@ -1,7 +1,7 @@
 //! The words of the command line.
 ghost use Rattle.std.specs.Prelude.{◌≡◌, ◌≤◌, [], IfErr, IfOk, IfSome, Some, codes, map, option_map};
 ghost use Rattle.std.specs.Prelude.{false};
-ghost use Rattle.clap.specs.Words.{app_of, fault_of, first_of, found_of, HasKind, rows_of, subcommand_of};
+ghost use Rattle.clap.specs.Words.{app_of, fault_of, first_of, found_of, HasKind, rows_of, rule_of, subcommand_of};
 ghost use Rattle.clap.specs.Words.{subcommand_rows_of};
 ghost use Rattle.clap.specs.Words.{with_rule, with_subcommand};
 ghost use Rattle.clap.specs.declared.builder.command.Command.TheViews.{out-Command as fields_of};
@@ -190,7 +190,8 @@ pub fn words<'a>(alloc: Global, line: &'a [&'a str]) -> Result<Job<'a>, Error>
     ensures err { IfErr result (HasKind (fault_of warpd_command (map (λ word. word.now) line.entry.now))) }
 {
     let matches = matches(alloc, line)?;
-    match job_asked(alloc, &matches)? {
+    let asked = job_asked(alloc, &matches)?;
+    match asked {
         Some(job) => Ok(job),
         None => unreachable!(),
     }
@@ -248,8 +249,8 @@ fn serve_job<'a>(alloc: Global, found: &ArgMatches<'a>) -> Result<Option<Job<'a>
 
 /// What `serve` asks for, with these peers.
 fn serve_job_with<'a>(found: &ArgMatches<'a>, peers: Vec<&'a str>) -> Option<Job<'a>>
-    ensures { all_of_or_none (codes "PEER") (rows_of (found_of found.now)) ≡ map (λ word. word.now) peers.entry.items →
-        option_map task_of result ≡ serve_task (rows_of (found_of found.now)) }
+    requires { map (λ word. word.now) peers.items ≡ all_of_or_none (codes "PEER") (rows_of (found_of found.now)) }
+    ensures { option_map task_of result ≡ serve_task (rows_of (found_of found.now)) }
 {
     let program = text(found, PROGRAM)?;
     let port = number(found, PORT, LAST_PORT)?;
@@ -282,11 +283,7 @@ fn number_up_to(most: u64, word: &str) -> Option<u64>
 }
 
 /// All texts of the argument with this id, in their order.
-fn texts<'a>(
-    alloc: Global,
-    found: &ArgMatches<'a>,
-    id: &str,
-) -> Result<Vec<&'a str>, AllocError>
+fn texts<'a>(alloc: Global, found: &ArgMatches<'a>, id: &str) -> Result<Vec<&'a str>, AllocError>
     ensures { IfOk result (λ all. map (λ word. word.now) all.items ≡ all_of_or_none id.now (rows_of (found_of found.now))) }
 {
     match found.get_raw(id) {
@@ -407,7 +404,14 @@ fn serve<'a>(alloc: Global) -> Result<Command<'a>, AllocError>
         .after_long_help(serve_help::NOTES);
     let serve = with_word(alloc, serve, PROGRAM, PROGRAM_HELP)?;
     let serve = with_number(alloc, serve, PORT, "P", LAST_PORT, serve_help::PORT_HELP)?;
-    let serve = with_number(alloc, serve, SESSIONS, "K", MOST_SESSIONS, serve_help::SESSIONS_HELP)?;
+    let serve = with_number(
+        alloc,
+        serve,
+        SESSIONS,
+        "K",
+        MOST_SESSIONS,
+        serve_help::SESSIONS_HELP,
+    )?;
     with_words(alloc, serve, PEER, serve_help::PEER_HELP)
 }
 
@@ -439,13 +443,20 @@ fn with_number<'a>(
     ensures local { (fields_of command.entry).has_globals ≡ false →
         IfOk result (λ c. (fields_of c).has_globals ≡ false) }
 {
-    let number = Arg::new(alloc, name)
+    let number = number_option(alloc, name, value, most).help(help);
+    command.arg(number)
+}
+
+/// An option for a number from 1 to `most`, which has to be there; help calls the number `value`.
+fn number_option<'a>(alloc: Global, name: &'a str, value: &'a str, most: u64) -> Arg<'a>
+    ensures rule { rule_of result ≡ wanted_number name.entry.now most }
+    ensures optional { result.global ≡ false }
+{
+    Arg::new(alloc, name)
         .long(name)
         .value_name(value)
-        .help(help)
         .required(true)
-        .value_parser(ValueParser::unsigned(1, most));
-    command.arg(number)
+        .value_parser(ValueParser::unsigned(1, most))
 }
 
 /// The command with one more place for a word, which has to be there.

@@ -1,6 +1,7 @@
 //! The texts that `warpd serve --help` shows.
 
-pub(crate) const ABOUT: &str = "Serves sessions over TCP on this machine, and pulls from other servers";
+pub(crate) const ABOUT: &str =
+    "Serves sessions over TCP on this machine, and pulls from other servers";
 
 pub(crate) const LONG_ABOUT: &str = "\
 Listens on 127.0.0.1 at port P, prints the line `ready P` on standard output, and serves the
@@ -19,12 +20,12 @@ without asking the replica:
               board COUNT 0, or board COUNT 1
   row INDEX   a row, from 0: row TIME MICROSTEP PORT VALUE, or none
 
-A row on the board stays there. The board is frozen for good where a record takes back what
-was released, or where all of its 4,096 rows are used.
+A row on the board stays there. The board has room for 4,096 rows, and is frozen for good once
+a record takes back what was released.
 
 From each PEER, the HOST:PORT of another server, the log is pulled in the background. A pull
-ends once the peer had nothing new for 500 times, 10 milliseconds apart. A server that names
-itself as a peer serves that pull as one of its sessions.
+ends once the peer had nothing new for 500 times in a row, 10 milliseconds apart. A server
+that names itself as a peer serves that pull as one of its sessions.
 
 The server ends when all K sessions and all pulls have ended. Nothing is stored on disk: a
 server that is started anew is empty, and gets from its peers what they have. It can be

@@ -15,9 +15,9 @@ pub(crate) struct Connection {
 }
 
 impl Connection {
-    /// Both directions of a connection, in which small pieces are sent at once.
+    /// Both directions of a connection. Small pieces are sent at once, where the system can do that.
     pub(crate) fn both_of(stream: TcpStream) -> io::Result<(Connection, Connection)> {
-        stream.set_nodelay(true)?;
+        let _ = stream.set_nodelay(true);
         let other = stream.try_clone()?;
         Ok((Connection::new(stream), Connection::new(other)))
     }

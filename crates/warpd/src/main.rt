@@ -8,23 +8,25 @@ mod program_file;
 mod schedule_file;
 mod service;
 
-ghost use Rattle.std.specs.Prelude.{◌≡◌, ◌≢◌, ◌<◌, ◌⊎◌, IfErr, IfOk, MatchResult, OnOk, codes, map, string_bytes};
+ghost use Rattle.std.specs.Prelude.{◌≡◌, ◌≢◌, ◌+◌, ◌<◌, ◌≤◌, ◌⊎◌, IfErr, IfOk, MatchBool, MatchResult, OnOk};
+ghost use Rattle.std.specs.Prelude.{codes, map, string_bytes, vec_len};
 ghost use Rattle.std.specs.Io.KnownBytes.{Appends};
 ghost use Rattle.std.specs.IoError.{error_kind};
 ghost use Rattle.std.specs.Process.{exit_status};
 ghost use Rattle.std.specs.declared.io.ErrorKind.TheVariants.{OutOfMemory};
 ghost use Rattle.clap.specs.Words.{kind_of};
+ghost use Rattle.warp_lanes.specs.Engine.{most_lanes};
 ghost use Rattle.warp_step.specs.Counter.{IsUnused};
 ghost use Rattle.warpd.specs.Outcome.{Does, EndsSo, IsPrinted, IsShown, Obeys, Plays, PlaysBytes, PlaysOver, Runs};
-ghost use Rattle.warpd.specs.Outcome.{Seen, untouched};
+ghost use Rattle.warpd.specs.Outcome.{Seen, Serves, ServesAt, ready_line, untouched};
 ghost use Rattle.warpd.specs.Outcome.{told_line, status_of};
 ghost use Rattle.warp_words.specs.Words.{task_of};
 
 use clap::error::ErrorKind;
-use outcome::{Outcome, outcome_of, outcome_of_fault, say, status};
+use outcome::{Outcome, outcome_of, outcome_of_fault, ready, say, status};
 use program_file::program_named;
 use schedule_file::schedule_bytes;
-use service::{Host, Service, listen, ready_line, serve_at};
+use service::{Host, Service, listen, serve_at};
 use std::alloc::{AllocError, Global};
 use std::fs::Files;
 use std::io::{Eprint, Print, Read, Write};
@@ -51,14 +53,7 @@ fn main(rt: HostRuntime) -> ExitCode {
 
 /// The run over the words of the command line, or for the reason that there are none, over standard input and output.
 /// The failures of both are counted in these ledgers. The outcome is told on `errors`; its exit status comes back.
-fn start<
-    L: Ledger,
-    M: Ledger,
-    P: Host,
-    R: Read + Drop,
-    W: Write + Drop,
-    E: Write,
->(
+fn start<L: Ledger, M: Ledger, P: Host, R: Read + Drop, W: Write + Drop, E: Write>(
     rt: &P,
     alloc: Global,
     arguments: Result<Vec<String>, Outcome>,
@@ -320,14 +315,16 @@ fn play_bytes<R: Source, W: Sink>(
 }
 
 /// Serves sessions of the program of this name over TCP.
-fn serve<H: Host, R: Source, W: Sink>(
-    rt: &H,
+fn serve<P: Host, R: Source, W: Sink>(
+    rt: &P,
     alloc: Global,
     name: &str,
     service: &Service<'_>,
     streams: &mut Streams<R, W>,
-) -> Outcome {
-    if service.sessions + service.peers.len() > 16 {
+) -> Outcome
+    ensures { Serves name.now service.now.port (service.now.sessions + vec_len service.now.peers) streams.old streams.new result }
+{
+    if !service.fits() {
         return Outcome::TooManyLanes;
     }
     match program_named(rt, alloc, name) {
@@ -336,21 +333,34 @@ fn serve<H: Host, R: Source, W: Sink>(
     }
 }
 
-/// Serves sessions of the program over TCP.
-fn serve_program<H: Host, R: Source, W: Sink>(
-    rt: &H,
+/// Listens, says so, and serves sessions of the program.
+fn serve_program<P: Host, R: Source, W: Sink>(
+    rt: &P,
     alloc: Global,
     program: Program,
     service: &Service<'_>,
     streams: &mut Streams<R, W>,
-) -> Outcome {
+) -> Outcome
+    requires { service.now.sessions + vec_len service.now.peers ≤ most_lanes }
+    ensures { ServesAt service.now.port streams.old streams.new result }
+{
     let Ok(listener) = listen(rt, service.port) else {
         return Outcome::Listen;
     };
-    match print(ready_line(service.port).as_str().as_bytes(), streams) {
-        Outcome::Done => serve_at(rt, alloc, program, listener, service),
-        other => other,
+    if say_ready(service.port, streams) {
+        serve_at(rt, alloc, program, listener, service)
+    } else {
+        Outcome::Output
     }
+}
+
+/// Says that the port is listened on, and answers whether that could be written.
+fn say_ready<R: Source, W: Sink>(port: u16, streams: &mut Streams<R, W>) -> bool
+    ensures { MatchBool result (IsPrinted (ready_line port) streams.old streams.new Outcome.Done)
+        (IsPrinted (ready_line port) streams.old streams.new Outcome.Output) }
+{
+    let line = ready(port);
+    matches!(print(line.as_str().as_bytes(), streams), Outcome::Done)
 }
 
 /// Writes the text to the sink.

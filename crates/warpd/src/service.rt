@@ -1,9 +1,11 @@
 //! Serving sessions over TCP.
 
+ghost use Rattle.std.specs.Prelude.{◌+◌, ◌<◌, ◌≤◌, IfOk, MatchBool, length, vec_len};
+ghost use Rattle.warp_lanes.specs.Engine.{most_lanes};
+ghost use Rattle.warpd.specs.Outcome.{IsServed};
+
 use crate::connection::Connection;
-use crate::outcome::Outcome;
-use arrayvec::ArrayString;
-use itoa::Buffer;
+use crate::outcome::{Outcome, outcome_of_serving};
 use std::alloc::{AllocError, Global};
 use std::fs::Files;
 use std::io::{self, Eprint, Print};
@@ -14,6 +16,9 @@ use std::time::{Clock, Duration};
 use warp_session::{Door, DoorFault, Open, Peer, PullEnd, ServeFault, serve_sessions};
 use warp_step::Program;
 
+/// The most sessions and peers together.
+const MOST_LANES: usize = 16;
+
 /// So many replies in a row that a peer's log has no more end the pull from it.
 const QUIET: u32 = 500;
 
@@ -21,19 +26,17 @@ const QUIET: u32 = 500;
 const PAUSE: u64 = 10;
 
 /// What a run needs of the system.
-pub(crate) trait Host:
-    Print
+pub(crate) trait Host: Print
     + Eprint
     + Files
     + Net<Listener = TcpListener, Stream = TcpStream>
     + Threads
     + Wait
     + Clock
-    + Sync
-{
-}
+    + Sync {}
 
-impl<X> Host for X where
+impl<X> Host for X
+where
     X: Print
         + Eprint
         + Files
@@ -41,9 +44,8 @@ impl<X> Host for X where
         + Threads
         + Wait
         + Clock
-        + Sync
-{
-}
+        + Sync,
+{}
 
 /// What a server is asked to do.
 #[derive(Drop)]
@@ -54,6 +56,16 @@ pub(crate) struct Service<'a> {
     pub(crate) sessions: usize,
     /// The words that name the peers.
     pub(crate) peers: Vec<&'a str>,
+}
+
+impl<'a> Service<'a> {
+    /// Whether there are lanes enough, one for each session and each peer.
+    pub(crate) fn fits(&self) -> bool
+        ensures { MatchBool result (self.now.sessions + vec_len self.now.peers ≤ most_lanes)
+            (most_lanes < self.now.sessions + vec_len self.now.peers) }
+    {
+        self.sessions.saturating_add(self.peers.len()) <= MOST_LANES
+    }
 }
 
 /// The sessions that come to a listener.
@@ -103,24 +115,36 @@ fn connect<X: Host>(rt: &X, address: &str) -> io::Result<(Connection, Connection
     Connection::both_of(TcpStream::connect(rt, address)?)
 }
 
+/// The connection to the peer with this number, or `None` where it can't be reached, which is told on standard error.
+fn reached<X: Host>(rt: &X, number: u32, address: &str) -> Option<Peer<Connection, Connection>> {
+    match connect(rt, address) {
+        Ok((source, sink)) => Some(Peer {
+            number,
+            source,
+            sink,
+            quiet: QUIET,
+            pause: Duration::from_millis(PAUSE),
+        }),
+        Err(_) => {
+            tell_failed(rt, number);
+            None
+        }
+    }
+}
+
 /// Connections to the peers that can be reached.
-fn connect_all<X: Host>(
+fn reach_all<X: Host>(
     rt: &X,
     alloc: Global,
     addresses: &[&str],
-) -> Result<Vec<Peer<Connection, Connection>>, AllocError> {
+) -> Result<Vec<Peer<Connection, Connection>>, AllocError>
+    ensures { IfOk result (λ peers. vec_len peers ≤ length addresses.now) }
+{
     let mut peers = Vec::with_capacity(alloc, addresses.len())?;
     let mut number = 0u32;
     for address in addresses {
-        match connect(rt, *address) {
-            Ok((source, sink)) => peers.push(Peer {
-                number,
-                source,
-                sink,
-                quiet: QUIET,
-                pause: Duration::from_millis(PAUSE),
-            })?,
-            Err(_) => tell_failed(rt, number),
+        if let Some(peer) = reached(rt, number, *address) {
+            peers.push(peer)?;
         }
         number = number.wrapping_add(1);
     }
@@ -134,24 +158,31 @@ pub(crate) fn serve_at<X: Host>(
     program: Program,
     listener: TcpListener,
     service: &Service<'_>,
-) -> Outcome {
-    let Ok(peers) = connect_all(rt, alloc, &service.peers) else {
-        return Outcome::Memory;
-    };
-    let mut door = Entrance { rt, listener };
-    match serve_sessions(rt, alloc, program, &mut door, service.sessions, peers, &Open) {
-        Ok(_engine) => Outcome::Done,
-        Err(ServeFault::Accept) => Outcome::Accept,
-        Err(ServeFault::NoMemory) => Outcome::Memory,
+) -> Outcome
+    requires { service.now.sessions + vec_len service.now.peers ≤ most_lanes }
+    ensures { IsServed result }
+{
+    match reach_all(rt, alloc, &service.peers) {
+        Ok(peers) => serve_with(rt, alloc, program, listener, service.sessions, peers),
+        Err(_) => Outcome::Memory,
     }
 }
 
-/// What is printed once the port is listened on.
-pub(crate) fn ready_line(port: u16) -> ArrayString<16> {
-    let mut digits = Buffer::new();
-    let mut line = ArrayString::new();
-    line.push_str("ready ");
-    line.push_str(digits.format(port));
-    line.push('\n');
-    line
+/// Serves the sessions that come to the listener, and pulls from the peers.
+fn serve_with<X: Host>(
+    rt: &X,
+    alloc: Global,
+    program: Program,
+    listener: TcpListener,
+    sessions: usize,
+    peers: Vec<Peer<Connection, Connection>>,
+) -> Outcome
+    requires { sessions + vec_len peers ≤ most_lanes }
+    ensures { IsServed result }
+{
+    let mut door = Entrance { rt, listener };
+    match serve_sessions(rt, alloc, program, &mut door, sessions, peers, &Open) {
+        Ok(_engine) => Outcome::Done,
+        Err(fault) => outcome_of_serving(fault),
+    }
 }
