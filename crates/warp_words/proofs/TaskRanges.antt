@@ -7,7 +7,7 @@ use Rattle.clap.specs.ValueTests.{is_unsigned_in}
 use Rattle.clap.specs.Walk.{Row, Text, first_of}
 use Rattle.clap.specs.declared.builder.value_parser.ValueParser.TheVariants.{Unsigned}
 use Rattle.clap.proofs.ValueTestLemmas.{accepts-Accepts}
-use Rattle.warp_words.specs.Words.{IsInRange, RunProgram, PlaySchedule, ServeProgram, Task, last_port, most_sessions, number_up_to, play_task, run_task, serve_task, task_found}
+use Rattle.warp_words.specs.Words.{IsInRange, RunProgram, PlaySchedule, ServeProgram, last_port, most_sessions, number_up_to, play_task, run_task, serve_task, task_found}
 
 abbrev IsUpTo : ℕ → ℕ → Type 0
 IsUpTo most n = (1 ≤ n) × (n ≤ most)

@@ -165,8 +165,8 @@ serve_outcome serve_fault.Accept = Accept
 serve_outcome serve_fault.NoMemory = Memory
 
 -- the run ends so behind its line: all was served, or a connection couldn't be accepted, or memory was wanting
-abbrev pub IsServed : Outcome → Type 0
-IsServed outcome = (outcome ≡ Done) ⊎ (outcome ≡ Accept) ⊎ (outcome ≡ Memory)
+abbrev pub EndsServing : Outcome → Type 0
+EndsServing outcome = (outcome ≡ Done) ⊎ (outcome ≡ Accept) ⊎ (outcome ≡ Memory)
 
 -- Serving at this port ends so: it can't be listened on, and nothing is done; or its line can't be written; or that is
 -- written, and nothing else, whatever comes behind it. Standard input is not read.
@@ -174,7 +174,7 @@ abbrev pub ServesAt : ℕ → Seen → Seen → Outcome → Type 0
 ServesAt port before after outcome =
     ((outcome ≡ Listen) × (after ≡ before))
     ⊎ ((outcome ≡ Output) × IsPrinted (ready_line port) before after Output)
-    ⊎ (IsServed outcome × IsPrinted (ready_line port) before after Done)
+    ⊎ (EndsServing outcome × IsPrinted (ready_line port) before after Done)
 
 -- serving a program at this port ends so: that of this name; or where there is none, nothing is done
 abbrev pub ServesNamed : List ℕ → ℕ → Seen → Seen → Outcome → Type 0
@@ -183,8 +183,8 @@ ServesNamed name port before after outcome =
 
 -- Serving the program of this name at this port, with so many lanes, one for each session and each peer, ends so. Where they
 -- are too many, nothing is done, whatever the program.
-abbrev pub Serves : List ℕ → ℕ → ℕ → Seen → Seen → Outcome → Type 0
-Serves name port lanes before after outcome =
+abbrev pub ServesInLanes : List ℕ → ℕ → ℕ → Seen → Seen → Outcome → Type 0
+ServesInLanes name port lanes before after outcome =
     ((most_lanes < lanes) × (outcome ≡ TooManyLanes) × (after ≡ before))
     ⊎ ((lanes ≤ most_lanes) × ServesNamed name port before after outcome)
 
@@ -193,7 +193,7 @@ abbrev pub Does : Task → Seen → Seen → Outcome → Type 0
 Does (RunProgram program) before after outcome = Runs program before after outcome
 Does (PlaySchedule program schedule) before after outcome = Plays program before after outcome
 Does (ServeProgram program port sessions peers) before after outcome =
-    Serves program port (sessions + length peers) before after outcome
+    ServesInLanes program port (sessions + length peers) before after outcome
 
 -- the run whose words are these ends so: words with no fault have what they ask for done, and of others the
 -- parser's text is shown; for want of memory nothing is done

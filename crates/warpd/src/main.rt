@@ -18,7 +18,7 @@ ghost use Rattle.clap.specs.Words.{kind_of};
 ghost use Rattle.warp_lanes.specs.Engine.{most_lanes};
 ghost use Rattle.warp_step.specs.Counter.{IsUnused};
 ghost use Rattle.warpd.specs.Outcome.{Does, EndsSo, IsPrinted, IsShown, Obeys, Plays, PlaysBytes, PlaysOver, Runs};
-ghost use Rattle.warpd.specs.Outcome.{Seen, Serves, ServesAt, ready_line, untouched};
+ghost use Rattle.warpd.specs.Outcome.{Seen, ServesInLanes, ServesAt, ready_line, untouched};
 ghost use Rattle.warpd.specs.Outcome.{told_line, status_of};
 ghost use Rattle.warp_words.specs.Words.{task_of};
 
@@ -31,6 +31,7 @@ use std::alloc::{AllocError, Global};
 use std::fs::Files;
 use std::io::{Eprint, Print, Read, Write};
 use std::marker::{Brand, Model};
+use std::net::{Net, TcpListener, TcpStream};
 use std::process::ExitCode;
 use std::sync::ledger::{Blank, Ledger};
 use std::{env, io};
@@ -53,7 +54,14 @@ fn main(rt: HostRuntime) -> ExitCode {
 
 /// The run over the words of the command line, or for the reason that there are none, over standard input and output.
 /// The failures of both are counted in these ledgers. The outcome is told on `errors`; its exit status comes back.
-fn start<L: Ledger, M: Ledger, P: Host, R: Read + Drop, W: Write + Drop, E: Write>(
+fn start<
+    L: Ledger,
+    M: Ledger,
+    P: Host + Net<Listener = TcpListener, Stream = TcpStream>,
+    R: Read + Drop,
+    W: Write + Drop,
+    E: Write,
+>(
     rt: &P,
     alloc: Global,
     arguments: Result<Vec<String>, Outcome>,
@@ -129,7 +137,7 @@ fn without_words<P: Eprint>(rt: &P, error: &io::Error) -> Outcome
 
 /// Does what the words ask for, or ends for the reason that there are none; tells the outcome on `errors`, and gives
 /// its exit status. The second part says whether the outcome could be told.
-fn perform<P: Host, R: Source, W: Sink, E: Write>(
+fn perform<P: Host + Net<Listener = TcpListener, Stream = TcpStream>, R: Source, W: Sink, E: Write>(
     rt: &P,
     alloc: Global,
     arguments: Result<Vec<String>, Outcome>,
@@ -160,7 +168,7 @@ fn tell<E: Write>(outcome: Outcome, errors: &mut E) -> (ExitCode, io::Result<()>
 }
 
 /// Does what the words ask for.
-fn obey<P: Host, R: Source, W: Sink>(
+fn obey<P: Host + Net<Listener = TcpListener, Stream = TcpStream>, R: Source, W: Sink>(
     rt: &P,
     alloc: Global,
     arguments: &[String],
@@ -178,7 +186,7 @@ fn obey<P: Host, R: Source, W: Sink>(
 }
 
 /// Does the job.
-fn carry_out<P: Host, R: Source, W: Sink>(
+fn carry_out<P: Host + Net<Listener = TcpListener, Stream = TcpStream>, R: Source, W: Sink>(
     rt: &P,
     alloc: Global,
     job: Job<'_>,
@@ -314,15 +322,15 @@ fn play_bytes<R: Source, W: Sink>(
     }
 }
 
-/// Serves sessions of the program of this name over TCP.
-fn serve<P: Host, R: Source, W: Sink>(
+/// ServesInLanes sessions of the program of this name over TCP.
+fn serve<P: Host + Net<Listener = TcpListener, Stream = TcpStream>, R: Source, W: Sink>(
     rt: &P,
     alloc: Global,
     name: &str,
     service: &Service<'_>,
     streams: &mut Streams<R, W>,
 ) -> Outcome
-    ensures { Serves name.now service.now.port (service.now.sessions + vec_len service.now.peers) streams.old streams.new result }
+    ensures { ServesInLanes name.now service.now.port (service.now.sessions + vec_len service.now.peers) streams.old streams.new result }
 {
     if !service.fits() {
         return Outcome::TooManyLanes;
@@ -334,7 +342,7 @@ fn serve<P: Host, R: Source, W: Sink>(
 }
 
 /// Listens, says so, and serves sessions of the program.
-fn serve_program<P: Host, R: Source, W: Sink>(
+fn serve_program<P: Host + Net<Listener = TcpListener, Stream = TcpStream>, R: Source, W: Sink>(
     rt: &P,
     alloc: Global,
     program: Program,

@@ -2,7 +2,7 @@
 
 ghost use Rattle.std.specs.Prelude.{◌+◌, ◌<◌, ◌≤◌, IfOk, MatchBool, length, vec_len};
 ghost use Rattle.warp_lanes.specs.Engine.{most_lanes};
-ghost use Rattle.warpd.specs.Outcome.{IsServed};
+ghost use Rattle.warpd.specs.Outcome.{EndsServing};
 
 use crate::connection::Connection;
 use crate::outcome::{Outcome, outcome_of_serving};
@@ -25,26 +25,12 @@ const QUIET: u32 = 500;
 /// The sleep behind each of them, in milliseconds.
 const PAUSE: u64 = 10;
 
-/// What a run needs of the system.
-pub(crate) trait Host: Print
-    + Eprint
-    + Files
-    + Net<Listener = TcpListener, Stream = TcpStream>
-    + Threads
-    + Wait
-    + Clock
-    + Sync {}
+/// What a run needs of the system beside the network.
+pub(crate) trait Host: Print + Eprint + Files + Threads + Wait + Clock + Sync {}
 
 impl<X> Host for X
 where
-    X: Print
-        + Eprint
-        + Files
-        + Net<Listener = TcpListener, Stream = TcpStream>
-        + Threads
-        + Wait
-        + Clock
-        + Sync,
+    X: Print + Eprint + Files + Threads + Wait + Clock + Sync,
 {}
 
 /// What a server is asked to do.
@@ -106,17 +92,27 @@ fn tell_failed<X: Eprint>(rt: &X, peer: u32) {
 }
 
 /// A listener on this machine alone.
-pub(crate) fn listen<X: Host>(rt: &X, port: u16) -> io::Result<TcpListener> {
+pub(crate) fn listen<X: Net<Listener = TcpListener, Stream = TcpStream>>(
+    rt: &X,
+    port: u16,
+) -> io::Result<TcpListener> {
     TcpListener::bind(rt, (Ipv4Addr::LOCALHOST, port))
 }
 
 /// Both directions of a connection to the peer that this word names.
-fn connect<X: Host>(rt: &X, address: &str) -> io::Result<(Connection, Connection)> {
+fn connect<X: Net<Listener = TcpListener, Stream = TcpStream>>(
+    rt: &X,
+    address: &str,
+) -> io::Result<(Connection, Connection)> {
     Connection::both_of(TcpStream::connect(rt, address)?)
 }
 
 /// The connection to the peer with this number, or `None` where it can't be reached, which is told on standard error.
-fn reached<X: Host>(rt: &X, number: u32, address: &str) -> Option<Peer<Connection, Connection>> {
+fn reached<X: Eprint + Net<Listener = TcpListener, Stream = TcpStream>>(
+    rt: &X,
+    number: u32,
+    address: &str,
+) -> Option<Peer<Connection, Connection>> {
     match connect(rt, address) {
         Ok((source, sink)) => Some(Peer {
             number,
@@ -133,7 +129,7 @@ fn reached<X: Host>(rt: &X, number: u32, address: &str) -> Option<Peer<Connectio
 }
 
 /// Connections to the peers that can be reached.
-fn reach_all<X: Host>(
+fn reach_all<X: Eprint + Net<Listener = TcpListener, Stream = TcpStream>>(
     rt: &X,
     alloc: Global,
     addresses: &[&str],
@@ -152,7 +148,7 @@ fn reach_all<X: Host>(
 }
 
 /// Connects to the peers, and serves the sessions that come to the listener.
-pub(crate) fn serve_at<X: Host>(
+pub(crate) fn serve_at<X: Host + Net<Listener = TcpListener, Stream = TcpStream>>(
     rt: &X,
     alloc: Global,
     program: Program,
@@ -160,7 +156,7 @@ pub(crate) fn serve_at<X: Host>(
     service: &Service<'_>,
 ) -> Outcome
     requires { service.now.sessions + vec_len service.now.peers ≤ most_lanes }
-    ensures { IsServed result }
+    ensures { EndsServing result }
 {
     match reach_all(rt, alloc, &service.peers) {
         Ok(peers) => serve_with(rt, alloc, program, listener, service.sessions, peers),
@@ -178,7 +174,7 @@ fn serve_with<X: Host>(
     peers: Vec<Peer<Connection, Connection>>,
 ) -> Outcome
     requires { sessions + vec_len peers ≤ most_lanes }
-    ensures { IsServed result }
+    ensures { EndsServing result }
 {
     let mut door = Entrance { rt, listener };
     match serve_sessions(rt, alloc, program, &mut door, sessions, peers, &Open) {

@@ -1,5 +1,5 @@
 -- The parser's own test of a number says what `parse` and the two bounds say.
-use Rattle.std.proofs.Common.{◌≡◌, ℕ, ap, arith, Bool, true, false, cond, Option, None, Some, refl}
+use Rattle.std.proofs.Common.{◌≡◌, ℕ, ap, arith, Bool, true, false, cond, None, Some, refl}
 use Rattle.clap.specs.ValueTests.{is_unsigned_in}
 use Rattle.clap.specs.declared.builder.value_parser.ValueParser.TheVariants.{Unsigned}
 use Rattle.clap.proofs.ValueTestLemmas.{accepts-Accepts, Accepts-accepts}

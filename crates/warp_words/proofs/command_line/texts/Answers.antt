@@ -1,5 +1,5 @@
 -- The words are those of the argument's rows.
-use Rattle.std.proofs.Common.{◌≡◌, ◌∙◌, ap, List, Option, None, Some, map, option_map, refl}
+use Rattle.std.proofs.Common.{◌≡◌, ◌∙◌, ap, List, None, Some, map, refl}
 use Rattle.std.specs.Prelude.{IfOk, Result, Ok, Err}
 use Rattle.std.specs.Borrow.{Bor}
 use Rattle.clap.specs.Walk.{Text, all_of, rows_of}
