@@ -18,7 +18,7 @@ ghost use Rattle.clap.specs.Words.{kind_of};
 ghost use Rattle.warp_lanes.specs.Engine.{most_lanes};
 ghost use Rattle.warp_step.specs.Counter.{IsUnused};
 ghost use Rattle.warpd.specs.Outcome.{Does, EndsSo, IsPrinted, IsShown, Obeys, Plays, PlaysBytes, PlaysOver, Runs};
-ghost use Rattle.warpd.specs.Outcome.{Seen, ServesInLanes, ServesAt, ready_line, untouched};
+ghost use Rattle.warpd.specs.Outcome.{Seen, ServesAt, ServesInLanes, ServesNamed, ready_line, untouched};
 ghost use Rattle.warpd.specs.Outcome.{told_line, status_of};
 ghost use Rattle.warp_words.specs.Words.{task_of};
 
@@ -332,9 +332,24 @@ fn serve<P: Host + Net<Listener = TcpListener, Stream = TcpStream>, R: Source, W
 ) -> Outcome
     ensures { ServesInLanes name.now service.now.port (service.now.sessions + vec_len service.now.peers) streams.old streams.new result }
 {
-    if !service.fits() {
-        return Outcome::TooManyLanes;
+    if service.fits() {
+        serve_named(rt, alloc, name, service, streams)
+    } else {
+        Outcome::TooManyLanes
     }
+}
+
+/// Serves sessions of the program of this name over TCP, for which there are lanes enough.
+fn serve_named<P: Host + Net<Listener = TcpListener, Stream = TcpStream>, R: Source, W: Sink>(
+    rt: &P,
+    alloc: Global,
+    name: &str,
+    service: &Service<'_>,
+    streams: &mut Streams<R, W>,
+) -> Outcome
+    requires { service.now.sessions + vec_len service.now.peers ≤ most_lanes }
+    ensures { ServesNamed name.now service.now.port streams.old streams.new result }
+{
     match program_named(rt, alloc, name) {
         Ok(program) => serve_program(rt, alloc, program, service, streams),
         Err(outcome) => outcome,
