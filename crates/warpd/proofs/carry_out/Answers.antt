@@ -7,4 +7,4 @@ pub returns-in-Serve : goal.returns-in-Serve
 returns-in-Serve g c =
     let peers = c.in-Serve.peers in
     let count : peers.len ≡ length (map (λ word. word.now) peers.items) = peers.ok.0 ∙ sym (length-map peers.items (λ word. word.now)) in
-    rw (← count) c.serve.ensures
+    rw (c.in-Serve.is, ← count) c.serve.ensures
