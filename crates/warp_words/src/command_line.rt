@@ -284,7 +284,8 @@ fn number_up_to(most: u64, word: &str) -> Option<u64>
 
 /// All texts of the argument with this id, in their order.
 fn texts<'a>(alloc: Global, found: &ArgMatches<'a>, id: &str) -> Result<Vec<&'a str>, AllocError>
-    ensures { IfOk result (λ all. map (λ word. word.now) all.items ≡ all_of_or_none id.now (rows_of (found_of found.now))) }
+    ensures { IfOk result (λ all. map (λ word. word.now) all.items
+        ≡ all_of_or_none id.now (rows_of (found_of found.now))) }
 {
     match found.get_raw(id) {
         Some(words) => listed(alloc, words),

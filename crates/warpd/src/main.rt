@@ -330,7 +330,8 @@ fn serve<P: Host + Net<Listener = TcpListener, Stream = TcpStream>, R: Source, W
     service: &Service<'_>,
     streams: &mut Streams<R, W>,
 ) -> Outcome
-    ensures { ServesInLanes name.now service.now.port (service.now.sessions + vec_len service.now.peers) streams.old streams.new result }
+    ensures { ServesInLanes name.now service.now.port (service.now.sessions + vec_len service.now.peers)
+        streams.old streams.new result }
 {
     if service.fits() {
         serve_named(rt, alloc, name, service, streams)
