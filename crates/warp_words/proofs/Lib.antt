@@ -1,2 +1,3 @@
 pub mod FaultlessWalks
 pub mod GivenArguments
+pub mod TaskRanges

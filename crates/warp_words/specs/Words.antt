@@ -1,10 +1,14 @@
 -- The command line of `warpd`, as the parser of the crate `clap` reads it, and what its words ask for.
-use Rattle.std.specs.Prelude.{List, true, Option, None, codes, option_and_then, option_map, if◌then◌else◌}
+use Rattle.std.specs.Prelude.{◌≤◌, ℕ, List, [], true, Option, None, Some, codes, map, option_and_then, option_map, unwrap_or, if◌then◌else◌}
 use Rattle.std.specs.Str.{bytes_eq}
-use Rattle.clap.specs.Words.{App, Row, Rule, Text, first_of, new_app, new_rule, subcommand_of, with_rule, with_subcommand}
+use Rattle.std.specs.Str.Parse.{digits_value, without_leading_plus}
+use Rattle.clap.specs.Words.{App, Row, Rule, Text, all_of, first_of, new_app, new_rule, subcommand_of, with_rule, with_subcommand}
 use Rattle.clap.specs.Simple.{on_top}
+use Rattle.clap.specs.ValueTests.{is_unsigned_in}
+use Rattle.clap.specs.declared.builder.action.ArgAction.TheVariants.{Append}
+use Rattle.clap.specs.declared.builder.value_parser.ValueParser.TheVariants.{Unsigned}
 use Rattle.warp_words.specs.declared.command_line.Job.{Job}
-use Rattle.warp_words.specs.declared.command_line.Job.TheVariants.{Run, Play}
+use Rattle.warp_words.specs.declared.command_line.Job.TheVariants.{Run, Play, Serve}
 
 -- a place for one word, which has to be there
 abbrev pub wanted_word : Text → Rule
@@ -18,6 +22,33 @@ run_command = with_rule (new_app (codes "run")) (wanted_word (codes "PROGRAM"))
 abbrev pub play_command : App
 play_command = with_rule (with_rule (new_app (codes "play")) (wanted_word (codes "PROGRAM"))) (wanted_word (codes "SCHEDULE"))
 
+-- an option for a number from 1 to `most`, which has to be there; help shows a name for the number
+abbrev pub wanted_number : Text → ℕ → Rule
+wanted_number name most = record (new_rule name) {
+  long = Some name;
+  value_names = 1;
+  parser = Some (Unsigned 1 most);
+  required = true;
+}
+
+-- places for any number of words
+abbrev pub any_words : Text → Rule
+any_words place = record (new_rule place) { action = Some Append }
+
+-- the highest port, and the most sessions
+abbrev pub last_port : ℕ
+last_port = 65535
+
+abbrev pub most_sessions : ℕ
+most_sessions = 16
+
+-- `serve` with PROGRAM, `--port`, `--sessions` and PEERs
+abbrev pub serve_command : App
+serve_command =
+    with_rule (with_rule (with_rule (with_rule (new_app (codes "serve"))
+    (wanted_word (codes "PROGRAM"))) (wanted_number (codes "port") last_port))
+    (wanted_number (codes "sessions") most_sessions)) (any_words (codes "PEER"))
+
 -- `warpd` wants a subcommand, answers with help where no word comes, and has a version
 abbrev pub top_command : App
 top_command = on_top
@@ -26,13 +57,14 @@ top_command = on_top
 
 -- `warpd` with its subcommands
 abbrev pub warpd_command : App
-warpd_command = with_subcommand (with_subcommand top_command run_command.top) play_command.top
+warpd_command = with_subcommand (with_subcommand (with_subcommand top_command run_command.top) play_command.top) serve_command.top
 
 -- what the words may ask for: to run the program of this name; or over the program of the first name to play the schedule of
--- the second
+-- the second; or to serve the program of this name at a port, for so many sessions, and to pull from these peers
 pub data Task : Type 0 where
   RunProgram : Text → Task
   PlaySchedule : Text → Text → Task
+  ServeProgram : Text → ℕ → ℕ → List Text → Task
 
 -- what `run` asks for, of what was found for it: the word in the place of PROGRAM
 abbrev pub run_task : List Row → Option Task
@@ -43,10 +75,34 @@ abbrev pub play_task : List Row → Option Task
 play_task found =
     option_and_then (λ program. option_map (PlaySchedule program) (first_of (codes "SCHEDULE") found)) (first_of (codes "PROGRAM") found)
 
+-- the number from 1 to `most` that the word spells in decimal, if it spells one
+abbrev pub number_up_to : ℕ → Text → Option ℕ
+number_up_to most word =
+    if is_unsigned_in 1 most word then Some (digits_value 10 (without_leading_plus word)) else None
+
+-- the number of this name, up to `most`, of what was found
+abbrev pub number_found : Text → ℕ → List Row → Option ℕ
+number_found name most found = option_and_then (number_up_to most) (first_of name found)
+
+-- the words in the places of this name, in their order
+abbrev pub all_of_or_none : Text → List Row → List Text
+all_of_or_none place found = unwrap_or (all_of place found) []
+
+-- what `serve` asks for, of what was found for it: the word in the place of PROGRAM, the numbers, and the words in the
+-- places of PEER
+abbrev pub serve_task : List Row → Option Task
+serve_task found =
+    option_and_then (λ program. option_and_then (λ port. option_map (λ sessions. ServeProgram program port sessions
+    (all_of_or_none (codes "PEER") found))
+    (number_found (codes "sessions") most_sessions found)) (number_found (codes "port") last_port found))
+    (first_of (codes "PROGRAM") found)
+
 -- what the subcommand of this name asks for
 abbrev pub task_named : Text → List Row → Option Task
 task_named name found =
-    if bytes_eq name (codes "run") then run_task found else (if bytes_eq name (codes "play") then play_task found else None)
+    if bytes_eq name (codes "run") then run_task found
+    else (if bytes_eq name (codes "play") then play_task found
+    else (if bytes_eq name (codes "serve") then serve_task found else None))
 
 -- what a subcommand asks for, with what was found for it
 abbrev pub task_found : Option (Text × List Row) → Option Task
@@ -60,3 +116,10 @@ task_in words = task_found (subcommand_of warpd_command words)
 abbrev pub task_of : Job → Task
 task_of (Run program) = RunProgram program.now
 task_of (Play program schedule) = PlaySchedule program.now schedule.now
+task_of (Serve program port sessions peers) = ServeProgram program.now port sessions (map (λ word. word.now) peers.items)
+
+-- the port and the number of sessions are in their ranges
+abbrev pub IsInRange : Task → Type 0
+IsInRange (ServeProgram program port sessions peers) =
+    (1 ≤ port) × (port ≤ last_port) × (1 ≤ sessions) × (sessions ≤ most_sessions)
+IsInRange task = Unit {0}

@@ -1,18 +1,22 @@
 //! The words of the command line.
-ghost use Rattle.std.specs.Prelude.{◌≡◌, [], IfErr, IfOk, Some, map, option_map};
+ghost use Rattle.std.specs.Prelude.{◌≡◌, ◌≤◌, [], IfErr, IfOk, IfSome, Some, codes, map, option_map};
 ghost use Rattle.std.specs.Prelude.{false};
-ghost use Rattle.clap.specs.Words.{app_of, fault_of, first_of, found_of, HasKind, rows_of, subcommand_of};
+ghost use Rattle.clap.specs.Words.{app_of, fault_of, first_of, found_of, HasKind, rows_of, rule_of, subcommand_of};
 ghost use Rattle.clap.specs.Words.{subcommand_rows_of};
 ghost use Rattle.clap.specs.Words.{with_rule, with_subcommand};
 ghost use Rattle.clap.specs.declared.builder.command.Command.TheViews.{out-Command as fields_of};
 ghost use Rattle.warp_words.specs.Words.{play_command, play_task, run_command, run_task, task_found, task_in, task_of};
-ghost use Rattle.warp_words.specs.Words.{top_command, wanted_word, warpd_command};
+ghost use Rattle.warp_words.specs.Words.{IsInRange, all_of_or_none, any_words, number_found, number_up_to};
+ghost use Rattle.warp_words.specs.Words.{serve_command, serve_task};
+ghost use Rattle.warp_words.specs.Words.{top_command, wanted_number, wanted_word, warpd_command};
 
-use clap::{Arg, ArgMatches, Command, Error};
+use crate::serve_help;
+use clap::builder::ValueParser;
+use clap::{Arg, ArgAction, ArgMatches, Command, Error};
 use std::alloc::{AllocError, Global};
 
 /// What the words ask for.
-#[derive(Clone, Copy, Debug, PartialEq, Eq)]
+#[derive(Debug, Drop, PartialEq, Eq)]
 pub enum Job<'a> {
     /// Answer the lines of standard input on standard output.
     Run {
@@ -25,6 +29,17 @@ pub enum Job<'a> {
         program: &'a str,
         /// The word that names the file of the schedule.
         schedule: &'a str,
+    },
+    /// Serve sessions over TCP, and pull from peers.
+    Serve {
+        /// The word that names the program to run.
+        program: &'a str,
+        /// The port to listen on, 1 to 65535.
+        port: u16,
+        /// How many sessions to serve in all, 1 to 16.
+        sessions: usize,
+        /// The words that name the peers, in their order.
+        peers: Vec<&'a str>,
     },
 }
 
@@ -42,7 +57,8 @@ Exit status:
   2  the words were not understood
   3  the program or the schedule was refused
   4  the program or the schedule couldn't be read, or a standard stream failed
-  5  memory ran out";
+  5  memory ran out
+  6  the server couldn't listen, or couldn't accept a connection";
 
 const RUN_ABOUT: &str = "Answers the lines of standard input on standard output";
 
@@ -153,15 +169,29 @@ const SCHEDULE: &str = "SCHEDULE";
 
 const SCHEDULE_HELP: &str = "The schedule to play: the path of its file";
 
+const PORT: &str = "port";
+
+const SESSIONS: &str = "sessions";
+
+const PEER: &str = "PEER";
+
+/// The highest port.
+const LAST_PORT: u64 = 65_535;
+
+/// The most sessions of a server.
+const MOST_SESSIONS: u64 = 16;
+
 /// Reads the words of the command line, of which the first is the program's own name.
 /// An error is a mistake in the words, a request for help or the version, or want of memory; its text is for the user.
 pub fn words<'a>(alloc: Global, line: &'a [&'a str]) -> Result<Job<'a>, Error>
     ensures ok { IfOk result (λ job. (fault_of warpd_command (map (λ word. word.now) line.entry.now) ≡ [])
         × (task_in (map (λ word. word.now) line.entry.now) ≡ Some (task_of job))) }
+    ensures range { IfOk result (λ job. IsInRange (task_of job)) }
     ensures err { IfErr result (HasKind (fault_of warpd_command (map (λ word. word.now) line.entry.now))) }
 {
     let matches = matches(alloc, line)?;
-    match job_asked(&matches) {
+    let asked = job_asked(alloc, &matches)?;
+    match asked {
         Some(job) => Ok(job),
         None => unreachable!(),
     }
@@ -177,16 +207,19 @@ fn matches<'a>(alloc: Global, line: &'a [&'a str]) -> Result<ArgMatches<'a>, Err
 }
 
 /// What the subcommand asks for.
-fn job_asked<'a>(matches: &ArgMatches<'a>) -> Option<Job<'a>>
-    ensures { option_map task_of result ≡ task_found (subcommand_rows_of matches.now) }
+fn job_asked<'a>(alloc: Global, matches: &ArgMatches<'a>) -> Result<Option<Job<'a>>, AllocError>
+    ensures { IfOk result (λ job. option_map task_of job ≡ task_found (subcommand_rows_of matches.now)) }
 {
     if let Some(found) = matches.subcommand_matches("run") {
-        return run_job(found);
+        return Ok(run_job(found));
     }
     if let Some(found) = matches.subcommand_matches("play") {
-        return play_job(found);
+        return Ok(play_job(found));
     }
-    None
+    if let Some(found) = matches.subcommand_matches("serve") {
+        return serve_job(alloc, found);
+    }
+    Ok(None)
 }
 
 /// What `run` asks for.
@@ -206,6 +239,71 @@ fn play_job<'a>(found: &ArgMatches<'a>) -> Option<Job<'a>>
     Some(Job::Play { program, schedule })
 }
 
+/// What `serve` asks for.
+fn serve_job<'a>(alloc: Global, found: &ArgMatches<'a>) -> Result<Option<Job<'a>>, AllocError>
+    ensures { IfOk result (λ job. option_map task_of job ≡ serve_task (rows_of (found_of found.now))) }
+{
+    let peers = texts(alloc, found, PEER)?;
+    Ok(serve_job_with(found, peers))
+}
+
+/// What `serve` asks for, with these peers.
+fn serve_job_with<'a>(found: &ArgMatches<'a>, peers: Vec<&'a str>) -> Option<Job<'a>>
+    requires { map (λ word. word.now) peers.items ≡ all_of_or_none (codes "PEER") (rows_of (found_of found.now)) }
+    ensures { option_map task_of result ≡ serve_task (rows_of (found_of found.now)) }
+{
+    let program = text(found, PROGRAM)?;
+    let port = number(found, PORT, LAST_PORT)?;
+    let sessions = number(found, SESSIONS, MOST_SESSIONS)?;
+    Some(Job::Serve {
+        program,
+        port: port as u16,
+        sessions: sessions as usize,
+        peers,
+    })
+}
+
+/// The number of the argument with this id, from 1 to `most`.
+fn number<'a>(found: &ArgMatches<'a>, id: &str, most: u64) -> Option<u64>
+    ensures number { result ≡ number_found id.now most (rows_of (found_of found.now)) }
+    ensures range { IfSome result (λ n. (1 ≤ n) × (n ≤ most)) }
+{
+    number_up_to(most, text(found, id)?)
+}
+
+/// The number from 1 to `most` that the word spells in decimal.
+fn number_up_to(most: u64, word: &str) -> Option<u64>
+    ensures number { result ≡ number_up_to most word.now }
+    ensures range { IfSome result (λ n. (1 ≤ n) × (n ≤ most)) }
+{
+    match word.parse::<u64>() {
+        Ok(n) if 1 <= n && n <= most => Some(n),
+        _ => None,
+    }
+}
+
+/// All texts of the argument with this id, in their order.
+fn texts<'a>(alloc: Global, found: &ArgMatches<'a>, id: &str) -> Result<Vec<&'a str>, AllocError>
+    ensures { IfOk result (λ all. map (λ word. word.now) all.items
+        ≡ all_of_or_none id.now (rows_of (found_of found.now))) }
+{
+    match found.get_raw(id) {
+        Some(words) => listed(alloc, words),
+        None => Ok(Vec::new(alloc)),
+    }
+}
+
+/// These words in a list.
+fn listed<'a>(alloc: Global, words: &[&'a str]) -> Result<Vec<&'a str>, AllocError>
+    ensures { IfOk result (λ all. all.items ≡ words.now) }
+{
+    let mut all = Vec::new(alloc);
+    for word in words {
+        all.push(*word)?;
+    }
+    Ok(all)
+}
+
 /// The first text of the argument with this id.
 fn text<'a>(found: &ArgMatches<'a>, id: &str) -> Option<&'a str>
     ensures { option_map (λ word. word.now) result ≡ first_of id.now (rows_of (found_of found.now)) }
@@ -218,7 +316,22 @@ fn command<'a>(alloc: Global) -> Result<Command<'a>, AllocError>
     ensures { IfOk result (λ c. app_of c ≡ warpd_command) }
 {
     let command = with_run(alloc)?;
-    with_play(command, play(alloc))
+    let command = with_play(command, play(alloc))?;
+    with_serve(command, serve(alloc))
+}
+
+/// The command with this subcommand `serve` too, if there was memory for it.
+fn with_serve<'a>(
+    command: Command<'a>,
+    serve: Result<Command<'a>, AllocError>,
+) -> Result<Command<'a>, AllocError>
+    requires { IfOk serve (λ c. (app_of c ≡ serve_command) × ((fields_of c).has_globals ≡ false)) }
+    ensures { IfOk result (λ c. app_of c ≡ with_subcommand (app_of command.entry) serve_command.top) }
+{
+    match serve {
+        Ok(serve) => command.subcommand(serve),
+        Err(error) => Err(error),
+    }
 }
 
 /// The command with this subcommand `play` too, if there was memory for it.
@@ -279,6 +392,72 @@ fn play<'a>(alloc: Global) -> Result<Command<'a>, AllocError>
         .after_long_help(PLAY_NOTES);
     let play = with_word(alloc, play, PROGRAM, PROGRAM_HELP)?;
     with_word(alloc, play, SCHEDULE, SCHEDULE_HELP)
+}
+
+/// The subcommand `serve`.
+fn serve<'a>(alloc: Global) -> Result<Command<'a>, AllocError>
+    ensures shape { IfOk result (λ c. app_of c ≡ serve_command) }
+    ensures local { IfOk result (λ c. (fields_of c).has_globals ≡ false) }
+{
+    let serve = Command::new(alloc, "serve")
+        .about(serve_help::ABOUT)
+        .long_about(serve_help::LONG_ABOUT)
+        .after_long_help(serve_help::NOTES);
+    let serve = with_word(alloc, serve, PROGRAM, PROGRAM_HELP)?;
+    let serve = with_number(alloc, serve, PORT, "P", LAST_PORT, serve_help::PORT_HELP)?;
+    let serve = with_number(
+        alloc,
+        serve,
+        SESSIONS,
+        "K",
+        MOST_SESSIONS,
+        serve_help::SESSIONS_HELP,
+    )?;
+    with_words(alloc, serve, PEER, serve_help::PEER_HELP)
+}
+
+/// The command with places for any number of words.
+fn with_words<'a>(
+    alloc: Global,
+    command: Command<'a>,
+    place: &'a str,
+    help: &'a str,
+) -> Result<Command<'a>, AllocError>
+    ensures shape { IfOk result (λ c. app_of c ≡ with_rule (app_of command.entry) (any_words place.entry.now)) }
+    ensures local { (fields_of command.entry).has_globals ≡ false →
+        IfOk result (λ c. (fields_of c).has_globals ≡ false) }
+{
+    let words = Arg::new(alloc, place).help(help).action(ArgAction::Append);
+    command.arg(words)
+}
+
+/// The command with an option for a number from 1 to `most`, which has to be there.
+fn with_number<'a>(
+    alloc: Global,
+    command: Command<'a>,
+    name: &'a str,
+    value: &'a str,
+    most: u64,
+    help: &'a str,
+) -> Result<Command<'a>, AllocError>
+    ensures shape { IfOk result (λ c. app_of c ≡ with_rule (app_of command.entry) (wanted_number name.entry.now most)) }
+    ensures local { (fields_of command.entry).has_globals ≡ false →
+        IfOk result (λ c. (fields_of c).has_globals ≡ false) }
+{
+    let number = number_option(alloc, name, value, most).help(help);
+    command.arg(number)
+}
+
+/// An option for a number from 1 to `most`, which has to be there; help calls the number `value`.
+fn number_option<'a>(alloc: Global, name: &'a str, value: &'a str, most: u64) -> Arg<'a>
+    ensures rule { rule_of result ≡ wanted_number name.entry.now most }
+    ensures optional { result.global ≡ false }
+{
+    Arg::new(alloc, name)
+        .long(name)
+        .value_name(value)
+        .required(true)
+        .value_parser(ValueParser::unsigned(1, most))
 }
 
 /// The command with one more place for a word, which has to be there.

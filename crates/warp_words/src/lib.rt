@@ -2,5 +2,6 @@
 #![tactic(auto)]
 
 mod command_line;
+mod serve_help;
 
 pub use command_line::{Job, words};

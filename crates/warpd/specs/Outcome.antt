@@ -1,5 +1,5 @@
 -- How a run of the program ends.
-use Rattle.std.specs.Prelude.{◌≡◌, ◌≢◌, ◌⊎◌, ◌+◌, ◌≤◌, ℕ, List, [], ◌++◌, Option, Some, IfSome, codes, decimal, length, take}
+use Rattle.std.specs.Prelude.{◌≡◌, ◌≢◌, ◌⊎◌, ◌+◌, ◌<◌, ◌≤◌, ℕ, List, [], ◌++◌, Option, Some, IfSome, codes, decimal, length, take}
 use Rattle.std.specs.Io.KnownBytes.{Appends}
 use Rattle.clap.specs.Words.{IsAmong, Text, fault_of}
 use Rattle.clap.specs.declared.error.kind.ErrorKind.{ErrorKind}
@@ -17,7 +17,10 @@ use Rattle.warp_world.specs.declared.fault.ScheduleFault.TheVariants as schedule
 use Rattle.warp_session.specs.LocalSession.{TranscribesAll, TranscribesSoFar}
 use Rattle.warp_session.specs.Session.{FailsSo}
 use Rattle.warp_world.specs.Play.{PlaysSchedule}
-use Rattle.warp_words.specs.Words.{Task, RunProgram, PlaySchedule, task_in, warpd_command}
+use Rattle.warp_lanes.specs.Engine.{most_lanes}
+use Rattle.warp_words.specs.Words.{Task, RunProgram, PlaySchedule, ServeProgram, task_in, warpd_command}
+use Rattle.warp_session.specs.declared.door.ServeFault.{ServeFault}
+use Rattle.warp_session.specs.declared.door.ServeFault.TheVariants as serve_fault
 use Rattle.warp_session.specs.declared.desk_session.SessionEnd.{SessionEnd}
 use Rattle.warp_session.specs.declared.desk_session.SessionEnd.TheVariants.{End, ReadFault, WriteFault, TooManyReads, NoMemory}
 use Rattle.warpd.specs.declared.outcome.Outcome.{Outcome}
@@ -152,10 +155,45 @@ abbrev pub Plays : List ℕ → Seen → Seen → Outcome → Type 0
 Plays name before after outcome =
     ((P : ReactorProgram) × IsNamed name P × PlaysOver P before after outcome) ⊎ (IsNone name outcome × (after ≡ before))
 
+-- the line that is printed once the port is listened on
+abbrev pub ready_line : ℕ → List ℕ
+ready_line port = codes "ready " ++ decimal port ++ codes "\n"
+
+-- the outcome where sessions were not all served for this reason
+abbrev pub serve_outcome : ServeFault → Outcome
+serve_outcome serve_fault.Accept = Accept
+serve_outcome serve_fault.NoMemory = Memory
+
+-- the run ends so behind its line: all was served, or a connection couldn't be accepted, or memory was wanting
+abbrev pub EndsServing : Outcome → Type 0
+EndsServing outcome = (outcome ≡ Done) ⊎ (outcome ≡ Accept) ⊎ (outcome ≡ Memory)
+
+-- Serving at this port ends so: it can't be listened on, and nothing is done; or its line can't be written; or that is
+-- written, and nothing else, whatever comes behind it. Standard input is not read.
+abbrev pub ServesAt : ℕ → Seen → Seen → Outcome → Type 0
+ServesAt port before after outcome =
+    ((outcome ≡ Listen) × (after ≡ before))
+    ⊎ ((outcome ≡ Output) × IsPrinted (ready_line port) before after Output)
+    ⊎ (EndsServing outcome × IsPrinted (ready_line port) before after Done)
+
+-- serving a program at this port ends so: that of this name; or where there is none, nothing is done
+abbrev pub ServesNamed : List ℕ → ℕ → Seen → Seen → Outcome → Type 0
+ServesNamed name port before after outcome =
+    ((P : ReactorProgram) × IsNamed name P × ServesAt port before after outcome) ⊎ (IsNone name outcome × (after ≡ before))
+
+-- Serving the program of this name at this port, with so many lanes, one for each session and each peer, ends so. Where they
+-- are too many, nothing is done, whatever the program.
+abbrev pub ServesInLanes : List ℕ → ℕ → ℕ → Seen → Seen → Outcome → Type 0
+ServesInLanes name port lanes before after outcome =
+    ((most_lanes < lanes) × (outcome ≡ TooManyLanes) × (after ≡ before))
+    ⊎ ((lanes ≤ most_lanes) × ServesNamed name port before after outcome)
+
 -- The run that is asked for this ends so. What the file of a schedule has is not known from its name.
 abbrev pub Does : Task → Seen → Seen → Outcome → Type 0
 Does (RunProgram program) before after outcome = Runs program before after outcome
 Does (PlaySchedule program schedule) before after outcome = Plays program before after outcome
+Does (ServeProgram program port sessions peers) before after outcome =
+    ServesInLanes program port (sessions + length peers) before after outcome
 
 -- the run whose words are these ends so: words with no fault have what they ask for done, and of others the
 -- parser's text is shown; for want of memory nothing is done

@@ -1,31 +1,37 @@
 //! The program `warpd`: it reads the words, runs the job, and tells how that ended.
 #![tactic(auto)]
 
+mod connection;
 mod file_bytes;
 mod outcome;
 mod program_file;
 mod schedule_file;
+mod service;
 
-ghost use Rattle.std.specs.Prelude.{◌≡◌, ◌≢◌, ◌<◌, ◌⊎◌, IfErr, IfOk, MatchResult, OnOk, codes, map, string_bytes};
+ghost use Rattle.std.specs.Prelude.{◌≡◌, ◌≢◌, ◌+◌, ◌<◌, ◌≤◌, ◌⊎◌, IfErr, IfOk, MatchBool, MatchResult, OnOk};
+ghost use Rattle.std.specs.Prelude.{codes, map, string_bytes, vec_len};
 ghost use Rattle.std.specs.Io.KnownBytes.{Appends};
 ghost use Rattle.std.specs.IoError.{error_kind};
 ghost use Rattle.std.specs.Process.{exit_status};
 ghost use Rattle.std.specs.declared.io.ErrorKind.TheVariants.{OutOfMemory};
 ghost use Rattle.clap.specs.Words.{kind_of};
+ghost use Rattle.warp_lanes.specs.Engine.{most_lanes};
 ghost use Rattle.warp_step.specs.Counter.{IsUnused};
 ghost use Rattle.warpd.specs.Outcome.{Does, EndsSo, IsPrinted, IsShown, Obeys, Plays, PlaysBytes, PlaysOver, Runs};
-ghost use Rattle.warpd.specs.Outcome.{Seen, untouched};
+ghost use Rattle.warpd.specs.Outcome.{Seen, ServesAt, ServesInLanes, ServesNamed, ready_line, untouched};
 ghost use Rattle.warpd.specs.Outcome.{told_line, status_of};
 ghost use Rattle.warp_words.specs.Words.{task_of};
 
 use clap::error::ErrorKind;
-use outcome::{Outcome, outcome_of, outcome_of_fault, say, status};
+use outcome::{Outcome, outcome_of, outcome_of_fault, ready, say, status};
 use program_file::program_named;
 use schedule_file::schedule_bytes;
+use service::{Host, Service, listen, serve_at};
 use std::alloc::{AllocError, Global};
 use std::fs::Files;
 use std::io::{Eprint, Print, Read, Write};
 use std::marker::{Brand, Model};
+use std::net::{Net, TcpListener, TcpStream};
 use std::process::ExitCode;
 use std::sync::ledger::{Blank, Ledger};
 use std::{env, io};
@@ -51,7 +57,7 @@ fn main(rt: HostRuntime) -> ExitCode {
 fn start<
     L: Ledger,
     M: Ledger,
-    P: Print + Eprint + Files,
+    P: Host + Net<Listener = TcpListener, Stream = TcpStream>,
     R: Read + Drop,
     W: Write + Drop,
     E: Write,
@@ -131,7 +137,7 @@ fn without_words<P: Eprint>(rt: &P, error: &io::Error) -> Outcome
 
 /// Does what the words ask for, or ends for the reason that there are none; tells the outcome on `errors`, and gives
 /// its exit status. The second part says whether the outcome could be told.
-fn perform<P: Print + Eprint + Files, R: Source, W: Sink, E: Write>(
+fn perform<P: Host + Net<Listener = TcpListener, Stream = TcpStream>, R: Source, W: Sink, E: Write>(
     rt: &P,
     alloc: Global,
     arguments: Result<Vec<String>, Outcome>,
@@ -162,7 +168,7 @@ fn tell<E: Write>(outcome: Outcome, errors: &mut E) -> (ExitCode, io::Result<()>
 }
 
 /// Does what the words ask for.
-fn obey<P: Print + Eprint + Files, R: Source, W: Sink>(
+fn obey<P: Host + Net<Listener = TcpListener, Stream = TcpStream>, R: Source, W: Sink>(
     rt: &P,
     alloc: Global,
     arguments: &[String],
@@ -180,8 +186,8 @@ fn obey<P: Print + Eprint + Files, R: Source, W: Sink>(
 }
 
 /// Does the job.
-fn carry_out<F: Files, R: Source, W: Sink>(
-    files: &F,
+fn carry_out<P: Host + Net<Listener = TcpListener, Stream = TcpStream>, R: Source, W: Sink>(
+    rt: &P,
     alloc: Global,
     job: Job<'_>,
     streams: &mut Streams<R, W>,
@@ -189,8 +195,21 @@ fn carry_out<F: Files, R: Source, W: Sink>(
     ensures { Does (task_of job.entry) streams.old streams.new result }
 {
     match job {
-        Job::Run { program } => run(files, alloc, program, streams),
-        Job::Play { program, schedule } => play(files, alloc, program, schedule, streams),
+        Job::Run { program } => run(rt, alloc, program, streams),
+        Job::Play { program, schedule } => play(rt, alloc, program, schedule, streams),
+        Job::Serve {
+            program,
+            port,
+            sessions,
+            peers,
+        } => {
+            let service = Service {
+                port,
+                sessions,
+                peers,
+            };
+            serve(rt, alloc, program, &service, streams)
+        }
     }
 }
 
@@ -301,6 +320,71 @@ fn play_bytes<R: Source, W: Sink>(
         Ok(text) => print(&text, streams),
         Err(fault) => outcome_of_fault(fault),
     }
+}
+
+/// ServesInLanes sessions of the program of this name over TCP.
+fn serve<P: Host + Net<Listener = TcpListener, Stream = TcpStream>, R: Source, W: Sink>(
+    rt: &P,
+    alloc: Global,
+    name: &str,
+    service: &Service<'_>,
+    streams: &mut Streams<R, W>,
+) -> Outcome
+    ensures { ServesInLanes name.now service.now.port (service.now.sessions + vec_len service.now.peers)
+        streams.old streams.new result }
+{
+    if service.fits() {
+        serve_named(rt, alloc, name, service, streams)
+    } else {
+        Outcome::TooManyLanes
+    }
+}
+
+/// Serves sessions of the program of this name over TCP, for which there are lanes enough.
+fn serve_named<P: Host + Net<Listener = TcpListener, Stream = TcpStream>, R: Source, W: Sink>(
+    rt: &P,
+    alloc: Global,
+    name: &str,
+    service: &Service<'_>,
+    streams: &mut Streams<R, W>,
+) -> Outcome
+    requires { service.now.sessions + vec_len service.now.peers ≤ most_lanes }
+    ensures { ServesNamed name.now service.now.port streams.old streams.new result }
+{
+    match program_named(rt, alloc, name) {
+        Ok(program) => serve_program(rt, alloc, program, service, streams),
+        Err(outcome) => outcome,
+    }
+}
+
+/// Listens, says so, and serves sessions of the program.
+fn serve_program<P: Host + Net<Listener = TcpListener, Stream = TcpStream>, R: Source, W: Sink>(
+    rt: &P,
+    alloc: Global,
+    program: Program,
+    service: &Service<'_>,
+    streams: &mut Streams<R, W>,
+) -> Outcome
+    requires { service.now.sessions + vec_len service.now.peers ≤ most_lanes }
+    ensures { ServesAt service.now.port streams.old streams.new result }
+{
+    let Ok(listener) = listen(rt, service.port) else {
+        return Outcome::Listen;
+    };
+    if say_ready(service.port, streams) {
+        serve_at(rt, alloc, program, listener, service)
+    } else {
+        Outcome::Output
+    }
+}
+
+/// Says that the port is listened on, and answers whether that could be written.
+fn say_ready<R: Source, W: Sink>(port: u16, streams: &mut Streams<R, W>) -> bool
+    ensures { MatchBool result (IsPrinted (ready_line port) streams.old streams.new Outcome.Done)
+        (IsPrinted (ready_line port) streams.old streams.new Outcome.Output) }
+{
+    let line = ready(port);
+    matches!(print(line.as_str().as_bytes(), streams), Outcome::Done)
 }
 
 /// Writes the text to the sink.

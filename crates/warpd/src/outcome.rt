@@ -1,10 +1,10 @@
 //! How a run of the program ends: its exit status, and the line that it says on standard error.
 ghost use Rattle.std.specs.Prelude.{◌≡◌, ◌+◌, ◌++◌, ◌≤◌, [], ◌∷◌, decimal, length};
-ghost use Rattle.warpd.specs.Outcome.{end_outcome, fault_outcome, told_line, status_of};
+ghost use Rattle.warpd.specs.Outcome.{end_outcome, fault_outcome, ready_line, serve_outcome, told_line, status_of};
 
 use arrayvec::ArrayString;
 use itoa::Buffer;
-use warp_session::SessionEnd;
+use warp_session::{ServeFault, SessionEnd};
 use warp_world::ScheduleFault;
 
 /// The room for a line, in bytes: none is longer.
@@ -94,6 +94,13 @@ fn with_number(words: &str, number: u64) -> ArrayString<LONGEST_LINE>
     line
 }
 
+/// The line of standard output that says that the port is listened on.
+pub fn ready(port: u16) -> ArrayString<LONGEST_LINE>
+    ensures { result.bytes ≡ ready_line port }
+{
+    with_number("ready ", port as u64)
+}
+
 /// What the end of a session makes of the run.
 pub fn outcome_of(end: SessionEnd) -> Outcome
     ensures { result ≡ end_outcome end }
@@ -113,5 +120,15 @@ pub fn outcome_of_fault(fault: ScheduleFault) -> Outcome
     match fault {
         ScheduleFault::Line(line) => Outcome::Schedule(line),
         ScheduleFault::NoMemory => Outcome::Memory,
+    }
+}
+
+/// What it makes of the run that sessions were not all served.
+pub fn outcome_of_serving(fault: ServeFault) -> Outcome
+    ensures { result ≡ serve_outcome fault }
+{
+    match fault {
+        ServeFault::Accept => Outcome::Accept,
+        ServeFault::NoMemory => Outcome::Memory,
     }
 }

@@ -1,10 +1,11 @@
 -- Where the parser finds no fault, a subcommand has each word that it wants.
-use Rattle.std.proofs.Common.{◌≡◌, List, Option, None, Some, true, false, [], codes, is_some, map, option_map, refl, slice_index_or, subst, sym}
+use Rattle.std.proofs.Common.{◌≡◌, ℕ, List, Option, None, Some, true, false, [], codes, is_some, map, option_map, refl, slice_index_or, subst, sym}
 use Rattle.std.specs.Prelude.{option_and_then}
 use Rattle.clap.specs.Walk.{Row, Text}
 use Rattle.clap.specs.Simple.{App, argument_words, built, help_shape, subcommand_of}
 use Rattle.clap.specs.Faults.{fault_of}
-use Rattle.warp_words.specs.Words.{Task, task_found, warpd_command}
+use Rattle.clap.specs.ValueTests.{is_unsigned_in}
+use Rattle.warp_words.specs.Words.{Task, last_port, most_sessions, number_up_to, task_found, warpd_command}
 use Rattle.warp_words.proofs.GivenArguments.{Gives, entered_gives, level_given}
 use Rattle.warp_words.proofs.command_line.words.Goals as goal
 
@@ -31,12 +32,32 @@ play_gives words e =
     let given = level_given (slice_index_or whole.subs 1 help_shape) (refl, refl) words e in
     two_words _ _ _ (given.0.there refl) (given.1.0.there refl)
 
+number_there : (most : ℕ) (o : Option Text) → is_some o ≡ true → ((word : Text) → o ≡ Some word → is_unsigned_in 1 most word ≡ true)
+    → is_some (option_and_then (number_up_to most) o) ≡ true
+number_there most None there passes = there
+number_there most (Some word) there passes = rw (passes word refl) refl
+
+served : (f : Text → ℕ → ℕ → Task) (o : Option Text) (p q : Option ℕ) → is_some o ≡ true → is_some p ≡ true → is_some q ≡ true
+    → is_some (option_and_then (λ program. option_and_then (λ port. option_map (λ sessions. f program port sessions) q) p) o) ≡ true
+served f None p q there port sessions = there
+served f (Some program) None q there port sessions = port
+served f (Some program) (Some port) None there given sessions = sessions
+served f (Some program) (Some port) (Some sessions) there given further = refl
+
+serve_gives : Gives whole HasTask (codes "serve")
+serve_gives words e =
+    let given = level_given (slice_index_or whole.subs 2 help_shape) (refl, refl) words e in
+    served _ _ _ _ (given.0.there refl)
+    (number_there last_port _ (given.1.0.there refl) given.1.0.passes)
+    (number_there most_sessions _ (given.1.1.0.there refl) given.1.1.0.passes)
+
 has_task : (words : List Text) → fault_of warpd_command words ≡ [] → HasTask (subcommand_of warpd_command words)
 has_task words e =
-    entered_gives whole HasTask refl (λ _. run_gives, (λ _. play_gives, (λ help. cc, tt))) (argument_words warpd_command words) e
+    entered_gives whole HasTask refl (λ _. run_gives, (λ _. play_gives, (λ _. serve_gives, (λ help. cc, tt)))) (argument_words warpd_command words) e
 
 pub unreachable-requires : goal.unreachable-requires
 unreachable-requires c =
     let has = has_task (map (λ word. word.now) c.args.line.now) c.in_ok-matches.ensures.ok.0 in
     let some = subst HasTask (sym c.in_ok-matches.ensures.ok.1) has in
-    let none : false ≡ true = subst (λ o. is_some o ≡ true) (sym c.in-None.ensures) some in cc
+    let asked = subst (λ o. is_some o ≡ true) (sym c.in_ok-asked.ensures) some in
+    let none : false ≡ true = rw c.in-None.is at asked in cc
