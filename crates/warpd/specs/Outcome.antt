@@ -14,8 +14,9 @@ use Rattle.warp_prog.specs.declared.error.LoadError.TheVariants.{Memory as WantO
 use Rattle.warp_world.specs.Schedule.{IsFault}
 use Rattle.warp_world.specs.declared.fault.ScheduleFault.{ScheduleFault}
 use Rattle.warp_world.specs.declared.fault.ScheduleFault.TheVariants as schedule_fault
-use Rattle.warp_session.specs.LocalSession.{TranscribesAll, TranscribesSoFar}
+use Rattle.warp_session.specs.LocalSession.{TranscribesAll, TranscribesSoFar, TranscribesSome}
 use Rattle.warp_session.specs.Session.{FailsSo}
+use Rattle.warp_session.specs.Stream.{WritesFront}
 use Rattle.warp_world.specs.Play.{PlaysSchedule}
 use Rattle.warp_lanes.specs.Engine.{most_lanes}
 use Rattle.warp_words.specs.Words.{Task, RunProgram, PlaySchedule, ServeProgram, task_in, warpd_command}
@@ -87,8 +88,9 @@ untouched left written = record { left = left; written = written; failed_reads =
 abbrev pub WritesSo : ReactorProgram → Seen → Seen → SessionEnd → Type 0
 WritesSo P before after End = TranscribesAll P before.left before.written after.written
 WritesSo P before after ReadFault = TranscribesSoFar P before.left after.left before.written after.written
-WritesSo P before after WriteFault = Unit {0}
-WritesSo P before after TooManyReads = IfSome before.left (λ input. most_reads ≤ length input)
+WritesSo P before after WriteFault = TranscribesSome P before.left before.written after.written
+WritesSo P before after TooManyReads =
+    TranscribesSoFar P before.left after.left before.written after.written × IfSome before.left (λ input. most_reads ≤ length input)
 WritesSo P before after NoMemory = after ≡ before
 
 -- a session of this program ended so, and one read or write has failed where it ended for that, and else none
@@ -123,12 +125,13 @@ Runs name before after outcome =
     ((P : ReactorProgram) × IsNamed name P × ((end : SessionEnd) × (outcome ≡ end_outcome end) × EndsSo P before after end))
     ⊎ (IsNone name outcome × (after ≡ before))
 
--- The text was written behind what the sink tells, and the run is done; or one write failed. Nothing was read.
+-- The text was written behind what the sink tells, and the run is done; or one write failed, and a front of it was written.
+-- Nothing was read.
 abbrev pub IsPrinted : List ℕ → Seen → Seen → Outcome → Type 0
 IsPrinted text before after outcome =
     (after.left ≡ before.left) × (after.failed_reads ≡ before.failed_reads)
     × (((outcome ≡ Done) × Appends before.written after.written text × (after.failed_writes ≡ before.failed_writes))
-    ⊎ ((outcome ≡ Output) × (after.failed_writes ≡ before.failed_writes + 1)))
+    ⊎ ((outcome ≡ Output) × WritesFront before.written after.written text × (after.failed_writes ≡ before.failed_writes + 1)))
 
 -- the outcome where a schedule was refused so: the line where it was, but for want of memory
 abbrev pub fault_outcome : ScheduleFault → Outcome

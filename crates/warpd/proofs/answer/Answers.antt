@@ -22,5 +22,5 @@ returns g c =
     } in
     let same : c.run_session.result ≡ NoMemory → after ≡ before = λ ended. let m = e.memory ended in rw (m.0, m.1) refl in
     let ends : EndsSo c.args.program before after c.run_session.result =
-    (writes_so c.args.program before after c.run_session.result e.bytes e.lines e.many same, e.failures) in
+    (writes_so c.args.program before after c.run_session.result e.bytes e.lines e.front e.long e.many same, e.failures) in
     subst (λ (seen : Seen). EndsSo c.args.program seen after c.run_session.result) c.streams.view_is ends
