@@ -68,7 +68,7 @@ standard output, in order.
 
   event ORIGIN TIME MICROSTEP INPUT VALUE   an event: taken P, or known P
   withdraw ORIGIN TIME MICROSTEP            no event of this name counts: the same
-  announce ORIGIN TIME MICROSTEP E W        before this time the origin has E names with an
+  announce ORIGIN TIME MICROSTEP E W        before this tag the origin has E names with an
                                             event and W withdrawn, and adds none: the same
   var INDEX                                 a variable: var N VALUE
   outputs                                   how many outputs there are: outputs N COUNT

@@ -37,8 +37,8 @@ Beside the reasons that `warpd run --help` lists, a line may be refused for this
 No line is refused for reason 11 here, since there is a board.
 
 On standard error, I being the place of a PEER from 0:
-  peer I failed     it can't be reached, it is no HOST:PORT, or the connection broke;
-                    the server goes on without it
+  peer I failed     it can't be reached or is no HOST:PORT: told before sessions are served;
+                    or its connection broke: told when the server ends. The server goes on
   cannot listen     the port is taken or not allowed
   cannot accept     no further session could be had; those so far were served to their end
   too many lanes    there are more than 16 sessions and peers together

@@ -23,7 +23,7 @@ ghost use Rattle.warpd.specs.Outcome.{told_line, status_of};
 ghost use Rattle.warp_words.specs.Words.{task_of};
 
 use clap::error::ErrorKind;
-use outcome::{Outcome, outcome_of, outcome_of_fault, ready, say, status};
+use outcome::{Outcome, outcome_of, outcome_of_fault, outcome_of_serving, ready, say, status};
 use program_file::program_named;
 use schedule_file::schedule_bytes;
 use service::{Host, Service, listen, serve_at};
@@ -322,7 +322,7 @@ fn play_bytes<R: Source, W: Sink>(
     }
 }
 
-/// ServesInLanes sessions of the program of this name over TCP.
+/// Serves sessions of the program of this name over TCP, where there are lanes enough.
 fn serve<P: Host + Net<Listener = TcpListener, Stream = TcpStream>, R: Source, W: Sink>(
     rt: &P,
     alloc: Global,
@@ -372,7 +372,7 @@ fn serve_program<P: Host + Net<Listener = TcpListener, Stream = TcpStream>, R: S
         return Outcome::Listen;
     };
     if say_ready(service.port, streams) {
-        serve_at(rt, alloc, program, listener, service)
+        outcome_of_serving(serve_at(rt, alloc, program, listener, service))
     } else {
         Outcome::Output
     }

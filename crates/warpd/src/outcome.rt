@@ -1,6 +1,6 @@
 //! How a run of the program ends: its exit status, and the line that it says on standard error.
-ghost use Rattle.std.specs.Prelude.{◌≡◌, ◌+◌, ◌++◌, ◌≤◌, [], ◌∷◌, decimal, length};
-ghost use Rattle.warpd.specs.Outcome.{end_outcome, fault_outcome, ready_line, serve_outcome, told_line, status_of};
+ghost use Rattle.std.specs.Prelude.{◌≡◌, ◌+◌, ◌++◌, ◌≤◌, [], ◌∷◌, MatchResult, decimal, length};
+ghost use Rattle.warpd.specs.Outcome.{EndsServing, end_outcome, fault_outcome, ready_line, serve_outcome, told_line, status_of};
 
 use arrayvec::ArrayString;
 use itoa::Buffer;
@@ -123,12 +123,14 @@ pub fn outcome_of_fault(fault: ScheduleFault) -> Outcome
     }
 }
 
-/// What it makes of the run that sessions were not all served.
-pub fn outcome_of_serving(fault: ServeFault) -> Outcome
-    ensures { result ≡ serve_outcome fault }
+/// What it makes of the run how serving ended: done where something is given back, which only serving makes.
+pub fn outcome_of_serving<T: Drop>(served: Result<T, ServeFault>) -> Outcome
+    ensures is { MatchResult served (λ _. result ≡ Outcome.Done) (λ fault. result ≡ serve_outcome fault) }
+    ensures ends { EndsServing result }
 {
-    match fault {
-        ServeFault::Accept => Outcome::Accept,
-        ServeFault::NoMemory => Outcome::Memory,
+    match served {
+        Ok(_) => Outcome::Done,
+        Err(ServeFault::Accept) => Outcome::Accept,
+        Err(ServeFault::NoMemory) => Outcome::Memory,
     }
 }

@@ -1,11 +1,9 @@
 //! Serving sessions over TCP.
 
-ghost use Rattle.std.specs.Prelude.{◌+◌, ◌<◌, ◌≤◌, IfOk, MatchBool, length, vec_len};
+ghost use Rattle.std.specs.Prelude.{◌≡◌, ◌+◌, ◌<◌, ◌≤◌, IfOk, MatchBool, length, vec_len};
 ghost use Rattle.warp_lanes.specs.Engine.{most_lanes};
-ghost use Rattle.warpd.specs.Outcome.{EndsServing};
 
 use crate::connection::Connection;
-use crate::outcome::{Outcome, outcome_of_serving};
 use std::alloc::{AllocError, Global};
 use std::fs::Files;
 use std::io::{self, Eprint, Print};
@@ -13,6 +11,8 @@ use std::net::{Ipv4Addr, Net, TcpListener, TcpStream};
 use std::sync::Wait;
 use std::thread::Threads;
 use std::time::{Clock, Duration};
+use warp_lanes::Engine;
+use warp_run::Warp;
 use warp_session::{Door, DoorFault, Open, Peer, PullEnd, ServeFault, serve_sessions};
 use warp_step::Program;
 
@@ -147,20 +147,20 @@ fn reach_all<X: Eprint + Net<Listener = TcpListener, Stream = TcpStream>>(
     Ok(peers)
 }
 
-/// Connects to the peers, and serves the sessions that come to the listener.
+/// Connects to the peers, and serves the sessions that come to the listener. Gives the engine that served them.
 pub(crate) fn serve_at<X: Host + Net<Listener = TcpListener, Stream = TcpStream>>(
     rt: &X,
     alloc: Global,
     program: Program,
     listener: TcpListener,
     service: &Service<'_>,
-) -> Outcome
+) -> Result<Engine<Warp>, ServeFault>
     requires { service.now.sessions + vec_len service.now.peers ≤ most_lanes }
-    ensures { EndsServing result }
+    ensures { IfOk result (λ engine. (engine.replica.program ≡ program) × (engine.began ≡ 0)) }
 {
     match reach_all(rt, alloc, &service.peers) {
         Ok(peers) => serve_with(rt, alloc, program, listener, service.sessions, peers),
-        Err(_) => Outcome::Memory,
+        Err(_) => Err(ServeFault::NoMemory),
     }
 }
 
@@ -172,13 +172,10 @@ fn serve_with<X: Host>(
     listener: TcpListener,
     sessions: usize,
     peers: Vec<Peer<Connection, Connection>>,
-) -> Outcome
+) -> Result<Engine<Warp>, ServeFault>
     requires { sessions + vec_len peers ≤ most_lanes }
-    ensures { EndsServing result }
+    ensures { IfOk result (λ engine. (engine.replica.program ≡ program) × (engine.began ≡ 0)) }
 {
     let mut door = Entrance { rt, listener };
-    match serve_sessions(rt, alloc, program, &mut door, sessions, peers, &Open) {
-        Ok(_engine) => Outcome::Done,
-        Err(fault) => outcome_of_serving(fault),
-    }
+    serve_sessions(rt, alloc, program, &mut door, sessions, peers, &Open)
 }
