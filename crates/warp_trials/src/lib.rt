@@ -7,6 +7,8 @@
 #[cfg(test)]
 mod arena;
 #[cfg(test)]
+mod collection;
+#[cfg(test)]
 mod convergence;
 #[cfg(test)]
 mod dice;
