@@ -3,6 +3,7 @@
 import bisect
 from collections import defaultdict
 from functools import lru_cache
+from operator import ge
 
 from loopback import holds, same
 
@@ -59,6 +60,11 @@ class Told:
     def released(self):
         return [it for it in self.outputs if it[0] < self.horizon]
 
+    def row(self, number):
+        """The row that the board has with this number, if it has as many as are released."""
+        for (at, micro), value in self.released()[number:number + 1]:
+            return f"row {at} {micro} 0 {value}"
+
     def answer(self, query):
         word, *number = query.split()
         number = int(number[0]) if number else 0
@@ -86,12 +92,40 @@ REFUSED = {"var 1": 6, "nonsense": 1, "": 1, "event 0 5 0 1 3": 5, "event 2 5 0 
            "breach 2": 2, "row 4294967296": 1, "x" * 129: 9, "x" * 128: 1, "event 00 5 0 0 3": 1}
 
 
+# A board takes no more rows.
+MOST_ROWS = 4_096
+
+
 def is_record(line):
     return line.split(" ")[0] in ("event", "withdraw", "announce")
 
 
-def check_said(log, told, talk, places):
-    """Each reply of a session is that of the records of the log at its length; lengths and counts never fall along it."""
+def is_of_board(line):
+    return line.split(" ")[0] in ("board", "row")
+
+
+def check_board(line, reply, board, rows):
+    """A line of the board, of which this count and flag were told before: a frozen board stays, and else it never falls; a row is
+    there where it has so many, and stays as it is. Returns the count and the flag that are known now."""
+    word, *numbers = reply.split(" ")
+    if line == "board":
+        same(word, "board", f"the reply to {line!r}")
+        now = int(numbers[0]), int(numbers[1])
+        holds(now == board or now[0] <= MOST_ROWS and now > board and not board[1], f"the board went from {board} to {now}")
+        return now
+    number = int(line.split(" ")[1])
+    if reply == "none":
+        holds(number >= board[0], f"{line!r} was answered {reply!r} where the board had {board[0]} rows")
+        return board
+    same(word, "row", f"the reply to {line!r}")
+    holds(number < (board[0] if board[1] else MOST_ROWS), f"{line!r} was answered {reply!r} where the board was {board}")
+    same(reply, rows.setdefault(number, reply), f"the reply to {line!r}")
+    return max(board, (number + 1, 0))
+
+
+def check_said(log, told, talk, places, rows):
+    """Each reply of a session is that of the records of the log at its length; lengths and the board never fall along it, and rows of
+    the board are the same at all sessions."""
     length, board = 0, (0, 0)
     for line, reply, _, _ in talk.said:
         word, *numbers = reply.split(" ")
@@ -106,13 +140,8 @@ def check_said(log, told, talk, places):
             else:
                 same(word, "known", f"the reply to {line!r}")
             length = max(length, place)
-        elif line == "board":
-            same(word, "board", f"the reply to {line!r}")
-            now = int(numbers[0]), int(numbers[1])
-            holds(now >= board and now[1] >= board[1], f"the board fell from {board} to {now}")
-            board = now
-        elif line.startswith("row "):
-            holds(word in ("row", "none"), f"{line!r} was answered {reply!r}")
+        elif is_of_board(line):
+            board = check_board(line, reply, board, rows)
         else:
             count = int(numbers[0])
             holds(length <= count <= len(log), f"{reply!r} behind a reply at length {length}, and {len(log)} at last")
@@ -128,21 +157,47 @@ def check_order(log, talks, is_all=True):
     """What sessions were told is one order, that of the log: and what one was told was so for each line that went out after.
     `is_all`: these sessions brought each record of the log."""
     same(len(set(log)), len(log), "the number of different records in the log")
-    told, places = lru_cache(None)(lambda count: Told(log[:count])), set()
+    told, places, rows = lru_cache(None)(lambda count: Told(log[:count])), set(), {}
     for talk in talks:
-        check_said(log, told, talk, places)
+        check_said(log, told, talk, places, rows)
     if is_all:
         same(sorted(places), [*range(1, len(log) + 1)], "the places that were told as taken")
-    answers = []
-    for line, reply, asked, answered in (it for talk in talks for it in talk.said):
-        number = reply.split(" ")[1:2]
-        if number and not reply.startswith(("refused", "board", "row")):
-            answers.append((answered, int(number[0])))
-    answers.sort()
-    times, highest = [at for at, _ in answers], [0]
-    for _, number in answers:
-        highest.append(max(highest[-1], number))
-    for line, reply, asked, _ in (it for talk in talks for it in talk.said):
-        if not reply.startswith(("refused", "known", "board", "row")) and reply != "none":
-            least = highest[bisect.bisect_left(times, asked)]
-            holds(int(reply.split(" ")[1]) >= least, f"{line!r} was answered {reply!r}, asked after another session was told {least}")
+    for number, reply in rows.items():
+        is_released = any(told(count).row(number) == reply for count in range(len(log) + 1))
+        holds(is_released, f"row {number} of the board is {reply!r}, which was never released")
+    said = [it for talk in talks for it in talk.said]
+    check_never_falls(lengths(said))
+    check_never_falls(boards(said))
+
+
+def lengths(said):
+    """The length of the log that each reply tells. A record that is known may stand far before its end."""
+    for line, reply, asked, answered in said:
+        if line not in REFUSED and not is_of_board(line):
+            length = int(reply.split(" ")[1]), 0
+            yield line, reply, asked, answered, length, None if reply.startswith("known") else length
+
+
+def boards(said):
+    """What each reply tells of the board's count and flag: a row that is there, or is not, bounds the count alone."""
+    for line, reply, asked, answered in said:
+        if line not in REFUSED and is_of_board(line):
+            word, *number = line.split(" ")
+            if word == "board":
+                least = most = tuple(map(int, reply.split(" ")[1:]))
+            else:
+                least, most = ((0, 0), (int(number[0]), 1)) if reply == "none" else ((int(number[0]) + 1, 0), None)
+            yield line, reply, asked, answered, least, most
+
+
+def check_never_falls(said):
+    """Of each line the reply, when both were, and what it tells, as two numbers that never fall: they are at least so much, and, if it
+    tells this, at most so much. That is no less than what was told before the line was asked."""
+    said = [*said]
+    heard = sorted((answered, least) for _, _, _, answered, least, _ in said)
+    times, highest = [at for at, _ in heard], [(0, 0)]
+    for _, least in heard:
+        highest.append(tuple(map(max, highest[-1], least)))
+    for line, reply, asked, _, _, most in said:
+        before = highest[bisect.bisect_left(times, asked)]
+        holds(most is None or all(map(ge, most, before)), f"{line!r} was answered {reply!r}, asked after another session was told {before}")

@@ -2,9 +2,9 @@
 
        load PORT CLIENTS KIND SECONDS
 
-   KIND is 'ask' (`var 0`, one by one), 'event' (events, one by one, whose times the clients take from one clock; 96,000 in all at
-   most) or 'many' (64 times `var 0` at once). It prints how many lines a second were answered, and ends with status 1 where one was not, or
-   not so. */
+   KIND is 'ask' (`var 0`, one by one), 'event' (events, one by one, whose times the clients take from one clock; 96,000
+   in all at most) or 'many' (64 times `var 0` at once). It prints how many lines a second were answered, and ends with
+   status 1 where one was not, was refused, or got a reply of another kind: of a reply the first letter is compared. */
 #include <arpa/inet.h>
 #include <netinet/tcp.h>
 #include <stdio.h>
@@ -44,7 +44,7 @@ static int connected(int port) {
     return made;
 }
 
-/* Sends lines, and reads so many replies, each of which begins with this word. */
+/* Sends lines, and reads so many replies, each of which begins with the first letter of this word. */
 static void converse(int it, const char *lines, size_t length, int count, const char *word) {
     char got[65536];
     size_t size = 0;

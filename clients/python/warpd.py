@@ -29,8 +29,8 @@ from itertools import islice
 from typing import NamedTuple, Optional, Union
 
 __all__ = [
-    "Announce", "Announcer", "Board", "Breach", "Client", "Collected", "Count", "Ended", "Entry", "Event", "Horizon", "Known", "Output",
-    "Record", "Refused", "Row", "Tag", "Taken", "Var", "Withdraw", "carry",
+    "Announce", "Announcer", "Board", "Breach", "Client", "Collected", "Count", "Ended", "Entry", "Event", "Horizon",
+    "Known", "Nothing", "Output", "Record", "Refused", "Row", "Tag", "Taken", "Var", "Withdraw", "carry",
 ]
 
 MEANINGS = {
@@ -41,6 +41,8 @@ MEANINGS = {
 }
 # So many lines are sent before their replies are read: they fit into the buffers on the way, so neither side waits for the other.
 WINDOW = 256
+# A board takes no more rows.
+MOST_ROWS = 4_096
 
 
 class Refused(Exception):
@@ -199,8 +201,16 @@ def reply_of(text: str, line: str):
         raise Ended(f"no reply to {line!r}: {text!r}") from None
 
 
+def _one_line(line: Union[str, Record]) -> str:
+    text = str(line)
+    if "\n" in text:
+        raise ValueError(f"more than one line: {text!r}")
+    return text
+
+
 class Client:
-    """Lines to one replica, and their answers. Each method waits for its answer; a refusal is raised as `Refused`."""
+    """Lines to one replica, and their answers. Each method waits for its answer; a refusal is raised as `Refused`. A client whose
+    exchange breaks off, by `Ended` or by an interrupt, is closed: a later reply would be taken for another line's."""
 
     def __init__(self, host: str, port: int, timeout: Optional[float] = 10.0):
         """Connects to a TCP port; `timeout` is in seconds, None for no end."""
@@ -238,11 +248,19 @@ class Client:
 
     def many(self, lines: Iterable[Union[str, Record]]) -> list:
         """Sends lines many at a time, and gives their replies in order, a refusal as a `Refused` that is not raised."""
-        texts, replies = map(str, lines), []
+        texts, replies = map(_one_line, lines), []
         while some := list(islice(texts, WINDOW)):
-            self._send("".join(line + "\n" for line in some).encode())
-            replies += [self._reply(line) for line in some]
+            replies += self._exchange(some)
         return replies
+
+    def _exchange(self, lines: Sequence[str]) -> list:
+        data = "".join(line + "\n" for line in lines).encode()
+        try:
+            self._send(data)
+            return [self._reply(line) for line in lines]
+        except BaseException:
+            self.close()
+            raise
 
     def ask(self, line: Union[str, Record]):
         """The reply to one line; a refusal is raised."""
@@ -256,13 +274,13 @@ class Client:
             while data:
                 data = data[self._lines.write(data):]
             self._lines.flush()
-        except OSError as error:
+        except (OSError, ValueError) as error:
             raise Ended(str(error)) from error
 
     def _reply(self, line: str):
         try:
             text = self._replies.readline()
-        except OSError as error:
+        except (OSError, ValueError) as error:
             raise Ended(str(error)) from error
         if not text.endswith(b"\n"):
             raise Ended(f"no reply to {line!r}")
@@ -326,6 +344,8 @@ class Client:
         end = self.length() + 1
         for first in range(start, end, WINDOW):
             for reply in self.many(f"log {place}" for place in range(first, min(first + WINDOW, end))):
+                if isinstance(reply, Refused):
+                    raise reply
                 yield reply.record
 
     def released_rows(self, start: int = 0) -> Iterator[Row]:
@@ -333,12 +353,12 @@ class Client:
         return self._rows(start, self.board().count)
 
     def rows(self, start: int = 0, pause: float = 0.01) -> Iterator[Row]:
-        """The rows of the board from a number on, as they come, up to where the board is frozen. It sleeps `pause` seconds
-        between two looks that found nothing; readers of the board wait for nobody, and nobody waits for them."""
+        """The rows of the board from a number on, as they come, up to where the board is frozen or full. It sleeps `pause`
+        seconds between two looks that found nothing; readers of the board wait for nobody, and nobody waits for them."""
         while True:
             board = self.board()
             yield from self._rows(start, board.count)
-            if board.frozen:
+            if board.frozen or board.count == MOST_ROWS:
                 return
             if board.count <= start:
                 clock.sleep(pause)
@@ -355,7 +375,8 @@ class Announcer:
     before the last announced tag, and a second payload of one name."""
 
     def __init__(self, client: Client, origin: int):
-        """Takes up what the log has of the origin."""
+        """Takes up what this server's log has of the origin. That must be all that was ever sent for it: after a restart, or
+        at another server, carry the records there first; else the next announcement is false."""
         self.client, self.origin, self.announced = client, origin, Tag(0)
         self._payloads: dict[Tag, tuple[int, int]] = {}
         self._events: list[Tag] = []
@@ -429,12 +450,14 @@ class _Server:
 
     def turn(self, servers: Iterable[_Server]) -> int:
         """Reads its log, and gives it what the others have; says how many records were new to it. A lost connection is made
-        again in the next turn."""
+        again in the next turn, and what was refused is asked again there."""
         try:
             if not self.client:
                 self.connect(servers)
             self.read()
             return sum(self.give(other) for other in servers if other is not self)
+        except Refused:
+            return 0
         except OSError:
             self.close()
             return 0
@@ -447,7 +470,9 @@ class _Server:
 
 def carry(addresses: Sequence[tuple[str, int]], pause: float = 0.05, timeout: float = 10.0, rounds: Optional[int] = None) -> int:
     """Follows the log of each server and puts what is new to all others, again after a lost connection, for ever or for so
-    many rounds. It sleeps `pause` seconds after a round that brought nothing. Returns how many records were new somewhere."""
+    many rounds. It sleeps `pause` seconds after a round that brought nothing. Returns how many records were new somewhere.
+    Each connection takes one of a server's K sessions; a run that takes longer than `timeout` loses the connection, and takes
+    another."""
     servers, total, done = [_Server(it, timeout) for it in addresses], 0, 0
     try:
         while rounds is None or done < rounds:
@@ -461,9 +486,13 @@ def carry(addresses: Sequence[tuple[str, int]], pause: float = 0.05, timeout: fl
             server.close()
 
 
+def _is_address(host: str, port: str) -> bool:
+    return bool(host) and port.isdecimal() and 0 < int(port) < 65_536
+
+
 def main(words: Sequence[str]) -> int:
     addresses = [it.rpartition(":") for it in words[1:]]
-    if words[:1] != ["carry"] or len(addresses) < 2 or not all(host and port.isdigit() for host, _, port in addresses):
+    if words[:1] != ["carry"] or len(addresses) < 2 or not all(_is_address(host, port) for host, _, port in addresses):
         print("usage: python3 -m warpd carry HOST:PORT HOST:PORT..", file=sys.stderr)
         return 2
     try:
