@@ -1,5 +1,6 @@
-//! A replica with rollback beside its slow twin, which runs from the start: they answer the same, and going back
-//! executes no more again than the rows at tags from the least change on, and sixteen.
+//! A replica with rollback, which collects now and then, beside its slow twin, which runs from the start: they answer
+//! the same, also where a record comes behind what was collected; and where none did, going back executes no more again
+//! than the rows at tags from the least change on, and sixteen.
 ghost use Rattle.std.specs.Prelude.{◌≡◌, IsTrue};
 
 use crate::dice::Dice;
@@ -86,15 +87,17 @@ fn earlier(one: Option<Tag>, other: Option<Tag>) -> Option<Tag> {
     }
 }
 
-/// A record of two origins: more often an event than a withdrawal or an announcement.
-fn drawn(rt: &impl Abort, dice: &mut Dice) -> Record {
+/// A record of two origins: more often an event than a withdrawal or an announcement. Announcements end at this time
+/// at the latest.
+fn drawn(rt: &impl Abort, dice: &mut Dice, latest: u64) -> Record {
     let origin = (dice.roll() % 2) as u32;
-    let tag = Tag::new(dice.roll() % 60, (dice.roll() % 3) as u32).expect(rt, "a tag");
+    let (time, micro) = (dice.roll() % 60, (dice.roll() % 3) as u32);
+    let tag = Tag::new(time, micro).expect(rt, "a tag");
     match dice.roll() % 8 {
         0 | 1 => Record::Withdraw { origin, tag },
         2 => Record::Announce {
             origin,
-            tag,
+            tag: Tag::new(time.min(latest), micro).expect(rt, "a tag"),
             events: count(rt, (dice.roll() % 5) as u32),
             withdrawn: count(rt, (dice.roll() % 2) as u32),
         },
@@ -127,17 +130,25 @@ fn take<T: Timeline, U: Timeline>(
     assert!(rt; took == other.take(alloc, record), "{record:?}");
 }
 
+/// Whether a replica collected something: the beginning is behind then. A record that comes behind undoes it.
+fn has_collected<T: Timeline>(replica: &Replica<T>) -> bool {
+    replica.timeline().behind(Tag::beginning_of(0))
+}
+
 /// Settles a replica with rollback and its slow twin. They answer the same, and the one executes at most the rows
-/// from the least changed tag on, and sixteen; none where the twin executes none, since no live event changed.
+/// from the least changed tag on, and sixteen; none where the twin executes none, since no live event changed. Where a
+/// record came behind what it `had` collected, it may execute all: answers whether one did.
 fn settle_both<T: Timeline, U: Timeline>(
     rt: &impl Abort,
     alloc: Global,
     one: &mut Replica<T>,
     twin: &mut Replica<U>,
     least: Option<Tag>,
-)
+    had: bool,
+) -> bool
     ensures one { one.new.program ≡ one.old.program }
     ensures twin { twin.new.program ≡ twin.old.program }
+    ensures settled { IsTrue (T.settled one.new.timeline) × IsTrue (U.settled twin.new.timeline) }
 {
     let rows = settle(rt, alloc, one);
     let all = settle(rt, alloc, twin);
@@ -147,11 +158,25 @@ fn settle_both<T: Timeline, U: Timeline>(
             .wrapping_add(16),
         _ => 0,
     };
-    assert!(rt; rows <= most, "{rows} rows of {all}, from {least:?}");
+    let came_behind = had && !has_collected(one);
+    assert!(rt;
+        came_behind || rows <= most,
+        "{rows} rows of {all}, from {least:?}"
+    );
+    agree_in_all(rt, one, twin);
+    came_behind
+}
+
+/// The one collects, which changes no answer.
+fn collect<T: Timeline, U: Timeline>(rt: &impl Abort, one: &mut Replica<T>, twin: &Replica<U>)
+    requires { IsTrue (T.settled one.old.timeline) × IsTrue (U.settled twin.now.timeline) }
+    ensures one { one.new.program ≡ one.old.program }
+{
+    one.collect();
     agree_in_all(rt, one, twin);
 }
 
-/// Both settle, and then take drawn records and answer the same after each.
+/// Both settle, and then take drawn records and answer the same after each; the one collects after every eighth.
 fn answer_alike<T: Timeline, U: Timeline>(
     rt: &impl Abort,
     alloc: Global,
@@ -162,11 +187,19 @@ fn answer_alike<T: Timeline, U: Timeline>(
     let mut dice = Dice { state: seed };
     settle(rt, alloc, one);
     settle(rt, alloc, twin);
-    for _ in 0..400 {
-        let record = drawn(rt, &mut dice);
+    let mut behind: u32 = 0;
+    for turn in 0..400 {
+        let record = drawn(rt, &mut dice, u64::from(one.len() / 8));
+        let had = has_collected(one);
         take(rt, alloc, one, twin, &record);
-        settle_both(rt, alloc, one, twin, changed_tag(&record));
+        if settle_both(rt, alloc, one, twin, changed_tag(&record), had) {
+            behind = behind.wrapping_add(1);
+        }
+        if turn % 8 == 0 {
+            collect(rt, one, twin);
+        }
     }
+    assert!(rt; behind > 4, "{behind} came behind");
 }
 
 /// A replica of this program and its slow twin answer the same after each record that is drawn from this seed.
@@ -229,7 +262,7 @@ fn take_turn<T: Timeline, U: Timeline>(
     dice: &mut Dice,
     least: &mut Option<Tag>,
 ) -> u64 {
-    let record = drawn(rt, dice);
+    let record = drawn(rt, dice, u64::from(one.len() / 8));
     let turn = dice.roll() % 64;
     if turn < 24 {
         let _ = peer.take(alloc, &record);
@@ -244,7 +277,7 @@ fn take_turn<T: Timeline, U: Timeline>(
     turn
 }
 
-/// Both take drawn records, and merge with the peer, and answer the same when they are settled.
+/// Both take drawn records, and merge with the peer, and answer the same when they are settled; the one collects then.
 fn merge_alike<T: Timeline, U: Timeline>(
     rt: &impl Abort,
     alloc: Global,
@@ -254,17 +287,24 @@ fn merge_alike<T: Timeline, U: Timeline>(
 ) {
     let mut dice = Dice { state: 4 };
     let mut least = Some(Tag::beginning_of(0));
+    let mut behind: u32 = 0;
+    let mut had = false;
     for _ in 0..1_000 {
         let turn = take_turn(rt, alloc, one, twin, peer, &mut dice, &mut least);
         if turn % 4 == 1 {
             settle(rt, alloc, peer);
         }
         if turn % 4 == 2 {
-            settle_both(rt, alloc, one, twin, least);
+            if settle_both(rt, alloc, one, twin, least, had) {
+                behind = behind.wrapping_add(1);
+            }
             least = None;
+            collect(rt, one, twin);
+            had = has_collected(one);
         }
     }
     assert!(rt; one.len() > 500);
+    assert!(rt; behind > 9, "{behind} came behind");
 }
 
 /// A replica of the program, its slow twin and a peer do so.
