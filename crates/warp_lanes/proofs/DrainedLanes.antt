@@ -21,7 +21,7 @@ use Rattle.warp_replica.proofs.Replies.{some_answer}
 use Rattle.warp_replica.proofs.SomeHorizon.{announces}
 use Rattle.warp_board.specs.Board.{WriterState}
 use Rattle.warp_lanes.specs.declared.answer.Answer.{Answer}
-use Rattle.warp_lanes.specs.Engine.{Answered, AreAnswered, ids_of}
+use Rattle.warp_lanes.specs.Engine.{Answered, AreAnswered, TimelineFacts, ids_of}
 use Rattle.warp_lanes.specs.History.{AreGiven, IsHistory}
 use Rattle.warp_lanes.specs.Lanes.{LaneId, LaneState}
 use Rattle.warp_lanes.specs.Publish.{AreReleased, KeepsBoard}
@@ -57,31 +57,31 @@ set_there [] k lane lane' e = absurd (grind (e, arith))
 set_there (l ∷ lanes) zero lane lane' e = refl
 set_there (l ∷ lanes) (suc k) lane lane' e = set_there lanes k lane lane' (grind (e, arith))
 
-module _ {T : Type 0} (settled : T → Bool) where
+module _ {T : Type 0} (facts : TimelineFacts T) where
   -- one line more
   pub line_more : (r r' r'' : ReplicaState T) (lines : List Line) (made : List Answer) (said : Line) (answer : Answer)
-      → AreAnswered settled r lines made r' → Answered settled r' said answer r'' → AreAnswered settled r (lines ++ said ∷ []) (made ++ answer ∷ []) r''
-  line_more r r' r'' [] [] said answer a one = (r'', subst (λ (x : ReplicaState T). Answered settled x said answer r'') a one, refl)
+      → AreAnswered facts r lines made r' → Answered facts r' said answer r'' → AreAnswered facts r (lines ++ said ∷ []) (made ++ answer ∷ []) r''
+  line_more r r' r'' [] [] said answer a one = (r'', subst (λ (x : ReplicaState T). Answered facts x said answer r'') a one, refl)
   line_more r r' r'' (l ∷ lines) (m ∷ made) said answer a one = (a.0, a.1, line_more a.0 r' r'' lines made said answer a.2 one)
   line_more r r' r'' [] (m ∷ made) said answer a one = absurd a
   line_more r r' r'' (l ∷ lines) [] said answer a one = absurd a
 
   -- as many answers were made as there were lines
-  pub lines_count : (r r' : ReplicaState T) (lines : List Line) (made : List Answer) → AreAnswered settled r lines made r' → length made ≡ length lines
+  pub lines_count : (r r' : ReplicaState T) (lines : List Line) (made : List Answer) → AreAnswered facts r lines made r' → length made ≡ length lines
   lines_count r r' [] [] a = refl
   lines_count r r' (l ∷ lines) (m ∷ made) a = ap suc (lines_count a.0 r' lines made a.2)
   lines_count r r' [] (m ∷ made) a = absurd a
   lines_count r r' (l ∷ lines) [] a = absurd a
 
   -- the program stays
-  pub lines_program : (r r' : ReplicaState T) (lines : List Line) (made : List Answer) → AreAnswered settled r lines made r' → r'.program ≡ r.program
+  pub lines_program : (r r' : ReplicaState T) (lines : List Line) (made : List Answer) → AreAnswered facts r lines made r' → r'.program ≡ r.program
   lines_program r r' [] [] a = ap (λ (x : ReplicaState T). x.program) a
   lines_program r r' (l ∷ lines) (m ∷ made) a = lines_program a.0 r' lines made a.2 ∙ a.1.1
   lines_program r r' [] (m ∷ made) a = absurd a
   lines_program r r' (l ∷ lines) [] a = absurd a
 
   -- the log before is a front of the log after
-  pub lines_begin : (r r' : ReplicaState T) (lines : List Line) (made : List Answer) → AreAnswered settled r lines made r'
+  pub lines_begin : (r r' : ReplicaState T) (lines : List Line) (made : List Answer) → AreAnswered facts r lines made r'
       → (rest : List Record) × (r'.records ≡ r.records ++ rest)
   lines_begin r r' [] [] a = ([], ap (λ (x : ReplicaState T). x.records) a ∙ sym (append-nil r.records))
   lines_begin r r' (l ∷ lines) (m ∷ made) a =
@@ -92,7 +92,7 @@ module _ {T : Type 0} (settled : T → Bool) where
   lines_begin r r' (l ∷ lines) [] a = absurd a
 
   -- no answer says less than the log had
-  pub lines_long : (n : ℕ) (r r' : ReplicaState T) (lines : List Line) (made : List Answer) → n ≤ length r.records → AreAnswered settled r lines made r'
+  pub lines_long : (n : ℕ) (r r' : ReplicaState T) (lines : List Line) (made : List Answer) → n ≤ length r.records → AreAnswered facts r lines made r'
       → AllByRecursion (λ (answer : Answer). n ≤ answer.len) made
   lines_long n r r' [] [] long a = tt
   lines_long n r r' (l ∷ lines) (m ∷ made) long a =
@@ -104,7 +104,7 @@ module _ {T : Type 0} (settled : T → Bool) where
 
   -- the lanes are a linear history still
   pub lines_history : (began k : ℕ) (r r' : ReplicaState T) (lanes : List LaneState) (lane : LaneState) (lines : List Line) (made : List Answer)
-      → IsHistory r.program r.records began lanes → slice_get lanes k ≡ Some lane → AreAnswered settled r lines made r'
+      → IsHistory r.program r.records began lanes → slice_get lanes k ≡ Some lane → AreAnswered facts r lines made r'
       → IsHistory r'.program r'.records began (set lanes k (record lane { commands = lane.commands ++ lines; answers = lane.answers ++ made }))
   lines_history began k r r' lanes lane [] [] s at a =
       let same : record lane { commands = lane.commands ++ []; answers = lane.answers ++ [] } ≡ lane =
@@ -145,12 +145,12 @@ module _ (P : Program) (records rest : List Record) where
       )
 
 -- what an engine keeps of its board, of which no row is known to begin what is released
-module _ {T : Type 0} (settled : T → Bool) (r r' : ReplicaState T) (lines : List Line) (made : List Answer) (w : WriterState) (sure : ℕ) where
-  pub lines_board : 0 < r.program.origins → EachOnce r.records → AreAllowed r'.program r'.records → AreAnswered settled r lines made r'
+module _ {T : Type 0} (facts : TimelineFacts T) (r r' : ReplicaState T) (lines : List Line) (made : List Answer) (w : WriterState) (sure : ℕ) where
+  pub lines_board : 0 < r.program.origins → EachOnce r.records → AreAllowed r'.program r'.records → AreAnswered facts r lines made r'
       → KeepsBoard r.program r.records w sure → KeepsBoard r'.program r'.records w 0
   lines_board some once allowed a kept =
-      let more = lines_begin settled r r' lines made a in
-      let is = lines_program settled r r' lines made a in
+      let more = lines_begin facts r r' lines made a in
+      let is = lines_program facts r r' lines made a in
       let allowed' : AreAllowed r.program (r.records ++ more.0) =
       subst (λ (l : List Record). AreAllowed r.program l) more.1 (subst (λ (P : Program). AreAllowed P r'.records) is allowed) in
       let now : AreReleased r.program (r.records ++ more.0) w = released_all r.program r.records more.0 some once w allowed' kept.honest in

@@ -16,7 +16,7 @@ use Rattle.warp_lanes.specs.declared.answer.Answer.{Answer}
 use Rattle.warp_replica.specs.Replica.{ReplicaState}
 use Rattle.warp_lanes.specs.declared.turn.Turn.{Turn}
 use Rattle.warp_lanes.specs.declared.turn.Turn.TheVariants.{Served, Empty, Stalled}
-use Rattle.warp_lanes.specs.Engine.{TurnsLane, AreFresh, HasPlace, ids_of}
+use Rattle.warp_lanes.specs.Engine.{TurnsLane, TimelineFacts, AreFresh, HasPlace, ids_of}
 use Rattle.warp_lanes.specs.Lanes.{LaneState, places}
 use Rattle.warp_lanes.proofs.Growing.{Grows, grown, same, grows, begins}
 use Rattle.warp_lanes.specs.History.{IsGiven, AreGiven, AreRising, told_at, times_told, times_taken, IsServed, IsHistory}
@@ -172,11 +172,11 @@ set_same (l ∷ lanes) zero lane e = (let here : lane ≡ l = grind (e, arith) i
 set_same (l ∷ lanes) (suc k) lane e = ap (λ (xs : List LaneState). l ∷ xs) (set_same lanes k lane (grind (e, arith)))
 
 -- a turn keeps what was served
-module _ {T : Type 0} (settled : T → Bool) (r r' : ReplicaState T) (began : ℕ) (lanes : List LaneState) (k : ℕ) (lane lane' : LaneState) where
+module _ {T : Type 0} (facts : TimelineFacts T) (r r' : ReplicaState T) (began : ℕ) (lanes : List LaneState) (k : ℕ) (lane lane' : LaneState) where
   still : IsHistory r.program r.records began lanes → slice_get lanes k ≡ Some lane → r' ≡ r → lane' ≡ lane → IsHistory r'.program r'.records began (set lanes k lane')
   still s at r_is lane_is = rw (r_is, lane_is, set_same lanes k lane at) s
 
-  pub turn_keeps : (turn : Turn) → IsHistory r.program r.records began lanes → slice_get lanes k ≡ Some lane → TurnsLane settled r lane turn r' lane'
+  pub turn_keeps : (turn : Turn) → IsHistory r.program r.records began lanes → slice_get lanes k ≡ Some lane → TurnsLane facts r lane turn r' lane'
       → IsHistory r'.program r'.records began (set lanes k lane')
   turn_keeps Served s at (said, answer, t) = rw (t.0.1, t.1) (one_more r.program r.records began lanes k lane said answer r'.records s at t.0.0 t.0.2)
   turn_keeps Empty s at t = still s at t.0 t.1
@@ -201,11 +201,11 @@ fresh_served P log began lanes e f =
       never = λ place out. fresh_none place lanes f;
     }
 
-pub turns_program : {T : Type 0} (settled : T → Bool) (r r' : ReplicaState T) (lane lane' : LaneState) (turn : Turn) → TurnsLane settled r lane turn r' lane'
+pub turns_program : {T : Type 0} (facts : TimelineFacts T) (r r' : ReplicaState T) (lane lane' : LaneState) (turn : Turn) → TurnsLane facts r lane turn r' lane'
     → r'.program ≡ r.program
-turns_program {T} settled r r' lane lane' Served (said, answer, t) = t.0.1
-turns_program {T} settled r r' lane lane' Empty t = ap (λ (x : ReplicaState T). x.program) t.0
-turns_program {T} settled r r' lane lane' Stalled t = ap (λ (x : ReplicaState T). x.program) t.0
+turns_program {T} facts r r' lane lane' Served (said, answer, t) = t.0.1
+turns_program {T} facts r r' lane lane' Empty t = ap (λ (x : ReplicaState T). x.program) t.0
+turns_program {T} facts r r' lane lane' Stalled t = ap (λ (x : ReplicaState T). x.program) t.0
 
 -- which lanes there are stays
 pub same_ids : (lanes : List LaneState) (k : ℕ) (lane lane' : LaneState) → slice_get lanes k ≡ Some lane → lane'.lane ≡ lane.lane → ids_of (set lanes k lane') ≡ ids_of lanes
@@ -220,8 +220,8 @@ pub before_none : {X : Type 0} (new old last : List X) (x : X) → last ≡ [] �
 before_none new old last x none e =
     ap (λ l. new ++ l) none ∙ append-nil new ∙ e ∙ ap (λ l. l ++ x ∷ []) (sym (ap (λ l. old ++ l) none ∙ append-nil old))
 
-pub turns_id : {T : Type 0} (settled : T → Bool) (r r' : ReplicaState T) (lane lane' : LaneState) (turn : Turn) → TurnsLane settled r lane turn r' lane'
+pub turns_id : {T : Type 0} (facts : TimelineFacts T) (r r' : ReplicaState T) (lane lane' : LaneState) (turn : Turn) → TurnsLane facts r lane turn r' lane'
     → lane'.lane ≡ lane.lane
-turns_id {T} settled r r' lane lane' Served (said, answer, t) = ap (λ (x : LaneState). x.lane) t.1
-turns_id {T} settled r r' lane lane' Empty t = ap (λ (x : LaneState). x.lane) t.1
-turns_id {T} settled r r' lane lane' Stalled t = ap (λ (x : LaneState). x.lane) t.1
+turns_id {T} facts r r' lane lane' Served (said, answer, t) = ap (λ (x : LaneState). x.lane) t.1
+turns_id {T} facts r r' lane lane' Empty t = ap (λ (x : LaneState). x.lane) t.1
+turns_id {T} facts r r' lane lane' Stalled t = ap (λ (x : LaneState). x.lane) t.1

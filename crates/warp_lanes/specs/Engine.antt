@@ -1,11 +1,20 @@
 -- An engine, and what a turn and draining a lane do.
-use Rattle.std.specs.Prelude.{◌≡◌, ℕ, ◌<◌, ◌≤◌, Bool, List, [], ◌∷◌, ◌++◌, length, map, slice_get, Some}
+use Rattle.std.specs.Prelude.{◌≡◌, ◌≢◌, ℕ, ◌<◌, ◌≤◌, Bool, false, IsTrue, List, [], ◌∷◌, ◌++◌, length, map, slice_get}
+use Rattle.std.specs.Prelude.{Option, Some}
 use Rattle.std.specs.List.{AllByRecursion}
 use Rattle.std.proofs.Math.ListN.{set}
+use Rattle.warp_tag.specs.Moment.{Moment}
+use Rattle.warp_tag.specs.Table.{live}
 use Rattle.warp_record.specs.declared.line.Line.{Line}
+use Rattle.warp_record.specs.declared.line.Line.TheVariants.{Collect}
+use Rattle.warp_record.specs.declared.reply.Refusal.TheVariants.{NoMemory}
+use Rattle.warp_record.specs.declared.reply.Reply.{Reply}
+use Rattle.warp_record.specs.declared.reply.Reply.TheVariants.{Refused}
+use Rattle.warp_table.specs.Table.{table_of}
 use Rattle.warp_replica.specs.Replica.{ReplicaState}
+use Rattle.warp_replica.specs.Floor.{CollectsTo, brings_behind}
 use Rattle.warp_replica.specs.Gives.{Gives}
-use Rattle.warp_replica.specs.Settling.{SettlesFor}
+use Rattle.warp_replica.specs.Settling.{SettlesFor, SettlesUnless}
 use Rattle.warp_board.specs.Board.{WriterState}
 use Rattle.warp_lanes.specs.declared.answer.Answer.{Answer}
 use Rattle.warp_lanes.specs.declared.turn.Turn.{Turn}
@@ -35,63 +44,88 @@ AreFresh lanes = AllByRecursion IsFresh lanes
 abbrev pub ids_of : List LaneState → List LaneId
 ids_of lanes = map (λ lane. lane.lane) lanes
 
--- the lane of this place sent fewer answers than its ring has places for, so that none can lack one
+-- the lane of this number sent fewer answers than its ring has places for, so that none can lack one
 abbrev pub HasPlace : List LaneState → ℕ → Type 0
-HasPlace lanes place =
-    (lane : LaneState) × (slice_get lanes place ≡ Some lane) × (length lane.answers < places)
+HasPlace lanes number =
+    (lane : LaneState) × (slice_get lanes number ≡ Some lane) × (length lane.answers < places)
+
+-- what a timeline tells of itself: whether it is settled, that settling it lacked memory, its floor, and how many rows
+-- before the horizon collecting may keep
+pub record TimelineFacts (T : Type 0) : Type 1 where
+  pub settled : T → Bool
+  pub refused : T → Type 0
+  pub floor : T → Option Moment
+  pub slack : ℕ
+
+abbrev pub facts_of : {T : Type 0} → (T → Bool) → (T → Type 0) → (T → Option Moment) → ℕ → TimelineFacts T
+facts_of settled refused floor slack = record { settled = settled; refused = refused; floor = floor; slack = slack }
+
+-- What a line and its reply leave of a replica's timeline: it is settled by that reply, or settling it lacked memory;
+-- where no live event changed it stays settled; and after `collect` it has let go of what is before the horizon.
+pub record LeavesTimeline {T : Type 0} (facts : TimelineFacts T) (r : ReplicaState T) (said : Line) (reply : Reply)
+    (r' : ReplicaState T) : Type 0 where
+  pub settles : (had : Bool) × SettlesFor said reply had (facts.settled r.timeline) (facts.settled r'.timeline)
+  pub lacked : SettlesUnless said reply (facts.settled r'.timeline) (facts.refused r'.timeline)
+  pub calm : brings_behind (facts.floor r.timeline) said ≡ false →
+      live (table_of r'.records) ≡ live (table_of r.records) →
+      IsTrue (facts.settled r.timeline) → IsTrue (facts.settled r'.timeline)
+  pub collects : said ≡ Collect → reply ≢ Refused NoMemory →
+      CollectsTo facts.slack r.program r.records (facts.floor r.timeline) (facts.floor r'.timeline)
 
 -- The replica was given a line: the reply is what the line gives on its log, with the length of the log that it left;
--- and by that reply it is settled, or not.
-abbrev pub Answered : {T : Type 0} → (T → Bool) → ReplicaState T → Line → Answer → ReplicaState T → Type 0
-Answered settled r said answer r' =
+-- and by the line and that reply it is settled, and has let go of what it may.
+abbrev pub Answered : {T : Type 0} → TimelineFacts T → ReplicaState T → Line → Answer → ReplicaState T → Type 0
+Answered facts r said answer r' =
     Gives r.program r.records said answer.reply r'.records
     × (r'.program ≡ r.program) × (answer.len ≡ length r'.records) × IsAnswer answer
-    × ((had : Bool) × SettlesFor said answer.reply had (settled r.timeline) (settled r'.timeline))
+    × LeavesTimeline facts r said answer.reply r'
 
 -- a lane received a command and sent its answer
-abbrev pub Serves : {T : Type 0} → (T → Bool) → ReplicaState T → LaneState → Line → Answer
+abbrev pub Serves : {T : Type 0} → TimelineFacts T → ReplicaState T → LaneState → Line → Answer
     → ReplicaState T → LaneState → Type 0
-Serves settled r lane said answer r' lane' =
-    Answered settled r said answer r'
+Serves facts r lane said answer r' lane' =
+    Answered facts r said answer r'
     × (lane' ≡ record lane { commands = lane.commands ++ said ∷ []; answers = lane.answers ++ answer ∷ [] })
 
 -- what a turn at a lane does to the replica and the lane
-abbrev pub TurnsLane : {T : Type 0} → (T → Bool) → ReplicaState T → LaneState → Turn
+abbrev pub TurnsLane : {T : Type 0} → TimelineFacts T → ReplicaState T → LaneState → Turn
     → ReplicaState T → LaneState → Type 0
-TurnsLane settled r lane Served r' lane' =
-    (said : Line) × (answer : Answer) × Serves settled r lane said answer r' lane'
-TurnsLane settled r lane Empty r' lane' = (r' ≡ r) × (lane' ≡ lane)
-TurnsLane settled r lane Stalled r' lane' = (r' ≡ r) × (lane' ≡ lane)
+TurnsLane facts r lane Served r' lane' =
+    (said : Line) × (answer : Answer) × Serves facts r lane said answer r' lane'
+TurnsLane facts r lane Empty r' lane' = (r' ≡ r) × (lane' ≡ lane)
+TurnsLane facts r lane Stalled r' lane' = (r' ≡ r) × (lane' ≡ lane)
 
--- what a turn at the lane of this place, from 0, does to the engine
-abbrev pub Turns : {T : Type 0} → (T → Bool) → EngineState T → ℕ → Turn → EngineState T → Type 0
-Turns settled e place turn e' =
-    (lane lane' : LaneState) × (slice_get e.lanes place ≡ Some lane)
-    × TurnsLane settled e.replica lane turn e'.replica lane'
-    × (e'.lanes ≡ set e.lanes place lane') × (e'.writer ≡ e.writer) × (e'.began ≡ e.began)
+-- what a turn at the lane of this number, from 0, does to the engine
+abbrev pub Turns : {T : Type 0} → TimelineFacts T → EngineState T → ℕ → Turn → EngineState T → Type 0
+Turns facts e number turn e' =
+    (lane lane' : LaneState) × (slice_get e.lanes number ≡ Some lane)
+    × TurnsLane facts e.replica lane turn e'.replica lane'
+    × (e'.lanes ≡ set e.lanes number lane') × (e'.writer ≡ e.writer) × (e'.began ≡ e.began)
 
 -- the replica was given these lines, one after another
-abbrev pub AreAnswered : {T : Type 0} → (T → Bool) → ReplicaState T → List Line → List Answer → ReplicaState T → Type 0
-AreAnswered settled r [] [] r' = r' ≡ r
-AreAnswered {T} settled r (said ∷ lines) (answer ∷ answers) r' =
-    (next : ReplicaState T) × Answered settled r said answer next × AreAnswered settled next lines answers r'
-AreAnswered settled r lines answers r' = ⊥
+abbrev pub AreAnswered : {T : Type 0} → TimelineFacts T → ReplicaState T → List Line → List Answer → ReplicaState T
+    → Type 0
+AreAnswered facts r [] [] r' = r' ≡ r
+AreAnswered {T} facts r (said ∷ lines) (answer ∷ answers) r' =
+    (next : ReplicaState T) × Answered facts r said answer next × AreAnswered facts next lines answers r'
+AreAnswered facts r lines answers r' = ⊥
 
 -- What draining a lane with its port's end does. The replica was given the lines that were not received, and their
 -- answers stand behind those that the lane sent. So the lane received all that its port sent, and what the port
 -- fetched, followed by what is handed out, is all that the lane sent. No answer that was made has less than the length
 -- that was found.
-abbrev pub DrainsLane : {T : Type 0} → (T → Bool) → ReplicaState T → LaneState → PortState → List Answer
+abbrev pub DrainsLane : {T : Type 0} → TimelineFacts T → ReplicaState T → LaneState → PortState → List Answer
     → ReplicaState T → LaneState → Type 0
-DrainsLane settled r lane end handed r' lane' =
-    (lines : List Line) × (made : List Answer) × AreAnswered settled r lines made r'
+DrainsLane facts r lane end handed r' lane' =
+    (lines : List Line) × (made : List Answer) × AreAnswered facts r lines made r'
     × (lane' ≡ record lane { commands = lane.commands ++ lines; answers = lane.answers ++ made })
     × (lane'.commands ≡ end.sent) × (lane'.answers ≡ end.fetched ++ handed)
     × AllByRecursion (λ (answer : Answer). length r.records ≤ answer.len) made
 
--- what draining the lane of this place does to the engine
-abbrev pub Drains : {T : Type 0} → (T → Bool) → EngineState T → ℕ → PortState → List Answer → EngineState T → Type 0
-Drains settled e place end handed e' =
-    (lane lane' : LaneState) × (slice_get e.lanes place ≡ Some lane)
-    × DrainsLane settled e.replica lane end handed e'.replica lane'
-    × (e'.lanes ≡ set e.lanes place lane') × (e'.writer ≡ e.writer) × (e'.began ≡ e.began)
+-- what draining the lane of this number does to the engine
+abbrev pub Drains : {T : Type 0} → TimelineFacts T → EngineState T → ℕ → PortState → List Answer → EngineState T
+    → Type 0
+Drains facts e number end handed e' =
+    (lane lane' : LaneState) × (slice_get e.lanes number ≡ Some lane)
+    × DrainsLane facts e.replica lane end handed e'.replica lane'
+    × (e'.lanes ≡ set e.lanes number lane') × (e'.writer ≡ e.writer) × (e'.began ≡ e.began)

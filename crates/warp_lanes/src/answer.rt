@@ -14,9 +14,9 @@ pub struct Answer {
 /// The rule of the ring of answers: each reply is in its range, and the length of a log that it says is its answer's
 /// `len`.
 #[derive(Clone, Copy)]
-pub struct SaysLength;
+pub struct AnswerRule;
 
-impl Protocol<Answer> for SaysLength {
+impl Protocol<Answer> for AnswerRule {
     ghost use Rattle.warp_lanes.specs.Lanes.{IsAnswer};
 
     ghost allows = { λ _ answer. IsAnswer answer };

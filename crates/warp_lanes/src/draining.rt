@@ -4,9 +4,9 @@ ghost use Rattle.std.specs.Prelude.{length, vec_capacity, vec_len};
 ghost use Rattle.rtrb.specs.Ring.{SameConsumer, known_items, received};
 ghost use Rattle.warp_record.specs.declared.line.Line.{Line};
 ghost use Rattle.warp_lanes.specs.declared.answer.Answer.{Answer};
-ghost use Rattle.warp_lanes.specs.Engine.{Answered, AreAnswered, DrainsLane};
+ghost use Rattle.warp_lanes.specs.Engine.{Answered, AreAnswered, DrainsLane, facts_of};
 
-use crate::answer::{Answer, SaysLength};
+use crate::answer::{Answer, AnswerRule};
 use crate::executor_end::Lane;
 use crate::port::PortEnd;
 use rtrb::Consumer;
@@ -28,7 +28,8 @@ pub(crate) fn drain<T: Timeline>(
     requires lane { end.lane ≡ lane.old.lane }
     requires answered { length lane.old.commands ≡ length lane.old.answers }
     ensures drains { IfOk result
-        (λ handed. DrainsLane T.settled replica.old lane.old end handed.items replica.new lane.new) }
+        (λ handed. DrainsLane (facts_of T.settled T.refused T.floor T.SLACK)
+        replica.old lane.old end handed.items replica.new lane.new) }
     ensures err { OnErr result ((replica.new ≡ replica.old) × (lane.new ≡ lane.old)) }
 {
     let PortEnd {
@@ -57,7 +58,8 @@ fn answer_all<T: Timeline>(
     ensures ring { SameConsumer commands.old commands.new }
     ensures commands { received commands.new ≡ received commands.old ++ known_items commands.old }
     ensures made { (made : List Answer)
-        × AreAnswered T.settled replica.old (known_items commands.old) made replica.new
+        × AreAnswered (facts_of T.settled T.refused T.floor T.SLACK) replica.old (known_items commands.old) made
+        replica.new
         × (last.new.items ≡ last.old.items ++ made) }
 {
     while commands.cached_slots() > 0 {
@@ -78,7 +80,7 @@ fn answer_one<T: Timeline>(
     ensures made { (said : Line) × (answer : Answer)
         × (received commands.new ≡ received commands.old ++ said ∷ [])
         × (known_items commands.old ≡ said ∷ known_items commands.new)
-        × Answered T.settled replica.old said answer replica.new
+        × Answered (facts_of T.settled T.refused T.floor T.SLACK) replica.old said answer replica.new
         × (last.new.items ≡ last.old.items ++ answer ∷ []) }
     ensures room { vec_capacity last.new ≡ vec_capacity last.old }
 {
@@ -89,7 +91,7 @@ fn answer_one<T: Timeline>(
 }
 
 /// Fetches all answers that are known to be there.
-fn fetch_all(answers: &mut Consumer<Answer, Global, SaysLength>, handed: &mut Vec<Answer>)
+fn fetch_all(answers: &mut Consumer<Answer, Global, AnswerRule>, handed: &mut Vec<Answer>)
     requires { vec_len handed.old + length (known_items answers.old) ≤ vec_capacity handed.old }
     ensures items { handed.new.items ≡ handed.old.items ++ known_items answers.old }
     ensures room { vec_capacity handed.new ≡ vec_capacity handed.old }
@@ -100,7 +102,7 @@ fn fetch_all(answers: &mut Consumer<Answer, Global, SaysLength>, handed: &mut Ve
 }
 
 /// Fetches the next answer.
-fn fetch_one(answers: &mut Consumer<Answer, Global, SaysLength>, handed: &mut Vec<Answer>)
+fn fetch_one(answers: &mut Consumer<Answer, Global, AnswerRule>, handed: &mut Vec<Answer>)
     requires known { 0 < length (known_items answers.old) }
     requires room { vec_len handed.old < vec_capacity handed.old }
     ensures next { (answer : Answer) × (known_items answers.old ≡ answer ∷ known_items answers.new)

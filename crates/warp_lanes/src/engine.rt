@@ -9,7 +9,8 @@ ghost use Rattle.warp_step.specs.Run.{Row};
 ghost use Rattle.warp_line.specs.Timeline.{IsDone, Settles};
 ghost use Rattle.warp_replica.specs.Answers.{IsReleased};
 ghost use Rattle.warp_replica.specs.Replica.{Stands, standing_of};
-ghost use Rattle.warp_lanes.specs.Engine.{AreFresh, Drains, HasPlace, Turns, TurnsLane, ids_of, most_lanes};
+ghost use Rattle.warp_lanes.specs.Engine.{AreFresh, Drains, HasPlace, Turns, TurnsLane};
+ghost use Rattle.warp_lanes.specs.Engine.{facts_of, ids_of, most_lanes};
 ghost use Rattle.warp_lanes.specs.History.{IsHistory};
 ghost use Rattle.warp_lanes.specs.Lanes.{places};
 ghost use Rattle.warp_lanes.specs.Publish.{AreReleased, HasNews, Publishes};
@@ -112,11 +113,11 @@ impl<T: Timeline> Engine<T> {
     }
 
     /// Serves the next command of a lane as a replica without peers would, if one is found and its answer has a place:
-    /// each of a lane's first 64 answers has. `alloc` is the replica's. It settles as `Replica::ask` does: where there was
-    /// no memory for it, `settle` may be called later.
+    /// each of a lane's first 64 answers has. `alloc` is the replica's. It settles and collects as `Replica::ask` does:
+    /// where there was no memory for it, `settle` may be called later.
     pub fn turn(&mut self, alloc: Global, lane: usize) -> Turn
         requires { lane < length self.old.lanes }
-        ensures turns { Turns T.settled self.old lane result self.new }
+        ensures turns { Turns (facts_of T.settled T.refused T.floor T.SLACK) self.old lane result self.new }
         ensures first { HasPlace self.old.lanes lane → result ≢ Turn.Stalled }
         ensures program { self.new.replica.program ≡ self.old.replica.program }
         ensures writer { self.new.writer ≡ self.old.writer }
@@ -141,6 +142,8 @@ impl<T: Timeline> Engine<T> {
             × OnOk result (IsDone (standing_of self.new.replica after)) }
         ensures settled { OnOk result (IsTrue (T.settled self.new.replica.timeline)) }
         ensures unsettled { OnErr result (T.settled self.new.replica.timeline ≡ false) }
+        ensures refused { OnErr result (T.refused self.new.replica.timeline) }
+        ensures floor { T.floor self.new.replica.timeline ≡ T.floor self.old.replica.timeline }
         ensures idle { IsTrue (T.settled self.old.replica.timeline) → IsOk result × (self.new ≡ self.old) }
         ensures others { self.new ≡ record self.old {
           replica = record self.old.replica { timeline = self.new.replica.timeline };
@@ -160,7 +163,8 @@ impl<T: Timeline> Engine<T> {
         end: PortEnd,
     ) -> Result<Vec<Answer>, OutOfMemory>
         requires { slice_get (ids_of self.old.lanes) lane ≡ Some end.lane }
-        ensures drains { IfOk result (λ handed. Drains T.settled self.old lane end handed.items self.new) }
+        ensures drains { IfOk result
+            (λ handed. Drains (facts_of T.settled T.refused T.floor T.SLACK) self.old lane end handed.items self.new) }
         ensures err { OnErr result (self.new ≡ self.old) }
         ensures program { self.new.replica.program ≡ self.old.replica.program }
         ensures writer { self.new.writer ≡ self.old.writer }
@@ -203,7 +207,8 @@ fn serve<T: Timeline>(
     replica: &mut Replica<T>,
     alloc: Global,
 ) -> (Turn, Option<Tag>)
-    ensures turns { TurnsLane T.settled replica.old lane.old result.0 replica.new lane.new }
+    ensures turns { TurnsLane (facts_of T.settled T.refused T.floor T.SLACK)
+        replica.old lane.old result.0 replica.new lane.new }
     ensures first { length lane.old.answers < places → result.0 ≢ Turn.Stalled }
     ensures news { HasNews replica.old.program replica.old.records result.1 replica.new.records }
 {

@@ -1,6 +1,6 @@
 //! The end of a lane in the thread of the executor, which answers what its port sends.
 
-use crate::answer::{Answer, SaysLength};
+use crate::answer::{Answer, AnswerRule};
 use rtrb::{Consumer, Producer};
 use std::alloc::Global;
 use std::marker::Model;
@@ -10,7 +10,7 @@ use warp_record::Line;
 #[derive(Drop)]
 pub struct Lane {
     pub(crate) commands: Consumer<Line, Global>,
-    pub(crate) answers: Producer<Answer, Global, SaysLength>,
+    pub(crate) answers: Producer<Answer, Global, AnswerRule>,
     // Copies of the answers that were made when the lane was drained: nobody fetches them.
     pub(crate) last: Vec<Answer>,
 }

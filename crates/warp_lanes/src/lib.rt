@@ -20,7 +20,7 @@ mod sending;
 mod tests;
 mod turn;
 
-pub use answer::{Answer, SaysLength};
+pub use answer::{Answer, AnswerRule};
 pub use engine::Engine;
 pub use executor_end::Lane;
 pub use law::taken_is_there;

@@ -1,7 +1,7 @@
 //! A lane is made with its port.
 ghost use Rattle.std.specs.Prelude.{◌≡◌, [], IfOk};
 
-use crate::answer::SaysLength;
+use crate::answer::AnswerRule;
 use crate::executor_end::Lane;
 use crate::port::Port;
 use rtrb::RingBuffer;
@@ -18,7 +18,7 @@ pub fn lane(alloc: Global) -> Result<(Port, Lane), OutOfMemory>
     ensures lane { IfOk result (λ ends. ends.1 ≡ record { lane = ends.0.lane; commands = []; answers = [] }) }
 {
     let (commands_in, commands_out) = RingBuffer::new(alloc, PLACES)?;
-    let (answers_in, answers_out) = RingBuffer::with_protocol::<Global, SaysLength>(alloc, PLACES)?;
+    let (answers_in, answers_out) = RingBuffer::with_protocol::<Global, AnswerRule>(alloc, PLACES)?;
     let port = Port {
         commands: commands_in,
         answers: answers_out,

@@ -2,7 +2,7 @@
 ghost use Rattle.std.specs.Prelude.{◌≡◌, ◌+◌, ◌≤◌, ◌<◌, ◌++◌, [], ◌∷◌, IfSome, IfNone, IfErr, IsOk, OnOk, length};
 ghost use Rattle.warp_lanes.specs.Lanes.{IsAnswer, most_missing, places};
 
-use crate::answer::{Answer, SaysLength};
+use crate::answer::{Answer, AnswerRule};
 use rtrb::{Consumer, Finished, Producer, PushError};
 use std::alloc::Global;
 use std::marker::Model;
@@ -15,7 +15,7 @@ const MOST_MISSING: u8 = 128;
 #[derive(Drop)]
 pub struct Port {
     pub(crate) commands: Producer<Line, Global>,
-    pub(crate) answers: Consumer<Answer, Global, SaysLength>,
+    pub(crate) answers: Consumer<Answer, Global, AnswerRule>,
     pub(crate) missing: u8,
 }
 
@@ -90,8 +90,8 @@ impl Port {
         usize::from(self.missing)
     }
 
-    /// Ends the port, and gives what its lane may be drained with; `None` where the other end was dropped before, as far
-    /// as tests show.
+    /// Ends the port, and gives what its lane may be drained with; `None` where the other end was dropped before, as
+    /// far as tests show.
     pub fn finish(self) -> Option<PortEnd>
         ensures { IfSome result (λ end. end ≡ self) }
     {
@@ -113,7 +113,7 @@ impl Port {
 #[derive(Drop)]
 pub struct PortEnd {
     pub(crate) commands: Finished<Line, Global>,
-    pub(crate) answers: Consumer<Answer, Global, SaysLength>,
+    pub(crate) answers: Consumer<Answer, Global, AnswerRule>,
     pub(crate) missing: u8,
 }
 

@@ -1,8 +1,10 @@
 -- What a change of its table does to what a `Plain` stands for.
-use Rattle.std.proofs.Common.{◌≡◌, ℕ, ◌+◌, ◌≤◌, length, List, [], ap, sym, subst, ◌∙◌, refl, arith, IsTrue, Bool, true, false, not, ◌&&◌, None}
+use Rattle.std.proofs.Common.{◌≡◌, ℕ, ◌+◌, ◌≤◌, length, List, [], ap, sym, subst, ◌∙◌, refl, arith, IsTrue, Bool, true, false, not, ◌&&◌, None, inl, inr}
 use Rattle.std.specs.Prelude.{MatchBool}
 use Rattle.std.specs.List.{list_all}
 use Rattle.std.proofs.Math.Bool.{and-true, and-false}
+use Rattle.std.proofs.lemmas.Bool.{cases_Bool, MatchBool-at_false}
+use Rattle.std.proofs.lemmas.List.{append-nil}
 use Rattle.std.proofs.lemmas.List.Sums.{count_by-le-length}
 use Rattle.warp_tag.specs.Limits.{most_names}
 use Rattle.warp_tag.specs.Moment.{Moment, is_before}
@@ -53,11 +55,24 @@ few_before P E trace u n valid fits run =
 pub few_done : (p : Plain) (m : Standing) (u : Moment) (n : ℕ) → p.settled ≡ true → StandsFor p m → rows_before u m.done ≤ n + most_names
 few_done p m u n settled h = few_before m.program (live m.table) m.done u n h.program h.events (run_of p m settled h).done
 
+-- nor are more rows done, settled or not
+all_few : (p : Plain) (m : Standing) → StandsFor p m → length m.done ≤ most_names
+all_few p m h = elim (cases_Bool p.settled) [
+  | inl settled ↦
+      let limits = (validity m.program h.program).limits in
+      let top = limits.top in
+      few_rows m.program (live m.table) m.done limits.stop (omega arith) h.events (run_of p m settled h).done
+  | inr not_yet ↦
+      let none : m.done ≡ [] = MatchBool-at_false _ _ not_yet h.rows in
+      let lengths : length m.done ≡ 0 = ap (λ (rows : List Row). length rows) none in
+      omega arith
+]
+
 -- where the live events changed, nothing is known to be done
 changed_stands : (p q : Plain) (m : Standing) (f : Entry → Entry) (origin : ℕ) (tag : Moment) → StandsFor p m
     → q.entries.items ≡ changed f origin tag p.entries.items → IsTable q.entries.items
     → (live q.entries.items ≡ live p.entries.items → ⊥) → IsTrue (list_all (event_fits m.program) (live (changed f origin tag m.table)))
-    → q.settled ≡ false → NowStands StandsFor most_names tag q m (changed f origin tag m.table)
+    → q.settled ≡ false → NowStands StandsFor most_names most_names tag q m (changed f origin tag m.table)
 changed_stands p q m f origin tag h is ordered differs fits unsettled =
     let table : q.entries.items ≡ changed f origin tag m.table = is ∙ ap (changed f origin tag) h.table in
     let new : Standing = record { program = m.program; table = changed f origin tag m.table; done = [] } in (
@@ -72,8 +87,9 @@ changed_stands p q m f origin tag h is ordered differs fits unsettled =
       record {
         front = λ before after rb ra u enough.
             few_before m.program (live (changed f origin tag m.table)) after (lesser tag u) 0 h.program fits ra;
+        ahead = λ late. all_few p m h;
         unchanged = λ same. absurd (differs (ap live table ∙ same ∙ ap live (sym h.table)));
-        idle = omega arith;
+        idle = (m.done, refl);
       },
     )
 
@@ -85,7 +101,7 @@ carried p q m n false h k = h
 same_stands : (p q : Plain) (m : Standing) (f : Entry → Entry) (origin : ℕ) (tag : Moment) → StandsFor p m
     → q.entries.items ≡ changed f origin tag p.entries.items → IsTable q.entries.items
     → live q.entries.items ≡ live p.entries.items
-    → q.settled ≡ p.settled → q.state ≡ p.state → q.outputs ≡ p.outputs → NowStands StandsFor most_names tag q m (changed f origin tag m.table)
+    → q.settled ≡ p.settled → q.state ≡ p.state → q.outputs ≡ p.outputs → NowStands StandsFor most_names most_names tag q m (changed f origin tag m.table)
 same_stands p q m f origin tag h is ordered same settled state outputs =
     let table : q.entries.items ≡ changed f origin tag m.table = is ∙ ap (changed f origin tag) h.table in
     let lives : live (changed f origin tag m.table) ≡ live m.table = ap live (sym table) ∙ same ∙ ap live h.table in
@@ -107,8 +123,9 @@ same_stands p q m f origin tag h is ordered same settled state outputs =
       record {
         front = λ before after rb ra u enough.
             few_before m.program (live (changed f origin tag m.table)) after (lesser tag u) (length m.done) h.program fits ra;
-        unchanged = λ kept. omega arith;
-        idle = omega arith;
+        ahead = λ late. omega arith;
+        unchanged = λ kept. refl;
+        idle = ([], sym (append-nil m.done));
       },
     )
 
@@ -118,7 +135,7 @@ pub note_stands : (p q : Plain) (m : Standing) (f : Entry → Entry) (origin : �
     → (changes ≡ false → live q.entries.items ≡ live p.entries.items)
     → (changes ≡ true → live q.entries.items ≡ live p.entries.items → ⊥)
     → IsTrue (list_all (event_fits m.program) (live (changed f origin tag m.table)))
-    → q.settled ≡ (p.settled && not changes) → q.state ≡ p.state → q.outputs ≡ p.outputs → NowStands StandsFor most_names tag q m (changed f origin tag m.table)
+    → q.settled ≡ (p.settled && not changes) → q.state ≡ p.state → q.outputs ≡ p.outputs → NowStands StandsFor most_names most_names tag q m (changed f origin tag m.table)
 note_stands p q m f origin tag true h is ordered same differs fits settled state outputs =
     changed_stands p q m f origin tag h is ordered (differs refl) fits (settled ∙ and-false p.settled)
 note_stands p q m f origin tag false h is ordered same differs fits settled state outputs =

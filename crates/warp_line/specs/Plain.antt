@@ -15,7 +15,8 @@ pub record IsRun (p : Plain) (m : Standing) : Type 0 where
   pub state : p.state ≡ state_at_end (start_state m.program) m.done
   pub outputs : p.outputs.items ≡ outputs_of m.done
 
--- the program is valid; it keeps the table, sorted, with events that the program takes; all rows are done, or none is known
+-- the program is valid; it keeps the table, sorted, with events that the program takes; all rows are done, or none is
+-- known
 pub record StandsFor (p : Plain) (m : Standing) : Type 0 where
   pub program : IsTrue (is_valid m.program)
   pub table : p.entries.items ≡ m.table

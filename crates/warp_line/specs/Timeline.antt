@@ -1,11 +1,13 @@
 -- What a timeline stands for, and what its calls do to that.
-use Rattle.std.specs.Prelude.{◌≡◌, ℕ, ◌+◌, ◌≤◌, ◌⊎◌, Bool, not, IsTrue, Option, List, [], ◌∷◌, length, count_by, if◌then◌else◌}
+use Rattle.std.specs.Prelude.{◌≡◌, ℕ, ◌+◌, ◌≤◌, ◌⊎◌, Bool, true, not, IsTrue, Option, None, List, [], ◌∷◌, length}
+use Rattle.std.specs.Prelude.{count_by, if◌then◌else◌}
 use Rattle.warp_tag.specs.Lists.{StartsWith}
 use Rattle.warp_tag.specs.Moment.{Moment, is_before}
 use Rattle.warp_tag.specs.Table.{live}
 use Rattle.warp_tag.specs.declared.entry.Entry.{Entry}
 use Rattle.warp_step.specs.Program.{Program}
 use Rattle.warp_step.specs.Run.{Row, Run, is_after}
+use Rattle.warp_line.specs.Begin.{last_after}
 
 -- a program, a table of names, and the rows of the run over its live events that are done: a front of the trace
 pub record Standing : Type 0 where
@@ -30,22 +32,26 @@ abbrev pub lesser : Moment → Moment → Moment
 lesser t u = if is_before u t then u else t
 
 -- What a change at a tag leaves done: if all rows before u were done but for at most so many, so are then all rows
--- before the lesser of u and that tag; where the live events stay, what was done stays done; and nothing more is done.
-pub record KeepsDone (slack : ℕ) (tag : Moment) (old new : Standing) : Type 0 where
-  pub front : (before after : List Row) → Run old.program (live old.table) before → Run new.program (live new.table) after →
-      (u : Moment) → rows_before u before ≤ length old.done + slack → rows_before (lesser tag u) after ≤ length new.done + slack
-  pub unchanged : live new.table ≡ live old.table → length old.done ≤ length new.done
-  pub idle : length new.done ≤ length old.done
+-- before the lesser of u and that tag; where the tag is after the last done row, all of these, but for at most so many
+-- that it drops; where the live events stay, just what was done; and never more than a front of what was done.
+pub record KeepsDone (slack drops : ℕ) (tag : Moment) (old new : Standing) : Type 0 where
+  pub front : (before after : List Row) → Run old.program (live old.table) before
+      → Run new.program (live new.table) after → (u : Moment) → rows_before u before ≤ length old.done + slack
+      → rows_before (lesser tag u) after ≤ length new.done + slack
+  pub ahead : is_after (last_after None old.done) tag ≡ true → length old.done ≤ length new.done + drops
+  pub unchanged : live new.table ≡ live old.table → new.done ≡ old.done
+  pub idle : StartsWith old.done new.done
 
 -- Some such rows are done now of the standing with this table, and the value stands for that.
-abbrev pub NowStands : {T : Type 0} → (T → Standing → Type 0) → ℕ → Moment → T → Standing → List Entry → Type 0
-NowStands stands_for slack tag value old table =
+abbrev pub NowStands : {T : Type 0} → (T → Standing → Type 0) → ℕ → ℕ → Moment → T → Standing → List Entry → Type 0
+NowStands stands_for slack drops tag value old table =
     (done : List Row) × stands_for value (record old { table = table; done = done })
-    × KeepsDone slack tag old (record old { table = table; done = done })
+    × KeepsDone slack drops tag old (record old { table = table; done = done })
 
 -- What settling does, whether it comes to the end or stops for memory: what was done stays done, and there is at most
 -- one tick for each row of the trace that was not done.
-pub record Settles {T : Type 0} (stands_for : T → Standing → Type 0) (value : T) (old : Standing) (ticks : ℕ) (done : List Row) : Type 0 where
+pub record Settles {T : Type 0} (stands_for : T → Standing → Type 0) (value : T) (old : Standing) (ticks : ℕ)
+    (done : List Row) : Type 0 where
   pub stands : stands_for value (record old { done = done })
   pub kept : length old.done ≤ length done
   pub bound : (trace : List Row) → Run old.program (live old.table) trace → ticks + length old.done ≤ length trace

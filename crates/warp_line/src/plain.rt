@@ -37,6 +37,8 @@ impl Timeline for Plain {
 
     ghost SLACK = { most_names };
 
+    ghost drops = { most_names };
+
     ghost use Rattle.std.proofs.Common.{inl, inr};
     ghost use Rattle.std.proofs.lemmas.Bool.{cases_Bool, MatchBool-at_true, MatchBool-at_false};
     ghost use Rattle.warp_tag.specs.Table.{live};

@@ -21,7 +21,7 @@ fn place(entries: &[Entry], origin: u32, tag: Tag) -> usize
 }
 
 /// The place of the name in a sorted table, for which there is room: a name of which nothing is known comes in there.
-fn enter(entries: &mut Vec<Entry>, origin: u32, tag: Tag) -> usize
+fn enter_name(entries: &mut Vec<Entry>, origin: u32, tag: Tag) -> usize
     requires room { vec_len entries.old < vec_capacity entries.old }
     requires table { IsTable entries.old.items }
     ensures within { result < vec_len entries.new }
@@ -58,7 +58,7 @@ pub(crate) fn note_event(
     ensures changes { IsTrue result → live entries.new.items ≡ live entries.old.items → ⊥ }
     ensures capacity { vec_capacity entries.new ≡ vec_capacity entries.old }
 {
-    let at = enter(entries, origin, tag);
+    let at = enter_name(entries, origin, tag);
     entries[at].note_event(input, value)
 }
 
@@ -72,6 +72,6 @@ pub(crate) fn note_withdrawal(entries: &mut Vec<Entry>, origin: u32, tag: Tag) -
     ensures changes { IsTrue result → live entries.new.items ≡ live entries.old.items → ⊥ }
     ensures capacity { vec_capacity entries.new ≡ vec_capacity entries.old }
 {
-    let at = enter(entries, origin, tag);
+    let at = enter_name(entries, origin, tag);
     entries[at].withdraw()
 }

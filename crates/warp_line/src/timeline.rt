@@ -43,6 +43,9 @@ pub trait Timeline: Sized + Drop {
 
     ghost SLACK: { ℕ };
 
+    /// How many done rows a change may drop where its tag is after the last of them.
+    ghost drops: { ℕ };
+
     /// A run of this program over no names, of which nothing is done, and nothing let go of.
     fn start(alloc: Global, program: &Program) -> Result<Self, OutOfMemory>
         ensures stands { IfOk result (λ t. stands_for t (record { program = program.now; table = []; done = [] })) }
@@ -71,7 +74,7 @@ pub trait Timeline: Sized + Drop {
         requires ahead { is_behind (floor self.old) tag ≡ false }
         requires event { (m : Standing) × stands_for self.old m × IsEventOf m.program origin tag input }
         ensures stands { (m : Standing) → stands_for self.old m → IsEventOf m.program origin tag input →
-            NowStands stands_for SLACK tag self.new m (changed (with_event input value) origin tag m.table) }
+            NowStands stands_for SLACK drops tag self.new m (changed (with_event input value) origin tag m.table) }
         ensures settled { (m : Standing) → stands_for self.old m → IsEventOf m.program origin tag input →
             live (changed (with_event input value) origin tag m.table) ≡ live m.table →
             settled self.new ≡ settled self.old }
@@ -85,7 +88,7 @@ pub trait Timeline: Sized + Drop {
         requires ahead { is_behind (floor self.old) tag ≡ false }
         requires name { (m : Standing) × stands_for self.old m × IsNameOf m.program origin tag }
         ensures stands { (m : Standing) → stands_for self.old m → IsNameOf m.program origin tag →
-            NowStands stands_for SLACK tag self.new m (changed with_withdrawal origin tag m.table) }
+            NowStands stands_for SLACK drops tag self.new m (changed with_withdrawal origin tag m.table) }
         ensures settled { (m : Standing) → stands_for self.old m → IsNameOf m.program origin tag →
             live (changed with_withdrawal origin tag m.table) ≡ live m.table →
             settled self.new ≡ settled self.old }

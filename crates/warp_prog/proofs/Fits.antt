@@ -1,23 +1,25 @@
 -- The program of a file without fault is valid.
-use Rattle.std.proofs.Common.{◌≡◌, ℕ, ◌+◌, Bool, true, false, not, ◌&&◌, ◌||◌, List, length, map, ap, ◌∙◌, refl, unsigned_abs, bytes_eq, nat_le, nat_lt, length-append, le-leb, ltb-false}
+use Rattle.std.proofs.Common.{◌≡◌, ℕ, ◌+◌, Bool, true, false, not, ◌&&◌, ◌||◌, List, length, map, ap, sym, subst, ◌∙◌, refl, inl, inr, unsigned_abs, bytes_eq, nat_le, nat_lt, length-append, le-leb, ltb-false}
 use Rattle.std.specs.List.{list_any, list_all}
-use Rattle.std.proofs.lemmas.Bool.{and_from, and_parts, or_parts, not-true, not_from_false}
+use Rattle.std.proofs.lemmas.Bool.{cases_Bool, cond-true, cond-false, and_from, and_parts, or_parts, not-true, not-false, not_from_false}
 use Rattle.std.proofs.lemmas.List.{length-map}
 use Rattle.warp_tag.specs.Limits.{longest_stop, longest_period, most_origins, most_reactors, most_variables, most_ports, most_actions, most_timers, most_reactions, most_links, most_inputs, most_outputs}
 use Rattle.warp_step.specs.Program.{Program}
 use Rattle.warp_step.specs.Valid.{has, rule_fits, link_fits, input_fits, fed, is_distinct, is_within_limits, have_reactors, is_valid}
+use Rattle.warp_step.specs.Order.{is_admissible, file_order, leads_later}
 use Rattle.warp_step.specs.declared.parts.Variable.{Variable}
 use Rattle.warp_step.specs.declared.parts.Port.{Port}
 use Rattle.warp_step.specs.declared.parts.Action.{Action}
 use Rattle.warp_step.specs.declared.parts.Timer.{Timer}
 use Rattle.warp_prog.specs.File.{Word, File, ReactorPart, ReactionPart}
 use Rattle.warp_prog.specs.Limits.{period_exceeds, origin_exceeds, are_more_than, total, body_exceeds, reactor_exceeds, link_exceeds}
-use Rattle.warp_prog.specs.Names.{reaction_unknown, is_input, is_output}
+use Rattle.warp_prog.specs.Names.{reaction_unknown, link_unknown, is_input, is_output}
 use Rattle.warp_prog.specs.Undeclared.{reaction_undeclared}
-use Rattle.warp_prog.specs.Twice.{repeats, all_names}
-use Rattle.warp_prog.specs.Backward.{is_backward}
+use Rattle.warp_prog.specs.Twice.{repeats, all_names, reactor_names, same_port, targets}
+use Rattle.warp_prog.specs.Backward.{is_backward, leads_back}
+use Rattle.warp_prog.specs.Order.{loader_order, has_no_order}
 use Rattle.warp_prog.specs.Load.{IsFaultless}
-use Rattle.warp_prog.specs.Numbered.{nothing_before, in_each, its_variables, its_ports, its_actions, its_timers, its_reactions, numbered, numbered_reaction, numbered_link, numbered_input, source_number}
+use Rattle.warp_prog.specs.Numbered.{nothing_before, in_each, its_variables, its_ports, its_actions, its_timers, its_reactions, unordered, is_first_version, order_of, numbered, numbered_reaction, numbered_link, numbered_input, source_number}
 use Rattle.warp_prog.specs.declared.file.VariablePart.{VariablePart}
 use Rattle.warp_prog.specs.declared.file.ActionPart.{ActionPart}
 use Rattle.warp_prog.specs.declared.file.TimerPart.{TimerPart}
@@ -28,7 +30,8 @@ use Rattle.warp_prog.proofs.Stands.{stand_all, reactor-there}
 use Rattle.warp_prog.proofs.Ranges.{all-pass, all-since, all-both, all-joined, in-range}
 use Rattle.warp_prog.proofs.Rules.{reaction-fits}
 use Rattle.warp_prog.proofs.Eachs.{length-each, all-each, all-map, all-true, rising-each}
-use Rattle.warp_prog.proofs.Links.{link-fits, input-fits, output-fits, outputs-distinct, fed-distinct}
+use Rattle.warp_step.proofs.FileOrder.{file_order_admissible}
+use Rattle.warp_prog.proofs.Links.{link-fits, link-later, input-fits, output-fits, outputs-distinct, fed-distinct}
 
 -- no more than so many
 few : {X : Type 0} (most : ℕ) (xs : List X) → are_more_than most xs ≡ false → nat_le (length xs) most ≡ true
@@ -177,17 +180,14 @@ module _ (f : File) (h : IsFaultless f) where
       let t1 = or_parts _ _ t2.0 in
       let known = all-pass (λ (l : LinkPart). is_output f.reactors l.source && is_input f.reactors l.target) f.links u1.1 in
       let inputs = all-pass (λ (i : InputPart). is_input f.reactors i.port) f.inputs u2.1 in
-      let ok : LinkPart → Bool = λ (l : LinkPart). (not (link_exceeds l) && not (is_backward f.reactors l)) && (is_output f.reactors l.source && is_input f.reactors l.target) in
+      let ok : LinkPart → Bool = λ (l : LinkPart). not (link_exceeds l) && (is_output f.reactors l.source && is_input f.reactors l.target) in
       let lead = all-map (numbered_link f.reactors) (link_fits (numbered f)) ok
       (λ l e.
-      (let e2 = and_parts (not (link_exceeds l) && not (is_backward f.reactors l)) (is_output f.reactors l.source && is_input f.reactors l.target) e in
-      let e1 = and_parts (not (link_exceeds l)) (not (is_backward f.reactors l)) e2.0 in
-      link-fits f t1.0 l (not-true (link_exceeds l) e1.0) (not-true (is_backward f.reactors l) e1.1) e2.1))
+      (let e1 = and_parts (not (link_exceeds l)) (is_output f.reactors l.source && is_input f.reactors l.target) e in
+      link-fits f t1.0 l (not-true (link_exceeds l) e1.0) e1.1))
       f.links
-      (all-both (λ (l : LinkPart). not (link_exceeds l) && not (is_backward f.reactors l)) (λ (l : LinkPart). is_output f.reactors l.source && is_input f.reactors l.target) f.links
-      (all-both (λ (l : LinkPart). not (link_exceeds l)) (λ (l : LinkPart). not (is_backward f.reactors l)) f.links
-      (all-fail (λ (l : LinkPart). link_exceeds l) f.links delays) (all-fail (is_backward f.reactors) f.links h.order))
-      known) in
+      (all-both (λ (l : LinkPart). not (link_exceeds l)) (λ (l : LinkPart). is_output f.reactors l.source && is_input f.reactors l.target) f.links
+      (all-fail (λ (l : LinkPart). link_exceeds l) f.links delays) known) in
       let given = all-map (numbered_input f.reactors) (input_fits (numbered f)) (λ (i : InputPart). not (origin_exceeds f.origins i.origin) && is_input f.reactors i.port)
       (λ i e.
       (let e1 = and_parts (not (origin_exceeds f.origins i.origin)) (is_input f.reactors i.port) e in
@@ -210,7 +210,47 @@ module _ (f : File) (h : IsFaultless f) where
       (all-map (source_number f.reactors) (λ n. has (numbered f).ports n (λ p. not p.is_input)) (is_output f.reactors) (λ p e. output-fits f t1.0 p e) f.outputs known)
       (outputs-distinct f t1.0 known t3.1)
 
+  -- in the first version each link without delay leads to a later reactor
+  all-later : leads_back f ≡ false → list_all (leads_later (numbered f)) (numbered f).links ≡ true
+  all-later back =
+      let reactions = list_any (λ (r : ReactorPart). list_any (reaction_unknown r) r.reactions) f.reactors in
+      let links = list_any (link_unknown f.reactors) f.links in
+      let inputs = list_any (λ (i : InputPart). not (is_input f.reactors i.port)) f.inputs in
+      let outputs = list_any (λ p. not (is_output f.reactors p)) f.outputs in
+      let u3 = or_parts (reactions || links || inputs) outputs h.names in
+      let u2 = or_parts (reactions || links) inputs u3.0 in
+      let u1 = or_parts reactions links u2.0 in
+      let own = repeats bytes_eq (reactor_names f.reactors) in
+      let within = list_any (λ (r : ReactorPart). repeats bytes_eq (all_names r)) f.reactors in
+      let fed = repeats same_port (targets f.links f.inputs) in
+      let t3 = or_parts (own || within || fed) (repeats same_port f.outputs) h.twice in
+      let t2 = or_parts (own || within) fed t3.0 in
+      let t1 = or_parts own within t2.0 in
+      let known = all-pass (λ (l : LinkPart). is_output f.reactors l.source && is_input f.reactors l.target) f.links u1.1 in
+      let ok : LinkPart → Bool = λ (l : LinkPart). not (is_backward f.reactors l) && (is_output f.reactors l.source && is_input f.reactors l.target) in
+      all-map (numbered_link f.reactors) (leads_later (numbered f)) ok
+      (λ l e.
+      (let e1 = and_parts (not (is_backward f.reactors l)) (is_output f.reactors l.source && is_input f.reactors l.target) e in
+      link-later f t1.0 l (not-true (is_backward f.reactors l) e1.0) e1.1))
+      f.links
+      (all-both (λ (l : LinkPart). not (is_backward f.reactors l)) (λ (l : LinkPart). is_output f.reactors l.source && is_input f.reactors l.target) f.links
+      (all-fail (is_backward f.reactors) f.links back) known)
+
+  -- its reactions stand in an order in which they may run
+  in-order : is_admissible (numbered f) (order_of f) ≡ true
+  in-order =
+      elim (cases_Bool (is_first_version f)) [
+        | inl first ↦
+            (let own = cond-true (is_first_version f) (file_order (unordered f)) (loader_order (unordered f)) first in
+            let back = sym (cond-true (is_first_version f) (leads_back f) (has_no_order (unordered f)) first) ∙ h.order in
+            subst (λ o. is_admissible (numbered f) o ≡ true) (sym own) (file_order_admissible (numbered f) rules (rising-each f.reactors nothing_before).1 (all-later back)))
+        | inr second ↦
+            (let own = cond-false (is_first_version f) (file_order (unordered f)) (loader_order (unordered f)) second in
+            let some = sym (cond-false (is_first_version f) (leads_back f) (has_no_order (unordered f)) second) ∙ h.order in
+            subst (λ o. is_admissible (numbered f) o ≡ true) (sym own) (not-false (is_admissible (unordered f) (loader_order (unordered f))) some))
+      ]
+
   -- the program is valid
   pub fits-together : is_valid (numbered f) ≡ true
   fits-together =
-      and_from _ _ (and_from _ _ (and_from _ _ (and_from _ _ within of-reactors) (and_from _ _ rules (rising-each f.reactors nothing_before).1)) links) outputs
+      and_from _ _ (and_from _ _ (and_from _ _ (and_from _ _ (and_from _ _ within of-reactors) (and_from _ _ rules (rising-each f.reactors nothing_before).1)) links) outputs) in-order

@@ -7,6 +7,8 @@ pub mod Has
 pub mod Stands
 pub mod OnceLemmas
 pub mod Numbers
+pub mod LabelLemmas
+pub mod AccountLemmas
 pub mod Ranges
 pub mod Bodies
 pub mod Distinct
@@ -18,5 +20,9 @@ pub mod Fits
 pub mod ReadingLemmas
 pub mod RoomLemmas
 pub mod LoadLemmas
+pub mod MemberLemmas
+pub mod OrderLemmas
+pub mod PlacingLemmas
+pub mod CauseLemmas
 pub mod StatementLemmas
 pub mod ReadLemmas

@@ -1,11 +1,12 @@
 -- The links, program inputs and program outputs of a file without fault fit its program.
-use Rattle.std.proofs.Common.{◌≡◌, ℕ, ℤ, Bool, true, false, not, ◌&&◌, ◌==◌, Option, Some, None, option_map, is_none, List, ◌++◌, map, ap, ap₂, sym, subst, ◌∙◌, refl, unsigned_abs, bytes_eq, nat_le, nat_lt, zero-add, lt-ltb, leb-false}
+use Rattle.std.proofs.Common.{◌≡◌, ℕ, ℤ, Bool, true, false, not, ◌&&◌, ◌||◌, ◌==◌, Option, Some, None, option_map, is_none, List, ◌++◌, map, ap, ap₂, sym, subst, ◌∙◌, refl, unsigned_abs, bytes_eq, nat_le, nat_lt, zero-add, lt-ltb, leb-false}
 use Rattle.std.specs.List.{list_any, list_all}
 use Rattle.std.proofs.lemmas.Bool.{and_from, and_parts}
 use Rattle.std.proofs.lemmas.List.{map-append}
 use Rattle.std.proofs.lemmas.Simd.{map-map}
 use Rattle.warp_tag.specs.Limits.{longest_period}
 use Rattle.warp_step.specs.Valid.{has, reactor_of, link_fits, leads_on, input_fits, fed, is_distinct}
+use Rattle.warp_step.specs.Order.{leads_later}
 use Rattle.warp_step.specs.declared.parts.Port.{Port}
 use Rattle.warp_prog.specs.File.{Word, File, ReactorPart}
 use Rattle.warp_prog.specs.Backward.{place, is_backward}
@@ -78,21 +79,33 @@ module _ (f : File) (d : repeats bytes_eq (map (λ (r : ReactorPart). r.name) f.
 
   -- a link
   leads : (l : LinkPart) (delay : Option ℤ) → delay_exceeds delay ≡ false →
+      leads_on (numbered f) (numbered_link f.reactors l) (option_map unsigned_abs delay) ≡ true
+  leads l (Some n) limit = (in-range 0 longest_period n limit).1
+  leads l None limit = refl
+
+  pub link-fits : (l : LinkPart) → link_exceeds l ≡ false →
+      (is_output f.reactors l.source && is_input f.reactors l.target) ≡ true → link_fits (numbered f) (numbered_link f.reactors l) ≡ true
+  link-fits l limit known =
+      let ports = and_parts (is_output f.reactors l.source) (is_input f.reactors l.target) known in
+      and_from _ _ (and_from _ _ (of-kind output_number (λ r. r.outputs) (λ k. not k) finds-output l.source ports.0)
+      (of-kind input_number (λ r. r.inputs) (λ k. k) finds-input l.target ports.1)) (leads l l.delay limit)
+
+  -- one that leads on, to a reactor that stands later
+  later : (l : LinkPart) (delay : Option ℤ) →
       (is_none delay && nat_le (place f.reactors l.target.reactor) (place f.reactors l.source.reactor)) ≡ false →
       is_output f.reactors l.source ≡ true → is_input f.reactors l.target ≡ true →
-      leads_on (numbered f) (numbered_link f.reactors l) (option_map unsigned_abs delay) ≡ true
-  leads l (Some n) limit back o i = (in-range 0 longest_period n limit).1
-  leads l None limit back o i =
+      (not (is_none (option_map unsigned_abs delay)) || nat_lt (reactor_of (numbered f) (source_number f.reactors l.source)) (reactor_of (numbered f) (target_number f.reactors l.target))) ≡ true
+  later l (Some n) back o i = refl
+  later l None back o i =
       ap₂ nat_lt (of-reactor output_number (λ r. r.outputs) (λ k. not k) finds-output l.source o) (of-reactor input_number (λ r. r.inputs) (λ k. k) finds-input l.target i)
       ∙ lt-ltb (place f.reactors l.source.reactor) (place f.reactors l.target.reactor)
       (leb-false (place f.reactors l.target.reactor) (place f.reactors l.source.reactor) back)
 
-  pub link-fits : (l : LinkPart) → link_exceeds l ≡ false → is_backward f.reactors l ≡ false →
-      (is_output f.reactors l.source && is_input f.reactors l.target) ≡ true → link_fits (numbered f) (numbered_link f.reactors l) ≡ true
-  link-fits l limit back known =
+  pub link-later : (l : LinkPart) → is_backward f.reactors l ≡ false → (is_output f.reactors l.source && is_input f.reactors l.target) ≡ true →
+      leads_later (numbered f) (numbered_link f.reactors l) ≡ true
+  link-later l back known =
       let ports = and_parts (is_output f.reactors l.source) (is_input f.reactors l.target) known in
-      and_from _ _ (and_from _ _ (of-kind output_number (λ r. r.outputs) (λ k. not k) finds-output l.source ports.0)
-      (of-kind input_number (λ r. r.inputs) (λ k. k) finds-input l.target ports.1)) (leads l l.delay limit back ports.0 ports.1)
+      later l l.delay back ports.0 ports.1
 
   -- a program input
   pub input-fits : (i : InputPart) → origin_exceeds f.origins i.origin ≡ false → is_input f.reactors i.port ≡ true →

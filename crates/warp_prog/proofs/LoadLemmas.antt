@@ -1,16 +1,17 @@
 -- What reading a file gives, and why it is refused.
-use Rattle.std.proofs.Common.{◌≡◌, ℕ, ◌≤◌, true, false, List, length, Option, Some, None, Result, Ok, Err, sym, subst, ◌∙◌, refl, inl, inr, true≢false, nat_lt, ltb-true, ltb-false, ne_eqb, arith}
+use Rattle.std.proofs.Common.{◌≡◌, ℕ, pos, ◌≤◌, true, false, List, length, Option, Some, None, Result, Ok, Err, sym, subst, ◌∙◌, refl, inl, inr, true≢false, nat_lt, ltb-true, ltb-false, ne_eqb, arith}
 use Rattle.std.proofs.lemmas.Bool.{cases_Bool, cond-true, cond-false}
 use Rattle.serde_json.specs.Data.{Data}
 use Rattle.warp_step.specs.Program.{Program}
 use Rattle.warp_prog.specs.File.{File}
 use Rattle.warp_prog.specs.Shape.{file_of}
 use Rattle.warp_prog.specs.Reading.{longest_file, json_of, shaped, spelled, reading_of}
-use Rattle.warp_prog.specs.Refusal.{number_of}
-use Rattle.warp_prog.specs.Load.{IsFirst, IsFaultless, IsFaulty, IsLoaded, IsRefused}
+use Rattle.warp_prog.specs.Limits.{first_version, last_version}
+use Rattle.warp_prog.specs.Load.{IsFirst, IsFaultless, IsFaulty, IsFaultyFile, IsLoaded, IsRefused}
+use Rattle.warp_prog.specs.inner.Cause.{IsCause}
 use Rattle.warp_prog.specs.Numbered.{numbered}
 use Rattle.warp_prog.specs.declared.error.LoadError.{LoadError}
-use Rattle.warp_prog.specs.declared.error.LoadError.TheVariants.{Json, Shape, Limit, Name, Twice, Backward, Undeclared, Memory}
+use Rattle.warp_prog.specs.declared.error.LoadError.TheVariants.{Json, Shape, Limit, Name, Twice, Backward, Causality, Undeclared, Memory}
 
 -- a value that is a file, and one that is none
 shaped-ok : (o : Option File) (f : File) → shaped o ≡ Ok f → o ≡ Some f
@@ -73,6 +74,7 @@ not-read bytes Limit h m = read-fault bytes Limit (h (λ e. cc))
 not-read bytes Name h m = read-fault bytes Name (h (λ e. cc))
 not-read bytes Twice h m = read-fault bytes Twice (h (λ e. cc))
 not-read bytes Backward h m = read-fault bytes Backward (h (λ e. cc))
+not-read bytes Causality h m = read-fault bytes Causality (h (λ e. cc))
 not-read bytes Undeclared h m = read-fault bytes Undeclared (h (λ e. cc))
 not-read bytes Memory h m = m refl
 
@@ -81,7 +83,7 @@ pub loaded : (bytes : List ℕ) (f : File) (P : Program) → reading_of bytes �
 loaded bytes f P h faultless e = let read = read-file bytes f h in (read.0, read.1, read.2, (f, read.3, faultless, e))
 
 -- a first fault beyond the shape is why the bytes are refused
-pub first-fault : (bytes : List ℕ) (f : File) (e : LoadError) → reading_of bytes ≡ Ok f → IsFirst (Some f) (number_of e) → IsRefused bytes e
+pub first-fault : (bytes : List ℕ) (f : File) (e : LoadError) → reading_of bytes ≡ Ok f → IsCause f e → IsRefused bytes e
 first-fault bytes f e h first = by e first
   where
     read : (length bytes ≤ longest_file) × (v : Data) × (json_of bytes ≡ Some v) × (file_of v ≡ Some f)
@@ -90,12 +92,16 @@ first-fault bytes f e h first = by e first
     faulty : (k : ℕ) → IsFirst (Some f) k → IsFaulty bytes k
     faulty k first = (read.0, read.1, read.2, subst (λ o. IsFirst o k) (sym read.3) first)
 
-    by : (e : LoadError) → IsFirst (Some f) (number_of e) → IsRefused bytes e
+    faulty-file : (n k : ℕ) → IsFirst (Some f) k × (f.version ≡ pos n) → IsFaultyFile bytes n k
+    faulty-file n k c = (read.0, read.1, read.2, subst (λ o. IsFirst o k) (sym read.3) c.0, f, read.3, c.1)
+
+    by : (e : LoadError) → IsCause f e → IsRefused bytes e
     by Json first = absurd (true≢false (sym first.0))
     by Shape first = absurd (true≢false (sym first.0))
     by Limit first = inr (faulty 3 first)
     by Name first = faulty 4 first
     by Twice first = faulty 5 first
-    by Backward first = faulty 6 first
+    by Backward cause = faulty-file first_version 6 cause
+    by Causality cause = faulty-file last_version 6 cause
     by Undeclared first = faulty 7 first
-    by Memory first = absurd (true≢false (sym first.0))
+    by Memory cause = read.0

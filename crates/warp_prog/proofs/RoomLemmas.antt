@@ -4,14 +4,14 @@ use Rattle.std.specs.List.{list_all, list_any}
 use Rattle.std.proofs.lemmas.Bool.{or_parts, ltb-false, ltb-true, lt-ltb, leb-true}
 use Rattle.warp_tag.specs.Limits.{longest_stop, most_origins, most_reactors, most_variables, most_ports, most_actions, most_timers, most_reactions, most_links, most_inputs, most_outputs}
 use Rattle.warp_prog.specs.File.{File}
-use Rattle.warp_prog.specs.Limits.{this_version, total, is_outside, are_more_than, numbers_exceed, lists_exceed, totals_exceed, parts_exceed, exceeds_limits, reactor_exceeds, link_exceeds, origin_exceeds}
+use Rattle.warp_prog.specs.Limits.{first_version, last_version, total, is_outside, are_more_than, numbers_exceed, lists_exceed, totals_exceed, parts_exceed, exceeds_limits, reactor_exceeds, link_exceeds, origin_exceeds}
 use Rattle.warp_prog.specs.Numbered.{nothing_before}
 use Rattle.warp_prog.specs.declared.file.InputPart.{InputPart}
 use Rattle.warp_prog.specs.inner.Room.{HaveRoom}
 use Rattle.warp_prog.proofs.Ranges.{all-since, in-range, is-origin}
 
 -- the four parts of the limits
-limits_kept : (f : File) → exceeds_limits f ≡ false → (numbers_exceed f ≡ false) × (lists_exceed f ≡ false) × (totals_exceed f.reactors ≡ false) × (parts_exceed f ≡ false)
+pub limits_kept : (f : File) → exceeds_limits f ≡ false → (numbers_exceed f ≡ false) × (lists_exceed f ≡ false) × (totals_exceed f.reactors ≡ false) × (parts_exceed f ≡ false)
 limits_kept f h =
     let three = or_parts (numbers_exceed f || lists_exceed f || totals_exceed f.reactors) (parts_exceed f) h in
     let two = or_parts (numbers_exceed f || lists_exceed f) (totals_exceed f.reactors) three.0 in
@@ -53,7 +53,7 @@ have_room f h =
 -- so do the numbers of origins
 pub origins_fit : (f : File) → exceeds_limits f ≡ false → unsigned_abs f.origins < 2 ^ 32
 origins_fit f h =
-    let origins = or_parts (is_outside (pos this_version) (pos this_version) f.version || is_outside (pos 0) (pos longest_stop) f.stop) (is_outside (pos 1) (pos most_origins) f.origins) (limits_kept f h).0 in
+    let origins = or_parts (is_outside (pos first_version) (pos last_version) f.version || is_outside (pos 0) (pos longest_stop) f.stop) (is_outside (pos 1) (pos most_origins) f.origins) (limits_kept f h).0 in
     let e = leb-true (unsigned_abs f.origins) most_origins (in-range 1 most_origins f.origins origins.1).1 in
     omega arith
 

@@ -11,9 +11,11 @@ pub mod Uses
 pub mod Names
 pub mod Twice
 pub mod Backward
+pub mod Order
 pub mod Undeclared
 pub mod Numbered
 pub mod Load
 pub mod inner
 pub mod Reading
 pub mod Refusal
+pub mod Explain

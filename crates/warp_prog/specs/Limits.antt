@@ -10,9 +10,12 @@ use Rattle.warp_prog.specs.declared.file.TimerPart.{TimerPart}
 use Rattle.warp_prog.specs.declared.file.LinkPart.{LinkPart}
 use Rattle.warp_prog.specs.declared.file.InputPart.{InputPart}
 
--- the version of the format
-abbrev pub this_version : ℕ
-this_version = 1
+-- the versions of the format
+abbrev pub first_version : ℕ
+first_version = 1
+
+abbrev pub last_version : ℕ
+last_version = 2
 
 -- how deep an expression may be, and a list of statements
 abbrev pub deepest : ℕ
@@ -131,7 +134,7 @@ lists_exceed f =
 -- a version, a stop or a number of origins outside its range
 abbrev pub numbers_exceed : File → Bool
 numbers_exceed f =
-    is_outside (pos this_version) (pos this_version) f.version
+    is_outside (pos first_version) (pos last_version) f.version
     || is_outside (pos 0) (pos longest_stop) f.stop
     || is_outside (pos 1) (pos most_origins) f.origins
 

@@ -1,7 +1,8 @@
 -- The program that a file stands for: its parts in file order, with numbers in the place of names.
 -- A name's number counts what stands before it in the file: all of its kind in the reactors before, and in its own.
-use Rattle.std.specs.Prelude.{ℕ, ◌+◌, unsigned_abs, true, false, List, [], ◌∷◌, ◌++◌, length, map, option_map, bytes_eq, if◌then◌else◌}
+use Rattle.std.specs.Prelude.{ℕ, pos, Bool, ◌+◌, unsigned_abs, true, false, List, [], ◌∷◌, ◌++◌, length, map, option_map, bytes_eq, if◌then◌else◌}
 use Rattle.std.specs.List.{position_or_len}
+use Rattle.std.specs.Ordering.{int_eq}
 use Rattle.warp_tag.specs.Limits.{last_microstep}
 use Rattle.warp_body.specs.Term.{Term, Constant, VariableAt, ValueAt, PresentAt, OfOne, OfTwo, Choice}
 use Rattle.warp_body.specs.Effect.{Statement, SetVariable, PutOutput, ScheduleAction, Choose, Body, Done, Then}
@@ -9,6 +10,7 @@ use Rattle.warp_body.specs.declared.place.Target.{Target}
 use Rattle.warp_body.specs.declared.place.Target.TheVariants as to
 use Rattle.warp_step.specs.Program.{Rule, Program}
 use Rattle.warp_step.specs.Valid.{names}
+use Rattle.warp_step.specs.Order.{file_order}
 use Rattle.warp_step.specs.declared.parts.Variable.{Variable}
 use Rattle.warp_step.specs.declared.parts.Port.{Port}
 use Rattle.warp_step.specs.declared.parts.Action.{Action}
@@ -16,6 +18,8 @@ use Rattle.warp_step.specs.declared.parts.Timer.{Timer}
 use Rattle.warp_step.specs.declared.parts.Link.{Link}
 use Rattle.warp_step.specs.declared.parts.ProgramInput.{ProgramInput}
 use Rattle.warp_prog.specs.File.{Word, File, ReactorPart, ReactionPart, NamedTerm, Literal, Named, PresentNamed, OneNamed, TwoNamed, ChoiceNamed, NamedStatement, SetNamed, PutNamed, ScheduleNamed, ChooseNamed, NamedBody, NamedDone, NamedThen}
+use Rattle.warp_prog.specs.Limits.{first_version}
+use Rattle.warp_prog.specs.Order.{loader_order}
 use Rattle.warp_prog.specs.Uses.{is_among, variable_names, action_names, timer_names}
 use Rattle.warp_prog.specs.declared.file.PortName.{PortName}
 use Rattle.warp_prog.specs.declared.file.VariablePart.{VariablePart}
@@ -165,9 +169,9 @@ numbered_link rs l = record {
 abbrev pub numbered_input : List ReactorPart → InputPart → ProgramInput
 numbered_input rs i = record { origin = unsigned_abs i.origin; port = target_number rs i.port }
 
--- the program of a file
-abbrev pub numbered : File → Program
-numbered f = record {
+-- the program of a file, without an order of its reactions
+abbrev pub unordered : File → Program
+unordered f = record {
   stop = unsigned_abs f.stop;
   top = last_microstep;
   origins = unsigned_abs f.origins;
@@ -177,7 +181,20 @@ numbered f = record {
   actions = in_each its_actions nothing_before f.reactors;
   timers = in_each its_timers nothing_before f.reactors;
   reactions = in_each its_reactions nothing_before f.reactors;
+  order = [];
   links = map (numbered_link f.reactors) f.links;
   inputs = map (numbered_input f.reactors) f.inputs;
   outputs = map (source_number f.reactors) f.outputs;
 }
+
+-- whether a file is of the first version
+abbrev pub is_first_version : File → Bool
+is_first_version f = int_eq f.version (pos first_version)
+
+-- the order of its reactions: in the first version that of the file, else the loader's
+abbrev pub order_of : File → List ℕ
+order_of f = if is_first_version f then file_order (unordered f) else loader_order (unordered f)
+
+-- the program of a file
+abbrev pub numbered : File → Program
+numbered f = record (unordered f) { order = order_of f }

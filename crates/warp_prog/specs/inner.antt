@@ -2,3 +2,5 @@ pub mod Kind
 pub mod Rule
 pub mod Room
 pub mod Read
+pub mod Placing
+pub mod Cause

@@ -21,9 +21,12 @@ pub enum LoadError {
     /// Something is there twice.
     #[error("something is there twice")]
     Twice,
-    /// A link without delay leads back.
+    /// A link without delay leads back, in a file of version 1.
     #[error("a link without delay leads back")]
     Backward,
+    /// No order of the reactions is admissible, in a file of version 2.
+    #[error("reactions wait for each other")]
+    Causality,
     /// A body reads or writes what its reaction does not name.
     #[error("a body uses what its reaction does not declare")]
     Undeclared,
@@ -36,7 +39,7 @@ impl LoadError {
     ghost use Rattle.std.specs.Prelude.{◌≡◌};
     ghost use Rattle.warp_prog.specs.Refusal.{number_of};
 
-    /// Its number, 1 to 8.
+    /// Its number, 1 to 8: 6 for the two faults of order, each of which stands in files of one version alone.
     pub fn number(self) -> u8
         ensures { result ≡ number_of self }
     {
@@ -46,7 +49,7 @@ impl LoadError {
             LoadError::Limit => 3,
             LoadError::Name => 4,
             LoadError::Twice => 5,
-            LoadError::Backward => 6,
+            LoadError::Backward | LoadError::Causality => 6,
             LoadError::Undeclared => 7,
             LoadError::Memory => 8,
         }

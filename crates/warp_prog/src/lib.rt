@@ -1,14 +1,16 @@
 //! Program files: from the bytes of one to the program that it spells, or to its first fault.
 //!
-//! A file is read as JSON, then as a tree with names; five passes look for one fault each in the whole tree; then
-//! names get their numbers. Contracts see the tree as the record `File` in `specs/`, and `load` says which program
-//! the bytes spell.
+//! A file is read as JSON, then as a tree with names; passes over the whole tree look for one fault each; names
+//! get their numbers, and reactions their order. Contracts see the tree as the record `File` in `specs/`, and `load`
+//! says which program the bytes spell.
 #![tactic(auto)]
 
 mod backward;
 mod both;
 mod error;
+mod explain;
 mod file;
+mod law;
 mod limits;
 mod loading;
 mod misread;
@@ -16,6 +18,7 @@ mod name;
 mod named;
 mod names;
 mod numbered;
+mod order;
 mod reading;
 mod scope;
 mod shape;
@@ -24,4 +27,6 @@ mod undeclared;
 mod uses;
 
 pub use error::LoadError;
+pub use explain::{Labels, explanation, file_labels, program_account};
+pub use law::loader_order;
 pub use loading::load;

@@ -14,7 +14,9 @@ mod body;
 use crate::file::{ActionPart, InputPart, LinkPart, ProgramFile, Reaction, Reactor, TimerPart};
 use crate::limits::body::body_exceeds;
 
-const VERSION: i64 = 1;
+pub(crate) const FIRST_VERSION: i64 = 1;
+
+const LAST_VERSION: i64 = 2;
 
 const LONGEST_STOP: i64 = 1_000_000;
 
@@ -63,7 +65,7 @@ pub(crate) fn exceeds_limits(file: &ProgramFile) -> bool
 fn numbers_exceed(file: &ProgramFile) -> bool
     ensures { result ≡ numbers_exceed (file_tree file.now) }
 {
-    is_outside(file.version, VERSION, VERSION)
+    is_outside(file.version, FIRST_VERSION, LAST_VERSION)
         || is_outside(file.stop, 0, LONGEST_STOP)
         || is_outside(file.origins, 1, MOST_ORIGINS)
 }

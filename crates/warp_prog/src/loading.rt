@@ -1,43 +1,58 @@
 //! Loading a program file.
-ghost use Rattle.std.specs.Prelude.{◌≡◌, IfOk, IfErr, OnOk, Some};
-ghost use Rattle.warp_prog.specs.Load.{IsFirst, IsFaultless, IsLoaded, IsRefused};
-ghost use Rattle.warp_prog.specs.Refusal.{number_of};
+ghost use Rattle.std.specs.Prelude.{◌≡◌, ◌<◌, ◌^◌, true, false, IfOk, IfErr, OnOk, length};
+ghost use Rattle.warp_step.specs.View.{program_of};
+ghost use Rattle.warp_prog.specs.Load.{IsFaultless, IsLoaded, IsRefused, lacks_order};
+ghost use Rattle.warp_prog.specs.Numbered.{is_first_version, numbered};
 ghost use Rattle.warp_prog.specs.View.{file_tree};
+ghost use Rattle.warp_prog.specs.inner.Cause.{IsCause, IsNamed};
 
 use crate::backward::leads_back;
 use crate::error::LoadError;
 use crate::file::ProgramFile;
-use crate::limits::exceeds_limits;
+use crate::limits::{FIRST_VERSION, exceeds_limits};
 use crate::names::names_unknown;
 use crate::numbered::numbered;
+use crate::order::{file_order, loader_order};
 use crate::reading::reading;
 use crate::twice::names_twice;
 use crate::undeclared::is_undeclared;
 use std::alloc::Global;
-use warp_step::Program;
+use warp_step::{Parts, Program};
 
 /// Loads the program that the bytes of a file spell.
 ///
 /// # Errors
 ///
 /// The first fault of the file: each is looked for in the whole file before the next. More than 1,048,576 bytes are
-/// refused at once, as past a limit. `Memory` comes only where a growth was refused.
+/// refused at once, as past a limit. `Backward` comes for files of version 1 alone, `Causality` for those of version 2.
+/// `Memory` comes only where a growth was refused.
 pub fn load(alloc: Global, bytes: &[u8]) -> Result<Program, LoadError>
     ensures ok { IfOk result (λ program. IsLoaded bytes.now program) }
     ensures err { IfErr result (λ error. IsRefused bytes.now error) }
 {
     let file = reading(alloc, bytes)?;
-    check(&file)?;
-    let Ok(parts) = numbered(alloc, &file) else {
-        return Err(LoadError::Memory);
-    };
+    let parts = parts_of(alloc, &file)?;
     Ok(Program::new(parts))
 }
 
-/// The first fault of a file beyond its shape.
-fn check(file: &ProgramFile) -> Result<(), LoadError>
-    ensures ok { OnOk result (IsFaultless (file_tree file.now)) }
-    ensures err { IfErr result (λ error. IsFirst (Some (file_tree file.now)) (number_of error)) }
+/// The parts of the program that a file spells, or its first fault beyond its shape.
+fn parts_of(alloc: Global, file: &ProgramFile) -> Result<Parts, LoadError>
+    ensures faultless { OnOk result (IsFaultless (file_tree file.now)) }
+    ensures parts { IfOk result (λ parts. program_of parts ≡ numbered (file_tree file.now)) }
+    ensures err { IfErr result (λ error. IsCause (file_tree file.now) error) }
+{
+    check_names(file)?;
+    let parts = ordered(alloc, file)?;
+    if is_undeclared(file) {
+        return Err(LoadError::Undeclared);
+    }
+    Ok(parts)
+}
+
+/// The first fault of a file before the order of its reactions is looked at.
+fn check_names(file: &ProgramFile) -> Result<(), LoadError>
+    ensures ok { OnOk result (IsNamed (file_tree file.now)) }
+    ensures err { IfErr result (λ error. IsCause (file_tree file.now) error) }
 {
     if exceeds_limits(file) {
         return Err(LoadError::Limit);
@@ -48,11 +63,66 @@ fn check(file: &ProgramFile) -> Result<(), LoadError>
     if names_twice(file) {
         return Err(LoadError::Twice);
     }
+    Ok(())
+}
+
+/// The parts of the program that a file stands for, with its reactions in order.
+fn ordered(alloc: Global, file: &ProgramFile) -> Result<Parts, LoadError>
+    requires { IsNamed (file_tree file.now) }
+    ensures order { OnOk result (lacks_order (file_tree file.now) ≡ false) }
+    ensures parts { IfOk result (λ parts. program_of parts ≡ numbered (file_tree file.now)) }
+    ensures err { IfErr result (λ error. IsCause (file_tree file.now) error) }
+{
+    if file.version == FIRST_VERSION {
+        in_file_order(alloc, file)
+    } else {
+        in_loader_order(alloc, file)
+    }
+}
+
+/// The same of a file of the first version.
+fn in_file_order(alloc: Global, file: &ProgramFile) -> Result<Parts, LoadError>
+    requires named { IsNamed (file_tree file.now) }
+    requires version { is_first_version (file_tree file.now) ≡ true }
+    ensures order { OnOk result (lacks_order (file_tree file.now) ≡ false) }
+    ensures parts { IfOk result (λ parts. program_of parts ≡ numbered (file_tree file.now)) }
+    ensures err { IfErr result (λ error. IsCause (file_tree file.now) error) }
+{
     if leads_back(file) {
         return Err(LoadError::Backward);
     }
-    if is_undeclared(file) {
-        return Err(LoadError::Undeclared);
+    let Ok(parts) = numbered(alloc, file) else {
+        return Err(LoadError::Memory);
+    };
+    let Ok(order) = file_order(alloc, &parts) else {
+        return Err(LoadError::Memory);
+    };
+    Ok(with_order(parts, order))
+}
+
+/// The same of a file of the second version.
+fn in_loader_order(alloc: Global, file: &ProgramFile) -> Result<Parts, LoadError>
+    requires named { IsNamed (file_tree file.now) }
+    requires version { is_first_version (file_tree file.now) ≡ false }
+    ensures order { OnOk result (lacks_order (file_tree file.now) ≡ false) }
+    ensures parts { IfOk result (λ parts. program_of parts ≡ numbered (file_tree file.now)) }
+    ensures err { IfErr result (λ error. IsCause (file_tree file.now) error) }
+{
+    let Ok(parts) = numbered(alloc, file) else {
+        return Err(LoadError::Memory);
+    };
+    let Ok(order) = loader_order(alloc, &parts) else {
+        return Err(LoadError::Memory);
+    };
+    if order.len() < parts.reactions.len() {
+        return Err(LoadError::Causality);
     }
-    Ok(())
+    Ok(with_order(parts, order))
+}
+
+/// Parts with another order of their reactions.
+fn with_order(parts: Parts, order: Vec<u32>) -> Parts
+    ensures { program_of result ≡ record (program_of parts) { order = order.items } }
+{
+    Parts { order, ..parts }
 }

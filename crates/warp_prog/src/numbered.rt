@@ -2,13 +2,13 @@
 //!
 //! Numbers are given in file order over all reactors. What stands before a reactor is counted on the way, so a name's
 //! number is that count and its place among the names of its kind in its reactor.
-ghost use Rattle.std.specs.Prelude.{◌≡◌, ◌<◌, ◌^◌, ◌++◌, IfOk, OnOk, IsTrue, map, nat_lt, unsigned_abs};
+ghost use Rattle.std.specs.Prelude.{◌≡◌, false, ◌<◌, ◌^◌, ◌++◌, IfOk, OnOk, IsTrue, map, nat_lt, unsigned_abs};
 ghost use Rattle.std.specs.List.{list_all};
 ghost use Rattle.warp_step.specs.Program.{rule_of};
 ghost use Rattle.warp_step.specs.View.{program_of};
-ghost use Rattle.warp_prog.specs.Load.{IsFaultless};
+ghost use Rattle.warp_prog.specs.Limits.{exceeds_limits};
 ghost use Rattle.warp_prog.specs.Numbered.{nothing_before, its_variables, its_ports, its_actions, its_timers};
-ghost use Rattle.warp_prog.specs.Numbered.{its_reactions, in_each, numbered, numbered_link, numbered_input};
+ghost use Rattle.warp_prog.specs.Numbered.{its_reactions, in_each, unordered, numbered_link, numbered_input};
 ghost use Rattle.warp_prog.specs.Numbered.{source_number};
 ghost use Rattle.warp_prog.specs.inner.Room.{HasRoom, HaveRoom};
 ghost use Rattle.warp_prog.specs.View.{file_tree, reactor_tree};
@@ -16,7 +16,7 @@ ghost use Rattle.warp_prog.specs.declared.file.InputPart.{InputPart};
 
 mod body;
 mod place;
-mod reaction;
+pub(crate) mod reaction;
 mod reactor;
 
 use crate::file::{InputPart, LinkPart, PortName, ProgramFile, Reactor};
@@ -37,16 +37,17 @@ struct Contents {
     reactions: Vec<Reaction>,
 }
 
-/// The parts of the program that a file without fault stands for.
+/// The parts of the program that a file within the limits stands for, without an order of its reactions.
 pub(crate) fn numbered(alloc: Global, file: &ProgramFile) -> Result<Parts, OutOfMemory>
-    requires { IsFaultless (file_tree file.now) }
-    ensures { IfOk result (λ parts. program_of parts ≡ numbered (file_tree file.now)) }
+    requires { exceeds_limits (file_tree file.now) ≡ false }
+    ensures { IfOk result (λ parts. program_of parts ≡ unordered (file_tree file.now)) }
 {
     let reactors: &[Reactor] = &file.reactors;
     let contents = contents_of(alloc, reactors)?;
     let links = numbered_links(alloc, reactors, &file.links)?;
     let inputs = numbered_inputs(alloc, reactors, &file.inputs)?;
     let outputs = numbered_outputs(alloc, reactors, &file.outputs)?;
+    let order = Vec::new(alloc);
     Ok(Parts {
         stop: stop_of(file),
         origins: origins_of(file),
@@ -56,6 +57,7 @@ pub(crate) fn numbered(alloc: Global, file: &ProgramFile) -> Result<Parts, OutOf
         actions: contents.actions,
         timers: contents.timers,
         reactions: contents.reactions,
+        order,
         links,
         inputs,
         outputs,

@@ -1,5 +1,6 @@
 -- Each length that a reply of a replica says is that of the log which it leaves.
-use Rattle.std.proofs.Common.{ℕ, List, length, refl, sym, subst, arith, length-append, Option, Some, None, Result, Ok, Err, Bool, true, false, inl, inr}
+use Rattle.std.proofs.Common.{ℕ, List, length, refl, sym, subst, arith, length-append, Option, Some, None, Result, Ok}
+use Rattle.std.proofs.Common.{Err, Bool, true, false, inl, inr}
 use Rattle.std.specs.Prelude.{slice_get, if◌then◌else◌}
 use Rattle.std.specs.Option.{option_map, unwrap_or}
 use Rattle.warp_step.specs.Program.{Program}

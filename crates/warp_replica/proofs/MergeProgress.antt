@@ -1,9 +1,12 @@
 -- How far merging has come: which records of the other log are in.
-use Rattle.std.proofs.Common.{◌≡◌, ◌≢◌, ℕ, ◌+◌, ◌-◌, ◌≤◌, ◌<◌, nat_lt, Bool, true, false, cond, not, List, [], ◌∷◌, ◌++◌, All, Contains, filter, get_or, length, slice_get, take, Some, None, Ok, Err, inl, inr, refl, sym, ap, subst, ◌∙◌, arith, append_assoc, length-append}
+use Rattle.std.proofs.Common.{◌≡◌, ◌≢◌, ℕ, ◌+◌, ◌-◌, ◌≤◌, ◌<◌, nat_lt, Bool, true, false, cond, not, List, [], ◌∷◌}
+use Rattle.std.proofs.Common.{◌++◌, All, Contains, filter, get_or, length, slice_get, take, Some, None, Ok, Err, inl}
+use Rattle.std.proofs.Common.{inr, refl, sym, ap, subst, ◌∙◌, arith, append_assoc, length-append}
 use Rattle.std.proofs.lemmas.Bool.{cases_Bool, ltb-true}
 use Rattle.std.proofs.lemmas.Bool.Decides.{nat_tests}
 use Rattle.std.proofs.lemmas.List.{append-nil, get_or-take, length-take, take_all}
-use Rattle.std.proofs.lemmas.List.Elements.{All-contains, All-filter, Contains-append_left, Contains-append_cases, filter_more}
+use Rattle.std.proofs.lemmas.List.Elements.{All-contains, All-filter, Contains-append_left, Contains-append_cases}
+use Rattle.std.proofs.lemmas.List.Elements.{filter_more}
 use Rattle.std.proofs.lemmas.Option.{get_or_from_slice_get, none-some, slice_get-get_or, slice_get_within}
 use Rattle.warp_step.specs.Program.{Program}
 use Rattle.warp_step.specs.Run.{Row}

@@ -1,5 +1,6 @@
 -- What a puller does with a replica as its desk: its log grows by the record that was replied, or not at all.
-use Rattle.std.proofs.Common.{◌≡◌, ◌⊎◌, inl, inr, ℕ, Bool, true, false, MatchBool, List, [], ◌∷◌, ◌++◌, Option, Some, Result, Ok, Err, nat_lt, refl, ap}
+use Rattle.std.proofs.Common.{◌≡◌, ◌⊎◌, inl, inr, ℕ, Bool, true, false, MatchBool, List, [], ◌∷◌, ◌++◌, Option, Some}
+use Rattle.std.proofs.Common.{Result, Ok, Err, nat_lt, refl, ap}
 use Rattle.warp_record.specs.declared.line.Line.TheVariants.{Put}
 use Rattle.warp_record.specs.declared.record.Record.{Record}
 use Rattle.warp_record.specs.declared.reply.Refusal.{Refusal}

@@ -1,5 +1,5 @@
--- Released lists: while no origin breaks an announcement, that of a set begins that of a larger one, and of two sets one
--- begins the other.
+-- Released lists: while no origin breaks an announcement, that of a set begins that of a larger one, and of two sets
+-- one begins the other.
 use Rattle.std.proofs.Common.{◌≡◌, ◌⊎◌, inl, inr, false, List, length, take, ◌++◌, sym, ap, subst, ◌∙◌}
 use Rattle.std.proofs.lemmas.Bool.{cases_Bool}
 use Rattle.warp_tag.specs.Lists.{StartsWith}
@@ -22,8 +22,8 @@ released_is : (P : Program) (S : Records) (a : Answers) (h : AreAnswers P S a)
     → a.released ≡ outputs_until a.horizon (outputs_of h.trace)
 released_is P S a h = h.released ∙ ap (outputs_until a.horizon) h.outputs
 
--- Of two sets whose live events before the earlier horizon are the same, the released list of the one that has it begins the
--- other's: before that tag both runs have the same rows.
+-- Of two sets whose live events before the earlier horizon are the same, the released list of the one that has it
+-- begins the other's: before that tag both runs have the same rows.
 begins : (P : Program) (S T : Records) (a b : Answers) (h : AreAnswers P S a) (k : AreAnswers P T b)
     → is_before b.horizon a.horizon ≡ false → events_until a.horizon h.events ≡ events_until a.horizon k.events
     → StartsWith b.released a.released

@@ -1,5 +1,5 @@
--- What a set of records announces: a program that has an origin has a horizon over the set, the least tag up to which one of
--- its origins has its announcements reached.
+-- What a set of records announces: a program that has an origin has a horizon over the set, the least tag up to which
+-- one of its origins has its announcements reached.
 use Rattle.std.proofs.Common.{◌≡◌, ◌↔◌, inl, inr, ℕ, zero, suc, ◌<◌, Bool, false, IsTrue, List, refl, sym, subst, arith}
 use Rattle.std.proofs.lemmas.Bool.{cases_Bool, cases_lt}
 use Rattle.warp_tag.specs.Moment.{Moment, is_before}

@@ -1,5 +1,7 @@
 -- How a record is taken: in one way, but that memory may be wanting, and want of memory apart there is a way.
-use Rattle.std.proofs.Common.{◌≡◌, ◌≢◌, ◌⊎◌, inl, inr, ℕ, ◌+◌, ◌-◌, ◌<◌, ◌≤◌, Bool, true, false, List, ◌∷◌, [], ◌++◌, length, slice_get, Contains, Option, Some, None, Result, Ok, Err, if◌then◌else◌, refl, sym, ap, ◌∙◌, arith}
+use Rattle.std.proofs.Common.{◌≡◌, ◌≢◌, ◌⊎◌, inl, inr, ℕ, ◌+◌, ◌-◌, ◌<◌, ◌≤◌, Bool, true, false, List, ◌∷◌, [], ◌++◌}
+use Rattle.std.proofs.Common.{length, slice_get, Contains, Option, Some, None, Result, Ok, Err, if◌then◌else◌, refl}
+use Rattle.std.proofs.Common.{sym, ap, ◌∙◌, arith}
 use Rattle.std.proofs.lemmas.Bool.{both_ways, cases_Bool, cases_lt}
 use Rattle.std.proofs.lemmas.Option.{get_or_from_slice_get, slice_get-get_or, slice_get_within}
 use Rattle.warp_tag.specs.Limits.{most_records}
@@ -9,7 +11,8 @@ use Rattle.warp_step.specs.Events.{is_declared, is_in_time, has_input, owns_inpu
 use Rattle.warp_record.specs.declared.record.Record.{Record}
 use Rattle.warp_record.specs.declared.record.Record.TheVariants.{Event, Withdraw, Announce}
 use Rattle.warp_record.specs.declared.reply.Refusal.{Refusal}
-use Rattle.warp_record.specs.declared.reply.Refusal.TheVariants.{Syntax, NoOrigin, PastStop, NoInput, NotYours, NoVar, LogFull, NoMemory, TooLong, Busy, NoBoard}
+use Rattle.warp_record.specs.declared.reply.Refusal.TheVariants.{Syntax, NoOrigin, PastStop, NoInput, NotYours, NoVar}
+use Rattle.warp_record.specs.declared.reply.Refusal.TheVariants.{LogFull, NoMemory, TooLong, Busy, NoBoard}
 use Rattle.warp_table.specs.Check.{end_of, refusal_of}
 use Rattle.warp_table.specs.Log.{EachOnce, IsAt}
 use Rattle.warp_table.specs.Records.{set_of}

@@ -14,8 +14,8 @@ use Rattle.warp_table.specs.Announced.{IsHorizon, IsBroken}
 abbrev pub released_of : Moment → List Out → List Out
 released_of horizon outputs = outputs_until horizon outputs
 
--- the state after the last row, all outputs in order, how many records there are, the horizon, the outputs released behind
--- it, and for each origin whether it broke an announcement
+-- the state after the last row, all outputs in order, how many records there are, the horizon, the outputs released
+-- behind it, and for each origin whether it broke an announcement
 pub record Answers : Type 0 where
   pub state : Snapshot
   pub outputs : List Out
@@ -24,7 +24,8 @@ pub record Answers : Type 0 where
   pub released : List Out
   pub broken : ℕ → Bool
 
--- These are the program's answers over the set: those of its run over the live events of the set, and of its announcements.
+-- These are the program's answers over the set: those of its run over the live events of the set, and of its
+-- announcements.
 pub record AreAnswers (P : Program) (S : Records) (a : Answers) : Type 0 where
   pub events : List Event
   pub live : IsLive S events

@@ -1,5 +1,6 @@
 -- What a line gives on a log: a program, and the records in the order of taking.
-use Rattle.std.specs.Prelude.{◌≡◌, ◌⊎◌, ℕ, zero, suc, ◌+◌, ◌<◌, Bool, true, false, List, [], ◌∷◌, ◌++◌, length, Contains, slice_get, Option, Some, None, Result, Ok, Err, if◌then◌else◌}
+use Rattle.std.specs.Prelude.{◌≡◌, ◌⊎◌, ℕ, zero, suc, ◌+◌, ◌<◌, Bool, true, false, List, [], ◌∷◌, ◌++◌, length}
+use Rattle.std.specs.Prelude.{Contains, slice_get, Option, Some, None, Result, Ok, Err, if◌then◌else◌}
 use Rattle.std.specs.Option.{option_map, unwrap_or}
 use Rattle.warp_tag.specs.Limits.{most_records}
 use Rattle.warp_tag.specs.Moment.{Moment}
@@ -42,7 +43,8 @@ LacksRoom records other = ⊥
 -- and else not at all, for the program's first reason against it or for want of room.
 abbrev pub Takes : Program → List Record → Record → Result Took Refusal → List Record → Type 0
 Takes P records said (Ok (New place)) records' =
-    IsNew P records said × (length records < most_records) × (place ≡ length records + 1) × (records' ≡ records ++ said ∷ [])
+    IsNew P records said × (length records < most_records) × (place ≡ length records + 1)
+    × (records' ≡ records ++ said ∷ [])
 Takes P records said (Ok (Known place)) records' =
     (refusal_of P said ≡ None) × IsAt records place said × (records' ≡ records)
 Takes P records said (Err refusal) records' =
@@ -65,9 +67,9 @@ abbrev pub record_at : List Record → ℕ → Option Record
 record_at records zero = None
 record_at records (suc index) = slice_get records index
 
--- The reply to a query, by the answers of a set of records; the places in `log` are those of the list alone. Where there
--- is no such variable it is refusal 6, where the program has no such origin refusal 2, and where there is no such output or
--- place `none`.
+-- The reply to a query, by the answers of a set of records; the places in `log` are those of the list alone. Where
+-- there is no such variable it is refusal 6, where the program has no such origin refusal 2, and where there is no such
+-- output or place `none`.
 abbrev pub reply_to : Program → List Record → Answers → Query → Reply
 reply_to P records a (query.Var number) =
     unwrap_or (option_map (λ value. reply.Var a.count value) (slice_get a.state.vars number)) (reply.Refused NoVar)
@@ -92,11 +94,13 @@ abbrev pub GivesQuery : Program → List Record → Query → Reply → Type 0
 GivesQuery P records asked answer =
     (a : Answers) × AreAnswers P (set_of records) a × (answer ≡ reply_to P records a asked)
 
--- On this log of this program the line may give this reply, and leave this log. Want of memory may stand before any query, and
--- before collecting. There is no board here.
+-- On this log of this program the line may give this reply, and leave this log. Want of memory may stand before any
+-- query, and before collecting. There is no board here.
 abbrev pub Gives : Program → List Record → Line → Reply → List Record → Type 0
-Gives P records (line.Put said) answer records' = (result : Result Took Refusal) × Takes P records said result records' × (answer ≡ told result)
-Gives P records (line.Ask asked) answer records' = (GivesQuery P records asked answer ⊎ (answer ≡ reply.Refused NoMemory)) × (records' ≡ records)
+Gives P records (line.Put said) answer records' =
+    (result : Result Took Refusal) × Takes P records said result records' × (answer ≡ told result)
+Gives P records (line.Ask asked) answer records' =
+    (GivesQuery P records asked answer ⊎ (answer ≡ reply.Refused NoMemory)) × (records' ≡ records)
 Gives P records line.Collect answer records' =
     ((answer ≡ reply.Collected (length records)) ⊎ (answer ≡ reply.Refused NoMemory)) × (records' ≡ records)
 Gives P records (line.Look look) answer records' = (answer ≡ reply.Refused NoBoard) × (records' ≡ records)

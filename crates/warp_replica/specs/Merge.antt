@@ -9,8 +9,8 @@ use Rattle.warp_replica.specs.Gives.{LacksRoom}
 abbrev pub merged : List Record → List Record → List Record
 merged records other = records ++ filter (λ said. not (set_of records said)) other
 
--- How merging ends, and what the log is then: with all records of the other log, or with those before the first one that
--- found no room.
+-- How merging ends, and what the log is then: with all records of the other log, or with those before the first one
+-- that found no room.
 abbrev pub Merges : List Record → List Record → Result ℕ (ℕ × Refusal) → List Record → Type 0
 Merges records other (Ok count) records' = (count ≡ length other) × (records' ≡ merged records other)
 Merges records other (Err stop) records' =

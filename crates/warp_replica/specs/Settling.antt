@@ -6,15 +6,15 @@ use Rattle.warp_record.specs.declared.reply.Refusal.TheVariants.{NoMemory}
 use Rattle.warp_record.specs.declared.reply.Reply.{Reply}
 use Rattle.warp_record.specs.declared.reply.Reply.TheVariants.{Taken, Refused}
 
--- After settling all rows are done exactly where there was memory for it, which there is where they were done before; and the
--- reply is refusal 8 exactly where there was none.
+-- After settling all rows are done exactly where there was memory for it, which there is where they were done before;
+-- and the reply is refusal 8 exactly where there was none.
 abbrev pub SettlesOrRefuses : Reply → Bool → Bool → Bool → Type 0
 SettlesOrRefuses reply had before after =
     (after ≡ had) × (IsTrue before → IsTrue had) × ((reply ≡ Refused NoMemory) ↔ (had ≡ false))
 
--- Whether a replica that answered a line is settled after it, by the line, the reply, whether there was memory to settle, and
--- whether it was settled before. A new record is settled, and all is before a query and before collecting. Where nothing
--- comes in it stays as it was, and needs no memory to settle.
+-- Whether a replica that answered a line is settled after it, by the line, the reply, whether there was memory to
+-- settle, and whether it was settled before. A new record is settled, and all is before a query and before collecting.
+-- Where nothing comes in it stays as it was, and needs no memory to settle.
 abbrev pub SettlesFor : Line → Reply → Bool → Bool → Bool → Type 0
 SettlesFor (Put said) (Taken place) had before after = after ≡ had
 SettlesFor (Put said) other had before after = (had ≡ true) × (after ≡ before)
@@ -22,8 +22,8 @@ SettlesFor (Ask asked) reply had before after = SettlesOrRefuses reply had befor
 SettlesFor Collect reply had before after = SettlesOrRefuses reply had before after
 SettlesFor (Look look) reply had before after = (had ≡ true) × (after ≡ before)
 
--- A replica that answered a line is settled, where it settles for the line and the reply, unless this is so: for a new record,
--- a query, and collecting.
+-- A replica that answered a line is settled, where it settles for the line and the reply, unless this is so: for a new
+-- record, a query, and collecting.
 abbrev pub SettlesUnless : Line → Reply → Bool → Type 0 → Type 0
 SettlesUnless (Put said) (Taken place) after why = after ≡ false → why
 SettlesUnless (Put said) other after why = Unit {0}

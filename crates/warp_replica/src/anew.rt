@@ -37,12 +37,12 @@ pub(crate) fn comes_behind<T: Timeline>(timeline: &T, record: &Record) -> bool
 }
 
 /// Puts a record that the program has no reason against, and that is not behind, into a run that has room for it.
-pub(crate) fn enter<T: Timeline>(timeline: &mut T, record: &Record)
+pub(crate) fn enter_record<T: Timeline>(timeline: &mut T, record: &Record)
     requires prepared { T.is_prepared timeline.old }
     requires ahead { comes_behind (T.floor timeline.old) «record».now ≡ false }
     requires allowed { (m : Standing) × T.stands_for timeline.old m × (refusal_of m.program «record».now ≡ None) }
     ensures stands { (m : Standing) → T.stands_for timeline.old m → refusal_of m.program «record».now ≡ None →
-        NowStands T.stands_for T.SLACK (tag_of «record».now) timeline.new m (with_record m.table «record».now) }
+        NowStands T.stands_for T.SLACK T.drops (tag_of «record».now) timeline.new m (with_record m.table «record».now) }
     ensures settled { (m : Standing) → T.stands_for timeline.old m → refusal_of m.program «record».now ≡ None →
         live (with_record m.table «record».now) ≡ live m.table → T.settled timeline.new ≡ T.settled timeline.old }
     ensures floor { T.floor timeline.new ≡ T.floor timeline.old }
@@ -222,6 +222,6 @@ fn bring<T: Timeline>(
     // The contract alone speaks of the program.
     let _ = program;
     timeline.prepare(alloc)?;
-    enter(timeline, record);
+    enter_record(timeline, record);
     Ok(())
 }

@@ -22,7 +22,7 @@ ghost use Rattle.warp_replica.specs.Merge.{Merges};
 ghost use Rattle.warp_replica.specs.Replica.{AreAllowed, standing_of, Stands};
 ghost use Rattle.warp_replica.specs.Gives.{GivesQuery, Takes, came_in, tag_of, told};
 
-use crate::anew::{anew, comes_behind, enter};
+use crate::anew::{anew, comes_behind, enter_record};
 use crate::took::Took;
 use std::alloc::Global;
 use std::marker::Model;
@@ -132,7 +132,8 @@ impl<T: Timeline> Replica<T> {
         ensures new { IsTrue (came_in result) → comes_behind (T.floor self.old.timeline) «record».now ≡ false →
             (done : List Row) → Stands T.stands_for self.old done →
             (after : List Row) × Stands T.stands_for self.new after
-            × KeepsDone T.SLACK (tag_of «record».now) (standing_of self.old done) (standing_of self.new after) }
+            × KeepsDone T.SLACK T.drops (tag_of «record».now) (standing_of self.old done)
+            (standing_of self.new after) }
         ensures anew { IsTrue (came_in result) → IsTrue (comes_behind (T.floor self.old.timeline) «record».now) →
             (done : List Row) × Stands T.stands_for self.new done }
         ensures floor { T.floor self.new.timeline ≡ floor_after (T.floor self.old.timeline) «record».now result }
@@ -181,7 +182,8 @@ impl<T: Timeline> Replica<T> {
             (λ took. IsTrue (came_in (Ok took)) → comes_behind (T.floor self.old.timeline) «record».now ≡ false →
             (done : List Row) → Stands T.stands_for self.old done →
             (after : List Row) × Stands T.stands_for self.new after
-            × KeepsDone T.SLACK (tag_of «record».now) (standing_of self.old done) (standing_of self.new after)) }
+            × KeepsDone T.SLACK T.drops (tag_of «record».now) (standing_of self.old done)
+            (standing_of self.new after)) }
         ensures anew { IfOk result
             (λ took. IsTrue (came_in (Ok took)) → IsTrue (comes_behind (T.floor self.old.timeline) «record».now) →
             (done : List Row) × Stands T.stands_for self.new done) }
@@ -211,7 +213,7 @@ impl<T: Timeline> Replica<T> {
         if !added.is_new {
             return Ok(Took::Known(added.place));
         }
-        enter(&mut self.timeline, record);
+        enter_record(&mut self.timeline, record);
         Ok(Took::New(added.place))
     }
 
@@ -483,7 +485,7 @@ impl<T: Timeline> Replica<T> {
         requires { self.old.program ≡ other.now.program }
         ensures merges { Merges self.old.records other.now.records result self.new.records }
         ensures program { self.new.program ≡ self.old.program }
-        ensures chain { TakeFirst T.stands_for T.floor T.SLACK self.old other.now.records self.new }
+        ensures chain { TakeFirst T.stands_for T.floor T.SLACK T.drops self.old other.now.records self.new }
         ensures kept { self.new.records ≡ self.old.records → (done : List Row) → Stands T.stands_for self.old done →
             Stands T.stands_for self.new done }
         ensures settled { self.new.records ≡ self.old.records →

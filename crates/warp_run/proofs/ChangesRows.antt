@@ -1,15 +1,17 @@
 -- What a change leaves done where the run goes back to a front.
-use Rattle.std.proofs.Common.{◌≡◌, ◌⊎◌, inl, inr, ◌+◌, ◌≤◌, Bool, true, false, List, [], ◌∷◌, length, ap, arith, filter}
+use Rattle.std.proofs.Common.{◌≡◌, ◌⊎◌, inl, inr, ◌+◌, ◌≤◌, Bool, true, false, List, [], ◌∷◌, None, length, ap, arith, filter}
 use Rattle.std.proofs.lemmas.Bool.{cases_Bool}
 use Rattle.std.proofs.lemmas.Bool.Decides.{nat_tests}
 use Rattle.std.proofs.lemmas.List.Sums.{length-filter}
+use Rattle.warp_tag.specs.Lists.{StartsWith}
 use Rattle.warp_tag.specs.Moment.{Moment, is_before}
 use Rattle.warp_tag.specs.Table.{live}
 use Rattle.warp_tag.specs.declared.entry.Entry.{Entry}
 use Rattle.warp_tag.proofs.Lists.{filter-here, filter-past}
 use Rattle.warp_tag.proofs.Tags.{before_trans, not_before_self}
-use Rattle.warp_step.specs.Run.{Row, Run, events_until, rows_until}
+use Rattle.warp_step.specs.Run.{Row, Run, events_until, is_after, rows_until}
 use Rattle.warp_step.proofs.RowsBefore.{early_rows}
+use Rattle.warp_line.specs.Begin.{last_after}
 use Rattle.warp_line.specs.Timeline.{Standing, KeepsDone, lesser, rows_before}
 use Rattle.warp_run.specs.History.{spacing}
 
@@ -58,11 +60,12 @@ before_second t u s k = elim (cases_Bool (is_before u t)) [
 -- what a change at a tag leaves done, where all rows stay done, or few more of the run were before the tag
 pub keeps_done : (m : Standing) (tag : Moment) (table : List Entry) (done : List Row)
     → ((end : Moment) → is_before tag end ≡ false → events_until end (live m.table) ≡ events_until end (live table))
-    → length done ≤ length m.done
+    → StartsWith m.done done
+    → (is_after (last_after None m.done) tag ≡ true → length done ≡ length m.done)
     → (length done ≡ length m.done) ⊎ ((trace : List Row) → Run m.program (live m.table) trace → rows_before tag trace ≤ length done + spacing)
-    → (live table ≡ live m.table → length m.done ≤ length done)
-    → KeepsDone spacing tag m (record m { table = table; done = done })
-keeps_done m tag table done early within near unchanged =
+    → (live table ≡ live m.table → done ≡ m.done)
+    → KeepsDone spacing 0 tag m (record m { table = table; done = done })
+keeps_done m tag table done early begins ahead near unchanged =
     record {
       front = λ before after rb ra u enough.
           let end : Moment = lesser tag u in
@@ -80,6 +83,7 @@ keeps_done m tag table done early within near unchanged =
                 let most : rows_before tag before ≤ length done + spacing = few before rb in
                 omega arith
           ];
+      ahead = λ later. let all = ahead later in omega arith;
       unchanged = unchanged;
-      idle = within;
+      idle = begins;
     }

@@ -1,9 +1,9 @@
 -- What a `Warp` stands for after a change of one name.
-use Rattle.std.proofs.Common.{◌≡◌, inl, inr, ℕ, ◌≤◌, true, false, IsTrue, IsSomeAnd, List, [], ◌∷◌, length, take, ap, sym, subst, ◌∙◌, refl, arith, Some, unwrap_or}
+use Rattle.std.proofs.Common.{◌≡◌, inl, inr, ℕ, ◌≤◌, true, false, IsTrue, IsSomeAnd, List, [], ◌∷◌, length, take, drop, ap, sym, subst, ◌∙◌, refl, arith, Some, unwrap_or}
 use Rattle.std.specs.List.{list_all}
 use Rattle.std.specs.Prelude.{vec_capacity}
 use Rattle.std.specs.Option.{option_map}
-use Rattle.std.proofs.lemmas.List.{length-take-le}
+use Rattle.std.proofs.lemmas.List.{append-nil, length-take-le, take-append-drop}
 use Rattle.warp_tag.specs.Moment.{Moment}
 use Rattle.warp_tag.specs.Table.{Event, IsTable, changed, fresh, known, live, live_event}
 use Rattle.warp_tag.specs.declared.entry.Entry.{Entry}
@@ -75,13 +75,12 @@ module _ (f : Entry → Entry) (names : KeepsNames f) {origin : ℕ} {tag : Mome
         → (w : Warp) → w.arena ≡ arena → w.front.floor ≡ new.front.floor → w.latest ≡ latest_with tag new.latest → w.settled ≡ false
         → ((P : Program) (E : List Event) (done : List Row) → IsAt P E new.front done → GoesBack P E tag done w.front)
         → (Reaches arena.places (ahead new.front.last arena.places) new.cursor → Reaches w.arena.places (ahead w.front.last w.arena.places) w.cursor)
-        → NowStands StandsFor spacing tag w m (changed f origin tag m.table)
+        → NowStands StandsFor spacing 0 tag w m (changed f origin tag m.table)
     undone_stands differs fits through w kept floor latest unsettled back cursor =
         let E : List Event = live (changed f origin tag m.table) in
         let goes = back m.program (live m.table) m.done front_at in
         let early = early_stay f names origin tag m.table in
-        let lengths : length (take goes.left m.done) ≡ goes.left = length-take-le goes.left m.done goes.within in
-        let within : length (take goes.left m.done) ≤ length m.done = omega arith in (
+        let lengths : length (take goes.left m.done) ≡ goes.left = length-take-le goes.left m.done goes.within in (
           take goes.left m.done,
           record {
             program = h.program;
@@ -96,7 +95,8 @@ module _ (f : Entry → Entry) (names : KeepsNames f) {origin : ℕ} {tag : Mome
             latest = subst (λ l. AreThrough l E) (sym (latest ∙ ap (λ v. latest_with tag v.latest) is.others)) through;
             settled = λ yes. let no : true ≡ false = sym yes ∙ unsettled in cc;
           },
-          keeps_done m tag (changed f origin tag m.table) (take goes.left m.done) early within
+          keeps_done m tag (changed f origin tag m.table) (take goes.left m.done) early
+              (drop goes.left m.done, sym (take-append-drop goes.left m.done)) (λ later. lengths ∙ goes.ahead later)
               (elim goes.near [ inl all ↦ inl (lengths ∙ all) | inr few ↦ inr (λ trace run. let most = few trace run in omega arith) ])
               (λ same. absurd (differs (ap live_event after ∙ live_shows_at f origin tag m.table e change_from same))),
         )
@@ -106,7 +106,7 @@ module _ (f : Entry → Entry) (names : KeepsNames f) {origin : ℕ} {tag : Mome
     never_same differs same = differs (ap live_event after ∙ live_shows_at f origin tag m.table e change_from same)
 
     -- where it stayed, what was done stays done
-    pub same_stands : live_event d ≡ live_event e → NowStands StandsFor spacing tag (record new { arena = arena }) m (changed f origin tag m.table)
+    pub same_stands : live_event d ≡ live_event e → NowStands StandsFor spacing 0 tag (record new { arena = arena }) m (changed f origin tag m.table)
     same_stands same =
         let lives : live m.table ≡ live (changed f origin tag m.table) =
         sym (live_stays_at f origin tag m.table e change_from (ap live_event (sym after) ∙ same)) in (
@@ -122,8 +122,8 @@ module _ (f : Entry → Entry) (names : KeepsNames f) {origin : ℕ} {tag : Mome
             latest = subst (AreThrough new.latest) lives (subst (λ l. AreThrough l (live m.table)) (sym (ap (λ w. w.latest) is.others)) h.latest);
             settled = λ yes. subst (λ E. Run m.program E m.done) lives (h.settled (sym (ap (λ w. w.settled) is.others) ∙ yes));
           },
-          keeps_done m tag (changed f origin tag m.table) m.done (early_stay f names origin tag m.table) (omega arith) (inl refl)
-              (λ kept. omega arith),
+          keeps_done m tag (changed f origin tag m.table) m.done (early_stay f names origin tag m.table) ([], sym (append-nil m.done))
+              (λ later. refl) (inl refl) (λ kept. refl),
         )
 
 -- ---- room

@@ -27,3 +27,4 @@ pub mod TurnsFirst
 pub mod TurnsGoing
 pub mod TurnsRejoined
 pub mod TurnsRow
+pub mod SentTimelines

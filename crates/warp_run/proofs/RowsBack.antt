@@ -214,5 +214,6 @@ goes_back P E tag x y c done back h late ahead =
       };
       before = ap (λ (o : Option Moment). is_after o tag) last ∙ left.early;
       aside = taken.1;
+      ahead = λ later. let no : true ≡ false = sym later ∙ ap (λ (o : Option Moment). is_after o tag) (sym h.last) ∙ late in cc;
       near = inr (λ trace run. let less = few_before P E tag done trace left.count h.begin left.late run in let more = left.few in omega arith);
     }

@@ -102,6 +102,7 @@ lets_go P E x done a tag after is h = record {
   at = subst (IsAt P E (record x { aside = a })) (sym (take_all (length done) done (omega arith))) (without_past P E x done h a tag is);
   before = after;
   aside = subst (λ (b : SetAside). IsFrom tag b.history.saves) (sym is) (from_since tag x.aside.history.saves);
+  ahead = λ later. refl;
   near = inl refl;
 }
 

@@ -1,5 +1,6 @@
 -- What a rollback set aside: checkpoints that may be reached again.
-use Rattle.std.specs.Prelude.{◌≡◌, ℕ, ◌+◌, ◌-◌, ◌≤◌, false, List, [], ◌∷◌, length, take, drop, if◌then◌else◌, Option, IfSome}
+use Rattle.std.specs.Prelude.{◌≡◌, ℕ, ◌+◌, ◌-◌, ◌≤◌, false, List, [], ◌∷◌, length, take, drop, if◌then◌else◌, Option}
+use Rattle.std.specs.Prelude.{IfSome}
 use Rattle.warp_tag.specs.Moment.{Moment}
 use Rattle.warp_tag.specs.Table.{Event}
 use Rattle.warp_step.specs.Program.{Program}

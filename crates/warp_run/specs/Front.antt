@@ -1,5 +1,6 @@
 -- The front of a run that is executed.
-use Rattle.std.specs.Prelude.{◌≡◌, ℕ, ◌+◌, ◌≤◌, ◌⊎◌, true, List, [], ◌∷◌, ◌++◌, length, take, None, vec_len, vec_capacity}
+use Rattle.std.specs.Prelude.{◌≡◌, ℕ, ◌+◌, ◌≤◌, ◌⊎◌, true, List, [], ◌∷◌, ◌++◌, length, take, None, vec_len}
+use Rattle.std.specs.Prelude.{vec_capacity}
 use Rattle.std.specs.List.{AllByRecursion}
 use Rattle.warp_tag.specs.Limits.{most_names}
 use Rattle.warp_tag.specs.Moment.{Moment}
@@ -28,12 +29,13 @@ pub record IsSaved (P : Program) (rows : List Row) (c : Saved) : Type 0 where
 abbrev pub AreSaved : ℕ → Program → List Row → List Saved → Type 0
 AreSaved base P rows [] = Unit {0}
 AreSaved base P rows (c ∷ cs) =
-    IsSaved P rows c × (c.done.rows ≤ reach base cs) × AllByRecursion (λ d. d.done.rows ≤ c.done.rows) cs × AreSaved base P rows cs
+    IsSaved P rows c × (c.done.rows ≤ reach base cs) × AllByRecursion (λ d. d.done.rows ≤ c.done.rows) cs
+    × AreSaved base P rows cs
 
 -- What is executed are these rows, which begin the run: the state is that after them, the outputs are theirs, and at
--- most sixteen are after the newest checkpoint, also where the next is made as late as it is due; no checkpoint is before
--- the base, so many of the rows, of which the last is at the floor; what is set aside may be gone on over where the run
--- meets it.
+-- most sixteen are after the newest checkpoint, also where the next is made as late as it is due; no checkpoint is
+-- before the base, so many of the rows, of which the last is at the floor; what is set aside may be gone on over where
+-- the run meets it.
 pub record IsAt (P : Program) (E : List Event) (x : Front) (done : List Row) : Type 0 where
   pub begin : Begin P E done
   pub rows : x.rows ≡ length done
@@ -66,16 +68,18 @@ AreFew P E = (rows : List Row) → Begin P E rows → length rows ≤ most_names
 -- more rows are executed, and the floor stays
 pub record GoesOn (x y : Front) : Type 0 where
   pub floor : y.floor ≡ x.floor
-  pub rows : (P : Program) (E : List Event) (done : List Row) → IsAt P E x done → (rows : List Row) × IsAt P E y (done ++ rows)
+  pub rows : (P : Program) (E : List Event) (done : List Row) → IsAt P E x done
+      → (rows : List Row) × IsAt P E y (done ++ rows)
 
 -- What was executed is cut to a front that ends before the tag, with nothing aside that is before the tag: it is all of
--- it, or the run has at most sixteen rows more before the tag.
+-- it, as where the tag is after the last row, or the run has at most sixteen rows more before the tag.
 pub record GoesBack (P : Program) (E : List Event) (tag : Moment) (done : List Row) (x : Front) : Type 0 where
   pub left : ℕ
   pub within : left ≤ length done
   pub at : IsAt P E x (take left done)
   pub before : is_after x.last tag ≡ true
   pub aside : IsFrom tag x.aside.history.saves
+  pub ahead : is_after (last_after None done) tag ≡ true → left ≡ length done
   pub near : (left ≡ length done) ⊎ ((trace : List Row) → Run P E trace → rows_before tag trace ≤ left + spacing)
 
 -- The same is executed, and the same is aside: one checkpoint more may stand, and there may be more room.

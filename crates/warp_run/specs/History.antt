@@ -1,5 +1,6 @@
 -- Checkpoints: what they hold, and how they stand in lists that they share.
-use Rattle.std.specs.Prelude.{◌≡◌, ℕ, ℤ, ◌+◌, ◌<◌, ◌≤◌, IsTrue, true, List, [], ◌∷◌, length, take, drop, Option, Some, None, if◌then◌else◌}
+use Rattle.std.specs.Prelude.{◌≡◌, ℕ, ℤ, ◌+◌, ◌<◌, ◌≤◌, IsTrue, true, List, [], ◌∷◌, length, take, drop, Option, Some}
+use Rattle.std.specs.Prelude.{None, if◌then◌else◌}
 use Rattle.std.specs.List.{AllByRecursion, list_all}
 use Rattle.warp_tag.specs.Limits.{most_pending}
 use Rattle.warp_tag.specs.Moment.{Moment}
@@ -98,7 +99,8 @@ abbrev pub down_to : Moment → List Saved → List Saved
 down_to tag [] = []
 down_to tag (c ∷ cs) = if is_after c.done.last tag then c ∷ [] else c ∷ down_to tag cs
 
--- these checkpoints, and in front of them those of the marks, the last first: each takes its values and entries off the front of what is left
+-- these checkpoints, and in front of them those of the marks, the last first: each takes its values and entries off the
+-- front of what is left
 abbrev pub saves_of : ℕ → List Saved → List Mark → List ℤ → List Waiting → List Saved
 saves_of width saves [] values entries = saves
 saves_of width saves (m ∷ ms) values entries =
@@ -110,5 +112,5 @@ saves_of width saves (m ∷ ms) values entries =
 abbrev pub AreKept : ℕ → List Mark → List ℤ → List Waiting → Type 0
 AreKept width [] values entries = (values ≡ []) × (entries ≡ [])
 AreKept width (m ∷ ms) values entries =
-    (width ≤ length values) × (m.pending ≤ length entries) × (m.pending ≤ most_pending) × AreInOrder (take m.pending entries)
-    × AreKept width ms (drop width values) (drop m.pending entries)
+    (width ≤ length values) × (m.pending ≤ length entries) × (m.pending ≤ most_pending)
+    × AreInOrder (take m.pending entries) × AreKept width ms (drop width values) (drop m.pending entries)

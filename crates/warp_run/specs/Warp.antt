@@ -1,5 +1,6 @@
 -- What a `Warp` stands for.
-use Rattle.std.specs.Prelude.{◌≡◌, ℕ, ◌<◌, ◌≤◌, ◌++◌, IsTrue, List, [], ◌∷◌, length, filter, Option, Some, unwrap_or, vec_capacity, if◌then◌else◌}
+use Rattle.std.specs.Prelude.{◌≡◌, ℕ, ◌<◌, ◌≤◌, ◌++◌, IsTrue, List, [], ◌∷◌, length, filter, Option, Some, unwrap_or}
+use Rattle.std.specs.Prelude.{vec_capacity, if◌then◌else◌}
 use Rattle.std.specs.List.{list_all}
 use Rattle.warp_tag.specs.Moment.{Moment}
 use Rattle.warp_tag.specs.Table.{IsTable, fresh, known, changed, live}
@@ -22,9 +23,9 @@ floor_of w = w.front.floor
 abbrev pub ahead_of : Option Moment → List Entry → List Entry
 ahead_of floor entries = filter (λ e. is_after floor e.tag) entries
 
--- The program is valid; the table is sorted, with events that the program takes, and the arena holds what is not behind;
--- what is executed are the done rows; the cursor is at the first place after the last of them; and no live event is after
--- the latest tag.
+-- The program is valid; the table is sorted, with events that the program takes, and the arena holds what is not
+-- behind; what is executed are the done rows; the cursor is at the first place after the last of them; and no live
+-- event is after the latest tag.
 pub record StandsFor (w : Warp) (m : Standing) : Type 0 where
   pub program : IsTrue (is_valid m.program)
   pub origins : w.arena.origins ≡ m.program.origins
@@ -47,21 +48,25 @@ Goes P old new count =
 pub record NamesAt (old new : Warp) (origin : ℕ) (tag : Moment) (node : ℕ) : Type 0 where
   pub others : new ≡ record old { arena = new.arena; cursor = new.cursor }
   pub origins : new.arena.origins ≡ old.arena.origins
-  pub entry : entry_of node new.arena.places ≡ Some (unwrap_or (known origin tag (entries_of old.arena.places)) (fresh origin tag))
-  pub change : (f : Entry → Entry) → entries_of (with_change f node new.arena.places) ≡ changed f origin tag (entries_of old.arena.places)
+  pub entry : entry_of node new.arena.places
+      ≡ Some (unwrap_or (known origin tag (entries_of old.arena.places)) (fresh origin tag))
+  pub change : (f : Entry → Entry) → entries_of (with_change f node new.arena.places)
+      ≡ changed f origin tag (entries_of old.arena.places)
   pub cursor : Reaches new.arena.places (ahead new.front.last new.arena.places) new.cursor
 
 -- a tag after which no event is, with one more tag
 abbrev pub latest_with : Moment → Option Moment → Option Moment
 latest_with tag latest = if is_after latest tag then Some tag else latest
 
--- the room of each of its lists: the arena's, those of what is executed, those of what is aside, and that of what is given
--- to a step
+-- the room of each of its lists: the arena's, those of what is executed, those of what is aside, and that of what is
+-- given to a step
 abbrev pub room_in : Warp → List ℕ
 room_in w =
     w.arena.room
-    ∷ w.front.history.room.marks ∷ w.front.history.room.values ∷ w.front.history.room.entries ∷ vec_capacity w.front.outputs
-    ∷ w.front.aside.history.room.marks ∷ w.front.aside.history.room.values ∷ w.front.aside.history.room.entries ∷ w.front.aside.room
+    ∷ w.front.history.room.marks ∷ w.front.history.room.values ∷ w.front.history.room.entries
+    ∷ vec_capacity w.front.outputs
+    ∷ w.front.aside.history.room.marks ∷ w.front.aside.history.room.values ∷ w.front.aside.history.room.entries
+    ∷ w.front.aside.room
     ∷ vec_capacity w.given ∷ []
 
 -- a node is free

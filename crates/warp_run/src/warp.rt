@@ -61,6 +61,8 @@ impl Timeline for Warp {
 
     ghost SLACK = { 16 };
 
+    ghost drops = { 0 };
+
     ghost use Rattle.warp_tag.specs.Table.{live};
     ghost use Rattle.warp_line.proofs.Begins.{front_begins};
 

@@ -14,9 +14,9 @@ use Rattle.warp_record.specs.Reply.{reply_line}
 use Rattle.warp_record.proofs.LineCuts.{lines_of-ended, lines_of-unended, one_line_before}
 use Rattle.warp_session.specs.Stream.{WritesFront}
 use Rattle.warp_session.specs.Session.{GivesPiece, GivesText, TranscribesFront}
-use Rattle.warp_session.specs.inner.Turns.{At, Answered, Taken, TakesBytes, Broken, BreaksOff, BreaksBytes, BreaksAtEnd, Turn, pieces_fed}
+use Rattle.warp_session.specs.inner.Turns.{At, Replied, Taken, TakesBytes, Broken, BreaksOff, BreaksBytes, BreaksAtEnd, Turn, pieces_fed}
 use Rattle.warp_session.proofs.Fronts.{front_behind}
-use Rattle.warp_session.proofs.TurnsLemmas.{GivesText-append, Answered-append, Answered-from, up_to_end}
+use Rattle.warp_session.proofs.TurnsLemmas.{GivesText-append, Replied-append, Replied-from, up_to_end}
 
 -- a call that a failed write ended, whatever error it hands out
 pub broke_off : {S T E : Type 0} (Q : E → Type 0) (Does : T → At S → At S → Type 0) (Breaks : At S → At S → Type 0) (old new : At S) (r : Result T E)
@@ -38,7 +38,7 @@ module _ {S : Type 0} (gives : S → Line → Reply → S → Type 0) where
   }
 
   -- pieces that were answered, and then some in whose midst a write failed
-  Broken-after : (ps qs : List Piece) (a b c : At S) → Answered gives ps a b → Broken gives qs b c → Broken gives (ps ++ qs) a c
+  Broken-after : (ps qs : List Piece) (a b c : At S) → Replied gives ps a b → Broken gives qs b c → Broken gives (ps ++ qs) a c
   Broken-after ps qs a b c first second = record {
     text = first.text ++ second.text;
     given = GivesText-append gives a.state b.state c.state ps qs first.text second.text first.given second.given;
@@ -48,7 +48,7 @@ module _ {S : Type 0} (gives : S → Line → Reply → S → Type 0) where
   }
 
   -- a write failed as all that was gathered was to go out
-  Broken-flush : (ps : List Piece) (a b c : At S) → Answered gives ps a b → c.state ≡ b.state → WritesFront b.written c.written b.held.gathered
+  Broken-flush : (ps : List Piece) (a b c : At S) → Replied gives ps a b → c.state ≡ b.state → WritesFront b.written c.written b.held.gathered
       → Broken gives ps a c
   Broken-flush ps a b c was same out = record {
     text = was.text;
@@ -157,14 +157,14 @@ module _ {S : Type 0} (gives : S → Line → Reply → S → Type 0) where
   -- or as what was gathered was to go out behind it
   pub BreaksAtEnd-flush : (a b c : At S) (kept : Option (List ℕ)) (fed : Option Fed)
       → ((line : List ℕ) → a.held.kept ≡ kept_of line → option_map piece_of fed ≡ unended line)
-      → Answered gives (pieces_fed fed) (record a { held = record { kept = kept; gathered = a.held.gathered } }) b
+      → Replied gives (pieces_fed fed) (record a { held = record { kept = kept; gathered = a.held.gathered } }) b
       → c.state ≡ b.state → WritesFront b.written c.written b.held.gathered → BreaksAtEnd gives a c
   BreaksAtEnd-flush a b c kept fed is_line answers same out start seen was = (
     lines_of was.lines ++ pieces_fed fed,
     [],
     all_pieces a start seen fed was is_line ∙ sym (append-nil (lines_of was.lines ++ pieces_fed fed)),
     Broken-flush (lines_of was.lines ++ pieces_fed fed) start b c
-        (Answered-append gives (lines_of was.lines) (pieces_fed fed) start a b was.answers (Answered-from gives (pieces_fed fed) a b kept answers)) same out,
+        (Replied-append gives (lines_of was.lines) (pieces_fed fed) start a b was.answers (Replied-from gives (pieces_fed fed) a b kept answers)) same out,
   )
 
   -- ---- whole sessions

@@ -17,7 +17,7 @@ use Rattle.warp_record.proofs.LineCuts.{lines_of-ended, lines_of-unended, one_li
 use Rattle.warp_session.proofs.Fronts.{more_of_rest}
 use Rattle.warp_record.specs.Reply.{reply_line}
 use Rattle.warp_session.specs.Session.{GivesPiece, GivesAll, GivesText, Transcribes}
-use Rattle.warp_session.specs.inner.Turns.{At, AreCutOff, Answered, Taken, TakesBytes, Ends, pieces_fed}
+use Rattle.warp_session.specs.inner.Turns.{At, AreCutOff, Replied, Taken, TakesBytes, Ends, pieces_fed}
 
 -- ---- whole lines
 
@@ -65,8 +65,8 @@ module _ {S : Type 0} (gives : S → Line → Reply → S → Type 0) where
   )
 
   -- pieces that were answered, and then more of them
-  pub Answered-append : (ps qs : List Piece) (a b c : At S) → Answered gives ps a b → Answered gives qs b c → Answered gives (ps ++ qs) a c
-  Answered-append ps qs a b c first second = record {
+  pub Replied-append : (ps qs : List Piece) (a b c : At S) → Replied gives ps a b → Replied gives qs b c → Replied gives (ps ++ qs) a c
+  Replied-append ps qs a b c first second = record {
     text = first.text ++ second.text;
     sent = first.sent ++ second.sent;
     given = GivesText-append a.state b.state c.state ps qs first.text second.text first.given second.given;
@@ -79,15 +79,15 @@ module _ {S : Type 0} (gives : S → Line → Reply → S → Type 0) where
   }
 
   -- where a session is before the answers does not depend on what the feed kept
-  pub Answered-from : (ps : List Piece) (a b : At S) (kept : Option (List ℕ))
-      → Answered gives ps (record a { held = record { kept = kept; gathered = a.held.gathered } }) b → Answered gives ps a b
-  Answered-from ps a b kept was = record { text = was.text; sent = was.sent; given = was.given; out = was.out; rest = was.rest }
+  pub Replied-from : (ps : List Piece) (a b : At S) (kept : Option (List ℕ))
+      → Replied gives ps (record a { held = record { kept = kept; gathered = a.held.gathered } }) b → Replied gives ps a b
+  Replied-from ps a b kept was = record { text = was.text; sent = was.sent; given = was.given; out = was.out; rest = was.rest }
 
   -- the reply to a piece came behind what was gathered, of which a front went out
-  pub Answered-gathered : (piece : Piece) (said : Reply) (a b : At S) → GivesPiece gives a.state piece said b.state
+  pub Replied-gathered : (piece : Piece) (said : Reply) (a b : At S) → GivesPiece gives a.state piece said b.state
       → (sent : List ℕ) × Appends a.written b.written sent × (sent ++ b.held.gathered ≡ a.held.gathered ++ reply_line said)
-      → Answered gives (piece ∷ []) a b
-  Answered-gathered piece said a b gives was = record {
+      → Replied gives (piece ∷ []) a b
+  Replied-gathered piece said a b gives was = record {
     text = reply_line said;
     sent = was.0;
     given = (said ∷ [], (b.state, gives, refl), sym (append-nil (reply_line said)));
@@ -96,9 +96,9 @@ module _ {S : Type 0} (gives : S → Line → Reply → S → Type 0) where
   }
 
   -- all that was gathered went out
-  Answered-flushed : (ps : List Piece) (a b c : At S) → Answered gives ps a b → c.state ≡ b.state → c.held.gathered ≡ []
-      → Appends b.written c.written b.held.gathered → Answered gives ps a c
-  Answered-flushed ps a b c was same empty out = record {
+  Replied-flushed : (ps : List Piece) (a b c : At S) → Replied gives ps a b → c.state ≡ b.state → c.held.gathered ≡ []
+      → Appends b.written c.written b.held.gathered → Replied gives ps a c
+  Replied-flushed ps a b c was same empty out = record {
     text = was.text;
     sent = was.sent ++ b.held.gathered;
     given = subst (GivesText gives a.state ps was.text) (sym same) was.given;
@@ -107,9 +107,9 @@ module _ {S : Type 0} (gives : S → Line → Reply → S → Type 0) where
   }
 
   -- where nothing was gathered before and after, the replies' text went out
-  Answered-out : (ps : List Piece) (a b : At S) → a.held.gathered ≡ [] → b.held.gathered ≡ [] → Answered gives ps a b
+  Replied-out : (ps : List Piece) (a b : At S) → a.held.gathered ≡ [] → b.held.gathered ≡ [] → Replied gives ps a b
       → (text : List ℕ) × GivesText gives a.state ps text b.state × Appends a.written b.written text
-  Answered-out ps a b none empty was = (
+  Replied-out ps a b none empty was = (
     was.text,
     was.given,
     subst (Appends a.written b.written)
@@ -118,8 +118,8 @@ module _ {S : Type 0} (gives : S → Line → Reply → S → Type 0) where
   )
 
   -- no piece was answered
-  pub Answered-nil : (a : At S) → Answered gives [] a a
-  Answered-nil a = record {
+  pub Replied-nil : (a : At S) → Replied gives [] a a
+  Replied-nil a = record {
     text = [];
     sent = [];
     given = ([], refl, refl);
@@ -139,7 +139,7 @@ module _ {S : Type 0} (gives : S → Line → Reply → S → Type 0) where
     cut_off = λ more. refl;
     one_line = All-nil (λ (byte : ℕ). is_end byte ≡ false);
     kept = fresh;
-    answers = Answered-nil a;
+    answers = Replied-nil a;
   }
 
   -- bytes, and then more of them
@@ -157,7 +157,7 @@ module _ {S : Type 0} (gives : S → Line → Reply → S → Type 0) where
   -- a line feed ended the unfinished line, which was answered
   pub TakesBytes-line : (a b : At S) (piece : List ℕ) (given : Piece) → first_end piece < length piece
       → ((line : List ℕ) → a.held.kept ≡ kept_of line → given ≡ ended (line ++ before_first is_end piece))
-      → b.held.kept ≡ kept_of [] → Answered gives (given ∷ []) a b → TakesBytes gives (take (first_end piece + 1) piece) a b
+      → b.held.kept ≡ kept_of [] → Replied gives (given ∷ []) a b → TakesBytes gives (take (first_end piece + 1) piece) a b
   TakesBytes-line a b piece given some is_line fresh answers start seen was =
       let before : List ℕ = before_first is_end piece in
       let line : List ℕ = was.line ++ before in
@@ -174,14 +174,14 @@ module _ {S : Type 0} (gives : S → Line → Reply → S → Type 0) where
         cut_off = AreCutOff-append was.lines (line ++ 10 ∷ []) was.cut_off (AreCutOff-line line one);
         one_line = All-nil (λ (byte : ℕ). is_end byte ≡ false);
         kept = fresh;
-        answers = subst (λ (l : List Piece). Answered gives l start b) (sym last)
-            (Answered-append (lines_of was.lines) (given ∷ []) start a b was.answers answers);
+        answers = subst (λ (l : List Piece). Replied gives l start b) (sym last)
+            (Replied-append (lines_of was.lines) (given ∷ []) start a b was.answers answers);
       }
 
   -- bytes without a line feed went on with the line
   TakesBytes-rest : (a b : At S) (piece : List ℕ) → first_end piece ≡ length piece
       → ((line : List ℕ) → a.held.kept ≡ kept_of line → b.held.kept ≡ kept_of (line ++ piece))
-      → Answered gives [] a b → TakesBytes gives piece a b
+      → Replied gives [] a b → TakesBytes gives piece a b
   TakesBytes-rest a b piece none keeps answers start seen was = record {
     lines = was.lines;
     line = was.line ++ piece;
@@ -190,8 +190,8 @@ module _ {S : Type 0} (gives : S → Line → Reply → S → Type 0) where
     cut_off = was.cut_off;
     one_line = one_line_more was.line piece was.one_line none;
     kept = keeps was.line was.kept;
-    answers = subst (λ (l : List Piece). Answered gives l start b) (append-nil (lines_of was.lines))
-        (Answered-append (lines_of was.lines) [] start a b was.answers answers);
+    answers = subst (λ (l : List Piece). Replied gives l start b) (append-nil (lines_of was.lines))
+        (Replied-append (lines_of was.lines) [] start a b was.answers answers);
   }
 
   -- a push into the feed, and the answer to the line that it gave, if it gave one
@@ -200,20 +200,20 @@ module _ {S : Type 0} (gives : S → Line → Reply → S → Type 0) where
       → IfSome fed (λ given. (line : List ℕ) → a.held.kept ≡ kept_of line → piece_of given ≡ ended (line ++ before_first is_end piece))
       → OnSome fed (kept ≡ kept_of [])
       → IfNone fed ((line : List ℕ) → a.held.kept ≡ kept_of line → kept ≡ kept_of (line ++ piece))
-      → b.held.kept ≡ kept → Answered gives (pieces_fed fed) (record a { held = record { kept = kept; gathered = a.held.gathered } }) b
+      → b.held.kept ≡ kept → Replied gives (pieces_fed fed) (record a { held = record { kept = kept; gathered = a.held.gathered } }) b
       → TakesBytes gives (take n piece) a b
   TakesBytes-pushed a b kept piece n (Some given) count some is_line fresh keeps same answers =
       let here : first_end piece < length piece = some.0 refl in
       let all : n ≡ first_end piece + 1 = omega arith in
       subst (λ (m : ℕ). TakesBytes gives (take m piece) a b) (sym all)
-      (TakesBytes-line a b piece (piece_of given) here is_line (same ∙ fresh) (Answered-from (piece_of given ∷ []) a b kept answers))
+      (TakesBytes-line a b piece (piece_of given) here is_line (same ∙ fresh) (Replied-from (piece_of given ∷ []) a b kept answers))
   TakesBytes-pushed a b kept piece n None count some is_line fresh keeps same answers =
       let within : first_end piece ≤ length piece = prefix_len-le-length (λ (byte : ℕ). not (is_end byte)) piece in
       let past : first_end piece < length piece → ⊥ = λ here. true≢false (sym (some.1 here)) in
       let all : first_end piece ≡ length piece = omega arith in
       let whole : take n piece ≡ piece = take_all n piece (omega arith) in
       subst (λ (l : List ℕ). TakesBytes gives l a b) (sym whole)
-      (TakesBytes-rest a b piece all (λ line is. same ∙ keeps line is) (Answered-from [] a b kept answers))
+      (TakesBytes-rest a b piece all (λ line is. same ∙ keeps line is) (Replied-from [] a b kept answers))
 
   -- all bytes, and then all that was gathered went out
   pub TakesBytes-flushed : (bytes : List ℕ) (front : ℕ) (a b c : At S) → length bytes ≤ front → TakesBytes gives (take front bytes) a b
@@ -228,23 +228,23 @@ module _ {S : Type 0} (gives : S → Line → Reply → S → Type 0) where
         cut_off = t.cut_off;
         one_line = t.one_line;
         kept = kept ∙ t.kept;
-        answers = Answered-flushed (lines_of t.lines) start b c t.answers same empty out;
+        answers = Replied-flushed (lines_of t.lines) start b c t.answers same empty out;
       }
 
   -- the last line was answered, if there was one, and all that was gathered went out
   pub Ends-last : (a b c : At S) (kept : Option (List ℕ)) (fed : Option Fed)
       → ((line : List ℕ) → a.held.kept ≡ kept_of line → option_map piece_of fed ≡ unended line)
-      → Answered gives (pieces_fed fed) (record a { held = record { kept = kept; gathered = a.held.gathered } }) b
+      → Replied gives (pieces_fed fed) (record a { held = record { kept = kept; gathered = a.held.gathered } }) b
       → c.state ≡ b.state → c.held.gathered ≡ [] → Appends b.written c.written b.held.gathered → Ends gives a c
   Ends-last a b c kept fed is_line answers same empty out start seen was =
       let is : lines_of seen ≡ lines_of was.lines ++ pieces_fed fed =
       ap lines_of was.cut ∙ was.cut_off was.line
       ∙ ap (λ (l : List Piece). lines_of was.lines ++ l) (lines_of-unended was.line was.one_line)
       ∙ ap (λ (o : Option Piece). lines_of was.lines ++ option_to_list o) (sym (is_line was.line was.kept)) in
-      let all : Answered gives (lines_of seen) start b =
-      subst (λ (l : List Piece). Answered gives l start b) (sym is)
-      (Answered-append (lines_of was.lines) (pieces_fed fed) start a b was.answers (Answered-from (pieces_fed fed) a b kept answers)) in
-      (Answered-flushed (lines_of seen) start b c all same empty out, empty)
+      let all : Replied gives (lines_of seen) start b =
+      subst (λ (l : List Piece). Replied gives l start b) (sym is)
+      (Replied-append (lines_of was.lines) (pieces_fed fed) start a b was.answers (Replied-from (pieces_fed fed) a b kept answers)) in
+      (Replied-flushed (lines_of seen) start b c all same empty out, empty)
 
   -- ---- whole sessions
 
@@ -255,7 +255,7 @@ module _ {S : Type 0} (gives : S → Line → Reply → S → Type 0) where
   transcribed_whole (Some input) (Some rest) seen a b c none taken ends reads over =
       let all : input ≡ seen = reads ∙ ap (λ (l : List ℕ). seen ++ l) over ∙ append-nil seen in
       let done = ends a seen taken in
-      Answered-out (lines_of input) a c none done.1 (subst (λ (l : List ℕ). Answered gives (lines_of l) a c) (sym all) done.0)
+      Replied-out (lines_of input) a c none done.1 (subst (λ (l : List ℕ). Replied gives (lines_of l) a c) (sym all) done.0)
 
   -- all that a source gave was taken, and then it gave nothing: the transcript is out
   pub transcribed : (left mid left-after : Option (List ℕ)) (seen buffer : List ℕ) (count : ℕ) (a b c : At S) → a.held.gathered ≡ [] → Taken gives seen a b

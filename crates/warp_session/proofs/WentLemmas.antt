@@ -1,25 +1,25 @@
 -- Lemmas on what went over a pull's connection.
-use Rattle.std.proofs.Common.{◌≡◌, ℕ, ◌+◌, ◌<◌, ◌≤◌, List, [], ◌∷◌, ◌++◌, length, take, drop, min, not, Bool, true, is_none, Option, Some, None, IsSome, IfSome, IfNone, OnSome, ◌↔◌, false, true≢false, inl, inr, refl, sym, ap, subst, ◌∙◌, append_assoc, append-nil, arith}
-use Rattle.std.specs.List.{before_first, flat_map}
+use Rattle.std.proofs.Common.{◌≡◌, ℕ, ◌+◌, ◌<◌, ◌≤◌, List, [], ◌∷◌, ◌++◌, length, length-append, drop, min, not, Bool, true, is_none, Option, Some, None, IsSome, IfSome, IfNone, OnSome, ◌↔◌, false, true≢false, inl, inr, refl, sym, ap, subst, ◌∙◌, append_assoc, append-nil, arith}
+use Rattle.std.specs.List.{before_first}
 use Rattle.std.specs.Io.KnownBytes.{Appends, Consumes, IsAtEnd, Keeps}
 use Rattle.std.proofs.KnownBytes.{Appends-nil, Appends-trans, Consumes-kept, Consumes-nil, Consumes-trans}
 use Rattle.std.proofs.lemmas.List.{drop_all, take-append-drop}
 use Rattle.std.proofs.lemmas.List.Concat.{flat_map-append}
 use Rattle.std.proofs.lemmas.List.Elements.{All-nil, All-append}
 use Rattle.std.proofs.lemmas.List.Sums.{prefix_len-le-length}
-use Rattle.warp_tag.specs.Lists.{StartsWith}
 use Rattle.warp_record.specs.declared.feed.Fed.{Fed}
 use Rattle.warp_record.specs.declared.line.Line.{Line}
 use Rattle.warp_record.specs.declared.reply.Reply.{Reply}
 use Rattle.warp_record.specs.Lines.{Piece, is_end, IsOneLine, ended, lines_of, first_end, kept_of, piece_of}
-use Rattle.warp_record.specs.Lines.Piece.{Whole, Long, Torn}
+use Rattle.warp_record.specs.Lines.Piece.{Whole}
 use Rattle.warp_record.specs.Reply.{IsReply, reply_spelling}
 use Rattle.warp_record.proofs.LineCuts.{lines_of-ended, one_line_before, one_line_more}
 use Rattle.warp_session.specs.declared.pulling.PullEnd.{PullEnd}
 use Rattle.warp_session.specs.declared.pulling.PullEnd.TheVariants as end
-use Rattle.warp_session.specs.Pull.{Heard, SpellsReply, AreSpelled, IsLeftOver, HasHeard, HasAsked, PullsTo, question, questions}
+use Rattle.warp_session.specs.Pull.{Heard, SpellsReply, AreSpelled, IsBegun, IsLeftOver, HasHeard, HasAsked, PullsTo, question, questions}
 use Rattle.warp_session.specs.inner.Turns.{pieces_fed}
-use Rattle.warp_session.specs.inner.Inbox.{InboxState, empty_inbox, Cuts, CutsMore, Moves, Went, pending}
+use Rattle.warp_session.specs.inner.Inbox.{InboxState, empty_inbox, Cuts, CutsMore, Moves, Went, pending, waiting}
+use Rattle.warp_session.proofs.ReadsLemmas.{reads_more-none}
 use Rattle.warp_session.proofs.TurnsLemmas.{AreCutOff-line, AreCutOff-append, up_to_end}
 
 -- ---- lines
@@ -144,10 +144,10 @@ module _ (l0 l l' w0 w w' : Option (List ℕ)) where
         out = subst (Appends w0 w') (append_assoc before pend text ∙ ap (λ (t : List ℕ). before ++ t) all) now.out;
       }
 
--- what a pull wrote of a question is a front of it
-pub pending_starts : (waits : Bool) (place : ℕ) → StartsWith (question place) (pending waits place)
-pending_starts true place = ([], sym (append-nil (question place)))
-pending_starts false place = (question place, refl)
+-- what stands of a question where the turns are over
+pub begun_waiting : (waits : Bool) (place : ℕ) → IsBegun end.TooManyTurns (question place) (waiting waits) (pending waits place)
+begun_waiting true place = inr (refl, refl)
+begun_waiting false place = inl (refl, refl)
 
 -- ---- what was heard
 
@@ -243,9 +243,9 @@ module _ (l l' w w' : Option (List ℕ)) where
       )
 
   -- the questions were written, where pulling ends
-  pub has_asked : (heard : List Heard) (front : List ℕ) (i : InboxState) (next : ℕ)
-      → Talked heard front i → StartsWith (question next) front → HasAsked heard next w w'
-  has_asked heard front i next was starts = (front, starts, was.went.out)
+  pub has_asked : (heard : List Heard) (front : List ℕ) (i : InboxState) (ended : PullEnd) (next begun : ℕ)
+      → Talked heard front i → IsBegun ended (question next) begun front → HasAsked ended heard next begun w w'
+  has_asked heard front i ended next begun was is = (front, is, was.went.out)
 
 module _ (l0 l l' w0 w w' : Option (List ℕ)) where
   -- a turn was cut off
@@ -275,12 +275,33 @@ Talked-nil left written waits place i new flag = record {
 
 -- where nothing was read or written
 pub pulls_nothing : {S : Type 0} (gives : S → Line → Reply → S → Type 0) (s : S) (quiet : ℕ) (left written : Option (List ℕ))
-    → PullsTo gives s quiet end.NoMemory s left left written written
-pulls_nothing gives s quiet left written = (
+    (reads : Option ℕ) → PullsTo gives s quiet end.NoMemory s left left written written reads reads
+pulls_nothing gives s quiet left written reads = (
   [],
   1,
+  0,
   (refl, refl),
   tt,
   ([], [], Consumes-nil left, inl refl, tt, tt),
-  ([], (question 1, refl), Appends-nil written),
+  ([], (refl, refl), Appends-nil written),
+  (0, refl, reads_more-none reads),
 )
+
+-- ---- turns
+
+-- a turn asked or read, and no line was cut off
+pub turned_none : (heard : List Heard) (turn count : ℕ) (waits waits' : Bool) (fed : Option Fed) → fed ≡ None → waits' ≡ is_none fed
+    → turn ≡ (length heard + waiting waits) + count → turn + 1 ≡ (length heard + waiting waits') + (count + waiting waits)
+turned_none heard turn count waits waits' (Some given) is flag was = absurd cc
+turned_none heard turn count waits waits' None is flag was =
+    let one : waiting waits' ≡ 1 = ap waiting flag in
+    omega (arith, was, one)
+
+-- or one was, and its reply heard
+pub turned_some : (heard : List Heard) (one : Heard) (turn count : ℕ) (waits waits' : Bool) (fed : Option Fed) (given : Fed) → fed ≡ Some given
+    → waits' ≡ is_none fed → turn ≡ (length heard + waiting waits) + count
+    → turn + 1 ≡ (length (heard ++ one ∷ []) + waiting waits') + (count + waiting waits)
+turned_some heard one turn count waits waits' None given is flag was = absurd cc
+turned_some heard one turn count waits waits' (Some fed) given is flag was =
+    let none : waiting waits' ≡ 0 = ap waiting flag in
+    omega (arith, was, none, length-append heard (one ∷ []))

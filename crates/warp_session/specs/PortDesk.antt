@@ -1,5 +1,5 @@
 -- The desk of a session: a port, whose lines another thread answers, and a reader of the board.
-use Rattle.std.specs.Prelude.{◌≡◌, ◌⊎◌, true, List, [], ◌∷◌, ◌++◌, length, slice_get, Option, Some, None, refl}
+use Rattle.std.specs.Prelude.{◌≡◌, ◌⊎◌, ◌≤◌, true, List, [], ◌∷◌, ◌++◌, length, slice_get, Option, Some, None, refl}
 use Rattle.std.specs.Coded.{Coded, code_by, coded×}
 use Rattle.warp_tag.specs.Lists.{StartsWith}
 use Rattle.warp_tag.specs.declared.out.Out.{Out}
@@ -14,7 +14,7 @@ use Rattle.warp_board.specs.Board.{ReaderState}
 use Rattle.warp_board.specs.contracts.reader.Reader as reader
 use Rattle.warp_lanes.specs.declared.answer.Answer.{Answer}
 use Rattle.warp_lanes.specs.contracts.port.Port as port
-use Rattle.warp_lanes.specs.Lanes.{PortState, IsAnswer}
+use Rattle.warp_lanes.specs.Lanes.{PortState, IsAnswer, places}
 
 -- what the port sent and fetched, and what the reader knows of the board
 pub record PortDeskState : Type 0 where
@@ -38,9 +38,9 @@ abbrev pub Asks : PortState → Line → Reply → PortState → Type 0
 Asks p said answer p' =
     (last : Answer) × FetchesAll (record p { sent = p.sent ++ said ∷ [] }) last p' × (answer ≡ last.reply)
 
--- the lane is full: nothing was sent
+-- the lane is full, and so it was sent as many lines as it has places for at least: nothing was sent
 abbrev pub IsBusy : PortState → Reply → PortState → Type 0
-IsBusy p answer p' = (answer ≡ reply.Refused Busy) × (p' ≡ p)
+IsBusy p answer p' = (answer ≡ reply.Refused Busy) × (p' ≡ p) × (places ≤ length p.sent)
 
 -- the reader knows no less of the same board
 pub record Learns (r r' : ReaderState) : Type 0 where

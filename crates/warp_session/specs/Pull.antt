@@ -1,7 +1,7 @@
 -- Pulling the log of another replica over a connection: what its replies led to, and how it ended.
-use Rattle.std.specs.Prelude.{◌≡◌, ◌⊎◌, ℕ, ◌+◌, ◌≤◌, List, [], ◌∷◌, ◌++◌, Option, Some, None}
+use Rattle.std.specs.Prelude.{◌≡◌, ◌⊎◌, ℕ, ◌+◌, ◌<◌, ◌≤◌, max, List, [], ◌∷◌, ◌++◌, length, Option, Some, None}
 use Rattle.std.specs.Io.KnownBytes.{Appends, Consumes, IsAtEnd}
-use Rattle.std.specs.List.{AllByRecursion, flat_map}
+use Rattle.std.specs.List.{flat_map}
 use Rattle.warp_tag.specs.Lists.{StartsWith}
 use Rattle.warp_record.specs.declared.line.Line.{Line}
 use Rattle.warp_record.specs.declared.line.Line.TheVariants.{Ask}
@@ -18,6 +18,11 @@ use Rattle.warp_exchange.specs.Pulls.{Pulls}
 use Rattle.warp_session.specs.declared.pulling.PullEnd.{PullEnd}
 use Rattle.warp_session.specs.declared.pulling.PullEnd.TheVariants as end
 use Rattle.warp_session.specs.Session.{AreWholeLines}
+use Rattle.warp_session.specs.Stream.{reads_more}
+
+-- the most turns of a pull: one is a question to the other replica, or a read
+abbrev pub most_turns : ℕ
+most_turns = 1000000
 
 -- the place that the other replica was asked for, its reply, if that reads, and what it led to
 pub record Heard : Type 0 where
@@ -50,42 +55,31 @@ passes NoMemory = Unit {0}
 passes Busy = Unit {0}
 passes other = ⊥
 
--- pulling goes on behind this outcome
-abbrev pub GoesOn : Pulled → Type 0
-GoesOn pulled.Got = Unit {0}
-GoesOn pulled.Level = Unit {0}
-GoesOn (pulled.Held refusal) = passes refusal
-GoesOn pulled.Strange = ⊥
+-- pulling goes on behind this outcome, with which so many of the last ones are Level, fewer than were asked for
+abbrev pub GoesOn : ℕ → ℕ → Pulled → Type 0
+GoesOn quiet levels pulled.Got = Unit {0}
+GoesOn quiet levels pulled.Level = levels < quiet
+GoesOn quiet levels (pulled.Held refusal) = passes refusal
+GoesOn quiet levels pulled.Strange = ⊥
 
--- pulling went on behind each outcome
-abbrev pub AllGoOn : List Heard → Type 0
-AllGoOn heard = AllByRecursion (λ (one : Heard). GoesOn one.pulled) heard
+-- pulling went on behind each outcome, where so many before them were Level
+abbrev pub AllGoOn : ℕ → ℕ → List Heard → Type 0
+AllGoOn quiet levels [] = Unit {0}
+AllGoOn quiet levels (heard ∷ rest) =
+    GoesOn quiet (levels_with levels heard.pulled) heard.pulled × AllGoOn quiet (levels_with levels heard.pulled) rest
 
 -- pulling went on behind each outcome but the last, which is this
-abbrev pub EndsWith : Pulled → List Heard → Type 0
-EndsWith last heard =
-    (front : List Heard) × (one : Heard) × (heard ≡ front ++ one ∷ []) × (one.pulled ≡ last) × AllGoOn front
+abbrev pub EndsWith : ℕ → Pulled → List Heard → Type 0
+EndsWith quiet last heard =
+    (front : List Heard) × (one : Heard) × (heard ≡ front ++ one ∷ []) × (one.pulled ≡ last) × AllGoOn quiet 0 front
 
--- What the outcomes were, where pulling ended so: at Quiet the last of them were Level, as many in a row as were asked for; at Strange
--- and Held the last one was that; else pulling went on behind all of them.
-abbrev pub EndsSo : ℕ → List Heard → PullEnd → Type 0
-EndsSo quiet heard end.Quiet = (quiet ≤ last_levels 0 heard) × AllGoOn heard
-EndsSo quiet heard end.Strange = EndsWith pulled.Strange heard
-EndsSo quiet heard (end.Held refusal) = EndsWith (pulled.Held refusal) heard × (passes refusal → ⊥)
-EndsSo quiet heard other = AllGoOn heard
-
--- what an outcome, of which so many of the last were level, ends with
-abbrev pub EndsBehind : ℕ → ℕ → Pulled → PullEnd → Type 0
-EndsBehind quiet levels pulled.Level ended = (ended ≡ end.Quiet) × (quiet ≤ levels)
-EndsBehind quiet levels pulled.Strange ended = ended ≡ end.Strange
-EndsBehind quiet levels (pulled.Held refusal) ended = (ended ≡ end.Held refusal) × (passes refusal → ⊥)
-EndsBehind quiet levels pulled.Got ended = ⊥
-
--- the connection ended it: a read or a write failed, or the bytes ended
-abbrev pub IsCut : PullEnd → Type 0
-IsCut end.Fault = Unit {0}
-IsCut end.End = Unit {0}
-IsCut other = ⊥
+-- What the outcomes were, where pulling ended so: at Quiet the last of them were Level, just as many in a row as were asked for, and
+-- one at least; at Strange and Held the last one was that. Else pulling went on behind all of them.
+abbrev pub EndsPull : ℕ → List Heard → PullEnd → Type 0
+EndsPull quiet heard end.Quiet = EndsWith quiet pulled.Level heard × (last_levels 0 heard ≡ max quiet 1)
+EndsPull quiet heard end.Strange = EndsWith quiet pulled.Strange heard
+EndsPull quiet heard (end.Held refusal) = EndsWith quiet (pulled.Held refusal) heard × (passes refusal → ⊥)
+EndsPull quiet heard other = AllGoOn quiet 0 heard
 
 -- the reply that a line of the bytes spells, if it spells one; one of more than 128 bytes spells none
 abbrev pub SpellsReply : Piece → Option Reply → Type 0
@@ -120,18 +114,39 @@ question place = spelling (Ask (Log place)) ++ 10 ∷ []
 abbrev pub questions : List Heard → List ℕ
 questions heard = flat_map (λ (one : Heard). question one.place) heard
 
--- behind what the sink tells these questions were written, and of the one for the next place a front, or nothing yet
-abbrev pub HasAsked : List Heard → ℕ → Option (List ℕ) → Option (List ℕ) → Type 0
-HasAsked heard next written written-after =
-    (front : List ℕ) × StartsWith (question next) front × Appends written written-after (questions heard ++ front)
+-- How many questions were begun that have no reply, none or one, and what was written of it, where pulling ended so: where a read or
+-- a write failed a front of one, where the bytes ended all of one, where the turns did nothing or all of one, and else nothing.
+abbrev pub IsBegun : PullEnd → List ℕ → ℕ → List ℕ → Type 0
+IsBegun end.Fault asked begun front = (begun ≡ 1) × StartsWith asked front
+IsBegun end.End asked begun front = (begun ≡ 1) × (front ≡ asked)
+IsBegun end.TooManyTurns asked begun front = ((begun ≡ 0) × (front ≡ [])) ⊎ ((begun ≡ 1) × (front ≡ asked))
+IsBegun other asked begun front = (begun ≡ 0) × (front ≡ [])
+
+-- behind what the sink tells the questions that were replied to were written, and what there is of the one for the next place
+abbrev pub HasAsked : PullEnd → List Heard → ℕ → ℕ → Option (List ℕ) → Option (List ℕ) → Type 0
+HasAsked ended heard next begun written written-after =
+    (front : List ℕ) × IsBegun ended (question next) begun front × Appends written written-after (questions heard ++ front)
+
+-- a pull that ended so had so many turns: `most_turns` where these came to no other end, none without memory, and else at least one
+-- and no more than that
+abbrev pub AreTurns : PullEnd → ℕ → Type 0
+AreTurns end.TooManyTurns turns = turns ≡ most_turns
+AreTurns end.NoMemory turns = turns ≡ 0
+AreTurns other turns = (0 < turns) × (turns ≤ most_turns)
+
+-- of a source that counts its reads: that many turns are these questions and the reads together
+abbrev pub HasTurned : PullEnd → ℕ → Option ℕ → Option ℕ → Type 0
+HasTurned ended asked reads reads-after =
+    (count : ℕ) × AreTurns ended (asked + count) × (reads-after ≡ reads_more count reads)
 
 -- From this state of the desk pulling may end so, and leave that state: of some replies, which the bytes that were read spell, to
--- questions that were written, and of which each led to its outcome.
+-- questions that were written, and of which each led to its outcome; in no more turns than it may have.
 abbrev pub PullsTo : {S : Type 0} → (S → Line → Reply → S → Type 0) → S → ℕ → PullEnd → S
-    → Option (List ℕ) → Option (List ℕ) → Option (List ℕ) → Option (List ℕ) → Type 0
-PullsTo gives s quiet ended s' left left-after written written-after =
-    (heard : List Heard) × (next : ℕ) × PullsAll gives s 1 heard next s' × EndsSo quiet heard ended
-    × HasHeard ended heard left left-after × HasAsked heard next written written-after
+    → Option (List ℕ) → Option (List ℕ) → Option (List ℕ) → Option (List ℕ) → Option ℕ → Option ℕ → Type 0
+PullsTo gives s quiet ended s' left left-after written written-after reads reads-after =
+    (heard : List Heard) × (next : ℕ) × (begun : ℕ) × PullsAll gives s 1 heard next s' × EndsPull quiet heard ended
+    × HasHeard ended heard left left-after × HasAsked ended heard next begun written written-after
+    × HasTurned ended (length heard + begun) reads reads-after
 
 -- the counts of failed reads and of failed writes, before and after: one of them grew by one where pulling ended for that, and
 -- else none did

@@ -1,8 +1,9 @@
 -- The transcript of a session over any desk: what its bytes give, line by line. A desk is in a state of `S`, and
 -- `gives s line reply s'` says that in the state s a line may get this reply and leave the state s'.
-use Rattle.std.specs.Prelude.{◌≡◌, ◌⊎◌, ℕ, ◌+◌, List, [], ◌∷◌, ◌++◌, Option, IfSome}
+use Rattle.std.specs.Prelude.{◌≡◌, ◌⊎◌, ℕ, ◌+◌, ◌<◌, ◌≤◌, List, [], ◌∷◌, ◌++◌, Option, IfSome}
 use Rattle.std.specs.Io.KnownBytes.{Appends, Consumes}
 use Rattle.std.specs.List.{flat_map}
+use Rattle.warp_tag.specs.Limits.{most_reads}
 use Rattle.warp_record.specs.declared.line.Line.{Line}
 use Rattle.warp_record.specs.declared.reply.Reply.{Reply}
 use Rattle.warp_record.specs.declared.reply.Reply.TheVariants.{Refused}
@@ -10,7 +11,7 @@ use Rattle.warp_record.specs.declared.reply.Refusal.TheVariants.{Syntax, TooLong
 use Rattle.warp_record.specs.Line.{IsLine, spelling}
 use Rattle.warp_record.specs.Lines.{Piece, Whole, Long, Torn, IsOneLine, lines_of}
 use Rattle.warp_record.specs.Reply.{reply_line}
-use Rattle.warp_session.specs.Stream.{WritesFront}
+use Rattle.warp_session.specs.Stream.{WritesFront, reads_more}
 use Rattle.warp_session.specs.declared.desk_session.SessionEnd.{SessionEnd}
 use Rattle.warp_session.specs.declared.desk_session.SessionEnd.TheVariants.{End, ReadFault, WriteFault, TooManyReads, NoMemory}
 
@@ -76,3 +77,14 @@ FailsSo ReadFault reads reads-after writes writes-after = (reads-after ≡ reads
 FailsSo WriteFault reads reads-after writes writes-after = (reads-after ≡ reads) × (writes-after ≡ writes + 1)
 FailsSo TooManyReads reads reads-after writes writes-after = (reads-after ≡ reads) × (writes-after ≡ writes)
 FailsSo NoMemory reads reads-after writes writes-after = (reads-after ≡ reads) × (writes-after ≡ writes)
+
+-- a session that ended so had so many reads: `most_reads` where these came to no end, none without memory, and else at
+-- least one and no more than that
+abbrev pub AreReads : SessionEnd → ℕ → Type 0
+AreReads TooManyReads count = count ≡ most_reads
+AreReads NoMemory count = count ≡ 0
+AreReads other count = (0 < count) × (count ≤ most_reads)
+
+-- what a source that counts its reads told before and after a session that ended so
+abbrev pub ReadsSo : SessionEnd → Option ℕ → Option ℕ → Type 0
+ReadsSo ended reads reads-after = (count : ℕ) × AreReads ended count × (reads-after ≡ reads_more count reads)

@@ -9,9 +9,10 @@ ghost use Rattle.warp_step.specs.Counter.{IsUnused};
 ghost use Rattle.warp_record.specs.Lines.{piece_of};
 ghost use Rattle.warp_record.specs.Lines.Piece.{Whole};
 ghost use Rattle.warp_record.specs.Reply.{reply_line};
-ghost use Rattle.warp_session.specs.Session.{FailsSo, GivesPiece, Transcribes, TranscribesFront, TranscribesLines};
+ghost use Rattle.warp_session.specs.Session.{FailsSo, GivesPiece, ReadsSo, Transcribes, TranscribesFront};
+ghost use Rattle.warp_session.specs.Session.{TranscribesLines};
 ghost use Rattle.warp_session.specs.Stream.{CountsFailures, WritesFront};
-ghost use Rattle.warp_session.specs.inner.Turns.{Answered, BreaksAtEnd, BreaksBytes, Broken, Ends, TakesBytes, Turn};
+ghost use Rattle.warp_session.specs.inner.Turns.{Replied, BreaksAtEnd, BreaksBytes, Broken, Ends, TakesBytes, Turn};
 ghost use Rattle.warp_session.specs.inner.Turns.{at, nothing_held, pieces_fed};
 
 use crate::stream::{Failed, Sink, Source, write_all};
@@ -127,7 +128,7 @@ impl Transcriber {
         sink: &mut W,
         text: &[u8],
     ) -> Result<(), Failed>
-        ensures answered { OnOk result (Answered D.gives (Whole text.now ∷ [])
+        ensures answered { OnOk result (Replied D.gives (Whole text.now ∷ [])
             (at (D.state desk.old) self.old (W.written sink.old) (W.failures sink.old))
             (at (D.state desk.new) self.new (W.written sink.new) (W.failures sink.new))) }
         ensures broken { OnErr result (Broken D.gives (Whole text.now ∷ [])
@@ -148,7 +149,7 @@ impl Transcriber {
         sink: &mut W,
         fed: Option<Fed>,
     ) -> Result<(), Failed>
-        ensures turn { Turn (λ _. Answered D.gives (pieces_fed fed)) (Broken D.gives (pieces_fed fed))
+        ensures turn { Turn (λ _. Replied D.gives (pieces_fed fed)) (Broken D.gives (pieces_fed fed))
             (at (D.state desk.old) self.old (W.written sink.old) (W.failures sink.old))
             (at (D.state desk.new) self.new (W.written sink.new) (W.failures sink.new)) result }
         ensures kept { self.new.kept ≡ self.old.kept }
@@ -249,6 +250,7 @@ impl Transcriber {
             (W.failures sink.old) (W.failures sink.new) }
         ensures many { result ≡ SessionEnd.TooManyReads →
             IfSome (R.left source.old) (λ input. most_reads ≤ length input) }
+        ensures reads { ReadsSo result (R.reads source.old) (R.reads source.new) }
         ensures memory { result ≢ SessionEnd.NoMemory }
     {
         'reads: for _read in 0..MAX_READS {
@@ -301,13 +303,16 @@ pub fn session<R: Source, W: Sink, D: Desk>(
     ensures long { result ≡ SessionEnd.TooManyReads →
         TranscribesLines D.gives (D.state desk.old) (R.left source.old) (R.left source.new)
         (W.written sink.old) (W.written sink.new) (D.state desk.new) }
-    // At a failed write some first lines were answered, no other was put to the desk, and a front of their replies is out.
+    // At a failed write some first lines were answered, no other was put to the desk, and a front of their replies is
+    // out.
     ensures front { result ≡ SessionEnd.WriteFault →
         TranscribesFront D.gives (D.state desk.old) (R.left source.old)
         (W.written sink.old) (W.written sink.new) (D.state desk.new) }
     // One read has failed, or one write, where it ended for that, and else none.
     ensures failures { FailsSo result (R.failures source.old) (R.failures source.new)
         (W.failures sink.old) (W.failures sink.new) }
+    // It gave up at the last of the most reads that it may have: no earlier, and no later.
+    ensures reads { ReadsSo result (R.reads source.old) (R.reads source.new) }
     ensures many { result ≡ SessionEnd.TooManyReads → IfSome (R.left source.old) (λ input. most_reads ≤ length input) }
     // Without memory nothing was read or written.
     ensures memory { result ≡ SessionEnd.NoMemory →

@@ -1,6 +1,6 @@
 //! The thread that holds the replica: it serves the lanes of all desks, and publishes what is released.
 ghost use Rattle.std.specs.Prelude.{◌≡◌, ◌<◌, length};
-ghost use Rattle.warp_session.specs.Serve.{Serves};
+ghost use Rattle.warp_session.specs.Serve.{KeepsEngine};
 
 use crate::patience::Patience;
 use std::alloc::Global;
@@ -23,7 +23,7 @@ impl<'a, T: Timeline> Executor<'a, T> {
     /// Serves a lane, and publishes where that leaves the replica settled; whether a command was found.
     fn serve(&mut self, alloc: Global, lane: usize) -> bool
         requires { lane < length self.old.engine.lanes }
-        ensures serves { Serves self.old.engine self.new.engine }
+        ensures serves { KeepsEngine self.old.engine self.new.engine }
     {
         if self.engine.turn(alloc, lane) != Turn::Served {
             return false;
@@ -36,7 +36,7 @@ impl<'a, T: Timeline> Executor<'a, T> {
 
     /// One turn at each lane; whether a command was found.
     fn serve_all(&mut self, alloc: Global) -> bool
-        ensures serves { Serves self.old.engine self.new.engine }
+        ensures serves { KeepsEngine self.old.engine self.new.engine }
     {
         let mut found = false;
         for lane in 0..self.engine.lane_count() {
@@ -52,7 +52,7 @@ impl<'a, T: Timeline> Executor<'a, T> {
         alloc: Global,
         ended: &AtomicBool,
     ) -> Engine<T>
-        ensures { Serves self.entry.engine result }
+        ensures { KeepsEngine self.entry.engine result }
     {
         let mut patience = Patience::new();
         for _ in rt.forever() {

@@ -2,7 +2,7 @@
 ghost use Rattle.std.specs.Prelude.{◌≡◌, ◌+◌, [], false, IfNone, IfOk, OnErr, OnOk, drop, length, min};
 ghost use Rattle.std.specs.Io.KnownBytes.{Consumes, IsAtEnd, Keeps};
 ghost use Rattle.warp_record.specs.Lines.{first_end};
-ghost use Rattle.warp_session.specs.Stream.{CountsFailures};
+ghost use Rattle.warp_session.specs.Stream.{CountsFailures, reads_more};
 ghost use Rattle.warp_session.specs.inner.Inbox.{CutsMore, empty_inbox};
 
 use crate::stream::{Failed, Source};
@@ -57,6 +57,7 @@ impl Inbox {
         ensures ok { OnOk result (Consumes (R.left source.old) (R.left source.new) self.new.came) }
         ensures err { OnErr result (Keeps (R.left source.old) (R.left source.new) × (self.new.came ≡ [])) }
         ensures failures { CountsFailures (R.failures source.old) (R.failures source.new) result }
+        ensures reads { R.reads source.new ≡ reads_more 1 (R.reads source.old) }
     {
         self.start = 0;
         self.end = 0;

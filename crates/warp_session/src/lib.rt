@@ -25,4 +25,4 @@ pub use local_session::run_session;
 pub use port_desk::PortDesk;
 pub use pulling::{PullEnd, pull};
 pub use serving::serve_sessions;
-pub use stream::{Failed, Sink, Source, Stream, write_all};
+pub use stream::{Counted, Failed, Sink, Source, Stream, write_all};

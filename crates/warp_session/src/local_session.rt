@@ -3,18 +3,17 @@ ghost use Rattle.std.specs.Prelude.{◌≡◌, ◌≤◌, IfSome, length};
 ghost use Rattle.warp_tag.specs.Limits.{most_reads};
 ghost use Rattle.warp_step.specs.Counter.{IsUnused};
 ghost use Rattle.warp_session.specs.LocalSession.{TranscribesAll, TranscribesSoFar, TranscribesSome};
-ghost use Rattle.warp_session.specs.Session.{FailsSo};
+ghost use Rattle.warp_session.specs.Session.{FailsSo, ReadsSo};
 
 use crate::desk_session::{SessionEnd, session};
 use crate::stream::{Sink, Source};
 use std::alloc::Global;
 use warp_line::Timeline;
 use warp_replica::{Local, Replica};
-use warp_run::Warp;
 use warp_step::Program;
 
-/// A session of a replica of this program that has taken no record yet.
-pub fn run_session<R: Source, W: Sink>(
+/// A session of a replica of this program that has taken no record yet, over a timeline of this type.
+pub fn run_session<T: Timeline + Drop, R: Source, W: Sink>(
     alloc: Global,
     program: Program,
     source: &mut R,
@@ -35,31 +34,10 @@ pub fn run_session<R: Source, W: Sink>(
     // One read has failed, or one write, where it ended for that, and else none.
     ensures failures { FailsSo result (R.failures source.old) (R.failures source.new)
         (W.failures sink.old) (W.failures sink.new) }
+    // It gave up at the last of the most reads that it may have: no earlier, and no later.
+    ensures reads { ReadsSo result (R.reads source.old) (R.reads source.new) }
     ensures many { result ≡ SessionEnd.TooManyReads → IfSome (R.left source.old) (λ input. most_reads ≤ length input) }
     // Without memory nothing was read or written.
-    ensures memory { result ≡ SessionEnd.NoMemory → (source.new ≡ source.old) × (sink.new ≡ sink.old) }
-{
-    run_over::<Warp, R, W>(alloc, program, source, sink)
-}
-
-/// The same over any timeline.
-fn run_over<T: Timeline + Drop, R: Source, W: Sink>(
-    alloc: Global,
-    program: Program,
-    source: &mut R,
-    sink: &mut W,
-) -> SessionEnd
-    ensures bytes { result ≡ SessionEnd.End →
-        TranscribesAll program (R.left source.old) (W.written sink.old) (W.written sink.new) }
-    ensures lines { result ≡ SessionEnd.ReadFault →
-        TranscribesSoFar program (R.left source.old) (R.left source.new) (W.written sink.old) (W.written sink.new) }
-    ensures long { result ≡ SessionEnd.TooManyReads →
-        TranscribesSoFar program (R.left source.old) (R.left source.new) (W.written sink.old) (W.written sink.new) }
-    ensures front { result ≡ SessionEnd.WriteFault →
-        TranscribesSome program (R.left source.old) (W.written sink.old) (W.written sink.new) }
-    ensures failures { FailsSo result (R.failures source.old) (R.failures source.new)
-        (W.failures sink.old) (W.failures sink.new) }
-    ensures many { result ≡ SessionEnd.TooManyReads → IfSome (R.left source.old) (λ input. most_reads ≤ length input) }
     ensures memory { result ≡ SessionEnd.NoMemory → (source.new ≡ source.old) × (sink.new ≡ sink.old) }
 {
     match Replica::<T>::new(alloc, program) {

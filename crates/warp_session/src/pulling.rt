@@ -7,10 +7,11 @@ ghost use Rattle.warp_record.specs.Lines.{piece_of};
 ghost use Rattle.warp_record.specs.declared.reply.Reply.{Reply};
 ghost use Rattle.warp_record.specs.Reply.{IsReply};
 ghost use Rattle.warp_exchange.specs.Pulls.{Pulls};
-ghost use Rattle.warp_session.specs.Pull.{EndsBehind, GoesOn, IsCut, PullFails, PullsTo, SpellsReply, levels_with};
-ghost use Rattle.warp_session.specs.Pull.{passes, question};
-ghost use Rattle.warp_session.specs.Stream.{CountsFailures};
-ghost use Rattle.warp_session.specs.inner.Inbox.{CutsMore, InboxState, Moves, empty_inbox, pending};
+ghost use Rattle.warp_session.specs.Pull.{GoesOn, IsBegun, PullFails, PullsTo, SpellsReply, levels_with, passes};
+ghost use Rattle.warp_session.specs.Pull.{question};
+ghost use Rattle.warp_session.specs.Stream.{CountsFailures, reads_more};
+ghost use Rattle.warp_session.specs.inner.Inbox.{CutsMore, InboxState, Moves, empty_inbox, pending, waiting};
+ghost use Rattle.warp_session.specs.inner.Pulling.{EndsBehind, IsCut, Rests};
 
 use crate::inbox::Inbox;
 use crate::stream::{Failed, Sink, Source, write_all};
@@ -81,7 +82,7 @@ fn question_for(place: u32) -> ArrayVec<u8, QUESTION_ROOM>
 /// How pulling ends behind an outcome, of which so many of the last were level, if it does.
 fn end_of(pulled: Pulled, levels: u32, quiet: u32) -> Option<PullEnd>
     ensures some { IfSome result (EndsBehind quiet levels «pulled») }
-    ensures none { IfNone result (GoesOn «pulled») }
+    ensures none { IfNone result (GoesOn quiet levels «pulled») }
 {
     match pulled {
         Pulled::Got => None,
@@ -94,8 +95,14 @@ fn end_of(pulled: Pulled, levels: u32, quiet: u32) -> Option<PullEnd>
 }
 
 /// Whether the same question is asked again behind this outcome, and so after a pause.
-fn rests(pulled: Pulled) -> bool {
-    matches!(pulled, Pulled::Level | Pulled::Held(_))
+fn rests(pulled: Pulled) -> bool
+    ensures { MatchBool result (Rests «pulled») (Rests «pulled» → ⊥) }
+{
+    match pulled {
+        Pulled::Level => true,
+        Pulled::Held(refusal) => is_passing(refusal),
+        Pulled::Got | Pulled::Strange => false,
+    }
 }
 
 /// Asks for the next place.
@@ -114,6 +121,7 @@ fn hear_more<R: Source>(inbox: &mut Inbox, source: &mut R) -> Result<(), PullEnd
     requires { inbox.old.came ≡ [] }
     ensures read { Consumes (R.left source.old) (R.left source.new) inbox.new.came }
     ensures kept { inbox.new.kept ≡ inbox.old.kept }
+    ensures reads { R.reads source.new ≡ reads_more 1 (R.reads source.old) }
     ensures ok { OnOk result (R.failures source.new ≡ R.failures source.old) }
     ensures cut { IfErr result (λ end. IsCut end
         × ((writes : ℕ) → PullFails end (R.failures source.old) (R.failures source.new) writes writes)) }
@@ -145,7 +153,9 @@ fn go_on<R: Source, W: Sink>(
     ensures asked { OnOk result ((text : List ℕ) × (pending waits puller.now ++ text ≡ question puller.now)
         × Moves (R.left source.old) (R.left source.new) (W.written sink.old) (W.written sink.new)
         text inbox.old inbox.new) }
-    ensures front { OnErr result ((text : List ℕ) × StartsWith (question puller.now) (pending waits puller.now ++ text)
+    ensures reads { R.reads source.new ≡ reads_more (waiting waits) (R.reads source.old) }
+    ensures front { IfErr result (λ end. (text : List ℕ)
+        × IsBegun end (question puller.now) 1 (pending waits puller.now ++ text)
         × Moves (R.left source.old) (R.left source.new) (W.written sink.old) (W.written sink.new)
         text inbox.old inbox.new) }
     ensures none { OnErr result (waits ≡ true → inbox.new.came ≡ []) }
@@ -203,8 +213,9 @@ impl Conversation {
             × Moves (R.left source.old) (R.left source.new) (W.written sink.old) (W.written sink.new)
             text self.old.inbox mid × CutsMore fed mid self.new.inbox) }
         ensures waits { IfOk result (λ fed. self.new.waits ≡ is_none fed) }
-        ensures front { OnErr result ((text : List ℕ)
-            × StartsWith (question self.old.puller) (pending self.old.waits self.old.puller ++ text)
+        ensures reads { R.reads source.new ≡ reads_more (waiting self.old.waits) (R.reads source.old) }
+        ensures front { IfErr result (λ end. (text : List ℕ)
+            × IsBegun end (question self.old.puller) 1 (pending self.old.waits self.old.puller ++ text)
             × Moves (R.left source.old) (R.left source.new) (W.written sink.old) (W.written sink.new)
             text self.old.inbox self.new.inbox) }
         ensures end { IfErr result (λ end. end ≡ PullEnd.End →
@@ -249,7 +260,8 @@ impl Conversation {
         requires started { (self.old.puller ≡ 1) × (self.old.levels ≡ 0) }
         requires silent { (self.old.inbox ≡ empty_inbox) × (self.old.waits ≡ false) }
         ensures pulls { PullsTo D.gives (D.state desk.old) quiet result (D.state desk.new)
-            (R.left source.old) (R.left source.new) (W.written sink.old) (W.written sink.new) }
+            (R.left source.old) (R.left source.new) (W.written sink.old) (W.written sink.new)
+            (R.reads source.old) (R.reads source.new) }
         ensures failures { PullFails result (R.failures source.old) (R.failures source.new)
             (W.failures sink.old) (W.failures sink.new) }
         ensures memory { result ≢ PullEnd.NoMemory }
@@ -277,7 +289,7 @@ impl Conversation {
 
 /// Asks the other replica, whose replies come by `source` and whose lines go by `sink`, for its log, place after place,
 /// and puts its records to `desk`. It ends where so many replies in a row, `quiet`, were that the other log has no
-/// more; behind each of these, and behind a refusal that passes, it sleeps for `pause`.
+/// more, at least one; behind each of these, and behind a refusal that passes, it sleeps for `pause`.
 pub fn pull<X: Clock, R: Source, W: Sink, D: Desk>(
     rt: &X,
     alloc: Global,
@@ -288,9 +300,10 @@ pub fn pull<X: Clock, R: Source, W: Sink, D: Desk>(
     pause: Duration,
 ) -> PullEnd
     // The replies are what the lines that were read spell, and the questions that they answer were written. The desk
-    // was asked what the replies led to and nothing else, and the last of them are why it ended.
+    // was asked what the replies led to and nothing else. The last of them are why it ended, or its turns were over.
     ensures pulls { PullsTo D.gives (D.state desk.old) quiet result (D.state desk.new)
-        (R.left source.old) (R.left source.new) (W.written sink.old) (W.written sink.new) }
+        (R.left source.old) (R.left source.new) (W.written sink.old) (W.written sink.new)
+        (R.reads source.old) (R.reads source.new) }
     // One read has failed, or one write, where it ended for that, and else none.
     ensures failures { PullFails result (R.failures source.old) (R.failures source.new)
         (W.failures sink.old) (W.failures sink.new) }

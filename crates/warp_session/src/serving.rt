@@ -1,7 +1,9 @@
 //! Serving many sessions at once: a thread for the replica, one for each session, and one for each pull from a peer.
-ghost use Rattle.std.specs.Prelude.{◌≡◌, ◌+◌, ◌≤◌, IfOk, vec_len};
+ghost use Rattle.std.specs.Prelude.{◌≡◌, ◌+◌, ◌≤◌, IfOk, length, vec_len};
+ghost use Rattle.warp_tag.specs.Limits.{most_rows};
+ghost use Rattle.warp_board.specs.Board.{room_of};
 ghost use Rattle.warp_lanes.specs.Engine.{AreFresh, most_lanes};
-ghost use Rattle.warp_session.specs.Serve.{Serves};
+ghost use Rattle.warp_session.specs.Serve.{KeepsEngine};
 
 use crate::desk_session::session;
 use crate::door::{Door, Gate, Peer, ServeFault};
@@ -18,10 +20,10 @@ use std::thread;
 use std::thread::{JoinHandle, Promise, PromisedHandle, Scope, Threads};
 use std::time::Clock;
 use warp_board::{Board, MAX_ROWS, Reader, board, split_reader};
+use warp_exchange::Desk;
 use warp_lanes::{Engine, Lane, lane};
 use warp_line::Timeline;
 use warp_replica::Replica;
-use warp_run::Warp;
 use warp_step::Program;
 
 /// What the executor hands back: the engine that it was given, after some turns.
@@ -31,7 +33,7 @@ struct ServesOf<T: Timeline> {
 }
 
 impl<T: Timeline> Promise<Engine<T>> for ServesOf<T> {
-    ghost kept_by = { λ p e. Serves p.given.value e };
+    ghost kept_by = { λ p e. KeepsEngine p.given.value e };
 }
 
 /// So many lanes, and a desk at each.
@@ -43,6 +45,7 @@ fn make_desks<'a, X: Wait + Clock>(
     count: usize,
 ) -> Result<(Vec<PortDesk<'a, X>>, Vec<Lane>), AllocError>
     requires { reader.board ≡ board.now }
+    ensures desks { IfOk result (λ made. vec_len made.0 ≡ count) }
     ensures lanes { IfOk result (λ made. vec_len made.1 ≡ count) }
     ensures fresh { IfOk result (λ made. AreFresh made.1.items) }
 {
@@ -62,9 +65,9 @@ fn make_desks<'a, X: Wait + Clock>(
 }
 
 /// One session, from its first byte to its end.
-fn attend<X: Wait + Clock, R: Source + Drop, W: Sink + Drop, G: Gate>(
+fn attend<K: Desk + Drop, R: Source + Drop, W: Sink + Drop, G: Gate>(
     alloc: Global,
-    desk: PortDesk<'_, X>,
+    desk: K,
     mut source: R,
     mut sink: W,
     gate: &G,
@@ -75,10 +78,10 @@ fn attend<X: Wait + Clock, R: Source + Drop, W: Sink + Drop, G: Gate>(
 }
 
 /// Starts the next session that comes.
-fn start_session<'s, E, X: Wait + Clock + Sync + 's, D: Door, G: Gate + Sync + 's>(
+fn start_session<'s, E, K: Desk + Send + Drop + 's, D: Door, G: Gate + Sync + 's>(
     scope: &'s Scope<'s, E>,
     alloc: Global,
-    desk: PortDesk<'s, X>,
+    desk: K,
     door: &mut D,
     gate: &'s G,
     number: u32,
@@ -97,10 +100,10 @@ where
 }
 
 /// Starts a session for each desk, as they come.
-fn start_sessions<'s, E, X: Wait + Clock + Sync + 's, D: Door, G: Gate + Sync + 's>(
+fn start_sessions<'s, E, K: Desk + Send + Drop + 's, D: Door, G: Gate + Sync + 's>(
     scope: &'s Scope<'s, E>,
     alloc: Global,
-    desks: Vec<PortDesk<'s, X>>,
+    desks: Vec<K>,
     door: &mut D,
     gate: &'s G,
 ) -> Result<(), ServeFault>
@@ -117,10 +120,10 @@ where
 }
 
 /// Pulls from a peer to an end.
-fn pull_peer<X: Wait + Clock, R: Source + Drop, W: Sink + Drop>(
+fn pull_peer<X: Clock, K: Desk + Drop, R: Source + Drop, W: Sink + Drop>(
     rt: &X,
     alloc: Global,
-    mut desk: PortDesk<'_, X>,
+    mut desk: K,
     peer: Peer<R, W>,
 ) -> PullEnd {
     let Peer {
@@ -148,15 +151,16 @@ struct EndedPull {
 }
 
 /// Starts the pull from a peer.
-fn start_pull<'s, E, X, R, W>(
+fn start_pull<'s, E, X, K, R, W>(
     scope: &'s Scope<'s, E>,
     rt: &'s X,
     alloc: Global,
-    desk: PortDesk<'s, X>,
+    desk: K,
     peer: Peer<R, W>,
 ) -> Result<RunningPull, ServeFault>
 where
-    X: Wait + Clock + Sync + 's,
+    X: Clock + Sync + 's,
+    K: Desk + Send + Drop + 's,
     R: Source + Send + Drop + 's,
     W: Sink + Send + Drop + 's,
 {
@@ -171,16 +175,17 @@ where
 }
 
 /// Starts a pull from each peer, with one of the desks, and says which run.
-fn start_pulls<'s, E, X, R, W>(
+fn start_pulls<'s, E, X, K, R, W>(
     scope: &'s Scope<'s, E>,
     rt: &'s X,
     alloc: Global,
-    desks: &mut Vec<PortDesk<'s, X>>,
+    desks: &mut Vec<K>,
     peers: Vec<Peer<R, W>>,
     running: &mut Vec<RunningPull>,
 ) -> Result<(), ServeFault>
 where
-    X: Wait + Clock + Sync + 's,
+    X: Clock + Sync + 's,
+    K: Desk + Send + Drop + 's,
     R: Source + Send + Drop + 's,
     W: Sink + Send + Drop + 's,
 {
@@ -229,17 +234,19 @@ impl Room {
 }
 
 /// Starts the pulls, and the sessions as they come, and waits for the pulls.
-fn start_all<'s, E, X: Threads + Wait + Clock + Sync + 's, D: Door, G: Gate + Sync + 's>(
+fn start_all<'s, E, X, K, D: Door, G: Gate + Sync + 's>(
     scope: &'s Scope<'s, E>,
     rt: &'s X,
     alloc: Global,
-    mut desks: Vec<PortDesk<'s, X>>,
+    mut desks: Vec<K>,
     door: &mut D,
     peers: Vec<Peer<D::R, D::W>>,
     gate: &'s G,
     room: Room,
 ) -> Called
 where
+    X: Threads + Wait + Clock + Sync + 's,
+    K: Desk + Send + Drop + 's,
     D::R: 's,
     D::W: 's,
 {
@@ -256,10 +263,10 @@ where
 }
 
 /// Serves a session at each desk that no peer needs, pulls from the peers, and returns when all have ended.
-fn call_in<X: Threads + Wait + Clock + Sync, D: Door, G: Gate + Sync>(
+fn call_in<X: Threads + Wait + Clock + Sync, K: Desk + Send + Drop, D: Door, G: Gate + Sync>(
     rt: &X,
     alloc: Global,
-    desks: Vec<PortDesk<'_, X>>,
+    desks: Vec<K>,
     door: &mut D,
     peers: Vec<Peer<D::R, D::W>>,
     gate: &G,
@@ -271,10 +278,10 @@ fn call_in<X: Threads + Wait + Clock + Sync, D: Door, G: Gate + Sync>(
 }
 
 /// The same, and tells the door how each pull ended.
-fn call_all<X: Threads + Wait + Clock + Sync, D: Door, G: Gate + Sync>(
+fn call_all<X: Threads + Wait + Clock + Sync, K: Desk + Send + Drop, D: Door, G: Gate + Sync>(
     rt: &X,
     alloc: Global,
-    desks: Vec<PortDesk<'_, X>>,
+    desks: Vec<K>,
     door: &mut D,
     peers: Vec<Peer<D::R, D::W>>,
     gate: &G,
@@ -303,7 +310,7 @@ fn start_executor<'s, E, X: Wait + Clock + Sync + 's, T: Timeline + Send + Drop 
     let started = scope.spawn_with(
         promise,
         move || -> Engine<T>
-            ensures { Serves executor.entry.engine result }
+            ensures { KeepsEngine executor.entry.engine result }
         { executor.run(rt, alloc, ended) },
     );
     match started {
@@ -316,19 +323,20 @@ fn start_executor<'s, E, X: Wait + Clock + Sync + 's, T: Timeline + Send + Drop 
 fn serve_beside<
     X: Threads + Wait + Clock + Sync,
     T: Timeline + Send + Drop,
+    K: Desk + Send + Drop,
     D: Door,
     G: Gate + Sync,
 >(
     rt: &X,
     alloc: Global,
     executor: Executor<'_, T>,
-    desks: Vec<PortDesk<'_, X>>,
+    desks: Vec<K>,
     door: &mut D,
     peers: Vec<Peer<D::R, D::W>>,
     gate: &G,
     room: Room,
 ) -> Result<Engine<T>, ServeFault>
-    ensures { IfOk result (λ engine. Serves executor.entry.engine engine) }
+    ensures { IfOk result (λ engine. KeepsEngine executor.entry.engine engine) }
 {
     let ended = AtomicBool::new(false);
     let ended = &ended;
@@ -336,7 +344,7 @@ fn serve_beside<
         thread::scope_env(),
         rt,
         move |scope| -> Result<Engine<T>, ServeFault>
-            ensures { IfOk result (λ engine. Serves executor.entry.engine engine) }
+            ensures { IfOk result (λ engine. KeepsEngine executor.entry.engine engine) }
         {
             let handle = start_executor(scope, rt, alloc, ended, executor)?;
             let served = call_all(rt, alloc, desks, door, peers, gate, room);
@@ -348,8 +356,15 @@ fn serve_beside<
     )
 }
 
-/// Serves over any timeline.
-fn serve_over<X: Threads + Wait + Clock + Sync, T: Timeline + Send + Drop, D: Door, G: Gate + Sync>(
+/// Serves so many sessions of a replica of this program that has taken no record yet, over a timeline of this type. They
+/// come to the door, and each has a thread of its own, as has each pull from a peer. One thread holds the replica and
+/// answers all their lines. It returns when all have ended, and gives back the engine that served them.
+pub fn serve_sessions<
+    X: Threads + Wait + Clock + Sync,
+    T: Timeline + Send + Drop,
+    D: Door,
+    G: Gate + Sync,
+>(
     rt: &X,
     alloc: Global,
     program: Program,
@@ -359,8 +374,12 @@ fn serve_over<X: Threads + Wait + Clock + Sync, T: Timeline + Send + Drop, D: Do
     gate: &G,
 ) -> Result<Engine<T>, ServeFault>
     requires { sessions + vec_len peers ≤ most_lanes }
+    // The engine ran this program, and began with an empty log.
     ensures program { IfOk result (λ engine. engine.replica.program ≡ program) }
     ensures began { IfOk result (λ engine. engine.began ≡ 0) }
+    // It had a lane for each session and each peer, and a board with room for so many rows.
+    ensures lanes { IfOk result (λ engine. length engine.lanes ≡ sessions + vec_len peers) }
+    ensures room { IfOk result (λ engine. room_of engine.writer.board ≡ most_rows) }
 {
     let room = Room::new(alloc, peers.len())?;
     let replica = Replica::new(alloc, program)?;
@@ -371,24 +390,4 @@ fn serve_over<X: Threads + Wait + Clock + Sync, T: Timeline + Send + Drop, D: Do
     let executor = Executor { engine, board };
     let served = serve_beside(rt, alloc, executor, desks, door, peers, gate, room)?;
     Ok(served)
-}
-
-/// Serves so many sessions of a replica of this program that has taken no record yet, as they come to the door, each in
-/// a thread of its own, and pulls from the peers, each in a thread of its own. One thread holds the replica and answers
-/// all their lines. It returns when all have ended, and gives back the engine that served them.
-pub fn serve_sessions<X: Threads + Wait + Clock + Sync, D: Door, G: Gate + Sync>(
-    rt: &X,
-    alloc: Global,
-    program: Program,
-    door: &mut D,
-    sessions: usize,
-    peers: Vec<Peer<D::R, D::W>>,
-    gate: &G,
-) -> Result<Engine<Warp>, ServeFault>
-    requires { sessions + vec_len peers ≤ most_lanes }
-    // The engine ran this program, and began with an empty log.
-    ensures program { IfOk result (λ engine. engine.replica.program ≡ program) }
-    ensures began { IfOk result (λ engine. engine.began ≡ 0) }
-{
-    serve_over::<X, Warp, D, G>(rt, alloc, program, door, sessions, peers, gate)
 }

@@ -1,10 +1,11 @@
 //! Where a session's bytes come from and go to.
 //!
-//! `Source` and `Sink` are all that a session knows of the world. `Stream` is both over std's `Read` and `Write`.
-ghost use Rattle.std.specs.Prelude.{◌≡◌, ℕ, ◌+◌, ◌<◌, ◌≤◌, IfOk, OnErr, OnOk, List, Option, length};
+//! `Source` and `Sink` are all that a session knows of the world. `Stream` is both over std's `Read` and `Write`;
+//! `Counted` is a source over another, which tells how many reads there were.
+ghost use Rattle.std.specs.Prelude.{◌≡◌, ℕ, ◌+◌, ◌<◌, ◌≤◌, IfOk, OnErr, OnOk, List, None, Option, length};
 ghost use Rattle.std.specs.Io.KnownBytes.{Appends};
 ghost use Rattle.warp_step.specs.Counter.{IsUnused};
-ghost use Rattle.warp_session.specs.Stream.{CountsFailures, Reads, Writes, WritesFront};
+ghost use Rattle.warp_session.specs.Stream.{CountsFailures, Reads, Writes, WritesFront, reads_more};
 
 use std::io::{Read, Write};
 use std::marker::Model;
@@ -23,12 +24,16 @@ pub trait Source {
     /// How many reads have failed.
     ghost failures: { Self → ℕ };
 
+    /// How many reads there were, failed ones too; `None` where the source doesn't tell.
+    ghost reads: { Self → Option ℕ } = { λ _. None };
+
     /// Reads bytes into the front of `buffer`, and answers how many: 0 only at the end, or for an empty buffer.
     /// After an error the source has lost no byte, and may be asked again.
     fn read(&mut self, buffer: &mut [u8]) -> Result<usize, Failed>
         ensures bound { IfOk result (λ n. n ≤ length buffer.new) }
         ensures bytes { Reads (left self.old) (left self.new) result buffer.new }
-        ensures failures { CountsFailures (failures self.old) (failures self.new) result };
+        ensures failures { CountsFailures (failures self.old) (failures self.new) result }
+        ensures reads { reads self.new ≡ reads_more 1 (reads self.old) };
 }
 
 /// Takes bytes in order.
@@ -134,5 +139,61 @@ impl<W: Write, L: Ledger> Sink for Stream<W, L> {
                 Err(Failed)
             }
         }
+    }
+}
+
+/// A source whose reads are counted: all else is as the source below tells it.
+#[derive(Drop)]
+pub struct Counted<R, L: Ledger> {
+    inner: R,
+    reads: Counter<L>,
+}
+
+impl<R, L: Ledger> Model for Counted<R, L> {
+    ghost use Rattle.warp_session.specs.Stream.{CountedState, counted_code};
+
+    ghost Value = { CountedState R };
+
+    ghost coded = { counted_code R.code };
+
+    ghost view = { λ s. record { inner = s.inner; reads = s.reads } };
+}
+
+impl<R, L: Ledger> Counted<R, L> {
+    /// A source over `inner` from which nothing was read yet. `blank` is the ledger that its reads are counted in.
+    pub fn new(inner: R, blank: Blank) -> Counted<R, L>
+        requires { IsUnused blank L.name L.parts }
+        ensures inner { result.inner ≡ inner }
+        ensures reads { result.reads ≡ 0 }
+    {
+        Counted {
+            inner,
+            reads: Counter::new(blank),
+        }
+    }
+}
+
+impl<R: Drop, L: Ledger> Counted<R, L> {
+    /// The source below.
+    pub fn into_inner(self) -> R
+        ensures { result ≡ self.inner }
+    {
+        let Counted { inner, reads: _ } = self;
+        inner
+    }
+}
+
+impl<R: Source, L: Ledger> Source for Counted<R, L> {
+    ghost use Rattle.std.specs.Prelude.{Some};
+
+    ghost left = { λ s. R.left s.inner };
+
+    ghost failures = { λ s. R.failures s.inner };
+
+    ghost reads = { λ s. Some s.reads };
+
+    fn read(&mut self, buffer: &mut [u8]) -> Result<usize, Failed> {
+        self.reads.grow();
+        self.inner.read(buffer)
     }
 }

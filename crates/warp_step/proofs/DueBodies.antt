@@ -14,13 +14,13 @@ use Rattle.warp_step.proofs.DueLemmas.{Follows, or_false, triggers_stay}
 use Rattle.warp_step.proofs.ValidLemmas.{same_target}
 
 -- what holds of both branches of a choice holds of it
-of_both : (Q : Effect → Type 0) (b : Bool) (x y : Effect) → Q x → Q y → Q (if b then x else y)
+pub of_both : (Q : Effect → Type 0) (b : Bool) (x y : Effect) → Q x → Q y → Q (if b then x else y)
 of_both Q true x y h k = h
 of_both Q false x y h k = k
 
 -- statements and bodies leave the sources of ports
 mutual
-  statement_sources : (s : Statement) (now : Effect) → (effect_of_one s now).present.sources ≡ now.present.sources
+  pub statement_sources : (s : Statement) (now : Effect) → (effect_of_one s now).present.sources ≡ now.present.sources
   statement_sources (SetVariable k e) now = refl
   statement_sources (PutOutput port e) now = refl
   statement_sources (ScheduleAction action delay e) now = refl
@@ -28,7 +28,7 @@ mutual
       of_both (λ (done : Effect). done.present.sources ≡ now.present.sources) (is_true (value_of e now.vars now.present))
       (effect_of first now) (effect_of second now) (body_sources first now) (body_sources second now)
 
-  body_sources : (b : Body) (now : Effect) → (effect_of b now).present.sources ≡ now.present.sources
+  pub body_sources : (b : Body) (now : Effect) → (effect_of b now).present.sources ≡ now.present.sources
   body_sources Done now = refl
   body_sources (Then s rest) now = body_sources rest (effect_of_one s now) ∙ statement_sources s now
 
@@ -84,7 +84,7 @@ module _ (P : Program) (r : Rule) (triggers : List Target) where
         body_same rest (effect_of_one s now) both.1 still ∙ statement_same s now both.0 none
 
 -- what a rule's body does it may do
-body_of_fits : (P : Program) (r : Rule) → IsTrue (rule_fits P r) → IsTrue (body_may P r r.body)
+pub body_of_fits : (P : Program) (r : Rule) → IsTrue (rule_fits P r) → IsTrue (body_may P r r.body)
 body_of_fits P r h =
     let a = and_parts _ _ h in
     let b = and_parts _ _ a.0 in

@@ -9,7 +9,7 @@ use Rattle.warp_body.specs.declared.place.Places.{Places}
 use Rattle.warp_body.specs.declared.place.Target.{Target}
 use Rattle.warp_body.specs.declared.place.Target.TheVariants as to
 use Rattle.warp_step.specs.inner.Marks.{first_link, first_output, first_reaction, mark_at, no_marks, with_mark}
-use Rattle.warp_step.specs.inner.Plan.{heeds, heeds_any, link_heeds, marks_of, output_heeds, place_of, reaction_heeds, with_watchers}
+use Rattle.warp_step.specs.inner.Plan.{heeds, heeds_any, in_turn, link_heeds, marks_of, output_heeds, place_of, reaction_heeds, with_watchers}
 use Rattle.warp_step.specs.Program.{Program}
 use Rattle.warp_step.specs.Step.{sources_of}
 use Rattle.warp_step.specs.inner.Due.{AreDue, AreMarked}
@@ -56,27 +56,27 @@ MarksAll {X} triggers first xs sources places word =
 
 -- and so are all parts of a program that do
 pub record Marks (P : Program) (places : List Target) (word : ℕ) : Type 0 where
-  pub reactions : MarksAll reaction_heeds first_reaction P.reactions (sources_of P) places word
+  pub reactions : MarksAll reaction_heeds first_reaction (in_turn P) (sources_of P) places word
   pub links : MarksAll link_heeds (first_link P) P.links (sources_of P) places word
   pub outputs : MarksAll output_heeds (first_output P) P.outputs (sources_of P) places word
 
 pub marks_all : (P : Program) (places : List Target) → Marks P places (marks_of P places)
 marks_all P places =
     let ss = sources_of P in
-    let a = with_watchers reaction_heeds first_reaction ss places 0 P.reactions no_marks in
+    let a = with_watchers reaction_heeds first_reaction ss places 0 (in_turn P) no_marks in
     let b = with_watchers link_heeds (first_link P) ss places 0 P.links a in
     let keep_b = with_watchers_keep link_heeds (first_link P) ss places 0 P.links a in
     let keep = with_watchers_keep output_heeds (first_output P) ss places 0 P.outputs b in
     record {
       reactions = λ n x at heeded. keep (first_reaction + n) (keep_b (first_reaction + n)
-          (with_watchers_mark reaction_heeds first_reaction ss places 0 P.reactions no_marks n n x (omega arith) at heeded));
+          (with_watchers_mark reaction_heeds first_reaction ss places 0 (in_turn P) no_marks n n x (omega arith) at heeded));
       links = λ n x at heeded. keep (first_link P + n)
           (with_watchers_mark link_heeds (first_link P) ss places 0 P.links a n n x (omega arith) at heeded);
       outputs = λ n x at heeded. with_watchers_mark output_heeds (first_output P) ss places 0 P.outputs b n n x (omega arith) at heeded;
     }
 
 -- a place that a trigger does not heed leaves it
-other_stays : (target : Target) (v : ℤ) (present : Presence) (trigger : Target) → is_target target (place_of present.sources trigger) ≡ false
+pub other_stays : (target : Target) (v : ℤ) (present : Presence) (trigger : Target) → is_target target (place_of present.sources trigger) ≡ false
     → present_at (with_value target v present) trigger ≡ present_at present trigger
 other_stays to.Startup v present to.Startup h = let no : true ≡ false = h in cc
 other_stays to.Startup v present (to.Timer m) h = refl
@@ -149,7 +149,7 @@ due_after P places before after old called new own follows is joined were =
     let by_own : (triggers : List Target) → heeds_any before.sources triggers places ≡ true → heeds_any (sources_of P) triggers places ≡ true =
     λ triggers h. ap (λ (ss : List ℕ). heeds_any ss triggers places) (sym own) ∙ h in
     subst (λ (word : ℕ). AreDue P after word) (sym joined) (record {
-      reactions = marked_after reaction_heeds first_reaction P.reactions places before after old called follows
+      reactions = marked_after reaction_heeds first_reaction (in_turn P) places before after old called follows
           (λ n x at h. all.reactions n x at (by_own (reaction_heeds n x) h)) were.reactions;
       links = marked_after link_heeds (first_link P) P.links places before after old called follows
           (λ n x at h. all.links n x at (by_own (link_heeds n x) h)) were.links;

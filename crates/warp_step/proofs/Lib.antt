@@ -1,9 +1,12 @@
 pub mod AgainLemmas
+pub mod AnyOrder
 pub mod DueBodies
 pub mod DueLemmas
 pub mod EntryMoves
+pub mod FileOrder
 pub mod FrontLemmas
 pub mod MarkLemmas
+pub mod OnceLists
 pub mod OutputsBefore
 pub mod OutputsOfRun
 pub mod PartedLists
@@ -13,7 +16,10 @@ pub mod PlanLemmas
 pub mod ReactLemmas
 pub mod RepeatLemmas
 pub mod RowsBefore
+pub mod RuleNames
+pub mod SameParts
 pub mod SameStates
+pub mod SameSteps
 pub mod Sameness
 pub mod SkipLemmas
 pub mod SourceLemmas
@@ -26,5 +32,7 @@ pub mod TakenLemmas
 pub mod TargetsOfStep
 pub mod TraceExists
 pub mod TraceLemmas
+pub mod TurnLemmas
 pub mod ValidLemmas
 pub mod VariablesOfRun
+pub mod WorldLemmas

@@ -12,7 +12,7 @@ use Rattle.warp_body.specs.declared.place.Target.TheVariants as to
 use Rattle.warp_tag.specs.declared.out.Out.{Out}
 use Rattle.warp_step.specs.Program.{Program, Rule, rule_of}
 use Rattle.warp_step.specs.declared.reaction.Reaction.{Reaction}
-use Rattle.warp_step.specs.Step.{Reacting, react, is_triggered, after_reactions, numbers, outputs_from, with_output}
+use Rattle.warp_step.specs.Step.{Reacting, react, is_triggered, after_reactions, outputs_from, with_output}
 
 -- all elements pass after a write of one that passes
 pub list_all_set : {X : Type 0} (p : X → Bool) (xs : List X) (i : ℕ) (y : X) → IsTrue (list_all p xs) → IsTrue (p y) → IsTrue (list_all p (set xs i y))
@@ -41,15 +41,17 @@ react_other n rule now k other = elim (cases_Bool (is_triggered rule now.present
   | inr h ↦ ap (λ (r : Reacting). get_or r.wishes k []) (cond-false (is_triggered rule now.present) _ now h)
 ]
 
--- the reactions from a number on are the one with it, and those from the next one on
-pub after_one_more : (P : Program) (n : ℕ) (rule : Rule) (now : Reacting) → n < length P.reactions → rule ≡ get_or P.reactions n rule
-    → after_reactions P (numbers n (drop n P.reactions)) now ≡ after_reactions P (numbers (n + 1) (drop (n + 1) P.reactions)) (react n rule now)
-after_one_more P n rule now lt is =
-    let rest = drop (n + 1) P.reactions in
+-- the reactions from a turn on are the one whose turn it is, and those from the next one on
+pub after_one_more : (P : Program) (turn n : ℕ) (rule : Rule) (now : Reacting) → turn < length P.order → n ≡ get_or P.order turn n
+    → n < length P.reactions → rule ≡ get_or P.reactions n rule
+    → after_reactions P (drop turn P.order) now ≡ after_reactions P (drop (turn + 1) P.order) (react n rule now)
+after_one_more P turn n rule now lt number below is =
+    let rest = drop (turn + 1) P.order in
     let there : slice_get P.reactions n ≡ Some rule =
-    slice_get-get_or P.reactions n rule lt ∙ ap (λ (r : Rule). Some r) (sym is) in
-    ap (λ (rs : List Rule). after_reactions P (numbers n rs) now) (drop_more P.reactions n rule lt)
-    ∙ ap (λ o. after_reactions P (numbers (n + 1) rest) (option_map_or (λ r. react n r now) o now)) there
+    slice_get-get_or P.reactions n rule below ∙ ap (λ (r : Rule). Some r) (sym is) in
+    ap (λ (ns : List ℕ). after_reactions P ns now) (drop_more P.order turn n lt)
+    ∙ ap (λ (m : ℕ). after_reactions P (m ∷ rest) now) (sym number)
+    ∙ ap (λ o. after_reactions P rest (option_map_or (λ r. react n r now) o now)) there
 
 -- the reaction with a number is the rule with it
 pub rule_at : (items : List Reaction) (rules : List Rule) (n : ℕ) (r : Reaction) → map rule_of items ≡ rules → n < length items → r ≡ get_or items n r

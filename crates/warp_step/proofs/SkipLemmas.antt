@@ -1,26 +1,27 @@
 -- What is not marked may be left out: reactions, links and program outputs that stand between two numbers, none of them
 -- marked, change nothing.
-use Rattle.std.proofs.Common.{◌≡◌, inl, inr, ℕ, ℤ, zero, suc, ◌+◌, ◌-◌, ◌<◌, ◌≤◌, true, false, ◌||◌, List, [], ◌∷◌, length, drop, get_or, Option, None, Some, is_some, refl, sym, ap, ◌∙◌, arith}
+use Rattle.std.proofs.Common.{◌≡◌, inl, inr, ℕ, ℤ, ◌+◌, ◌-◌, ◌<◌, ◌≤◌, true, false, ◌||◌, List, [], length, drop, get_or, Option, None, Some, is_some, IsTrue, refl, sym, ap, ◌∙◌, arith}
 use Rattle.std.specs.Prelude.{slice_get}
 use Rattle.std.specs.List.{list_any}
 use Rattle.std.proofs.lemmas.Bool.{cases_lt, cond-false}
 use Rattle.std.proofs.lemmas.List.{at_drop_all, drop_more}
 use Rattle.std.proofs.lemmas.Option.{slice_get-get_or}
 use Rattle.warp_tag.specs.Moment.{Moment}
-use Rattle.warp_body.specs.Effect.{Done}
 use Rattle.warp_body.specs.Presence.{Presence, present_at}
 use Rattle.warp_body.specs.declared.place.Target.TheVariants as to
 use Rattle.warp_step.specs.inner.Marks.{first_reaction, mark_at, marks_from}
-use Rattle.warp_step.specs.inner.Plan.{link_heeds, output_heeds, reaction_heeds, source_if_delayed}
-use Rattle.warp_step.specs.Program.{Program, Rule}
+use Rattle.warp_step.specs.inner.Plan.{in_turn, link_heeds, output_heeds, reaction_heeds, rule_numbered, source_if_delayed}
+use Rattle.warp_step.specs.Program.{Program}
 use Rattle.warp_step.specs.Snapshot.{Snapshot}
-use Rattle.warp_step.specs.Step.{Reacting, after_reactions, delivered, is_triggered, numbers, outputs_from, with_links, with_output}
+use Rattle.warp_step.specs.Step.{Reacting, after_reactions, delivered, is_triggered, outputs_from, with_links, with_output}
+use Rattle.warp_step.specs.Valid.{is_valid}
 use Rattle.warp_step.specs.declared.parts.Link.{Link}
 use Rattle.warp_tag.specs.declared.out.Out.{Out}
 use Rattle.warp_step.specs.inner.Due.{AreMarked}
 use Rattle.warp_step.proofs.DueLemmas.{skip, unmarked}
 use Rattle.warp_step.proofs.MarkLemmas.{marks_from_mark}
 use Rattle.warp_step.proofs.ReactLemmas.{after_one_more}
+use Rattle.warp_step.proofs.TurnLemmas.{get_or_same, number_within, rule_in_turn}
 
 -- none is marked from a number on up to another
 abbrev pub NoneMarked : ℕ → ℕ → ℕ → Type 0
@@ -32,12 +33,6 @@ none_marked first count word apart = λ m from below.
     let here : first + (m - first) ≡ m = omega (arith, from) in
     apart m (ap (mark_at (marks_from first count)) (sym here) ∙ marks_from_mark first count (m - first) (omega (arith, from, below)))
 
--- what stands at an index does not depend on what is given for none
-pub get_or_same : {X : Type 0} (xs : List X) (n : ℕ) (d e : X) → n < length xs → get_or xs n d ≡ get_or xs n e
-get_or_same {X} [] n d e lt = absurd (omega (arith, lt))
-get_or_same {X} (x ∷ xs) zero d e lt = refl
-get_or_same {X} (x ∷ xs) (suc n) d e lt = get_or_same xs n d e (omega (arith, lt))
-
 -- what is the same at an element that is not marked and at the next one, and the same past the last, is the same at a number that
 -- is not marked and at the next one
 idle_or_past : {A : Type 0} (f : ℕ → A) (end : A) (word first len : ℕ) → ((n : ℕ) → n < len → mark_at word (first + n) ≡ 0 → f n ≡ f (n + 1))
@@ -48,27 +43,29 @@ idle_or_past {A} f end word first len idle over n none = elim (cases_lt n len) [
 ]
 
 -- the reactions
-module _ (P : Program) (now : Reacting) (word : ℕ) (due : AreMarked reaction_heeds first_reaction P.reactions now.present word) where
-  -- the reactions from a number on
-  abbrev from_reaction : ℕ → Reacting
-  from_reaction n = after_reactions P (numbers n (drop n P.reactions)) now
+module _ (P : Program) (now : Reacting) (word : ℕ) (valid : IsTrue (is_valid P))
+    (due : AreMarked reaction_heeds first_reaction (in_turn P) now.present word) where
+  -- the reactions from a turn on
+  abbrev from_turn : ℕ → Reacting
+  from_turn turn = after_reactions P (drop turn P.order) now
 
-  idle_reaction : (n : ℕ) → n < length P.reactions → mark_at word (first_reaction + n) ≡ 0 → from_reaction n ≡ from_reaction (n + 1)
-  idle_reaction n lt idle =
-      let some : Rule = record { reactor = 0; triggers = []; reads = []; writes = []; body = Done } in
-      let rule = get_or P.reactions n some in
-      let at : slice_get P.reactions n ≡ Some rule = slice_get-get_or P.reactions n some lt in
-      let none : is_triggered rule now.present ≡ false = unmarked reaction_heeds first_reaction P.reactions now.present word due n rule at idle in
-      let same : get_or P.reactions n some ≡ get_or P.reactions n rule = get_or_same P.reactions n some rule lt in
-      after_one_more P n rule now lt same
-      ∙ ap (λ (r : Reacting). after_reactions P (numbers (n + 1) (drop (n + 1) P.reactions)) r) (cond-false (is_triggered rule now.present) _ now none)
+  idle_turn : (turn : ℕ) → turn < length P.order → mark_at word (first_reaction + turn) ≡ 0 → from_turn turn ≡ from_turn (turn + 1)
+  idle_turn turn lt idle =
+      let n = get_or P.order turn 0 in
+      let rule = rule_numbered P.reactions n in
+      let same : n ≡ get_or P.order turn n = get_or_same P.order turn 0 n lt in
+      let none : is_triggered rule now.present ≡ false =
+      unmarked reaction_heeds first_reaction (in_turn P) now.present word due turn rule (rule_in_turn P turn n lt same) idle in
+      let below = number_within P turn 0 valid lt in
+      after_one_more P turn n rule now lt same below (get_or_same P.reactions n _ rule below)
+      ∙ ap (λ (r : Reacting). after_reactions P (drop (turn + 1) P.order) r) (cond-false (is_triggered rule now.present) _ now none)
 
-  no_reaction : (n : ℕ) → length P.reactions ≤ n → from_reaction n ≡ now
-  no_reaction n past = at_drop_all (λ (left : List Rule). after_reactions P (numbers n left) now) P.reactions n past
+  no_turn : (turn : ℕ) → length P.order ≤ turn → from_turn turn ≡ now
+  no_turn turn past = at_drop_all (λ (left : List ℕ). after_reactions P left now) P.order turn past
 
-  pub skip_reactions : (from to : ℕ) → from ≤ to → NoneMarked word from to → from_reaction from ≡ from_reaction to
+  pub skip_reactions : (from to : ℕ) → from ≤ to → NoneMarked word from to → from_turn from ≡ from_turn to
   skip_reactions from to order none =
-      skip from_reaction word first_reaction (idle_or_past from_reaction now word first_reaction (length P.reactions) idle_reaction no_reaction) (to - from) from to
+      skip from_turn word first_reaction (idle_or_past from_turn now word first_reaction (length P.order) idle_turn no_turn) (to - from) from to
       (omega (arith, order)) (λ m l below. none m (omega (arith, l)) (omega (arith, below)))
 
 -- where one of one trigger is not present, it is absent

@@ -11,7 +11,7 @@ use Rattle.warp_body.specs.declared.place.Target.TheVariants as to
 use Rattle.warp_step.specs.Program.{Program}
 use Rattle.warp_step.specs.Valid.{is_valid, program_places, program_sizes}
 use Rattle.warp_step.specs.Snapshot.{Snapshot, IsStateOf, landed}
-use Rattle.warp_step.specs.Step.{CanStep, Reacting, absent, sources_of, present_first, without_entries, repeats, with_repeats, after_reactions, order_of, no_wishes, reacted, with_all_wishes, with_links, state_after}
+use Rattle.warp_step.specs.Step.{CanStep, Reacting, absent, sources_of, present_first, without_entries, repeats, with_repeats, after_reactions, no_wishes, reacted, with_all_wishes, with_links, state_after}
 use Rattle.warp_step.specs.declared.given.Given.{Given}
 use Rattle.warp_step.specs.declared.parts.Timer.{Timer}
 use Rattle.warp_step.proofs.VariablesOfRun.{landed_vars, same_vars}
@@ -48,7 +48,7 @@ repeats_vars P t present number (timer ∷ ts) s =
 pub record Made (P : Program) (s : Snapshot) (t : Moment) (X : List Given) (present : Presence) (repeated : Snapshot) (r : Reacting) (new : Snapshot) : Type 0 where
   pub first : present ≡ present_first P s t X
   pub repeated_is : repeated ≡ with_repeats P t present 0 P.timers (without_entries t s)
-  pub reacts : r ≡ after_reactions P (order_of P) (record { vars = repeated.vars; present = present; wishes = no_wishes P })
+  pub reacts : r ≡ after_reactions P P.order (record { vars = repeated.vars; present = present; wishes = no_wishes P })
   pub enters : new ≡ with_links P t r.present P.links (with_all_wishes P t r.wishes (record repeated { vars = r.vars }))
 
 module _ (P : Program) (s : Snapshot) (t : Moment) (X : List Given) (present : Presence) (repeated : Snapshot) (r : Reacting) (new : Snapshot) (made : Made P s t X present repeated r new) where
@@ -58,8 +58,8 @@ module _ (P : Program) (s : Snapshot) (t : Moment) (X : List Given) (present : P
 
   pub reacts_are : r ≡ reacted P s t X
   reacts_are =
-      made.reacts ∙ ap (λ (vs : List ℤ). after_reactions P (order_of P) (record { vars = vs; present = present; wishes = no_wishes P })) vars_are
-      ∙ ap (λ (p : Presence). after_reactions P (order_of P) (record { vars = s.vars; present = p; wishes = no_wishes P })) made.first
+      made.reacts ∙ ap (λ (vs : List ℤ). after_reactions P P.order (record { vars = vs; present = present; wishes = no_wishes P })) vars_are
+      ∙ ap (λ (p : Presence). after_reactions P P.order (record { vars = s.vars; present = p; wishes = no_wishes P })) made.first
 
   pub state_is : new ≡ state_after P s t X
   state_is =

@@ -10,21 +10,22 @@ use Rattle.warp_tag.specs.Limits.{most_reactions}
 use Rattle.warp_body.specs.Presence.{Presence, is_target, places_of, present_at, target_fits, with_value}
 use Rattle.warp_body.specs.declared.place.Target.{Target}
 use Rattle.warp_body.specs.declared.place.Target.TheVariants as to
-use Rattle.warp_step.specs.inner.Plan.{first_heeding, heeds, most_places, numbered_place, place_number, place_numbers, place_of, plan_of}
+use Rattle.warp_step.specs.inner.Plan.{first_heeding, heeds, in_turn, most_places, numbered_place, place_number, place_numbers, place_of, plan_of}
 use Rattle.warp_step.specs.Program.{Program, Rule}
 use Rattle.warp_step.specs.Step.{sources_of}
 use Rattle.warp_step.specs.Valid.{is_valid, program_places}
 use Rattle.warp_step.specs.inner.Sure.{IsSure}
 use Rattle.warp_step.proofs.PlaceLemmas.{place_with_own, place_within}
-use Rattle.warp_step.proofs.ValidLemmas.{same_target, validity}
+use Rattle.warp_step.proofs.TurnLemmas.{few_turns}
+use Rattle.warp_step.proofs.ValidLemmas.{same_target}
 
 -- a plan has the first reaction that heeds a place of the program
 pub first_fits : (P : Program) (place : Target) → IsTrue (is_valid P) → IsTrue (target_fits (program_places P) place)
-    → slice_index_or (plan_of P).firsts (place_number place) 0 ≡ first_heeding (sources_of P) place 0 P.reactions
+    → slice_index_or (plan_of P).firsts (place_number place) 0 ≡ first_heeding (sources_of P) place 0 (in_turn P)
 unfolding place_numbers
 first_fits P place valid fits =
-    get_or-map-range_with_len (λ (n : ℕ). first_heeding (sources_of P) (numbered_place n) 0 P.reactions) 0 most_places (place_number place) (place_number place) 0 (place_within P place valid fits) (omega arith)
-    ∙ ap (λ (p : Target). first_heeding (sources_of P) p 0 P.reactions) (place_with_own P place valid fits)
+    get_or-map-range_with_len (λ (n : ℕ). first_heeding (sources_of P) (numbered_place n) 0 (in_turn P)) 0 most_places (place_number place) (place_number place) 0 (place_within P place valid fits) (omega arith)
+    ∙ ap (λ (p : Target). first_heeding (sources_of P) p 0 (in_turn P)) (place_with_own P place valid fits)
 
 -- the first reaction that heeds a place does, where there is one
 module _ (sources : List ℕ) (place : Target) where
@@ -90,17 +91,17 @@ heeding_present target v present (t ∷ ts) fits h =
 
 -- After a value, the first reaction that heeds its place is triggered.
 pub sure_after : (P : Program) (target : Target) (v : ℤ) (before after : Presence) (sure : ℕ) → before.sources ≡ sources_of P
-    → IsTrue (target_fits (places_of before) target) → after ≡ with_value target v before → sure ≡ first_heeding (sources_of P) target 0 P.reactions → IsSure P after sure
+    → IsTrue (target_fits (places_of before) target) → after ≡ with_value target v before → sure ≡ first_heeding (sources_of P) target 0 (in_turn P) → IsSure P after sure
 sure_after P target v before after sure own fits arrives is = λ rule at.
-    let first : first_heeding (sources_of P) target 0 P.reactions ≡ 0 + sure = omega (arith, is) in
-    let heeded = first_heeds (sources_of P) target 0 P.reactions sure rule first at in
+    let first : first_heeding (sources_of P) target 0 (in_turn P) ≡ 0 + sure = omega (arith, is) in
+    let heeded = first_heeds (sources_of P) target 0 (in_turn P) sure rule first at in
     let here = heeding_present target v before rule.triggers fits (ap (λ (ss : List ℕ). heeds ss rule.triggers target) own ∙ heeded) in
     ap (λ (p : Presence). list_any (λ trigger. is_some (present_at p trigger)) rule.triggers) arrives ∙ here
 
--- A number that no reaction has is sure in vain.
+-- A turn that no reaction has is sure in vain.
 pub none_sure : (P : Program) (present : Presence) (sure : ℕ) → IsTrue (is_valid P) → most_reactions ≤ sure → IsSure P present sure
 none_sure P present sure valid beyond = λ rule at.
-    let few : length P.reactions ≤ most_reactions = (validity P valid).limits.reactions in
-    let none = slice_get_past P.reactions sure (omega (arith, few, beyond)) in
+    let few = few_turns P valid in
+    let none = slice_get_past (in_turn P) sure (omega (arith, few, beyond)) in
     let no : None ≡ Some rule = sym none ∙ at in
     cc

@@ -16,6 +16,7 @@ use Rattle.warp_body.specs.declared.place.Target.TheVariants as to
 use Rattle.warp_step.specs.Program.{Program, Rule, delay_of}
 use Rattle.warp_step.specs.Step.{port_of}
 use Rattle.warp_step.specs.Valid.{is_valid, is_within_limits, is_distinct, is_rising, fed, has, names, is_readable, is_writable, owns_variable, term_may, statement_may, body_may, rule_fits, link_fits, leads_on, input_fits, program_places, program_sizes}
+use Rattle.warp_step.specs.Order.{is_admissible}
 use Rattle.warp_step.specs.declared.parts.Action.{Action}
 use Rattle.warp_step.specs.declared.parts.Link.{Link}
 use Rattle.warp_step.specs.declared.parts.ProgramInput.{ProgramInput}
@@ -95,10 +96,12 @@ pub record Validity (P : Program) : Type 0 where
   pub fed_once : IsTrue (is_distinct (fed P))
   pub outputs : IsTrue (list_all (λ n. has P.ports n (λ p. not p.is_input)) P.outputs)
   pub outputs_once : IsTrue (is_distinct P.outputs)
+  pub order : IsTrue (is_admissible P P.order)
 
 pub validity : (P : Program) → IsTrue (is_valid P) → Validity P
 validity P h =
-    let a = and_parts _ _ h in
+    let whole = and_parts _ _ h in
+    let a = and_parts _ _ whole.0 in
     let b = and_parts _ _ a.0 in
     let c = and_parts _ _ b.0 in
     let d = and_parts _ _ c.0 in
@@ -122,6 +125,7 @@ validity P h =
       fed_once = j.1;
       outputs = l.0;
       outputs_once = l.1;
+      order = whole.1;
     }
 
 -- an element that is there has a number below the length

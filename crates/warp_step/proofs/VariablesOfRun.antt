@@ -19,7 +19,7 @@ use Rattle.warp_body.specs.declared.place.Target.TheVariants as to
 use Rattle.warp_body.specs.declared.stmt.Wish.{Wish}
 use Rattle.warp_step.specs.Program.{Program, Rule, delay_of, starts_of}
 use Rattle.warp_step.specs.Snapshot.{Snapshot, entered, entered_where, landed, with_timers, with_startup, start_state, has_key, begins, first_tag}
-use Rattle.warp_step.specs.Step.{Reacting, is_triggered, react, after_reactions, order_of, present_first, no_wishes, reacted, without_entries, with_repeats, with_wish, with_wishes, with_all_wishes, delivered, with_links, state_after}
+use Rattle.warp_step.specs.Step.{Reacting, is_triggered, react, after_reactions, present_first, no_wishes, reacted, without_entries, with_repeats, with_wish, with_wishes, with_all_wishes, delivered, with_links, state_after}
 use Rattle.warp_step.specs.Run.{Row, Run, RunFrom, state_at_end, given_at}
 use Rattle.warp_step.specs.declared.given.Given.{Given}
 use Rattle.warp_step.specs.declared.parts.Link.{Link}
@@ -110,7 +110,7 @@ step_vars P s t X =
     let wished = all_wishes_vars P t r.wishes repeated in
     let linked = links_vars P t r.present P.links (with_all_wishes P t r.wishes repeated) in
     let start : Reacting = record { vars = s.vars; present = present_first P s t X; wishes = no_wishes P } in
-    ap (λ (vs : List ℤ). length vs) (linked ∙ wished) ∙ reactions_vars P (order_of P) start
+    ap (λ (vs : List ℤ). length vs) (linked ∙ wished) ∙ reactions_vars P P.order start
 
 -- timers at the start leave them
 timers_vars : (stop number : ℕ) (ts : List Timer) (s : Snapshot) → (with_timers stop number ts s).vars ≡ s.vars

@@ -46,7 +46,7 @@ rule_code =
     (λ p. record { reactor = p.0; triggers = p.1.0; reads = p.1.1.0; writes = p.1.1.1.0; body = p.1.1.1.1 })
     (λ _. refl)
 
--- four numbers, and eight lists
+-- four numbers, and nine lists
 abbrev pub Numbers : Type 0
 Numbers = ℕ × (ℕ × (ℕ × ℕ))
 
@@ -54,7 +54,7 @@ abbrev pub Things : Type 0
 Things = List Variable × (List Port × (List Action × List Timer))
 
 abbrev pub Wiring : Type 0
-Wiring = List Rule × (List Link × (List ProgramInput × List ℕ))
+Wiring = List Rule × (List ℕ × (List Link × (List ProgramInput × List ℕ)))
 
 abbrev pub numbers_code : Coded Numbers
 numbers_code = coded× coded_ℕ (coded× coded_ℕ (coded× coded_ℕ coded_ℕ))
@@ -63,7 +63,8 @@ abbrev pub things_code : Coded Things
 things_code = coded× (coded_list variable_code) (coded× (coded_list port_code) (coded× (coded_list action_code) (coded_list timer_code)))
 
 abbrev pub wiring_code : Coded Wiring
-wiring_code = coded× (coded_list rule_code) (coded× (coded_list link_code) (coded× (coded_list input_code) (coded_list coded_ℕ)))
+wiring_code =
+    coded× (coded_list rule_code) (coded× (coded_list coded_ℕ) (coded× (coded_list link_code) (coded× (coded_list input_code) (coded_list coded_ℕ))))
 
 -- a program is stored as its parts
 abbrev pub program_code : Coded Program
@@ -71,7 +72,7 @@ program_code =
     code_by (Numbers × (Things × Wiring)) (coded× numbers_code (coded× things_code wiring_code))
     (λ P. (
       (P.stop, (P.top, (P.origins, P.reactors))),
-      ((P.variables, (P.ports, (P.actions, P.timers))), (P.reactions, (P.links, (P.inputs, P.outputs)))),
+      ((P.variables, (P.ports, (P.actions, P.timers))), (P.reactions, (P.order, (P.links, (P.inputs, P.outputs))))),
     ))
     (λ p. record {
       stop = p.0.0;
@@ -83,8 +84,9 @@ program_code =
       actions = p.1.0.1.1.0;
       timers = p.1.0.1.1.1;
       reactions = p.1.1.0;
-      links = p.1.1.1.0;
-      inputs = p.1.1.1.1.0;
-      outputs = p.1.1.1.1.1;
+      order = p.1.1.1.0;
+      links = p.1.1.1.1.0;
+      inputs = p.1.1.1.1.1.0;
+      outputs = p.1.1.1.1.1.1;
     })
     (λ _. refl)

@@ -1,6 +1,8 @@
 pub mod Program
 pub mod Codes
 pub mod View
+pub mod Named
+pub mod Order
 pub mod Valid
 pub mod Snapshot
 pub mod Step

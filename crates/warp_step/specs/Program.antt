@@ -21,7 +21,8 @@ pub record Rule : Type 0 where
   pub body : Body
 
 -- the program: its stop, the last microstep of its times, how many origins and reactors; its variables, ports, actions,
--- timers, reactions, links and inputs, by number; and the ports of its outputs
+-- timers and reactions, by number; the numbers of the reactions in the order in which a step runs them; its links and
+-- inputs, by number; and the ports of its outputs
 pub record Program : Type 0 where
   pub stop : ℕ
   pub top : ℕ
@@ -32,6 +33,7 @@ pub record Program : Type 0 where
   pub actions : List Action
   pub timers : List Timer
   pub reactions : List Rule
+  pub order : List ℕ
   pub links : List Link
   pub inputs : List ProgramInput
   pub outputs : List ℕ

@@ -65,7 +65,7 @@ with_repeats P t present number (timer ∷ timers) s =
     with_repeats P t present (number + 1) timers
     (if repeats present number timer then landed P t timer.period (to.Timer number) (pos 0) s else s)
 
--- The third part: the reactions, in their order, each if one of its triggers is present. What they work on: variables, what
+-- The third part: the reactions, in the program's order, each if one of its triggers is present. What they work on: variables, what
 -- is present, and for each reaction its wishes.
 pub record Reacting : Type 0 where
   pub vars : List ℤ
@@ -96,17 +96,13 @@ abbrev pub after_reactions : Program → List ℕ → Reacting → Reacting
 after_reactions P [] now = now
 after_reactions P (n ∷ ns) now = after_reactions P ns (option_map_or (λ rule. react n rule now) (slice_get P.reactions n) now)
 
--- in this version they run in the order of the file
-abbrev pub order_of : Program → List ℕ
-order_of P = numbers 0 P.reactions
-
 -- no reaction has a wish
 abbrev pub no_wishes : Program → List (List Wish)
 no_wishes P = replicate (length P.reactions) []
 
 -- what the program's reactions make of the variables and of what is present first
 abbrev pub reacted : Program → Snapshot → Moment → List Given → Reacting
-reacted P s t X = after_reactions P (order_of P) (record { vars = s.vars; present = present_first P s t X; wishes = no_wishes P })
+reacted P s t X = after_reactions P P.order (record { vars = s.vars; present = present_first P s t X; wishes = no_wishes P })
 
 -- the fourth part: the wishes are entered in the order of the reactions in the file, and of a body's in their order, each
 -- after the action's minimum delay and its own

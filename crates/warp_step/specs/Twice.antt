@@ -42,6 +42,7 @@ twice = record {
   actions = [];
   timers = [];
   reactions = on_a ∷ on_b ∷ [];
+  order = 0 ∷ 1 ∷ [];
   links = [];
   inputs = (record { origin = 0; port = 0 }) ∷ (record { origin = 1; port = 1 }) ∷ [];
   outputs = 2 ∷ [];

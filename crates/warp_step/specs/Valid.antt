@@ -1,9 +1,8 @@
 -- What holds of every program.
-use Rattle.std.specs.Prelude.{ℕ, Bool, true, false, not, ◌&&◌, ◌==◌, nat_lt, nat_le, List, [], ◌∷◌, ◌++◌, length, map, Option, Some, None, slice_get}
-use Rattle.std.specs.Option.{option_map_or}
-use Rattle.std.specs.List.{list_all, list_any}
+pub use Rattle.warp_step.specs.Named.{is_distinct, is_rising, has, names, reactor_of}
+use Rattle.std.specs.Prelude.{ℕ, Bool, true, false, not, ◌&&◌, ◌==◌, nat_lt, nat_le, List, ◌++◌, length, map, Option, Some, None}
+use Rattle.std.specs.List.{list_all}
 use Rattle.warp_tag.specs.Limits.{longest_stop, longest_period, last_microstep, most_origins, most_reactors, most_variables, most_ports, most_actions, most_timers, most_reactions, most_links, most_inputs, most_outputs, most_wishes}
-use Rattle.warp_body.specs.Presence.{is_target}
 use Rattle.warp_body.specs.Term.{Term, Constant, VariableAt, ValueAt, PresentAt, OfOne, OfTwo, Choice}
 use Rattle.warp_body.specs.Effect.{Statement, SetVariable, PutOutput, ScheduleAction, Choose, Body, Done, Then, schedules_of}
 use Rattle.warp_body.specs.declared.place.Places.{Places}
@@ -11,6 +10,7 @@ use Rattle.warp_body.specs.declared.place.Sizes.{Sizes}
 use Rattle.warp_body.specs.declared.place.Target.{Target}
 use Rattle.warp_body.specs.declared.place.Target.TheVariants as to
 use Rattle.warp_step.specs.Program.{Rule, Program}
+use Rattle.warp_step.specs.Order.{is_admissible}
 use Rattle.warp_step.specs.declared.parts.Link.{Link}
 use Rattle.warp_step.specs.declared.parts.ProgramInput.{ProgramInput}
 
@@ -21,24 +21,6 @@ program_places P = record { timers = length P.timers; actions = length P.actions
 -- and how much of all that its bodies name
 abbrev pub program_sizes : Program → Sizes
 program_sizes P = record { vars = length P.variables; places = program_places P }
-
--- no number twice
-abbrev pub is_distinct : List ℕ → Bool
-is_distinct [] = true
-is_distinct (n ∷ ns) = not (list_any (λ m. m == n) ns) && is_distinct ns
-
--- each number at most the next
-abbrev pub is_rising : List ℕ → Bool
-is_rising [] = true
-is_rising (n ∷ ns) = list_all (λ m. nat_le n m) ns && is_rising ns
-
--- the element with this number is there, and passes the test
-abbrev pub has : {X : Type 0} → List X → ℕ → (X → Bool) → Bool
-has {X} xs n test = option_map_or test (slice_get xs n) false
-
--- the list names the target
-abbrev pub names : List Target → Target → Bool
-names targets target = list_any (is_target target) targets
 
 -- what a reaction of this reactor may name in `on` and `reads`: startup, and its reactor's timers, actions and inputs
 abbrev pub is_readable : Program → ℕ → Target → Bool
@@ -86,14 +68,10 @@ rule_fits P r =
     nat_lt r.reactor P.reactors && list_all (is_readable P r.reactor) r.triggers && list_all (is_readable P r.reactor) r.reads
     && list_all (is_writable P r.reactor) r.writes && body_may P r r.body && nat_le (schedules_of r.body) most_wishes
 
--- the number of a port's reactor
-abbrev pub reactor_of : Program → ℕ → ℕ
-reactor_of P port = option_map_or (λ p. p.reactor) (slice_get P.ports port) 0
-
--- with a delay it is in range; without one the link leads to a reactor that stands later
+-- with a delay it is in range; without one the link may lead to any reactor, its own included
 abbrev pub leads_on : Program → Link → Option ℕ → Bool
 leads_on P l (Some delay) = nat_le delay longest_period
-leads_on P l None = nat_lt (reactor_of P l.source) (reactor_of P l.target)
+leads_on P l None = true
 
 -- a link leads from an output to an input
 abbrev pub link_fits : Program → Link → Bool
@@ -123,10 +101,11 @@ have_reactors P =
     && list_all (λ t. nat_lt t.reactor P.reactors && nat_le t.offset longest_period && nat_le t.period longest_period) P.timers
 
 -- a program: within the limits; reactions in the order of their reactors; all that is named is there and may be named; one
--- source for each input port; each port once among the outputs
+-- source for each input port; each port once among the outputs; and the order of its reactions is one that they may run in
 abbrev pub is_valid : Program → Bool
 is_valid P =
     is_within_limits P && have_reactors P
     && (list_all (rule_fits P) P.reactions && is_rising (map (λ r. r.reactor) P.reactions))
     && (list_all (link_fits P) P.links && list_all (input_fits P) P.inputs && is_distinct (fed P))
     && (list_all (λ n. has P.ports n (λ p. not p.is_input)) P.outputs && is_distinct P.outputs)
+    && is_admissible P P.order

@@ -16,6 +16,7 @@ program_of p = record {
   actions = p.actions.items;
   timers = p.timers.items;
   reactions = map rule_of p.reactions.items;
+  order = p.order.items;
   links = p.links.items;
   inputs = p.inputs.items;
   outputs = p.outputs.items;

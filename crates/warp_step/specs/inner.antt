@@ -7,3 +7,4 @@ pub mod Plan
 pub mod Room
 pub mod Due
 pub mod Sure
+pub mod World

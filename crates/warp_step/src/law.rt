@@ -1,9 +1,15 @@
 //! Laws over programs and their runs.
-ghost use Rattle.std.specs.Prelude.{◌≡◌, false, List, length, take};
+ghost use Rattle.std.specs.Prelude.{◌≡◌, ℕ, false, IsTrue, List, length, map, take};
+ghost use Rattle.std.specs.List.{list_all};
 ghost use Rattle.warp_tag.specs.Lists.{StartsWith};
 ghost use Rattle.warp_tag.specs.Moment.{Moment, is_before};
 ghost use Rattle.warp_tag.specs.Table.{Event};
 ghost use Rattle.warp_step.specs.Program.{Program};
+ghost use Rattle.warp_step.specs.Order.{file_order, in_order, is_admissible, leads_later};
+ghost use Rattle.warp_step.specs.Valid.{is_rising, is_valid, rule_fits};
+ghost use Rattle.warp_step.specs.Snapshot.{Snapshot};
+ghost use Rattle.warp_step.specs.Step.{outputs_after, reacted, state_after};
+ghost use Rattle.warp_step.specs.declared.given.Given.{Given};
 ghost use Rattle.warp_step.specs.Run.{Row, Run, events_until, rows_until, outputs_of, outputs_until};
 
 /// A law: exactly one trace fits a program and its events.
@@ -35,4 +41,31 @@ pub fn outputs_begin()
         StartsWith (outputs_of trace) (outputs_until end (outputs_of trace)) }
     ensures taken { (P : Program) (E : List Event) (trace : List Row) (end : Moment) → Run P E trace →
         outputs_until end (outputs_of trace) ≡ take (length (outputs_until end (outputs_of trace))) (outputs_of trace) }
+{}
+
+/// A law: where each link without delay leads to a later reactor, and reactions stand in the order of their reactors,
+/// the order of the file is one that they may run in.
+pub fn file_order_is_admissible()
+    ensures { (P : Program) → IsTrue (list_all (rule_fits P) P.reactions) →
+        IsTrue (is_rising (map (λ r. r.reactor) P.reactions)) →
+        IsTrue (list_all (leads_later P) P.links) → IsTrue (is_admissible P (file_order P)) }
+{}
+
+/// A law: whatever order a program's reactions run in, of those that are admissible, it makes the same of the variables,
+/// of what is present and of the wishes, and so the same steps, states, outputs and runs.
+pub fn any_order()
+    ensures valid { (P : Program) (order : List ℕ) → IsTrue (is_valid P) → IsTrue (is_admissible P order) →
+        IsTrue (is_valid (in_order P order)) }
+    ensures reacted { (P : Program) (a b : List ℕ) (s : Snapshot) (t : Moment) (X : List Given) → IsTrue (is_valid P) →
+        IsTrue (is_admissible P a) → IsTrue (is_admissible P b) →
+        reacted (in_order P a) s t X ≡ reacted (in_order P b) s t X }
+    ensures state { (P : Program) (a b : List ℕ) (s : Snapshot) (t : Moment) (X : List Given) → IsTrue (is_valid P) →
+        IsTrue (is_admissible P a) → IsTrue (is_admissible P b) →
+        state_after (in_order P a) s t X ≡ state_after (in_order P b) s t X }
+    ensures outputs { (P : Program) (a b : List ℕ) (s : Snapshot) (t : Moment) (X : List Given) → IsTrue (is_valid P) →
+        IsTrue (is_admissible P a) → IsTrue (is_admissible P b) →
+        outputs_after (in_order P a) s t X ≡ outputs_after (in_order P b) s t X }
+    ensures run { (P : Program) (a b : List ℕ) (E : List Event) (trace : List Row) → IsTrue (is_valid P) →
+        IsTrue (is_admissible P a) → IsTrue (is_admissible P b) →
+        Run (in_order P a) E trace → Run (in_order P b) E trace }
 {}

@@ -1,7 +1,7 @@
 //! Programs, states, one step of a program, and the run that a program's events have.
 //!
 //! A program reacts at tags. At each it takes what is given, runs the reactions that something present
-//! triggers, in their order, and puts outputs. Contracts see a `Program` as the record of that name in
+//! triggers, in the program's order, and puts outputs. Contracts see a `Program` as the record of that name in
 //! `specs/`, without where it lies in memory, and a `State` as its `Snapshot`; `Run` says which trace a
 //! program and its events have, and `takes` which events those may be.
 #![tactic(auto)]
@@ -26,7 +26,9 @@ mod twice;
 
 pub use counter::Counter;
 pub use given::Given;
-pub use law::{early_outputs, early_rows, one_trace, outputs_begin};
+pub use law::{
+    any_order, early_outputs, early_rows, file_order_is_admissible, one_trace, outputs_begin,
+};
 pub use meter::Meter;
 pub use one_step::{Scratch, step};
 pub use parts::{Action, Link, Parts, Port, ProgramInput, Timer, Variable};

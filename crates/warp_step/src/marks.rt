@@ -6,7 +6,7 @@ ghost use Rattle.warp_step.specs.inner.Marks.{no_marks, with_mark};
 
 use crate::program::Program;
 
-/// The number that marks a program's first output; reactions have the numbers before it.
+/// The number that marks a program's first output; the turns of reactions are the numbers before it.
 #[inline(always)]
 pub(crate) fn first_output(program: &Program) -> usize
     ensures first { result ≡ first_output program.now }

@@ -78,6 +78,8 @@ pub struct Parts {
     pub timers: Vec<Timer>,
     /// The reactions, at most 256, in the order of their reactors.
     pub reactions: Vec<Reaction>,
+    /// The numbers of the reactions, each once, in the order in which a step runs them.
+    pub order: Vec<u32>,
     /// The links, at most 256.
     pub links: Vec<Link>,
     /// The program inputs, at most 64.

@@ -161,7 +161,7 @@ pub(crate) fn enter_near(entries: &mut Entries, tag: Tag, target: Target, value:
 /// Enters a value at a tag to a target: one that is there takes it, a new one comes in where there is room. Answers
 /// whether it is in.
 #[inline(always)]
-pub(crate) fn enter(entries: &mut Entries, tag: Tag, target: Target, value: i64) -> bool
+pub(crate) fn enter_entry(entries: &mut Entries, tag: Tag, target: Target, value: i64) -> bool
     requires { AreInOrder entries.old }
     ensures answer { result ≡ (list_any (has_key tag target) entries.old || nat_lt (length entries.old) most_pending) }
     ensures entries { entries.new ≡ (if result then with_entry tag target value entries.old else entries.old) }

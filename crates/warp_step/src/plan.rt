@@ -1,14 +1,14 @@
 //! Whom the presence of a place concerns: a step looks only at those. And the bodies of reactions, ready to run.
 ghost use Rattle.std.specs.Prelude.{◌≡◌, ◌+◌, ◌<◌, ◌≤◌, [], ◌∷◌, map, filter, length, IfOk, slice_index_or};
-ghost use Rattle.std.specs.Prelude.{if◌then◌else◌};
-ghost use Rattle.std.specs.List.{list_any};
+ghost use Rattle.std.specs.Prelude.{if◌then◌else◌, IsTrue, nat_lt};
+ghost use Rattle.std.specs.List.{list_all, list_any};
 ghost use Rattle.warp_tag.specs.Limits.{most_reactions};
 ghost use Rattle.warp_body.specs.declared.place.Target.{Target};
 ghost use Rattle.warp_body.specs.declared.place.Target.TheVariants as to;
 ghost use Rattle.warp_step.specs.inner.Marks.{first_link, first_reaction, marks_from, most_marks, no_marks, with_mark};
 ghost use Rattle.warp_step.specs.inner.Plan.{first_heeding, heeds, heeds_any, is_port, link_heeds, most_places};
 ghost use Rattle.warp_step.specs.inner.Plan.{numbered_place, output_heeds, place_number, place_numbers, place_of};
-ghost use Rattle.warp_step.specs.inner.Plan.{reaction_heeds, with_watchers};
+ghost use Rattle.warp_step.specs.inner.Plan.{in_turn, reaction_heeds, rule_numbered, with_watchers};
 ghost use Rattle.warp_step.specs.Program.{rule_of};
 ghost use Rattle.warp_step.specs.Step.{sources_of};
 ghost use Rattle.warp_step.specs.inner.Plan.{marks_of, plan_of};
@@ -61,15 +61,31 @@ fn watch(marks: &mut Marks, number: usize, triggers: &[Target], sources: &[u32],
     }
 }
 
-/// Marks the reactions that one of the places may trigger.
-fn watch_reactions(marks: &mut Marks, reactions: &[Reaction], sources: &[u32], places: &[Target])
-    requires { length reactions.now ≤ most_reactions }
+/// The triggers of the reaction with this number.
+fn triggers_of(reactions: &[Reaction], number: u32) -> &[Target]
+    requires { number < length reactions.now }
+    ensures { result.now ≡ (rule_numbered (map rule_of reactions.now) number).triggers }
+{
+    &reactions[number as usize].triggers
+}
+
+/// Marks the turns of the reactions that one of the places may trigger.
+fn watch_reactions(
+    marks: &mut Marks,
+    order: &[u32],
+    reactions: &[Reaction],
+    sources: &[u32],
+    places: &[Target],
+)
+    requires few { length order.now ≤ most_reactions }
+    requires known { IsTrue (list_all (λ n. nat_lt n (length reactions.now)) order.now) }
     ensures { marks.new.word ≡
         with_watchers reaction_heeds first_reaction sources.now places.now 0
-        (map rule_of reactions.now) marks.old.word }
+        (map (rule_numbered (map rule_of reactions.now)) order.now) marks.old.word }
 {
-    for (number, reaction) in reactions.iter().enumerate() {
-        watch(marks, number, &reaction.triggers, sources, places);
+    for (turn, number) in order.iter().enumerate() {
+        let triggers = triggers_of(reactions, *number);
+        watch(marks, turn, triggers, sources, places);
     }
 }
 
@@ -132,7 +148,13 @@ fn marks_of(program: &Program, sources: &[u32], places: &[Target]) -> Marks
 {
     program.valid();
     let mut marks = Marks::none();
-    watch_reactions(&mut marks, program.reactions(), sources, places);
+    watch_reactions(
+        &mut marks,
+        program.order(),
+        program.reactions(),
+        sources,
+        places,
+    );
     let first = first_link(program);
     watch_links(&mut marks, first, program.links(), sources, places);
     let first = first_output(program);
@@ -169,15 +191,15 @@ fn place_number(place: Target) -> usize
     }
 }
 
-/// Whom the presence of places concerns: their marks, and the number of the first reaction that the place put last
-/// triggers. Where it triggers none, no reaction has this number: it is `NO_REACTION`, or how many reactions there are.
+/// Whom the presence of places concerns: their marks, and the turn of the first reaction that the place put last
+/// triggers. Where it triggers none, no reaction has this turn: it is `NO_REACTION`, or how many reactions there are.
 #[derive(Clone, Copy)]
 pub(crate) struct Concerned {
     pub(crate) marks: Marks,
     pub(crate) first: usize,
 }
 
-/// A number that no reaction has.
+/// A turn that no reaction has.
 pub(crate) const NO_REACTION: usize = usize::MAX;
 
 impl Concerned {
@@ -194,16 +216,19 @@ impl Concerned {
     }
 }
 
-/// The number of the first reaction that the place triggers where it is present, else how many reactions there are.
-fn first_heeding(reactions: &[Reaction], sources: &[u32], place: Target) -> usize
-    ensures { result ≡ first_heeding sources.now place 0 (map rule_of reactions.now) }
+/// The turn of the first reaction that the place triggers where it is present, else how many reactions there are.
+fn first_heeding(order: &[u32], reactions: &[Reaction], sources: &[u32], place: Target) -> usize
+    requires { IsTrue (list_all (λ n. nat_lt n (length reactions.now)) order.now) }
+    ensures { result ≡
+        first_heeding sources.now place 0 (map (rule_numbered (map rule_of reactions.now)) order.now) }
 {
-    for (number, reaction) in reactions.iter().enumerate() {
-        if heeds(&reaction.triggers, sources, place) {
-            return number;
+    for (turn, number) in order.iter().enumerate() {
+        let triggers = triggers_of(reactions, *number);
+        if heeds(triggers, sources, place) {
+            return turn;
         }
     }
-    reactions.len()
+    order.len()
 }
 
 /// Whom the place with this number concerns.
@@ -212,11 +237,13 @@ fn of_place(program: &Program, sources: &[u32], number: usize) -> Concerned
     requires sources { sources.now ≡ sources_of program.now }
     ensures marks { result.marks.word ≡ marks_of program.now (numbered_place number ∷ []) }
     ensures first { result.first ≡
-        first_heeding (sources_of program.now) (numbered_place number) 0 program.now.reactions }
+        first_heeding (sources_of program.now) (numbered_place number) 0 (in_turn program.now) }
 {
+    program.valid();
+    let place = numbered_place(number);
     Concerned {
-        marks: marks_of(program, sources, &[numbered_place(number)]),
-        first: first_heeding(program.reactions(), sources, numbered_place(number)),
+        marks: marks_of(program, sources, &[place]),
+        first: first_heeding(program.order(), program.reactions(), sources, place),
     }
 }
 
@@ -231,7 +258,7 @@ fn of_places(
         (λ all.
         map (λ one. one.marks.word) all.items ≡ map (λ n. marks_of program.now (numbered_place n ∷ [])) place_numbers) }
     ensures firsts { IfOk result (λ all. map (λ one. one.first) all.items
-        ≡ map (λ n. first_heeding (sources_of program.now) (numbered_place n) 0 program.now.reactions) place_numbers) }
+        ≡ map (λ n. first_heeding (sources_of program.now) (numbered_place n) 0 (in_turn program.now)) place_numbers) }
 {
     let mut all = Vec::with_capacity(alloc, PLACES)?;
     for number in 0..PLACES {
@@ -255,7 +282,7 @@ fn ports_among(alloc: Global, targets: &[Target]) -> Result<Vec<Target>, OutOfMe
 
 /// A reaction's body, ready to run, and the marks of those whom what the reaction writes concerns.
 #[derive(Drop)]
-pub(crate) struct Ready {
+pub(crate) struct ReadyReaction {
     pub(crate) code: Code,
     pub(crate) after: Marks,
 }
@@ -266,7 +293,7 @@ fn of_reactions(
     alloc: Global,
     program: &Program,
     sources: &[u32],
-) -> Result<Vec<Ready>, OutOfMemory>
+) -> Result<Vec<ReadyReaction>, OutOfMemory>
     requires { sources.now ≡ sources_of program.now }
     ensures bodies { IfOk result
         (λ all. map (λ one. one.code) all.items ≡ map (λ rule. rule.body) program.now.reactions) }
@@ -280,7 +307,7 @@ fn of_reactions(
         let code = Code::new(alloc, &reaction.body)?;
         let ports = ports_among(alloc, &reaction.writes)?;
         let after = marks_of(program, sources, &ports);
-        all.push(Ready { code, after })?;
+        all.push(ReadyReaction { code, after })?;
     }
     Ok(all)
 }
@@ -290,7 +317,7 @@ fn of_reactions(
 #[derive(Drop)]
 pub(crate) struct Plan {
     places: Vec<Concerned>,
-    reactions: Vec<Ready>,
+    reactions: Vec<ReadyReaction>,
     links: Marks,
 }
 
@@ -339,7 +366,7 @@ impl Plan {
 
     /// The body of the reaction with this number, and the marks of those whom what it writes concerns.
     #[inline(always)]
-    pub fn reaction(&self, number: usize) -> &Ready
+    pub fn reaction(&self, number: usize) -> &ReadyReaction
         requires { number < length self.now.after }
         ensures body { result.now.code ≡ slice_index_or self.now.bodies number result.now.code }
         ensures after { result.now.after.word ≡ slice_index_or self.now.after number 0 }

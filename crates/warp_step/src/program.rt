@@ -102,6 +102,14 @@ impl Program {
         &self.parts.reactions
     }
 
+    /// The numbers of the reactions, each once, in the order in which a step runs them. Whatever precedes a reaction
+    /// stands before it.
+    pub fn order(&self) -> &[u32]
+        ensures { result.now ≡ self.now.order }
+    {
+        &self.parts.order
+    }
+
     /// The links, in the order of the file.
     pub fn links(&self) -> &[Link]
         ensures { result.now ≡ self.now.links }
@@ -167,6 +175,7 @@ impl Parts {
         let actions = self.actions.as_slice().to_vec(alloc)?;
         let timers = self.timers.as_slice().to_vec(alloc)?;
         let reactions = copy_reactions(alloc, &self.reactions)?;
+        let order = self.order.as_slice().to_vec(alloc)?;
         let links = self.links.as_slice().to_vec(alloc)?;
         let inputs = self.inputs.as_slice().to_vec(alloc)?;
         let outputs = self.outputs.as_slice().to_vec(alloc)?;
@@ -179,6 +188,7 @@ impl Parts {
             actions,
             timers,
             reactions,
+            order,
             links,
             inputs,
             outputs,
@@ -200,6 +210,7 @@ impl Parts {
             && same_actions(&self.actions, &other.actions)
             && same_timers(&self.timers, &other.timers)
             && same_reactions(&self.reactions, &other.reactions)
+            && same_numbers(&self.order, &other.order)
             && same_links(&self.links, &other.links)
             && same_inputs(&self.inputs, &other.inputs)
             && same_numbers(&self.outputs, &other.outputs)

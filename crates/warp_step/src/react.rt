@@ -15,10 +15,10 @@ ghost use Rattle.warp_step.specs.inner.Plan.{is_port, marks_of, plan_of};
 ghost use Rattle.warp_step.specs.inner.Room.{lists_of};
 ghost use Rattle.warp_step.specs.inner.Sure.{IsSure};
 ghost use Rattle.warp_step.specs.Step.{Reacting, after_reactions, is_triggered, no_wishes};
-ghost use Rattle.warp_step.specs.Step.{order_of, outputs_from, react, sources_of, with_output};
+ghost use Rattle.warp_step.specs.Step.{outputs_from, react, sources_of, with_output};
 
 use crate::marks::{Marks, first_output};
-use crate::plan::{Plan, Ready};
+use crate::plan::{Plan, ReadyReaction};
 use crate::program::Program;
 use crate::reaction::Reaction;
 use warp_body::{Present, Target, Vars, Wishes};
@@ -85,7 +85,7 @@ fn run_reaction(
     is_sure: bool,
     number: usize,
     reaction: &Reaction,
-    ready: &Ready,
+    ready: &ReadyReaction,
     due: &mut Marks,
     vars: &mut Vars,
     present: &mut Present,
@@ -123,8 +123,9 @@ fn run_reaction(
     false
 }
 
-/// Runs the reactions that are triggered, in their order, and says whether one has wishes then. It looks at those
-/// that are due, which all are that something present triggers, and tests them but the first one where that is sure.
+/// Runs the reactions that are triggered, in the program's order, and says whether one has wishes then. It looks at
+/// those that are due, which all are that something present triggers, and tests them but the first one where that is
+/// sure.
 #[inline(always)]
 pub(crate) fn run_reactions(
     program: &Program,
@@ -143,7 +144,7 @@ pub(crate) fn run_reactions(
     requires due { AreDue program.now present.old due.old.word }
     requires sure { IsSure program.now present.old sure }
     ensures effect { record { vars = vars.new; present = present.new; wishes = lists_of wishes.new }
-        ≡ after_reactions program.now (order_of program.now) (record {
+        ≡ after_reactions program.now program.now.order (record {
           vars = vars.old;
           present = present.old;
           wishes = no_wishes program.now;
@@ -158,11 +159,13 @@ pub(crate) fn run_reactions(
 {
     program.valid();
     let reactions = program.reactions();
-    let count = reactions.len();
+    let order = program.order();
+    let count = order.len();
     let mut wished = false;
-    let mut number = due.next(0);
-    let mut is_sure = number == sure;
-    while number < count {
+    let mut turn = due.next(0);
+    let mut is_sure = turn == sure;
+    while turn < count {
+        let number = order[turn] as usize;
         let ready = plan.reaction(number);
         wished |= run_reaction(
             is_sure,
@@ -175,7 +178,7 @@ pub(crate) fn run_reactions(
             wishes,
         );
         is_sure = false;
-        number = due.after(number);
+        turn = due.after(turn);
     }
     wished
 }

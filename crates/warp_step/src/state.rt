@@ -10,7 +10,7 @@ ghost use Rattle.warp_step.specs.Snapshot.{with_loss, with_timers};
 
 use crate::entries::Entries;
 use crate::parts::Variable;
-use crate::pending::{Waiting, enter, enter_last, enter_near};
+use crate::pending::{Waiting, enter_entry, enter_last, enter_near};
 use crate::program::Program;
 use crate::reaction::Reaction;
 use std::alloc::Global;
@@ -99,7 +99,7 @@ impl State {
     fn enter_anywhere(&mut self, tag: Tag, target: Target, value: i64)
         ensures { self.new ≡ entered tag target value self.old }
     {
-        if !enter(&mut self.pending, tag, target, value) {
+        if !enter_entry(&mut self.pending, tag, target, value) {
             self.lose();
         }
     }

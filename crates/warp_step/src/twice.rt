@@ -35,6 +35,7 @@ impl Program {
         ]?;
         let ports = vec![in alloc; input, input, output]?;
         let reactions = vec![in alloc; on_a(alloc)?, on_b(alloc)?]?;
+        let order = vec![in alloc; 0, 1]?;
         let a = ProgramInput { origin: 0, port: 0 };
         let b = ProgramInput { origin: 1, port: 1 };
         let inputs = vec![in alloc; a, b]?;
@@ -48,6 +49,7 @@ impl Program {
             actions: Vec::new(alloc),
             timers: Vec::new(alloc),
             reactions,
+            order,
             links: Vec::new(alloc),
             inputs,
             outputs,

@@ -10,7 +10,7 @@ use Rattle.std.proofs.lemmas.Option.{slice_get-get_or, slice_get-map}
 use Rattle.warp_tag.specs.Moment.{is_same}
 use Rattle.warp_table.specs.declared.names.Name.{Name}
 use Rattle.warp_table.specs.declared.rows.Known.{Known}
-use Rattle.warp_table.specs.declared.rows.Row.{Row}
+use Rattle.warp_table.specs.declared.rows.NameRow.{NameRow}
 use Rattle.warp_table.specs.inner.Kept.{is_named, nothing_known, put_known}
 use Rattle.warp_table.specs.inner.NamesByOrigin.{AreListed, IsWith, known_in, listed, row_of, rows_at, times_in}
 use Rattle.warp_table.proofs.FirstNames.{named-Decides}
@@ -161,7 +161,7 @@ module _ (known now : Name → Option Known) (name : Name) (k : Known) (change :
 -- Rows of origins
 
 -- the rows of a name's origin changed
-pub known_changed : (origins : List (List Row)) (name : Name) (k : Known) (rows : List Row) → name.origin < length origins → IsWith name.tag k (rows_at origins name.origin) rows →
+pub known_changed : (origins : List (List NameRow)) (name : Name) (k : Known) (rows : List NameRow) → name.origin < length origins → IsWith name.tag k (rows_at origins name.origin) rows →
     (m : Name) → known_in (set origins name.origin rows) m ≡ (if is_named m.origin m.tag name then Some k else known_in origins m)
 known_changed origins name k rows within with m = elim (cases_eq m.origin name.origin) [
   | inl same ↦
@@ -174,17 +174,17 @@ known_changed origins name k rows within with m = elim (cases_eq m.origin name.o
 ]
 
 -- past the last origin nothing is known
-pub known_past : (origins : List (List Row)) (name : Name) → length origins ≤ name.origin → known_in origins name ≡ None
+pub known_past : (origins : List (List NameRow)) (name : Name) → length origins ≤ name.origin → known_in origins name ≡ None
 known_past origins name past = ap (row_of name.tag) (get_or_past origins name.origin [] past)
 
-known_within : (origins : List (List Row)) (name : Name) → is_some (known_in origins name) ≡ true → name.origin < length origins
+known_within : (origins : List (List NameRow)) (name : Name) → is_some (known_in origins name) ≡ true → name.origin < length origins
 known_within origins name some = elim (cases_lt name.origin (length origins)) [
   | inl within ↦ within
   | inr past ↦ absurd (false≢true (sym (ap (λ (k : Option Known). is_some k) (known_past origins name past)) ∙ some))
 ]
 
 -- an origin's rows put back change nothing
-pub set_back : (origins : List (List Row)) (origin : ℕ) (rows : List Row) → origin < length origins → rows ≡ get_or origins origin rows → (other : ℕ) → rows_at (set origins origin rows) other ≡ rows_at origins other
+pub set_back : (origins : List (List NameRow)) (origin : ℕ) (rows : List NameRow) → origin < length origins → rows ≡ get_or origins origin rows → (other : ℕ) → rows_at (set origins origin rows) other ≡ rows_at origins other
 set_back origins origin rows within is other = elim (cases_eq other origin) [
   | inl same ↦ ap (rows_at (set origins origin rows)) same ∙ get_or-set_same origins origin rows [] within ∙ get_or_read origins origin rows within is [] ∙ ap (rows_at origins) (sym same)
   | inr differs ↦ get_or-set_other origins origin other rows [] differs
@@ -197,12 +197,12 @@ on_err (Err e) p = p
 
 -- The list of the names, before and after
 
-module _ (origins : List (List Row)) (order : List Name) (view : List (Name × Known)) (is : listed (known_in origins) order ≡ view) (h : AreListed (known_in origins) order) where
+module _ (origins : List (List NameRow)) (order : List Name) (view : List (Name × Known)) (is : listed (known_in origins) order ≡ view) (h : AreListed (known_in origins) order) where
   pub found_in : (name : Name) → lookup (is_named name.origin name.tag) view ≡ known_in origins name
   found_in name = ap (λ (es : List (Name × Known)). lookup (is_named name.origin name.tag) es) (sym is) ∙ looked_up (known_in origins) order h name
 
   -- with the same rows nothing changes
-  module _ (now : List (List Row)) (same : (other : ℕ) → rows_at now other ≡ rows_at origins other) where
+  module _ (now : List (List NameRow)) (same : (other : ℕ) → rows_at now other ≡ rows_at origins other) where
     known_same : (name : Name) → known_in now name ≡ known_in origins name
     known_same name = ap (row_of name.tag) (same name.origin)
 
@@ -212,7 +212,7 @@ module _ (origins : List (List Row)) (order : List Name) (view : List (Name × K
     pub kept_is : listed (known_in now) order ≡ view
     kept_is = (λ i. listed (λ name. known_same name i) order) ∙ is
 
-  module _ (name : Name) (row : List Row) where
+  module _ (name : Name) (row : List NameRow) where
     module _ (there : is_some (lookup (is_named name.origin name.tag) view) ≡ true) where
       is_there : is_some (known_in origins name) ≡ true
       is_there = ap (λ (k : Option Known). is_some k) (sym (found_in name)) ∙ there
@@ -225,11 +225,11 @@ module _ (origins : List (List Row)) (order : List Name) (view : List (Name × K
         row_is = get_or_read origins name.origin row set_within read []
 
         pub set_there : is_some (row_of name.tag row) ≡ true
-        set_there = ap (λ (rows : List Row). is_some (row_of name.tag rows)) row_is ∙ is_there
+        set_there = ap (λ (rows : List NameRow). is_some (row_of name.tag rows)) row_is ∙ is_there
 
-        module _ (k : Known) (after : List Row) (with : IsWith name.tag k row after) where
+        module _ (k : Known) (after : List NameRow) (with : IsWith name.tag k row after) where
           change : (m : Name) → known_in (set origins name.origin after) m ≡ (if is_named m.origin m.tag name then Some k else known_in origins m)
-          change = known_changed origins name k after set_within (subst (λ (rows : List Row). IsWith name.tag k rows after) row_is with)
+          change = known_changed origins name k after set_within (subst (λ (rows : List NameRow). IsWith name.tag k rows after) row_is with)
 
           pub set_listed : AreListed (known_in (set origins name.origin after)) order
           set_listed = are_listed_changed (known_in origins) (known_in (set origins name.origin after)) name k change order h is_there
@@ -247,9 +247,9 @@ module _ (origins : List (List Row)) (order : List Name) (view : List (Name × K
       pub insert_new : row_of name.tag row ≡ None
       insert_new = ap (row_of name.tag) own_row ∙ is_new
 
-      module _ (k : Known) (after : List Row) (with : IsWith name.tag k row after) where
+      module _ (k : Known) (after : List NameRow) (with : IsWith name.tag k row after) where
         more : (m : Name) → known_in (set origins name.origin after) m ≡ (if is_named m.origin m.tag name then Some k else known_in origins m)
-        more = known_changed origins name k after within (subst (λ (rows : List Row). IsWith name.tag k rows after) own_row with)
+        more = known_changed origins name k after within (subst (λ (rows : List NameRow). IsWith name.tag k rows after) own_row with)
 
         pub insert_listed : AreListed (known_in (set origins name.origin after)) (order ++ name ∷ [])
         insert_listed = are_listed_more (known_in origins) (known_in (set origins name.origin after)) name k more order h is_new

@@ -10,13 +10,13 @@ use Rattle.std.proofs.lemmas.Option.{slice_get-get_or, slice_get_past}
 use Rattle.warp_tag.specs.Moment.{Moment, is_before, is_same}
 use Rattle.warp_tag.proofs.Tags.{before_trans, same_moment}
 use Rattle.warp_table.specs.declared.rows.Known.{Known}
-use Rattle.warp_table.specs.declared.rows.Row.{Row}
+use Rattle.warp_table.specs.declared.rows.NameRow.{NameRow}
 use Rattle.warp_table.specs.inner.NamesByOrigin.{AreInOrder, IsWith, row_of, row_place}
 use Rattle.warp_table.proofs.Members.{AllPairs-first, AllPairs-tail}
 use Rattle.warp_table.proofs.Places.{cond_apart}
 
 -- one row is before another
-abbrev Before : Row → Row → Type 0
+abbrev Before : NameRow → NameRow → Type 0
 Before a b = IsTrue (is_before a.tag b.tag)
 
 -- tags of which one is before the other differ
@@ -36,31 +36,31 @@ neither_same t u h k = grind (arith, nat_tests)
 -- Look-ups
 
 -- rows behind a tag say nothing of it
-pub none_behind : (tag : Moment) (rows : List Row) → All (λ r. IsTrue (is_before tag r.tag)) rows → row_of tag rows ≡ None
+pub none_behind : (tag : Moment) (rows : List NameRow) → All (λ r. IsTrue (is_before tag r.tag)) rows → row_of tag rows ≡ None
 none_behind tag [] all = refl
 none_behind tag (r ∷ rows) all =
-    let here = All-head (λ (r : Row). IsTrue (is_before tag r.tag)) r rows all in
-    rw (before_differs tag r.tag here) (none_behind tag rows (All-tail (λ (r : Row). IsTrue (is_before tag r.tag)) r rows all))
+    let here = All-head (λ (r : NameRow). IsTrue (is_before tag r.tag)) r rows all in
+    rw (before_differs tag r.tag here) (none_behind tag rows (All-tail (λ (r : NameRow). IsTrue (is_before tag r.tag)) r rows all))
 
 -- what the row at a tag's place says of the tag
-abbrev pub said_by : Moment → Option Row → Option Known
+abbrev pub said_by : Moment → Option NameRow → Option Known
 said_by tag None = None
 said_by tag (Some r) = if is_before tag r.tag then None else Some r.known
 
-pub row_there : (tag : Moment) (rows : List Row) → AreInOrder rows → row_of tag rows ≡ said_by tag (slice_get rows (row_place tag rows))
+pub row_there : (tag : Moment) (rows : List NameRow) → AreInOrder rows → row_of tag rows ≡ said_by tag (slice_get rows (row_place tag rows))
 row_there tag [] h = refl
 row_there tag (r ∷ rows) h = elim (cases_Bool (is_before r.tag tag)) [
   | inl b ↦ rw (b, behind_differs tag r.tag b) (row_there tag rows (AllPairs-tail Before r rows h))
   | inr b ↦ elim (cases_Bool (is_before tag r.tag)) [
     | inl c ↦ rw (b, c, before_differs tag r.tag c)
-        (none_behind tag rows (All-weaker (Before r) (λ (q : Row). IsTrue (is_before tag q.tag)) (λ q k. before_trans tag r.tag q.tag c k) rows (AllPairs-first Before r rows h)))
+        (none_behind tag rows (All-weaker (Before r) (λ (q : NameRow). IsTrue (is_before tag q.tag)) (λ q k. before_trans tag r.tag q.tag c k) rows (AllPairs-first Before r rows h)))
     | inr c ↦ rw (b, c, neither_same r.tag tag b c) refl
   ]
 ]
 
 -- by the rows read
-module _ (tag : Moment) (rows : List Row) (h : AreInOrder rows) (n : ℕ) (is : n ≡ row_place tag rows) where
-  pub said_at : (r : Row) → n < length rows → r ≡ get_or rows n r → row_of tag rows ≡ (if is_before tag r.tag then None else Some r.known)
+module _ (tag : Moment) (rows : List NameRow) (h : AreInOrder rows) (n : ℕ) (is : n ≡ row_place tag rows) where
+  pub said_at : (r : NameRow) → n < length rows → r ≡ get_or rows n r → row_of tag rows ≡ (if is_before tag r.tag then None else Some r.known)
   said_at r within read =
       row_there tag rows h ∙ ap (λ (k : ℕ). said_by tag (slice_get rows k)) (sym is)
       ∙ ap (said_by tag) (slice_get-get_or rows n r within ∙ ap Some (sym read))
@@ -72,31 +72,31 @@ module _ (tag : Moment) (rows : List Row) (h : AreInOrder rows) (n : ℕ) (is : 
 -- Places
 
 -- the rows before a tag are a front
-pub before_first : (tag : Moment) (rows : List Row) → AreInOrder rows → IsPartitionedBy (λ r. is_before r.tag tag) rows
+pub before_first : (tag : Moment) (rows : List NameRow) → AreInOrder rows → IsPartitionedBy (λ r. is_before r.tag tag) rows
 before_first tag rows h = λ i j d le within before. elim (cases_eq i j) [
   | inl same ↦ subst (λ (k : ℕ). is_before (get_or rows k d).tag tag ≡ true) (sym same) before
   | inr other ↦ before_trans (get_or rows i d).tag (get_or rows j d).tag tag (h i j d (omega arith) within) before
 ]
 
-pub place_is : (tag : Moment) (rows : List Row) (n : ℕ) → n ≤ length rows → ((k : ℕ) (d : Row) → k < n → is_before (get_or rows k d).tag tag ≡ true)
-    → ((d : Row) → n < length rows → is_before (get_or rows n d).tag tag ≡ false) → n ≡ row_place tag rows
+pub place_is : (tag : Moment) (rows : List NameRow) (n : ℕ) → n ≤ length rows → ((k : ℕ) (d : NameRow) → k < n → is_before (get_or rows k d).tag tag ≡ true)
+    → ((d : NameRow) → n < length rows → is_before (get_or rows n d).tag tag ≡ false) → n ≡ row_place tag rows
 place_is tag [] n le front rest = omega arith
 place_is tag (r ∷ rows) zero le front rest = rw (rest r (omega arith)) refl
 place_is tag (r ∷ rows) (suc n) le front rest =
     let more : n ≡ row_place tag rows = place_is tag rows n (omega arith) (λ k d l. front (suc k) d (omega arith)) (λ d l. rest d (omega arith)) in
     rw (front 0 r (omega arith)) (omega arith)
 
-module _ (tag : Moment) (last : Row) (rows : List Row) (h : AreInOrder rows) (some : 0 < length rows) (is : last ≡ get_or rows (length rows - 1) last) where
-  last_read : (d : Row) → last ≡ get_or rows (length rows - 1) d
+module _ (tag : Moment) (last : NameRow) (rows : List NameRow) (h : AreInOrder rows) (some : 0 < length rows) (is : last ≡ get_or rows (length rows - 1) last) where
+  last_read : (d : NameRow) → last ≡ get_or rows (length rows - 1) d
   last_read d = get_or_read rows (length rows - 1) last (omega (arith, some)) is d
 
-  up_to_last : (k : ℕ) (d : Row) → k < length rows - 1 → is_before (get_or rows k d).tag last.tag ≡ true
-  up_to_last k d l = subst (λ (r : Row). is_before (get_or rows k d).tag r.tag ≡ true) (sym (last_read d)) (h k (length rows - 1) d l (omega (arith, some)))
+  up_to_last : (k : ℕ) (d : NameRow) → k < length rows - 1 → is_before (get_or rows k d).tag last.tag ≡ true
+  up_to_last k d l = subst (λ (r : NameRow). is_before (get_or rows k d).tag r.tag ≡ true) (sym (last_read d)) (h k (length rows - 1) d l (omega (arith, some)))
 
   -- a tag behind the last row goes to the end
   pub behind_last : is_before last.tag tag ≡ true → length rows ≡ row_place tag rows
   behind_last b = place_is tag rows (length rows) (omega arith) (λ k d l. elim (cases_eq k (length rows - 1)) [
-    | inl same ↦ subst (λ (i : ℕ). is_before (get_or rows i d).tag tag ≡ true) (sym same) (subst (λ (r : Row). is_before r.tag tag ≡ true) (last_read d) b)
+    | inl same ↦ subst (λ (i : ℕ). is_before (get_or rows i d).tag tag ≡ true) (sym same) (subst (λ (r : NameRow). is_before r.tag tag ≡ true) (last_read d) b)
     | inr other ↦ before_trans (get_or rows k d).tag last.tag tag (up_to_last k d (omega (arith, l))) b
   ]) (λ d l. absurd (omega arith))
 
@@ -105,12 +105,12 @@ module _ (tag : Moment) (last : Row) (rows : List Row) (h : AreInOrder rows) (so
   at_last b c =
       let same : last.tag ≡ tag = same_moment last.tag tag b c in
       place_is tag rows (length rows - 1) (omega arith) (λ k d l. subst (λ (t : Moment). is_before (get_or rows k d).tag t ≡ true) same (up_to_last k d l))
-      (λ d l. subst (λ (r : Row). is_before r.tag tag ≡ false) (last_read d) b)
+      (λ d l. subst (λ (r : NameRow). is_before r.tag tag ≡ false) (last_read d) b)
 
 -- One more row
 
 -- a row of which no other has the tag says what it says, wherever it stands
-pub says_with : (row : Row) (rows : List Row) (n : ℕ) → row_of row.tag rows ≡ None → IsWith row.tag row.known rows (insert rows n row)
+pub says_with : (row : NameRow) (rows : List NameRow) (n : ℕ) → row_of row.tag rows ≡ None → IsWith row.tag row.known rows (insert rows n row)
 says_with row [] zero none = λ other. refl
 says_with row [] (suc n) none = λ other. refl
 says_with row (r ∷ rows) zero none = λ other. refl
@@ -132,7 +132,7 @@ says_with row (r ∷ rows) (suc n) none = λ other. elim (cases_Bool (is_same ro
 -- One row changed
 
 -- at the place of a tag that is there stands its row
-row_here : (tag : Moment) (rows : List Row) → is_some (row_of tag rows) ≡ true → AreInOrder rows → (row_place tag rows < length rows) × ((d : Row) → (get_or rows (row_place tag rows) d).tag ≡ tag)
+row_here : (tag : Moment) (rows : List NameRow) → is_some (row_of tag rows) ≡ true → AreInOrder rows → (row_place tag rows < length rows) × ((d : NameRow) → (get_or rows (row_place tag rows) d).tag ≡ tag)
 row_here tag [] some h = absurd (false≢true some)
 row_here tag (r ∷ rows) some h = elim (cases_Bool (is_before r.tag tag)) [
   | inl b ↦ (
@@ -142,7 +142,7 @@ row_here tag (r ∷ rows) some h = elim (cases_Bool (is_before r.tag tag)) [
       )
   | inr b ↦ elim (cases_Bool (is_before tag r.tag)) [
     | inl c ↦ (
-        let none : row_of tag rows ≡ None = none_behind tag rows (All-weaker (Before r) (λ (q : Row). IsTrue (is_before tag q.tag)) (λ q k. before_trans tag r.tag q.tag c k) rows (AllPairs-first Before r rows h)) in
+        let none : row_of tag rows ≡ None = none_behind tag rows (All-weaker (Before r) (λ (q : NameRow). IsTrue (is_before tag q.tag)) (λ q k. before_trans tag r.tag q.tag c k) rows (AllPairs-first Before r rows h)) in
         let apart = before_differs tag r.tag c in
         absurd (false≢true (sym (ap (λ b. is_some (if b then Some r.known else row_of tag rows)) apart ∙ ap (λ (k : Option Known). is_some k) none) ∙ some))
         )
@@ -150,19 +150,19 @@ row_here tag (r ∷ rows) some h = elim (cases_Bool (is_before r.tag tag)) [
   ]
 ]
 
-pub row_at_place : (tag : Moment) (rows : List Row) → is_some (row_of tag rows) ≡ true → AreInOrder rows → (n : ℕ) → n ≡ row_place tag rows → (n < length rows) × ((d : Row) → (get_or rows n d).tag ≡ tag)
+pub row_at_place : (tag : Moment) (rows : List NameRow) → is_some (row_of tag rows) ≡ true → AreInOrder rows → (n : ℕ) → n ≡ row_place tag rows → (n < length rows) × ((d : NameRow) → (get_or rows n d).tag ≡ tag)
 row_at_place tag rows some h n is =
     let here = row_here tag rows some h in
     (omega (arith, is, here.0), λ d. ap (λ k. (get_or rows k d).tag) is ∙ here.1 d)
 
 -- a row in the place of another with its tag keeps the tags
-pub tags_changed : (row : Row) (rows : List Row) (n : ℕ) → n < length rows → ((d : Row) → (get_or rows n d).tag ≡ row.tag) → map (λ r. r.tag) (set rows n row) ≡ map (λ r. r.tag) rows
+pub tags_changed : (row : NameRow) (rows : List NameRow) (n : ℕ) → n < length rows → ((d : NameRow) → (get_or rows n d).tag ≡ row.tag) → map (λ r. r.tag) (set rows n row) ≡ map (λ r. r.tag) rows
 tags_changed row [] n within same = absurd (omega (arith, within))
-tags_changed row (r ∷ rows) zero within same = ap (λ t. t ∷ map (λ (q : Row). q.tag) rows) (sym (same r))
+tags_changed row (r ∷ rows) zero within same = ap (λ t. t ∷ map (λ (q : NameRow). q.tag) rows) (sym (same r))
 tags_changed row (r ∷ rows) (suc n) within same = ap (λ ts. r.tag ∷ ts) (tags_changed row rows n (omega (arith, within)) same)
 
 -- and says what it says
-pub says_changed : (row : Row) (rows : List Row) (n : ℕ) → n < length rows → ((d : Row) → (get_or rows n d).tag ≡ row.tag) → AreInOrder rows → IsWith row.tag row.known rows (set rows n row)
+pub says_changed : (row : NameRow) (rows : List NameRow) (n : ℕ) → n < length rows → ((d : NameRow) → (get_or rows n d).tag ≡ row.tag) → AreInOrder rows → IsWith row.tag row.known rows (set rows n row)
 says_changed row [] n within same h = absurd (omega (arith, within))
 says_changed row (r ∷ rows) zero within same h = λ other. by other (is_same other row.tag) refl
   where

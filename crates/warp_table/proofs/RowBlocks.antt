@@ -8,7 +8,7 @@ use Rattle.std.proofs.lemmas.List.Kept.{AllPairs-cons}
 use Rattle.warp_tag.specs.Moment.{Moment, is_before, is_same}
 use Rattle.warp_tag.proofs.Tags.{before_trans, same_is}
 use Rattle.warp_table.specs.declared.rows.Known.{Known}
-use Rattle.warp_table.specs.declared.rows.Row.{Row}
+use Rattle.warp_table.specs.declared.rows.NameRow.{NameRow}
 use Rattle.warp_table.specs.inner.Blocks.{AreOrdered, IsBlockOf, flat, with_item}
 use Rattle.warp_table.specs.inner.NamesByOrigin.{AreInOrder, IsWith, row_of}
 use Rattle.warp_table.proofs.BlockLists.{All-with_item, insert_item, pairs_left, pairs_right, parted, parted_set}
@@ -17,10 +17,10 @@ use Rattle.warp_table.proofs.Members.{AllPairs-first, AllPairs-one, AllPairs-tai
 use Rattle.warp_table.proofs.OriginRows.{none_behind, says_with}
 
 -- its tag
-abbrev pub tag_of : Row → Moment
+abbrev pub tag_of : NameRow → Moment
 tag_of r = r.tag
 
-abbrev Before : Row → Row → Type 0
+abbrev Before : NameRow → NameRow → Type 0
 Before a b = IsTrue (is_before a.tag b.tag)
 
 -- tags of which one is before the other differ
@@ -31,7 +31,7 @@ before_else : (t u : Moment) → is_before t u ≡ false → is_same t u ≡ fal
 before_else t u h k = grind (arith, nat_tests)
 
 -- strict order is order
-pub ordered_rows : (rows : List Row) → AreInOrder rows → AreOrdered tag_of rows
+pub ordered_rows : (rows : List NameRow) → AreInOrder rows → AreOrdered tag_of rows
 ordered_rows rows h = λ i j d before within. before_not_behind (get_or rows i d).tag (get_or rows j d).tag (h i j d before within)
 
 -- What parts say
@@ -41,7 +41,7 @@ abbrev or_else : Option Known → Option Known → Option Known
 or_else None other = other
 or_else (Some k) other = Some k
 
-row_append : (tag : Moment) (xs ys : List Row) → row_of tag (xs ++ ys) ≡ or_else (row_of tag xs) (row_of tag ys)
+row_append : (tag : Moment) (xs ys : List NameRow) → row_of tag (xs ++ ys) ≡ or_else (row_of tag xs) (row_of tag ys)
 row_append tag [] ys = refl
 row_append tag (r ∷ xs) ys = elim (cases_Bool (is_same tag r.tag)) [
   | inl b ↦ rw b refl
@@ -49,10 +49,10 @@ row_append tag (r ∷ xs) ys = elim (cases_Bool (is_same tag r.tag)) [
 ]
 
 -- rows before a tag say nothing of it
-pub none_before : (tag : Moment) (rows : List Row) → All (λ r. IsTrue (is_before r.tag tag)) rows → row_of tag rows ≡ None
+pub none_before : (tag : Moment) (rows : List NameRow) → All (λ r. IsTrue (is_before r.tag tag)) rows → row_of tag rows ≡ None
 none_before tag [] all = refl
 none_before tag (r ∷ rows) all =
-    rw (behind_differs tag r.tag (All-head (λ (q : Row). IsTrue (is_before q.tag tag)) r rows all)) (none_before tag rows (All-tail (λ (q : Row). IsTrue (is_before q.tag tag)) r rows all))
+    rw (behind_differs tag r.tag (All-head (λ (q : NameRow). IsTrue (is_before q.tag tag)) r rows all)) (none_before tag rows (All-tail (λ (q : NameRow). IsTrue (is_before q.tag tag)) r rows all))
 
 or_none : (k : Option Known) → or_else k None ≡ k
 or_none None = refl
@@ -60,12 +60,12 @@ or_none (Some k) = refl
 
 -- One row more
 
-pub says_item : (row : Row) (rows : List Row) → row_of row.tag rows ≡ None → IsWith row.tag row.known rows (with_item tag_of row rows)
+pub says_item : (row : NameRow) (rows : List NameRow) → row_of row.tag rows ≡ None → IsWith row.tag row.known rows (with_item tag_of row rows)
 says_item row rows none =
-    let n = position_or_len (λ (r : Row). is_before row.tag r.tag) rows in
-    subst (λ (rs : List Row). IsWith row.tag row.known rows rs) (insert_item tag_of row rows n refl) (says_with row rows n none)
+    let n = position_or_len (λ (r : NameRow). is_before row.tag r.tag) rows in
+    subst (λ (rs : List NameRow). IsWith row.tag row.known rows rs) (insert_item tag_of row rows n refl) (says_with row rows n none)
 
-pub in_order_item : (row : Row) (rows : List Row) → row_of row.tag rows ≡ None → AreInOrder rows → AreInOrder (with_item tag_of row rows)
+pub in_order_item : (row : NameRow) (rows : List NameRow) → row_of row.tag rows ≡ None → AreInOrder rows → AreInOrder (with_item tag_of row rows)
 in_order_item row [] none h = AllPairs-one Before row
 in_order_item row (r ∷ rows) none h = elim (cases_Bool (is_before row.tag r.tag)) [
   | inl b ↦ rw b (AllPairs-cons Before row (r ∷ rows)
@@ -116,14 +116,14 @@ refill [] ys (suc n) many = absurd (omega (arith, many))
 refill (x ∷ ws) ys zero many = absurd (omega (arith, many))
 refill (x ∷ ws) ys (suc n) many = ap (λ l. x ∷ l) (refill ws ys n (omega (arith, many)))
 
-pub same_order : (xs ys : List Row) → map tag_of ys ≡ map tag_of xs → AreInOrder xs → AreInOrder ys
+pub same_order : (xs ys : List NameRow) → map tag_of ys ≡ map tag_of xs → AreInOrder xs → AreInOrder ys
 same_order xs ys same h =
     let R : Moment → Moment → Type 0 = λ t u. IsTrue (is_before t u) in
     pairs_of_map tag_of R ys (subst (AllPairs R) (sym same) (pairs_to_map tag_of R xs h))
 
 -- Blocks of rows
 
-module _ {B : Type 0} (items : B → List Row) where
+module _ {B : Type 0} (items : B → List NameRow) where
   pub some_blocks : (tag : Moment) (bs : List B) → is_some (row_of tag (flat items bs)) ≡ true → 0 < length bs
   some_blocks tag [] some = absurd (false≢true some)
   some_blocks tag (b ∷ bs) some = omega arith

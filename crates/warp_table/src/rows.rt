@@ -56,12 +56,12 @@ impl Known {
 
 /// What is known of the name of this tag.
 #[derive(Clone, Copy)]
-pub(crate) struct Row {
+pub(crate) struct NameRow {
     tag: Tag,
     known: Known,
 }
 
-impl Tagged for Row {
+impl Tagged for NameRow {
     ghost tag_of = { λ r. r.tag };
 
     fn tag(&self) -> Tag {
@@ -71,7 +71,7 @@ impl Tagged for Row {
 
 /// The place of the first row that is not before the tag, sought by halves.
 #[inline(never)]
-fn place_by_halves(rows: &[Row], tag: Tag) -> usize
+fn place_by_halves(rows: &[NameRow], tag: Tag) -> usize
     requires { AreInOrder rows.now }
     ensures place { result ≡ row_place tag rows.now }
     ensures within { result ≤ length rows.now }
@@ -80,7 +80,7 @@ fn place_by_halves(rows: &[Row], tag: Tag) -> usize
 }
 
 /// The place of the first row that is not before the tag: at the end, where what comes in order lands, and else sought.
-fn place_of(rows: &[Row], tag: Tag) -> usize
+fn place_of(rows: &[NameRow], tag: Tag) -> usize
     requires { AreInOrder rows.now }
     ensures { result ≡ row_place tag rows.now }
 {
@@ -97,7 +97,7 @@ fn place_of(rows: &[Row], tag: Tag) -> usize
 }
 
 /// What is known of the name of this tag; `None` where it has no row.
-fn known_at(rows: &[Row], tag: Tag) -> Option<Known>
+fn known_at(rows: &[NameRow], tag: Tag) -> Option<Known>
     requires { AreInOrder rows.now }
     ensures { result ≡ row_of tag rows.now }
 {
@@ -110,7 +110,7 @@ fn known_at(rows: &[Row], tag: Tag) -> Option<Known>
 }
 
 /// Has this known of the name of this tag, which has a row.
-fn set_at(rows: &mut [Row], tag: Tag, known: Known)
+fn set_at(rows: &mut [NameRow], tag: Tag, known: Known)
     requires in_order { AreInOrder rows.old }
     requires there { IsTrue (is_some (row_of tag rows.old)) }
     ensures tags { map (λ r. r.tag) rows.new ≡ map (λ r. r.tag) rows.old }
@@ -124,17 +124,17 @@ fn set_at(rows: &mut [Row], tag: Tag, known: Known)
 /// finds.
 #[derive(Drop)]
 pub(crate) struct Rows {
-    blocks: Vec<Vec<Row>>,
+    blocks: Vec<Vec<NameRow>>,
 }
 
 impl Model for Rows {
     ghost use Rattle.std.specs.Prelude.{List};
     ghost use Rattle.std.specs.Vec.{vec_items};
-    ghost use Rattle.warp_table.specs.declared.rows.Row.{Row};
+    ghost use Rattle.warp_table.specs.declared.rows.NameRow.{NameRow};
     ghost use Rattle.warp_table.specs.inner.Blocks.{AreBlocks, flat};
     ghost use Rattle.warp_table.specs.inner.NamesByOrigin.{AreInOrder};
 
-    ghost Value = { List Row };
+    ghost Value = { List NameRow };
 
     ghost view = { λ r. flat vec_items r.blocks.items };
 
@@ -206,7 +206,7 @@ impl Rows {
     {
         let at = make_room(&mut self.blocks, tag, near)?;
         announcer.note(kind, tag)?;
-        put(&mut self.blocks, at, Row { tag, known });
+        put(&mut self.blocks, at, NameRow { tag, known });
         Ok(())
     }
 }

@@ -1,14 +1,15 @@
 -- The command line of `warpd`, as the parser of the crate `clap` reads it, and what its words ask for.
-use Rattle.std.specs.Prelude.{◌≤◌, ℕ, List, [], true, Option, None, Some, codes, map, option_and_then, option_map, unwrap_or, if◌then◌else◌}
+use Rattle.std.specs.Prelude.{◌≤◌, ℕ, Bool, List, [], false, true, Option, None, Some, codes, map, option_and_then, option_map, unwrap_or, if◌then◌else◌}
+use Rattle.std.specs.Option.{option_map_or}
 use Rattle.std.specs.Str.{bytes_eq}
 use Rattle.std.specs.Str.Parse.{digits_value, without_leading_plus}
 use Rattle.clap.specs.Words.{App, Row, Rule, Text, all_of, first_of, new_app, new_rule, subcommand_of, with_rule, with_subcommand}
 use Rattle.clap.specs.Simple.{on_top}
 use Rattle.clap.specs.ValueTests.{is_unsigned_in}
-use Rattle.clap.specs.declared.builder.action.ArgAction.TheVariants.{Append}
+use Rattle.clap.specs.declared.builder.action.ArgAction.TheVariants.{Append, SetTrue}
 use Rattle.clap.specs.declared.builder.value_parser.ValueParser.TheVariants.{Unsigned}
 use Rattle.warp_words.specs.declared.command_line.Job.{Job}
-use Rattle.warp_words.specs.declared.command_line.Job.TheVariants.{Run, Play, Serve}
+use Rattle.warp_words.specs.declared.command_line.Job.TheVariants.{Run, Play, Serve, Check}
 
 -- a place for one word, which has to be there
 abbrev pub wanted_word : Text → Rule
@@ -49,6 +50,14 @@ serve_command =
     (wanted_word (codes "PROGRAM"))) (wanted_number (codes "port") last_port))
     (wanted_number (codes "sessions") most_sessions)) (any_words (codes "PEER"))
 
+-- an option that is there or not
+abbrev pub flag : Text → Rule
+flag name = record (new_rule name) { long = Some name; action = Some SetTrue }
+
+-- `check` with PROGRAM and `--numbers`
+abbrev pub check_command : App
+check_command = with_rule (with_rule (new_app (codes "check")) (wanted_word (codes "PROGRAM"))) (flag (codes "numbers"))
+
 -- `warpd` wants a subcommand, answers with help where no word comes, and has a version
 abbrev pub top_command : App
 top_command = on_top
@@ -57,14 +66,18 @@ top_command = on_top
 
 -- `warpd` with its subcommands
 abbrev pub warpd_command : App
-warpd_command = with_subcommand (with_subcommand (with_subcommand top_command run_command.top) play_command.top) serve_command.top
+warpd_command =
+    with_subcommand (with_subcommand (with_subcommand (with_subcommand top_command run_command.top) play_command.top)
+    serve_command.top) check_command.top
 
 -- what the words may ask for: to run the program of this name; or over the program of the first name to play the schedule of
--- the second; or to serve the program of this name at a port, for so many sessions, and to pull from these peers
+-- the second; or to serve the program of this name at a port, for so many sessions, and to pull from these peers; or to check the
+-- program of this name, and to tell its numbers or not
 pub data Task : Type 0 where
   RunProgram : Text → Task
   PlaySchedule : Text → Text → Task
   ServeProgram : Text → ℕ → ℕ → List Text → Task
+  CheckProgram : Text → Bool → Task
 
 -- what `run` asks for, of what was found for it: the word in the place of PROGRAM
 abbrev pub run_task : List Row → Option Task
@@ -97,12 +110,21 @@ serve_task found =
     (number_found (codes "sessions") most_sessions found)) (number_found (codes "port") last_port found))
     (first_of (codes "PROGRAM") found)
 
+-- whether the option of this name is there, of what was found
+abbrev pub is_set : Text → List Row → Bool
+is_set name found = option_map_or (λ word. bytes_eq word (codes "true")) (first_of name found) false
+
+-- what `check` asks for, of what was found for it: the word in the place of PROGRAM, and whether `--numbers` is there
+abbrev pub check_task : List Row → Option Task
+check_task found = option_map (λ program. CheckProgram program (is_set (codes "numbers") found)) (first_of (codes "PROGRAM") found)
+
 -- what the subcommand of this name asks for
 abbrev pub task_named : Text → List Row → Option Task
 task_named name found =
     if bytes_eq name (codes "run") then run_task found
     else (if bytes_eq name (codes "play") then play_task found
-    else (if bytes_eq name (codes "serve") then serve_task found else None))
+    else (if bytes_eq name (codes "serve") then serve_task found
+    else (if bytes_eq name (codes "check") then check_task found else None)))
 
 -- what a subcommand asks for, with what was found for it
 abbrev pub task_found : Option (Text × List Row) → Option Task
@@ -117,6 +139,7 @@ abbrev pub task_of : Job → Task
 task_of (Run program) = RunProgram program.now
 task_of (Play program schedule) = PlaySchedule program.now schedule.now
 task_of (Serve program port sessions peers) = ServeProgram program.now port sessions (map (λ word. word.now) peers.items)
+task_of (Check program with_numbers) = CheckProgram program.now with_numbers
 
 -- the port and the number of sessions are in their ranges
 abbrev pub IsInRange : Task → Type 0

@@ -7,10 +7,10 @@ ghost use Rattle.clap.specs.Words.{with_rule, with_subcommand};
 ghost use Rattle.clap.specs.declared.builder.command.Command.TheViews.{out-Command as fields_of};
 ghost use Rattle.warp_words.specs.Words.{play_command, play_task, run_command, run_task, task_found, task_in, task_of};
 ghost use Rattle.warp_words.specs.Words.{IsInRange, all_of_or_none, any_words, number_found, number_up_to};
-ghost use Rattle.warp_words.specs.Words.{serve_command, serve_task};
+ghost use Rattle.warp_words.specs.Words.{check_command, check_task, flag, is_set, serve_command, serve_task};
 ghost use Rattle.warp_words.specs.Words.{top_command, wanted_number, wanted_word, warpd_command};
 
-use crate::serve_help;
+use crate::{check_help, serve_help};
 use clap::builder::ValueParser;
 use clap::{Arg, ArgAction, ArgMatches, Command, Error};
 use std::alloc::{AllocError, Global};
@@ -40,6 +40,13 @@ pub enum Job<'a> {
         sessions: usize,
         /// The words that name the peers, in their order.
         peers: Vec<&'a str>,
+    },
+    /// Tell what is in a program file, or what is wrong in it and where.
+    Check {
+        /// The word that names the program to check.
+        program: &'a str,
+        /// Whether to tell the numbers of its things too.
+        with_numbers: bool,
     },
 }
 
@@ -105,7 +112,7 @@ Why a line is refused:
   9  it is longer than 128 bytes
  11  there is no board here
 
-Why a program file is refused:
+Why a program file is refused (warpd check says where):
   1  it is no JSON text
   2  it has not the shape of a program file
   3  it goes past a limit
@@ -175,6 +182,8 @@ const SESSIONS: &str = "sessions";
 
 const PEER: &str = "PEER";
 
+const NUMBERS: &str = "numbers";
+
 /// The highest port.
 const LAST_PORT: u64 = 65_535;
 
@@ -219,6 +228,9 @@ fn job_asked<'a>(alloc: Global, matches: &ArgMatches<'a>) -> Result<Option<Job<'
     if let Some(found) = matches.subcommand_matches("serve") {
         return serve_job(alloc, found);
     }
+    if let Some(found) = matches.subcommand_matches("check") {
+        return Ok(check_job(found));
+    }
     Ok(None)
 }
 
@@ -237,6 +249,28 @@ fn play_job<'a>(found: &ArgMatches<'a>) -> Option<Job<'a>>
     let program = text(found, PROGRAM)?;
     let schedule = text(found, SCHEDULE)?;
     Some(Job::Play { program, schedule })
+}
+
+/// What `check` asks for.
+fn check_job<'a>(found: &ArgMatches<'a>) -> Option<Job<'a>>
+    ensures { option_map task_of result ≡ check_task (rows_of (found_of found.now)) }
+{
+    let program = text(found, PROGRAM)?;
+    let with_numbers = is_set(found, NUMBERS);
+    Some(Job::Check {
+        program,
+        with_numbers,
+    })
+}
+
+/// Whether the option with this id is there.
+fn is_set(found: &ArgMatches<'_>, id: &str) -> bool
+    ensures { result ≡ is_set id.now (rows_of (found_of found.now)) }
+{
+    match text(found, id) {
+        Some(word) => word == "true",
+        None => false,
+    }
 }
 
 /// What `serve` asks for.
@@ -317,7 +351,22 @@ fn command<'a>(alloc: Global) -> Result<Command<'a>, AllocError>
 {
     let command = with_run(alloc)?;
     let command = with_play(command, play(alloc))?;
-    with_serve(command, serve(alloc))
+    let command = with_serve(command, serve(alloc))?;
+    with_check(command, check(alloc))
+}
+
+/// The command with this subcommand `check` too, if there was memory for it.
+fn with_check<'a>(
+    command: Command<'a>,
+    check: Result<Command<'a>, AllocError>,
+) -> Result<Command<'a>, AllocError>
+    requires { IfOk check (λ c. (app_of c ≡ check_command) × ((fields_of c).has_globals ≡ false)) }
+    ensures { IfOk result (λ c. app_of c ≡ with_subcommand (app_of command.entry) check_command.top) }
+{
+    match check {
+        Ok(check) => command.subcommand(check),
+        Err(error) => Err(error),
+    }
 }
 
 /// The command with this subcommand `serve` too, if there was memory for it.
@@ -414,6 +463,37 @@ fn serve<'a>(alloc: Global) -> Result<Command<'a>, AllocError>
         serve_help::SESSIONS_HELP,
     )?;
     with_words(alloc, serve, PEER, serve_help::PEER_HELP)
+}
+
+/// The subcommand `check`.
+fn check<'a>(alloc: Global) -> Result<Command<'a>, AllocError>
+    ensures shape { IfOk result (λ c. app_of c ≡ check_command) }
+    ensures local { IfOk result (λ c. (fields_of c).has_globals ≡ false) }
+{
+    let check = Command::new(alloc, "check")
+        .about(check_help::ABOUT)
+        .long_about(check_help::LONG_ABOUT)
+        .after_long_help(check_help::NOTES);
+    let check = with_word(alloc, check, PROGRAM, PROGRAM_HELP)?;
+    with_flag(alloc, check, NUMBERS, check_help::NUMBERS_HELP)
+}
+
+/// The command with an option that may be there.
+fn with_flag<'a>(
+    alloc: Global,
+    command: Command<'a>,
+    name: &'a str,
+    help: &'a str,
+) -> Result<Command<'a>, AllocError>
+    ensures shape { IfOk result (λ c. app_of c ≡ with_rule (app_of command.entry) (flag name.entry.now)) }
+    ensures local { (fields_of command.entry).has_globals ≡ false →
+        IfOk result (λ c. (fields_of c).has_globals ≡ false) }
+{
+    let option = Arg::new(alloc, name)
+        .long(name)
+        .action(ArgAction::SetTrue)
+        .help(help);
+    command.arg(option)
 }
 
 /// The command with places for any number of words.

@@ -1,6 +1,7 @@
 //! The words of the command line of `warpd`: what they ask for, or the text that says why they ask for nothing.
 #![tactic(auto)]
 
+mod check_help;
 mod command_line;
 mod serve_help;
 

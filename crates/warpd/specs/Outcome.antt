@@ -1,5 +1,5 @@
 -- How a run of the program ends.
-use Rattle.std.specs.Prelude.{◌≡◌, ◌≢◌, ◌⊎◌, ◌+◌, ◌<◌, ◌≤◌, ℕ, List, [], ◌++◌, Option, Some, IfSome, codes, decimal, length, take}
+use Rattle.std.specs.Prelude.{◌≡◌, ◌≢◌, ◌⊎◌, ◌+◌, ◌<◌, ◌≤◌, ℕ, Bool, List, [], ◌++◌, Option, Some, IfSome, codes, decimal, length, take}
 use Rattle.std.specs.Io.KnownBytes.{Appends}
 use Rattle.clap.specs.Words.{IsAmong, Text, fault_of}
 use Rattle.clap.specs.declared.error.kind.ErrorKind.{ErrorKind}
@@ -7,6 +7,7 @@ use Rattle.clap.specs.declared.error.kind.ErrorKind.TheVariants as kind
 use Rattle.warp_tag.specs.Limits.{most_reads}
 use Rattle.warp_step.specs.Program.{Program as ReactorProgram}
 use Rattle.warp_step.specs.Twice.{twice}
+use Rattle.warp_prog.specs.Explain.{IsLabelled, Names, account_text}
 use Rattle.warp_prog.specs.Load.{IsLoaded, IsRefused}
 use Rattle.warp_prog.specs.Refusal.{number_of}
 use Rattle.warp_prog.specs.declared.error.LoadError.{LoadError}
@@ -19,7 +20,7 @@ use Rattle.warp_session.specs.Session.{FailsSo}
 use Rattle.warp_session.specs.Stream.{WritesFront}
 use Rattle.warp_world.specs.Play.{PlaysSchedule}
 use Rattle.warp_lanes.specs.Engine.{most_lanes}
-use Rattle.warp_words.specs.Words.{Task, RunProgram, PlaySchedule, ServeProgram, task_in, warpd_command}
+use Rattle.warp_words.specs.Words.{Task, RunProgram, PlaySchedule, ServeProgram, CheckProgram, task_in, warpd_command}
 use Rattle.warp_session.specs.declared.door.ServeFault.{ServeFault}
 use Rattle.warp_session.specs.declared.door.ServeFault.TheVariants as serve_fault
 use Rattle.warp_session.specs.declared.desk_session.SessionEnd.{SessionEnd}
@@ -133,6 +134,24 @@ IsPrinted text before after outcome =
     × (((outcome ≡ Done) × Appends before.written after.written text × (after.failed_writes ≡ before.failed_writes))
     ⊎ ((outcome ≡ Output) × WritesFront before.written after.written text × (after.failed_writes ≡ before.failed_writes + 1)))
 
+-- a text tells of the program that these bytes spell what is in it, by the labels of the file, with its numbers where they are
+-- wanted
+abbrev pub IsToldOf : List ℕ → Bool → List ℕ → Type 0
+IsToldOf bytes with_numbers text =
+    (P : ReactorProgram) × (names : Names) × IsLoaded bytes P × IsLabelled bytes names × (text ≡ account_text P names with_numbers)
+
+-- a text tells so of the program of this name: of `builtin:twice`, or of that of some bytes, which were read of a file
+abbrev pub IsTold : List ℕ → Bool → List ℕ → Type 0
+IsTold name with_numbers text =
+    (name ≡ codes "builtin:twice" → (names : Names) × (text ≡ account_text twice names with_numbers))
+    × (name ≢ codes "builtin:twice" → (bytes : List ℕ) × IsToldOf bytes with_numbers text)
+
+-- checking the program of this name ends so: what tells of it is printed; or where there is none, nothing is printed
+abbrev pub Checks : List ℕ → Bool → Seen → Seen → Outcome → Type 0
+Checks name with_numbers before after outcome =
+    ((text : List ℕ) × IsTold name with_numbers text × IsPrinted text before after outcome)
+    ⊎ (IsNone name outcome × (after ≡ before))
+
 -- the outcome where a schedule was refused so: the line where it was, but for want of memory
 abbrev pub fault_outcome : ScheduleFault → Outcome
 fault_outcome (schedule_fault.Line number) = Schedule number
@@ -197,6 +216,7 @@ Does (RunProgram program) before after outcome = Runs program before after outco
 Does (PlaySchedule program schedule) before after outcome = Plays program before after outcome
 Does (ServeProgram program port sessions peers) before after outcome =
     ServesInLanes program port (sessions + length peers) before after outcome
+Does (CheckProgram program with_numbers) before after outcome = Checks program with_numbers before after outcome
 
 -- the run whose words are these ends so: words with no fault have what they ask for done, and of others the
 -- parser's text is shown; for want of memory nothing is done

@@ -1,6 +1,7 @@
 //! The program `warpd`: it reads the words, runs the job, and tells how that ended.
 #![tactic(auto)]
 
+mod checking;
 mod connection;
 mod file_bytes;
 mod outcome;
@@ -17,11 +18,12 @@ ghost use Rattle.std.specs.declared.io.ErrorKind.TheVariants.{OutOfMemory};
 ghost use Rattle.clap.specs.Words.{kind_of};
 ghost use Rattle.warp_lanes.specs.Engine.{most_lanes};
 ghost use Rattle.warp_step.specs.Counter.{IsUnused};
-ghost use Rattle.warpd.specs.Outcome.{Does, EndsSo, IsPrinted, IsShown, Obeys, Plays, PlaysBytes, PlaysOver, Runs};
+ghost use Rattle.warpd.specs.Outcome.{Checks, Does, EndsSo, IsPrinted, IsShown, Obeys, Plays, PlaysBytes, PlaysOver, Runs};
 ghost use Rattle.warpd.specs.Outcome.{Seen, ServesAt, ServesInLanes, ServesNamed, ready_line, untouched};
 ghost use Rattle.warpd.specs.Outcome.{told_line, status_of};
 ghost use Rattle.warp_words.specs.Words.{task_of};
 
+use checking::account_of;
 use clap::error::ErrorKind;
 use outcome::{Outcome, outcome_of, outcome_of_fault, outcome_of_serving, ready, say, status};
 use program_file::program_named;
@@ -35,6 +37,7 @@ use std::net::{Net, TcpListener, TcpStream};
 use std::process::ExitCode;
 use std::sync::ledger::{Blank, Ledger};
 use std::{env, io};
+use warp_line::Timeline;
 use warp_run::Warp;
 use warp_session::{SessionEnd, Sink, Source, Stream, run_session, write_all};
 use warp_step::Program;
@@ -83,8 +86,10 @@ fn start<
     let mut streams = Streams {
         source: Stream::<_, L>::new(input, reads),
         sink: Stream::<_, M>::new(output, writes),
+        remark: String::new(alloc),
     };
     let (status, _told) = perform(rt, alloc, arguments, &mut streams, errors);
+    let _ = errors.write_all(streams.remark.as_str().as_bytes());
     status
 }
 
@@ -93,6 +98,8 @@ fn start<
 struct Streams<R: Source, W: Sink> {
     source: R,
     sink: W,
+    // What standard error tells behind the line of the outcome.
+    remark: String,
 }
 
 impl<R: Source, W: Sink> Model for Streams<R, W> {
@@ -210,6 +217,10 @@ fn carry_out<P: Host + Net<Listener = TcpListener, Stream = TcpStream>, R: Sourc
             };
             serve(rt, alloc, program, &service, streams)
         }
+        Job::Check {
+            program,
+            with_numbers,
+        } => check(rt, alloc, program, with_numbers, streams),
     }
 }
 
@@ -272,7 +283,7 @@ fn answer<R: Source, W: Sink>(
 ) -> SessionEnd
     ensures { EndsSo program streams.old streams.new result }
 {
-    run_session(alloc, program, &mut streams.source, &mut streams.sink)
+    run_session::<Warp, R, W>(alloc, program, &mut streams.source, &mut streams.sink)
 }
 
 /// Plays the schedule of the file with the second name over the program of the first, and prints what it gives.
@@ -322,6 +333,22 @@ fn play_bytes<R: Source, W: Sink>(
     }
 }
 
+/// Tells what is in the program of this name, or in the remark why its file is refused.
+fn check<F: Files, R: Source, W: Sink>(
+    files: &F,
+    alloc: Global,
+    name: &str,
+    with_numbers: bool,
+    streams: &mut Streams<R, W>,
+) -> Outcome
+    ensures { Checks name.now with_numbers streams.old streams.new result }
+{
+    match account_of(files, alloc, name, with_numbers, &mut streams.remark) {
+        Ok(text) => print(text.as_str().as_bytes(), streams),
+        Err(outcome) => outcome,
+    }
+}
+
 /// Serves sessions of the program of this name over TCP, where there are lanes enough.
 fn serve<P: Host + Net<Listener = TcpListener, Stream = TcpStream>, R: Source, W: Sink>(
     rt: &P,
@@ -352,13 +379,18 @@ fn serve_named<P: Host + Net<Listener = TcpListener, Stream = TcpStream>, R: Sou
     ensures { ServesNamed name.now service.now.port streams.old streams.new result }
 {
     match program_named(rt, alloc, name) {
-        Ok(program) => serve_program(rt, alloc, program, service, streams),
+        Ok(program) => serve_program::<P, Warp, R, W>(rt, alloc, program, service, streams),
         Err(outcome) => outcome,
     }
 }
 
 /// Listens, says so, and serves sessions of the program.
-fn serve_program<P: Host + Net<Listener = TcpListener, Stream = TcpStream>, R: Source, W: Sink>(
+fn serve_program<
+    P: Host + Net<Listener = TcpListener, Stream = TcpStream>,
+    T: Timeline + Send + Drop,
+    R: Source,
+    W: Sink,
+>(
     rt: &P,
     alloc: Global,
     program: Program,
@@ -372,7 +404,7 @@ fn serve_program<P: Host + Net<Listener = TcpListener, Stream = TcpStream>, R: S
         return Outcome::Listen;
     };
     if say_ready(service.port, streams) {
-        outcome_of_serving(serve_at(rt, alloc, program, listener, service))
+        outcome_of_serving(serve_at::<P, T>(rt, alloc, program, listener, service))
     } else {
         Outcome::Output
     }

@@ -1,6 +1,7 @@
 //! How a run of the program ends: its exit status, and the line that it says on standard error.
 ghost use Rattle.std.specs.Prelude.{◌≡◌, ◌+◌, ◌++◌, ◌≤◌, [], ◌∷◌, MatchResult, decimal, length};
-ghost use Rattle.warpd.specs.Outcome.{EndsServing, end_outcome, fault_outcome, ready_line, serve_outcome, told_line, status_of};
+ghost use Rattle.warpd.specs.Outcome.{EndsServing, end_outcome, fault_outcome, ready_line, serve_outcome};
+ghost use Rattle.warpd.specs.Outcome.{told_line, status_of};
 
 use arrayvec::ArrayString;
 use itoa::Buffer;

@@ -14,7 +14,7 @@ use warp_prog::{LoadError, load};
 use warp_step::Program;
 
 /// One more than the most bytes of a program file: as many are read, so that a longer one is seen to be longer.
-const ENOUGH: u64 = 1_048_577;
+pub(crate) const ENOUGH: u64 = 1_048_577;
 
 /// The program of this name: `builtin:twice`, or that of the file at this path.
 pub(crate) fn program_named<F: Files>(
@@ -73,7 +73,7 @@ fn spelled_program(alloc: Global, bytes: &[u8]) -> Result<Program, Outcome>
 }
 
 /// How the run ends where the file was refused.
-fn refused(error: LoadError) -> Outcome
+pub(crate) fn refused(error: LoadError) -> Outcome
     ensures { result ≡ refused_outcome error }
 {
     match error {

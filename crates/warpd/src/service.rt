@@ -12,7 +12,7 @@ use std::sync::Wait;
 use std::thread::Threads;
 use std::time::{Clock, Duration};
 use warp_lanes::Engine;
-use warp_run::Warp;
+use warp_line::Timeline;
 use warp_session::{Door, DoorFault, Open, Peer, PullEnd, ServeFault, serve_sessions};
 use warp_step::Program;
 
@@ -148,13 +148,16 @@ fn reach_all<X: Eprint + Net<Listener = TcpListener, Stream = TcpStream>>(
 }
 
 /// Connects to the peers, and serves the sessions that come to the listener. Gives the engine that served them.
-pub(crate) fn serve_at<X: Host + Net<Listener = TcpListener, Stream = TcpStream>>(
+pub(crate) fn serve_at<
+    X: Host + Net<Listener = TcpListener, Stream = TcpStream>,
+    T: Timeline + Send + Drop,
+>(
     rt: &X,
     alloc: Global,
     program: Program,
     listener: TcpListener,
     service: &Service<'_>,
-) -> Result<Engine<Warp>, ServeFault>
+) -> Result<Engine<T>, ServeFault>
     requires { service.now.sessions + vec_len service.now.peers ≤ most_lanes }
     ensures { IfOk result (λ engine. (engine.replica.program ≡ program) × (engine.began ≡ 0)) }
 {
@@ -165,14 +168,14 @@ pub(crate) fn serve_at<X: Host + Net<Listener = TcpListener, Stream = TcpStream>
 }
 
 /// Serves the sessions that come to the listener, and pulls from the peers.
-fn serve_with<X: Host>(
+fn serve_with<X: Host, T: Timeline + Send + Drop>(
     rt: &X,
     alloc: Global,
     program: Program,
     listener: TcpListener,
     sessions: usize,
     peers: Vec<Peer<Connection, Connection>>,
-) -> Result<Engine<Warp>, ServeFault>
+) -> Result<Engine<T>, ServeFault>
     requires { sessions + vec_len peers ≤ most_lanes }
     ensures { IfOk result (λ engine. (engine.replica.program ≡ program) × (engine.began ≡ 0)) }
 {

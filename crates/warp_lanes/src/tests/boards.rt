@@ -2,7 +2,7 @@
 ghost use Rattle.std.specs.Prelude.{◌≡◌, ◌≤◌, false, length};
 ghost use Rattle.warp_tag.specs.Limits.{most_rows};
 
-use crate::tests::steps::{announcement, at, engine, event, fresh_lane, told, twice};
+use crate::tests::steps::{announcement, at, end, engine, engine_of_one, event, same, told};
 use crate::{Engine, Port, Published, may_be_sent};
 use std::alloc::Global;
 use std::process::Abort;
@@ -10,6 +10,21 @@ use warp_board::{Board, Reader, board};
 use warp_line::{Plain, Timeline};
 use warp_record::{Line, Reply};
 use warp_tag::Out;
+
+/// Settles and publishes, with this outcome.
+fn publish_once<T: Timeline>(
+    rt: &impl Abort,
+    alloc: Global,
+    board: &Board,
+    engine: &mut Engine<T>,
+    published: Published,
+)
+    requires { engine.old.writer.board ≡ board.now }
+    ensures { engine.new.writer.board ≡ board.now }
+{
+    engine.settle(alloc).expect(rt, "memory");
+    same(rt, &engine.publish(board), &published);
+}
 
 /// Settles and publishes, two times, with the same outcome.
 fn publish_twice<T: Timeline>(
@@ -22,10 +37,8 @@ fn publish_twice<T: Timeline>(
     requires { engine.old.writer.board ≡ board.now }
     ensures { engine.new.writer.board ≡ board.now }
 {
-    engine.settle(alloc).expect(rt, "memory");
-    assert_eq!(rt; engine.publish(board), published);
-    engine.settle(alloc).expect(rt, "memory");
-    assert_eq!(rt; engine.publish(board), published);
+    publish_once(rt, alloc, board, engine, published);
+    publish_once(rt, alloc, board, engine, published);
 }
 
 /// The row at a place of the board has this time and value.
@@ -38,7 +51,7 @@ fn has_row(rt: &impl Abort, board: &Board, reader: &mut Reader, place: u64, row:
         port: 0,
         value: row.1,
     };
-    assert_eq!(rt; reader.row(board, place), Some(out), "row {place}");
+    same(rt, &reader.row(board, place), &Some(out));
 }
 
 /// The board has so many rows, and is frozen or not.
@@ -46,9 +59,9 @@ fn has_size(rt: &impl Abort, board: &Board, reader: &mut Reader, count: u64, is_
     requires { reader.old.board ≡ board.now }
     ensures { reader.new.board ≡ board.now }
 {
-    assert_eq!(rt; reader.count(board), count);
-    assert_eq!(rt; reader.frozen(board), is_frozen);
-    assert_eq!(rt; reader.row(board, count), None);
+    same(rt, &reader.count(board), &count);
+    same(rt, &reader.frozen(board), &is_frozen);
+    same(rt, &reader.row(board, count), &None);
 }
 
 /// The board has these rows, the second only if it is to have two.
@@ -74,7 +87,8 @@ fn take<T: Timeline>(
     ensures { engine.new.writer ≡ engine.old.writer }
 {
     let reply = told(rt, alloc, engine, port, line);
-    assert!(rt; matches!(&reply, Reply::Taken(_)), "{reply:?}");
+    let is_taken = matches!(&reply, Reply::Taken(_));
+    assert!(rt; is_taken);
 }
 
 /// Both origins announce what comes before time 10, and so many events of the first one come, at 5 and after.
@@ -128,9 +142,7 @@ fn publish_on<T: Timeline + Drop>(rt: &impl Abort, alloc: Global, room: usize, c
     requires most { room ≤ most_rows }
 {
     let (board, writer, mut reader) = board(alloc, room).expect(rt, "memory");
-    let (mut port, lane) = fresh_lane(rt, alloc);
-    let lanes = vec![in alloc; lane].expect(rt, "memory");
-    let mut engine = engine::<T>(rt, alloc, lanes, writer);
+    let (mut engine, mut port) = engine_of_one::<T>(rt, alloc, writer);
     publish_and_freeze(
         rt,
         alloc,
@@ -140,6 +152,8 @@ fn publish_on<T: Timeline + Drop>(rt: &impl Abort, alloc: Global, room: usize, c
         &mut port,
         counts,
     );
+    end((engine, port));
+    end((board, reader));
 }
 
 #[test]
@@ -154,11 +168,13 @@ fn a_board_of_two_rows(rt: HostRuntime) {
 
 /// An engine without lanes, which was sent to another thread, publishes nothing.
 fn publish_nothing<T: Timeline + Send + Drop>(rt: &impl Abort, alloc: Global) {
-    let (board, writer, _) = board(alloc, 2).expect(rt, "memory");
+    let (board, writer, reader) = board(alloc, 2).expect(rt, "memory");
     let mut engine = may_be_sent(engine::<T>(rt, alloc, Vec::new(alloc), writer));
     engine.valid();
-    assert_eq!(rt; (engine.lane_count(), engine.began()), (0, 0));
+    same(rt, &(engine.lane_count() + engine.began()), &0);
     publish_twice(rt, alloc, &board, &mut engine, Published::Rows(0));
+    end(engine);
+    end((board, reader));
 }
 
 #[test]

@@ -1,6 +1,6 @@
 //! Two lanes with 20,000 drawn lines each, under a drawn schedule in one thread.
 use crate::tests::judge::{Judge, judge_both};
-use crate::tests::steps::{TOTAL, at, engine, event, fresh_lane, turn, unseen_writer};
+use crate::tests::steps::{TOTAL, at, end, engine_of_two, event, same, turn};
 use crate::{Answer, Engine, Port, Turn};
 use std::alloc::Global;
 use std::process::Abort;
@@ -93,7 +93,7 @@ impl Side {
                 self.next = self.dice.roll();
             }
             Err(back) => {
-                assert_eq!(rt; back, line);
+                same(rt, &back, &line);
                 self.came_back = self.came_back.wrapping_add(1);
             }
         }
@@ -113,21 +113,22 @@ impl Side {
 
     /// Each line was sent and answered, and some came back before.
     fn has_ended(&self, rt: &impl Abort) {
-        assert_eq!(rt; (self.sent.len(), self.told.len()), (LINES, LINES));
-        assert_eq!(rt; self.port.waiting(), 0);
+        same(rt, &self.sent.len(), &LINES);
+        same(rt, &self.told.len(), &LINES);
+        same(rt, &self.port.waiting(), &0);
         assert!(rt; self.came_back > 0);
     }
 }
 
-/// How turns ended.
+/// How many turns ended in each way.
 #[derive(Drop)]
-struct Turns {
+struct Ends {
     served: u32,
     empty: u32,
     stalled: u32,
 }
 
-impl Turns {
+impl Ends {
     fn count(&mut self, turn: Turn) {
         let count = match turn {
             Turn::Served => &mut self.served,
@@ -145,7 +146,7 @@ fn step<T: Timeline>(
     engine: &mut Engine<T>,
     side: &mut Side,
     lane: usize,
-    turns: &mut Turns,
+    turns: &mut Ends,
     draw: u64,
 ) {
     match draw % 3 {
@@ -162,7 +163,7 @@ fn run<T: Timeline>(
     engine: &mut Engine<T>,
     first: &mut Side,
     second: &mut Side,
-    turns: &mut Turns,
+    turns: &mut Ends,
 ) {
     let mut dice = Dice { state: 7 };
     for _step in 0..STEPS {
@@ -186,7 +187,7 @@ fn run_both<T: Timeline>(
     first: &mut Side,
     second: &mut Side,
 ) {
-    let mut turns = Turns {
+    let mut turns = Ends {
         served: 0,
         empty: 0,
         stalled: 0,
@@ -194,32 +195,42 @@ fn run_both<T: Timeline>(
     run(rt, alloc, engine, first, second, &mut turns);
     first.has_ended(rt);
     second.has_ended(rt);
-    assert_eq!(rt; turns.served as usize, 2 * LINES);
+    same(rt, &(turns.served as usize), &(2 * LINES));
     assert!(rt; turns.empty > 0 && turns.stalled > 0);
 }
 
 /// The replica's log is the list that the test kept.
 fn has_log<T: Timeline>(rt: &impl Abort, engine: &Engine<T>, judge: &Judge) {
     let log = judge.log();
-    assert_eq!(rt; engine.replica().len() as usize, log.len());
+    same(rt, &(engine.replica().len() as usize), &log.len());
     let mut place = 0u32;
     for record in log {
         place = place.wrapping_add(1);
-        assert_eq!(rt; engine.replica().entry(place), Some(*record));
+        same(rt, &engine.replica().entry(place), &Some(*record));
     }
     assert!(rt; place > 10_000);
 }
 
-/// Two ports, an engine and a judge.
+/// What both were told is right, and the log too.
+fn judged<T: Timeline>(
+    rt: &impl Abort,
+    alloc: Global,
+    engine: &Engine<T>,
+    first: &Side,
+    second: &Side,
+) {
+    has_log(rt, engine, &judge_both(rt, alloc, first, second));
+}
+
+/// Two ports and an engine.
 fn two_lanes<T: Timeline + Drop>(rt: &impl Abort, alloc: Global) {
-    let (port, lane) = fresh_lane(rt, alloc);
-    let (other, last) = fresh_lane(rt, alloc);
-    let lanes = vec![in alloc; lane, last].expect(rt, "memory");
-    let mut engine = engine::<T>(rt, alloc, lanes, unseen_writer(rt, alloc));
+    let (mut engine, (port, other)) = engine_of_two::<T>(rt, alloc);
     let mut first = Side::new(alloc, port, 20);
     let mut second = Side::new(alloc, other, 26);
     run_both(rt, alloc, &mut engine, &mut first, &mut second);
-    has_log(rt, &engine, &judge_both(rt, alloc, &first, &second));
+    judged(rt, alloc, &engine, &first, &second);
+    end(engine);
+    end((first, second));
 }
 
 #[test]

@@ -6,6 +6,7 @@ ghost use Rattle.std.specs.Prelude.{◌<◌};
 
 use crate::Answer;
 use crate::tests::history::{LINES, Side};
+use crate::tests::steps::same;
 use std::alloc::Global;
 use std::process::Abort;
 use warp_record::{Line, Query, Record, Refusal, Reply};
@@ -165,8 +166,8 @@ impl Judge {
     /// The next line and its answer.
     fn judge(&mut self, rt: &impl Abort, line: &Line, answer: &Answer) {
         let reply = self.reply(rt, line);
-        assert_eq!(rt; answer.reply, reply, "{line:?}");
-        assert_eq!(rt; answer.len, self.len(), "{line:?}");
+        same(rt, &answer.reply, &reply);
+        same(rt, &answer.len, &self.len());
     }
 }
 

@@ -1,9 +1,10 @@
 //! Steps that the tests of lanes share: lines, engines of the program `twice`, turns, and what a port is told.
-ghost use Rattle.std.specs.Prelude.{◌≡◌, ◌≤◌, [], false, length};
+ghost use Rattle.std.specs.Prelude.{◌≡◌, ◌≤◌, [], ◌∷◌, false, length};
 ghost use Rattle.warp_lanes.specs.Engine.{AreFresh, IsFresh, ids_of, most_lanes};
 
-use crate::{Engine, Lane, Port, Turn, lane};
+use crate::{Answer, Engine, Lane, Port, Turn, lane};
 use std::alloc::Global;
+use std::fmt::Debug;
 use std::process::Abort;
 use warp_board::{Writer, board};
 use warp_line::Timeline;
@@ -84,6 +85,51 @@ pub(crate) fn engine<T: Timeline + Drop>(
     Engine::new(twice(rt, alloc), lanes, writer)
 }
 
+/// A writer's engine of one lane, and the lane's port.
+pub(crate) fn engine_of_one<T: Timeline + Drop>(
+    rt: &impl Abort,
+    alloc: Global,
+    writer: Writer,
+) -> (Engine<T>, Port)
+    requires rows { writer.rows ≡ [] }
+    requires flag { writer.frozen ≡ false }
+    ensures lane { ids_of result.0.lanes ≡ result.1.lane ∷ [] }
+    ensures writer { result.0.writer ≡ writer }
+{
+    let (port, lane) = fresh_lane(rt, alloc);
+    let lanes = vec![in alloc; lane].expect(rt, "memory");
+    (engine(rt, alloc, lanes, writer), port)
+}
+
+/// An engine of two lanes whose board no test looks at, and their ports.
+pub(crate) fn engine_of_two<T: Timeline + Drop>(
+    rt: &impl Abort,
+    alloc: Global,
+) -> (Engine<T>, (Port, Port)) {
+    let (port, first) = fresh_lane(rt, alloc);
+    let (other, second) = fresh_lane(rt, alloc);
+    let lanes = vec![in alloc; first, second].expect(rt, "memory");
+    let engine = engine(rt, alloc, lanes, unseen_writer(rt, alloc));
+    (engine, (port, other))
+}
+
+/// What was found is what was wanted.
+pub(crate) fn same<X: PartialEq + Debug>(rt: &impl Abort, found: &X, wanted: &X) {
+    assert_eq!(rt; found, wanted);
+}
+
+/// Lets go of a value: what owns several is proved quicker where it does this by a call.
+pub(crate) fn end<X: Drop>(value: X) {
+    drop(value);
+}
+
+/// The port sends this line, which does not come back.
+pub(crate) fn send(rt: &impl Abort, port: &mut Port, line: Line)
+    ensures { port.new.lane ≡ port.old.lane }
+{
+    assert!(rt; port.send(line).is_ok());
+}
+
 /// A turn at one of its lanes.
 pub(crate) fn turn<T: Timeline>(
     rt: &impl Abort,
@@ -99,6 +145,11 @@ pub(crate) fn turn<T: Timeline>(
     engine.turn(alloc, lane)
 }
 
+/// The next answer of the port.
+pub(crate) fn fetched(rt: &impl Abort, port: &mut Port) -> Answer {
+    port.reply().expect(rt, "an answer")
+}
+
 /// The port sends this line, and its lane, the first one, is served: what the port is told.
 pub(crate) fn told<T: Timeline>(
     rt: &impl Abort,
@@ -109,9 +160,9 @@ pub(crate) fn told<T: Timeline>(
 ) -> Reply
     ensures { engine.new.writer ≡ engine.old.writer }
 {
-    assert_eq!(rt; port.send(line), Ok(()));
-    assert_eq!(rt; turn(rt, alloc, engine, 0), Turn::Served);
-    let answer = port.reply().expect(rt, "an answer");
-    assert_eq!(rt; port.waiting(), 0);
+    send(rt, port, line);
+    same(rt, &turn(rt, alloc, engine, 0), &Turn::Served);
+    let answer = fetched(rt, port);
+    same(rt, &port.waiting(), &0);
     answer.reply
 }

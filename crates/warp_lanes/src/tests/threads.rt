@@ -1,15 +1,16 @@
-//! Ports in threads of their own, and the engine in another.
-ghost use Rattle.std.specs.Prelude.{◌≡◌, ◌≤◌, [], ◌∷◌, Some, length, slice_get};
+//! Ports in threads of their own, and the engine beside them.
+ghost use Rattle.std.specs.Prelude.{◌≡◌, ◌≤◌, [], ◌∷◌, length};
 ghost use Rattle.warp_lanes.specs.Engine.{AreFresh, ids_of, most_lanes};
 
 use crate::tests::draining::drain;
-use crate::tests::steps::{TOTAL, at, engine, event, fresh_lane, told, unseen_writer};
+use crate::tests::steps::{
+    TOTAL, at, end, engine, engine_of_one, event, fresh_lane, same, told, unseen_writer,
+};
 use crate::{Answer, Engine, Lane, Port, PortEnd, Turn};
 use std::alloc::Global;
 use std::process::Abort;
-use std::sync::Wait;
 use std::thread;
-use std::thread::{JoinHandle, Scope, Threads};
+use std::thread::Threads;
 use std::time::{Clock, Duration};
 use warp_line::{Plain, Timeline};
 use warp_record::{Line, Query, Reply};
@@ -80,21 +81,20 @@ struct Ended {
     end: PortEnd,
 }
 
-/// Sends a line, waits for its answer, and ends the port.
-fn ask_and_end<R: Clock + Abort>(rt: &R, mut port: Port, line: Line) -> Ended
+/// Sends an event, waits for its answer, and ends the port.
+fn ask_and_end<R: Clock + Abort>(rt: &R, mut port: Port) -> Ended
     ensures { result.end.lane ≡ port.lane }
 {
-    let place = place_of(rt, &mut port, line);
+    let place = place_of(rt, &mut port, event(rt, 0, 5, 3));
     let end = port.finish().expect(rt, "the lane is there");
     Ended { place, end }
 }
 
-/// A port in a thread of its own, beside the engine, which serves two commands.
+/// A port in a thread of its own, beside the engine, which serves its command.
 fn ask_beside<T: Timeline, R: Threads + Clock + Abort + Sync>(
     rt: &R,
     alloc: Global,
     port: Port,
-    line: Line,
     engine: Engine<T>,
 ) -> (Ended, (Engine<T>, u32))
     ensures end { result.0.end.lane ≡ port.lane }
@@ -102,209 +102,147 @@ fn ask_beside<T: Timeline, R: Threads + Clock + Abort + Sync>(
 {
     thread::join(
         rt,
-        move || ask_and_end(rt, port, line),
-        move || serve(rt, alloc, engine, 2),
+        move || ask_and_end(rt, port),
+        move || serve(rt, alloc, engine, 1),
     )
 }
 
-/// Two ports in threads of their own, beside the engine.
-fn ask_both<T: Timeline, R: Threads + Clock + Abort + Sync>(
+/// A port sends an event and ends, both in a thread of its own; its lane is drained, of which nothing is left.
+fn end_over<T: Timeline + Drop, R: Threads + Clock + Abort + Sync>(
     rt: &R,
     alloc: Global,
-    first: (Port, Line),
-    second: (Port, Line),
-    engine: Engine<T>,
-) -> (Ended, (Ended, (Engine<T>, u32)))
-    ensures first { result.0.end.lane ≡ first.0.lane }
-    ensures second { result.1.0.end.lane ≡ second.0.lane }
-    ensures ids { ids_of result.1.1.0.lanes ≡ ids_of engine.lanes }
-{
-    let (port, line) = first;
-    let (other, last) = second;
-    thread::join(
-        rt,
-        move || ask_and_end(rt, port, line),
-        move || ask_beside(rt, alloc, other, last, engine),
-    )
-}
-
-/// The two were told one place each, and their lanes are drained, of which nothing is left.
-fn drain_both<T: Timeline>(
-    rt: &impl Abort,
-    alloc: Global,
-    engine: &mut Engine<T>,
-    first: Ended,
-    second: Ended,
-)
-    requires first { slice_get (ids_of engine.old.lanes) 0 ≡ Some first.end.lane }
-    requires second { slice_get (ids_of engine.old.lanes) 1 ≡ Some second.end.lane }
-{
-    let places = (first.place.min(second.place), first.place.max(second.place));
-    assert_eq!(rt; places, (1, 2));
-    assert!(rt; drain(rt, alloc, engine, 0, first.end).is_empty());
-    assert!(rt; drain(rt, alloc, engine, 1, second.end).is_empty());
-}
-
-/// What a query is answered, once all is executed.
-fn answer<T: Timeline>(
-    rt: &impl Abort,
-    alloc: Global,
-    engine: &mut Engine<T>,
-    query: Query,
-) -> Reply {
-    engine.settle(alloc).expect(rt, "memory");
-    engine.replica().answer(query)
-}
-
-/// Two ports send an event each, are answered and drained, and both events count.
-fn meet_over<T: Timeline + Drop, R: Threads + Clock + Abort + Sync>(
-    rt: &R,
-    alloc: Global,
-    first: (Port, Line),
-    second: (Port, Line),
+    port: Port,
     engine: Engine<T>,
 )
-    requires { ids_of engine.lanes ≡ first.0.lane ∷ second.0.lane ∷ [] }
+    requires { ids_of engine.lanes ≡ port.lane ∷ [] }
 {
-    let (one, (other, (mut engine, served))) = ask_both(rt, alloc, first, second, engine);
-    assert_eq!(rt; served, 2);
-    drain_both(rt, alloc, &mut engine, one, other);
-    let total = answer(rt, alloc, &mut engine, Query::Var(0));
-    assert_eq!(rt; total, Reply::Var { log: 2, value: -5 });
+    let (ended, (mut engine, served)) = ask_beside(rt, alloc, port, engine);
+    same(rt, &ended.place, &1);
+    same(rt, &served, &1);
+    same(rt, &drain(rt, alloc, &mut engine, 0, ended.end).len(), &0);
+    end(engine);
 }
 
 /// The same over a new engine.
-fn meet<T: Timeline + Drop, R: Threads + Clock + Abort + Sync>(rt: &R, alloc: Global) {
-    let (port, first) = fresh_lane(rt, alloc);
-    let (other, second) = fresh_lane(rt, alloc);
-    let lanes = vec![in alloc; first, second].expect(rt, "memory");
-    let engine = engine::<T>(rt, alloc, lanes, unseen_writer(rt, alloc));
-    let one = (port, event(rt, 0, 5, 3));
-    let another = (other, event(rt, 1, 2, 4));
-    meet_over(rt, alloc, one, another, engine);
+fn end_in_thread<T: Timeline + Drop, R: Threads + Clock + Abort + Sync>(rt: &R, alloc: Global) {
+    let (engine, port) = engine_of_one::<T>(rt, alloc, unseen_writer(rt, alloc));
+    end_over(rt, alloc, port, engine);
 }
 
 #[test]
-fn two_ports_meet(rt: HostRuntime) {
-    meet::<Plain, HostRuntime>(&rt, rt.alloc());
+fn a_port_that_ends_in_its_thread(rt: HostRuntime) {
+    end_in_thread::<Plain, HostRuntime>(&rt, rt.alloc());
 }
 
 /// How many ports there are in the second test, as many as an engine may have lanes.
 const PORTS: u64 = 16;
 
-/// What a port was told of its four events.
+/// A port, its number, and what it was told of its four events.
 #[derive(Drop)]
-struct Told {
+struct Asker {
     port: Port,
+    number: u64,
     places: [u32; 4],
 }
 
-/// Sends the four events of the port with this number, and waits for each answer.
-fn ask_four<R: Clock + Abort>(rt: &R, mut port: Port, number: u64) -> Told {
-    let mut places = [0; 4];
+/// Sends the four events of this port, and waits for each answer.
+fn ask_four<R: Clock + Abort>(rt: &R, mut asker: Asker) -> Asker {
     for i in 0..4 {
-        let time = 4 * (number % PORTS) + 1 + i as u64;
-        places[i] = place_of(rt, &mut port, event(rt, 0, time, 1));
+        let time = 4 * (asker.number % PORTS) + 1 + i as u64;
+        asker.places[i] = place_of(rt, &mut asker.port, event(rt, 0, time, 1));
     }
-    Told { port, places }
+    asker
 }
 
-/// Starts a thread for each port.
-fn start_all<'s, E, R: Clock + Abort + Sync + 's>(
-    scope: &'s Scope<'s, E>,
-    rt: &'s R,
-    ports: Vec<Port>,
-    running: &mut Vec<JoinHandle<Told>>,
-) {
-    let mut number = 0u64;
-    for port in ports {
-        match scope.spawn(move || ask_four(rt, port, number)) {
-            Ok(handle) => running.push(handle).expect(rt, "memory"),
-            Err(_) => panic!(rt; "no thread"),
-        }
-        number = number.wrapping_add(1);
-    }
-}
-
-/// Waits for all of them.
-fn join_all<R: Threads + Abort>(rt: &R, running: Vec<JoinHandle<Told>>, told: &mut Vec<Told>) {
-    for handle in running {
-        told.push(handle.join(rt)).expect(rt, "memory");
-    }
+/// Each port asks in a thread of its own.
+fn ask_each<R: Threads + Clock + Abort + Sync>(rt: &R, askers: Vec<Asker>) -> Vec<Asker> {
+    thread::map_vec(rt, askers, &|asker| ask_four(rt, asker)).expect(rt, "memory")
 }
 
 /// All ports in threads of their own, beside the engine, which serves their 64 commands.
-fn ask_all<T: Timeline + Drop, R: Threads + Wait + Clock + Abort + Sync>(
+fn ask_all<T: Timeline, R: Threads + Clock + Abort + Sync>(
     rt: &R,
     alloc: Global,
-    ports: Vec<Port>,
+    askers: Vec<Asker>,
     engine: Engine<T>,
-) -> (Engine<T>, Vec<Told>) {
-    thread::scope(thread::scope_env(), rt, move |scope| {
-        let mut running = Vec::new(alloc);
-        let mut told = Vec::new(alloc);
-        start_all(scope, rt, ports, &mut running);
-        let (engine, served) = serve(rt, alloc, engine, 64);
-        join_all(rt, running, &mut told);
-        assert_eq!(rt; served, 64);
-        (engine, told)
-    })
+) -> (Vec<Asker>, (Engine<T>, u32)) {
+    thread::join(
+        rt,
+        move || ask_each(rt, askers),
+        move || serve(rt, alloc, engine, 64),
+    )
 }
 
 /// Each place from 1 to 64 was told once.
-fn has_each_place(rt: &impl Abort, told: &[Told]) {
+fn has_each_place(rt: &impl Abort, askers: &[Asker]) {
     let mut times = [0u8; 65];
-    for port in told {
-        for place in port.places {
+    for asker in askers {
+        for place in asker.places {
             let count = &mut times[place as usize % 65];
             *count = count.wrapping_add(1);
         }
     }
-    assert_eq!(rt; times[0], 0);
+    same(rt, &times[0], &0);
     for place in 1..65 {
-        assert_eq!(rt; times[place], 1, "place {place}");
+        same(rt, &times[place], &1);
     }
 }
 
 /// What the first port is told after all.
 fn tells_all<T: Timeline>(rt: &impl Abort, alloc: Global, engine: &mut Engine<T>, port: &mut Port) {
     let reply = told(rt, alloc, engine, port, TOTAL);
-    assert_eq!(rt; reply, Reply::Var { log: 64, value: -1 });
+    same(rt, &reply, &Reply::Var { log: 64, value: -1 });
     let reply = told(rt, alloc, engine, port, Line::Ask(Query::Outputs));
-    assert_eq!(rt; reply, Reply::Outputs { log: 64, count: 64 });
+    same(rt, &reply, &Reply::Outputs { log: 64, count: 64 });
     let reply = told(rt, alloc, engine, port, Line::Ask(Query::Output(62)));
     let output = Out {
         tag: at(rt, 63),
         port: 0,
         value: i64::MAX,
     };
-    assert_eq!(rt; reply, Reply::Output { log: 64, output });
+    same(rt, &reply, &Reply::Output { log: 64, output });
 }
 
 /// As many lanes and their ports.
-fn make_lanes(rt: &impl Abort, alloc: Global) -> (Vec<Port>, Vec<Lane>)
+fn make_lanes(rt: &impl Abort, alloc: Global) -> (Vec<Asker>, Vec<Lane>)
     ensures fresh { AreFresh result.1.items }
     ensures most { length result.1.items ≤ most_lanes }
 {
-    let mut ports = Vec::new(alloc);
+    let mut askers = Vec::new(alloc);
     let mut lanes = Vec::new(alloc);
-    for _ in 0..PORTS {
+    for number in 0..PORTS {
         let (port, lane) = fresh_lane(rt, alloc);
-        ports.push(port).expect(rt, "memory");
+        let asker = Asker {
+            port,
+            number,
+            places: [0; 4],
+        };
+        askers.push(asker).expect(rt, "memory");
         lanes.push(lane).expect(rt, "memory");
     }
-    (ports, lanes)
+    (askers, lanes)
+}
+
+/// What all ports were told, and what the engine holds.
+fn has_all<T: Timeline>(
+    rt: &impl Abort,
+    alloc: Global,
+    engine: &mut Engine<T>,
+    askers: &mut [Asker],
+) {
+    same(rt, &askers.len(), &16);
+    has_each_place(rt, askers);
+    let first = askers.first_mut().expect(rt, "a port");
+    tells_all(rt, alloc, engine, &mut first.port);
 }
 
 /// Sixteen ports send four events each, and each event counts.
-fn meet_all<T: Timeline + Drop, R: Threads + Wait + Clock + Abort + Sync>(rt: &R, alloc: Global) {
-    let (ports, lanes) = make_lanes(rt, alloc);
+fn meet_all<T: Timeline + Drop, R: Threads + Clock + Abort + Sync>(rt: &R, alloc: Global) {
+    let (askers, lanes) = make_lanes(rt, alloc);
     let engine = engine::<T>(rt, alloc, lanes, unseen_writer(rt, alloc));
-    let (mut engine, mut told) = ask_all(rt, alloc, ports, engine);
-    assert_eq!(rt; told.len(), 16);
-    has_each_place(rt, &told);
-    let first = told.first_mut().expect(rt, "a port");
-    tells_all(rt, alloc, &mut engine, &mut first.port);
+    let (mut askers, (mut engine, served)) = ask_all(rt, alloc, askers, engine);
+    same(rt, &served, &64);
+    has_all(rt, alloc, &mut engine, &mut askers);
 }
 
 #[test]

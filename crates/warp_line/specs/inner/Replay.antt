@@ -1,6 +1,7 @@
--- What one turn of a replay does: it goes past the entries of one tag, with a step where something is given or pending there.
--- This follows the loop, for its proof's sake: no public contract cites it.
-use Rattle.std.specs.Prelude.{◌≡◌, ℕ, ◌+◌, ◌≤◌, Bool, false, not, ◌||◌, nat_lt, IsTrue, List, [], ◌∷◌, ◌++◌, length, take, drop, Option, Some, if◌then◌else◌}
+-- What one turn of a replay does: it goes past the entries of one tag, with a step where something is given or pending
+-- there. This follows the loop, for its proof's sake: no public contract cites it.
+use Rattle.std.specs.Prelude.{◌≡◌, ℕ, ◌+◌, ◌≤◌, Bool, false, not, ◌||◌, nat_lt, IsTrue, List, [], ◌∷◌, ◌++◌, length}
+use Rattle.std.specs.Prelude.{take, drop, Option, Some, if◌then◌else◌}
 use Rattle.std.specs.List.{list_all, list_any}
 use Rattle.warp_tag.specs.Moment.{Moment, is_before, is_same}
 use Rattle.warp_tag.specs.declared.entry.Entry.{Entry}
@@ -30,7 +31,8 @@ abbrev pub is_waiting : Moment → List Given → List Waiting → Bool
 is_waiting t X ws = nat_lt 0 (length X) || list_any (λ w. is_same w.tag t) ws
 
 -- a step with what is given, if something is given or pending at the tag; else all stays
-pub record GoesOn (P : Program) (t : Moment) (X : List Given) (old new : Snapshot) (outs outs' : List Out) (ticks ticks' : ℕ) : Type 0 where
+pub record GoesOn (P : Program) (t : Moment) (X : List Given) (old new : Snapshot) (outs outs' : List Out)
+    (ticks ticks' : ℕ) : Type 0 where
   pub state : new ≡ (if is_waiting t X old.pending then state_after P old t X else old)
   pub outputs : outs' ≡ outs ++ (if is_waiting t X old.pending then outputs_after P old t X else [])
   pub ticked : ticks' ≡ ticks + (if is_waiting t X old.pending then 1 else 0)

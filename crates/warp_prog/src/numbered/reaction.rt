@@ -16,7 +16,7 @@ use warp_body::Target;
 use warp_tag::OutOfMemory;
 
 /// Whether a target is one of these.
-fn names(targets: &[Target], target: Target) -> bool
+pub(crate) fn names(targets: &[Target], target: Target) -> bool
     ensures { result ≡ names targets.now target }
 {
     for one in targets {

@@ -37,6 +37,11 @@ abbrev pub pending : Bool → ℕ → List ℕ
 pending true place = question place
 pending false place = []
 
+-- how many questions wait for their reply: one or none
+abbrev pub waiting : Bool → ℕ
+waiting true = 1
+waiting false = 0
+
 -- what a call did to a connection: some bytes came behind those that are here, and this text was written
 pub record Moves (left left' written written' : Option (List ℕ)) (text : List ℕ) (old new : InboxState) : Type 0 where
   pub bytes : List ℕ

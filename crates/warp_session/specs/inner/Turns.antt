@@ -30,7 +30,7 @@ abbrev pub at : {S : Type 0} → S → Held → Option (List ℕ) → ℕ → At
 at state held written failures = record { state = state; held = held; written = written; failures = failures }
 
 -- these pieces were answered: of their text behind what was gathered the front went out, and the rest is gathered now
-pub record Answered {S : Type 0} (gives : S → Line → Reply → S → Type 0) (pieces : List Piece) (old new : At S) : Type 0 where
+pub record Replied {S : Type 0} (gives : S → Line → Reply → S → Type 0) (pieces : List Piece) (old new : At S) : Type 0 where
   pub text : List ℕ
   pub sent : List ℕ
   pub given : GivesText gives old.state pieces text new.state
@@ -68,7 +68,7 @@ pub record Taken {S : Type 0} (gives : S → Line → Reply → S → Type 0) (b
   pub cut_off : AreCutOff lines
   pub one_line : IsOneLine line
   pub kept : now.held.kept ≡ kept_of line
-  pub answers : Answered gives (lines_of lines) start now
+  pub answers : Replied gives (lines_of lines) start now
 
 -- whatever was taken before, these bytes were taken too
 abbrev pub TakesBytes : {S : Type 0} → (S → Line → Reply → S → Type 0) → List ℕ → At S → At S → Type 0
@@ -88,7 +88,7 @@ BreaksAtEnd {S} gives old new =
 -- whatever was taken before, all of it is answered now, and nothing is gathered any more
 abbrev pub Ends : {S : Type 0} → (S → Line → Reply → S → Type 0) → At S → At S → Type 0
 Ends {S} gives old new =
-    (start : At S) → (seen : List ℕ) → Taken gives seen start old → Answered gives (lines_of seen) start new × (new.held.gathered ≡ [])
+    (start : At S) → (seen : List ℕ) → Taken gives seen start old → Replied gives (lines_of seen) start new × (new.held.gathered ≡ [])
 
 -- the pieces that a feed gave: one or none
 abbrev pub pieces_fed : Option Fed → List Piece

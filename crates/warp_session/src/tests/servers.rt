@@ -15,6 +15,7 @@ use std::time::{Clock, Duration};
 use warp_lanes::Engine;
 use warp_line::Timeline;
 use warp_record::{Query, Reply};
+use warp_run::Warp;
 use warp_step::Program;
 
 /// What an engine answers to `var 0` in the end.
@@ -35,7 +36,9 @@ fn serve<'a, X: Threads + Wait + Clock + Abort + Sync, G: Gate + Sync>(
     requires { sessions + vec_len peers ≤ most_lanes }
 {
     let program = Program::twice(alloc).expect(rt, "memory");
-    let served = serve_sessions(rt, alloc, program, lobby, sessions, peers, gate);
+    let served = serve_sessions::<X, Warp, Lobby<'a, X>, G>(
+        rt, alloc, program, lobby, sessions, peers, gate,
+    );
     total(rt, alloc, served.expect(rt, "an engine"))
 }
 

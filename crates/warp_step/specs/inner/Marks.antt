@@ -1,5 +1,5 @@
 -- Marks: a set of numbers, in one word of 64 bits. A program's reactions, program outputs and links each have numbers of their
--- own, one kind behind the other, and numbers that are 64 apart share a bit.
+-- own, one kind behind the other, and numbers that are 64 apart share a bit. A reaction's is its turn in the order.
 use Rattle.std.specs.Prelude.{ℕ, zero, suc, ◌+◌, ◌%◌, ◌*◌, ◌^◌, length}
 use Rattle.std.specs.Int.{bit_at}
 use Rattle.std.specs.Int.RustNames.{bit_or}

@@ -4,7 +4,7 @@ use Rattle.std.specs.Prelude.{ℕ, ◌+◌, ◌-◌, Bool, true, false, nat_lt, 
 use Rattle.std.specs.Coded.{Coded, code_by, coded×, coded_ℕ, coded_list}
 use Rattle.std.specs.List.{list_any, range_with_len}
 use Rattle.warp_body.specs.Codes.{body_code}
-use Rattle.warp_body.specs.Effect.{Body}
+use Rattle.warp_body.specs.Effect.{Body, Done}
 use Rattle.warp_body.specs.Presence.{is_target}
 use Rattle.warp_body.specs.declared.place.Target.{Target}
 use Rattle.warp_body.specs.declared.place.Target.TheVariants as to
@@ -28,7 +28,7 @@ heeds sources triggers place = list_any (λ trigger. is_target place (place_of s
 abbrev pub heeds_any : List ℕ → List Target → List Target → Bool
 heeds_any sources triggers places = list_any (heeds sources triggers) places
 
--- what a reaction, a link and the program output of a port heed, each with its number; a link without a delay nothing, since its
+-- what a reaction, a link and the program output of a port heed, each with its number, of a reaction its turn; a link without a delay nothing, since its
 -- target has the presence of its source
 abbrev pub reaction_heeds : ℕ → Rule → List Target
 reaction_heeds number rule = rule.triggers
@@ -43,6 +43,14 @@ link_heeds number link = source_if_delayed link.delay link.source
 abbrev pub output_heeds : ℕ → ℕ → List Target
 output_heeds number port = to.Port port ∷ []
 
+-- the rule with this number; where there is none, one that nothing triggers
+abbrev pub rule_numbered : List Rule → ℕ → Rule
+rule_numbered rules n = slice_index_or rules n (record { reactor = 0; triggers = []; reads = []; writes = []; body = Done })
+
+-- the program's reactions, in the order in which a step runs them
+abbrev pub in_turn : Program → List Rule
+in_turn P = map (rule_numbered P.reactions) P.order
+
 -- with a mark for each element of a list that heeds one of the places; the first mark is at this number, and the elements count
 -- from the next one on
 abbrev pub with_watchers : {X : Type 0} → (ℕ → X → List Target) → ℕ → List ℕ → List Target → ℕ → List X → ℕ → ℕ
@@ -50,7 +58,7 @@ with_watchers {X} triggers first sources places n [] word = word
 with_watchers {X} triggers first sources places n (x ∷ xs) word =
     with_watchers triggers first sources places (n + 1) xs (if heeds_any sources (triggers n x) places then with_mark (first + n) word else word)
 
--- the number of the first reaction that heeds the place, where they count from this one on; where none does, the one behind them
+-- the turn of the first reaction that heeds the place, where turns count from this one on; where none does, the one behind them
 abbrev pub first_heeding : List ℕ → Target → ℕ → List Rule → ℕ
 first_heeding sources place n [] = n
 first_heeding sources place n (rule ∷ rules) = if heeds sources rule.triggers place then n else first_heeding sources place (n + 1) rules
@@ -82,7 +90,7 @@ unfoldable pub place_numbers : List ℕ
 place_numbers = range_with_len 0 most_places
 
 -- Whom each place concerns, by the place's number, and whom what a reaction writes concerns, by the reaction's number: as marks.
--- The number of the first reaction that each place triggers, by the place's number. The bodies of the reactions, by their numbers.
+-- The turn of the first reaction that each place triggers, by the place's number. The bodies of the reactions, by their numbers.
 -- And the marks of all links.
 pub record Plan : Type 0 where
   pub places : List ℕ
@@ -97,14 +105,14 @@ marks_of P places =
     let sources = sources_of P in
     with_watchers output_heeds (first_output P) sources places 0 P.outputs
     (with_watchers link_heeds (first_link P) sources places 0 P.links
-    (with_watchers reaction_heeds first_reaction sources places 0 P.reactions no_marks))
+    (with_watchers reaction_heeds first_reaction sources places 0 (in_turn P) no_marks))
 
 -- whom each place of the program concerns, which reaction first, the bodies of its reactions, whom what each writes concerns, and
 -- all its links
 abbrev pub plan_of : Program → Plan
 plan_of P = record {
   places = map (λ n. marks_of P (numbered_place n ∷ [])) place_numbers;
-  firsts = map (λ n. first_heeding (sources_of P) (numbered_place n) 0 P.reactions) place_numbers;
+  firsts = map (λ n. first_heeding (sources_of P) (numbered_place n) 0 (in_turn P)) place_numbers;
   bodies = map (λ rule. rule.body) P.reactions;
   after = map (λ rule. marks_of P (filter is_port rule.writes)) P.reactions;
   links = marks_from (first_link P) (length P.links);

@@ -3,7 +3,8 @@ use Rattle.std.specs.Prelude.{◌≡◌, ℕ, true, Some, slice_get}
 use Rattle.warp_body.specs.Presence.{Presence}
 use Rattle.warp_step.specs.Program.{Rule, Program}
 use Rattle.warp_step.specs.Step.{is_triggered}
+use Rattle.warp_step.specs.inner.Plan.{in_turn}
 
--- the reaction with this number, if there is one, is triggered
+-- the reaction whose turn this is, if there is one, is triggered
 abbrev pub IsSure : Program → Presence → ℕ → Type 0
-IsSure P present sure = (rule : Rule) → slice_get P.reactions sure ≡ Some rule → is_triggered rule present ≡ true
+IsSure P present sure = (rule : Rule) → slice_get (in_turn P) sure ≡ Some rule → is_triggered rule present ≡ true

@@ -5,33 +5,33 @@ use Rattle.std.specs.Option.{unwrap_or}
 use Rattle.warp_tag.specs.Moment.{Moment, is_before, is_same}
 use Rattle.warp_table.specs.declared.names.Name.{Name}
 use Rattle.warp_table.specs.declared.rows.Known.{Known}
-use Rattle.warp_table.specs.declared.rows.Row.{Row}
+use Rattle.warp_table.specs.declared.rows.NameRow.{NameRow}
 use Rattle.warp_table.specs.inner.Kept.{is_named, nothing_known}
 
 -- the rows stand in strict order of tags
-abbrev pub AreInOrder : List Row → Type 0
+abbrev pub AreInOrder : List NameRow → Type 0
 AreInOrder rows = AllPairs (λ a b. IsTrue (is_before a.tag b.tag)) rows
 
 -- what the rows say of a tag
-abbrev pub row_of : Moment → List Row → Option Known
+abbrev pub row_of : Moment → List NameRow → Option Known
 row_of tag [] = None
 row_of tag (r ∷ rows) = if is_same tag r.tag then Some r.known else row_of tag rows
 
 -- the place of the first row that is not before the tag
-abbrev pub row_place : Moment → List Row → ℕ
+abbrev pub row_place : Moment → List NameRow → ℕ
 row_place tag [] = 0
 row_place tag (r ∷ rows) = if is_before r.tag tag then suc (row_place tag rows) else 0
 
 -- these rows say this of the tag, and of the others what those of before said
-abbrev pub IsWith : Moment → Known → List Row → List Row → Type 0
+abbrev pub IsWith : Moment → Known → List NameRow → List NameRow → Type 0
 IsWith tag known old new = (other : Moment) → row_of other new ≡ (if is_same other tag then Some known else row_of other old)
 
 -- the rows of an origin
-abbrev pub rows_at : List (List Row) → ℕ → List Row
+abbrev pub rows_at : List (List NameRow) → ℕ → List NameRow
 rows_at origins origin = get_or origins origin []
 
 -- what is known of a name
-abbrev pub known_in : List (List Row) → Name → Option Known
+abbrev pub known_in : List (List NameRow) → Name → Option Known
 known_in origins name = row_of name.tag (rows_at origins name.origin)
 
 -- names in their order, each with what is known of it

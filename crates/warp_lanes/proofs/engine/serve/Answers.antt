@@ -22,7 +22,12 @@ returns-clause-turns g c =
           c.ask-reply.ensures.program,
           c.len-len.ensures.value,
           (c.ask-reply.ensures.reply, rw c.len-len.ensures.value c.ask-reply.ensures.length, c.len-len.ensures.bound),
-          c.ask-reply.ensures.settled,
+          record {
+            settles = c.ask-reply.ensures.settled;
+            lacked = c.ask-reply.ensures.refused;
+            calm = c.ask-reply.ensures.calm;
+            collects = c.ask-reply.ensures.collects;
+          },
         ),
         rw (← c.lane.view_is)
             (λ i. record {

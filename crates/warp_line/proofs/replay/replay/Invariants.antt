@@ -1,5 +1,5 @@
 -- the rows so far are a front of the run, and the entries that are left are a table
-use Rattle.std.proofs.Common.{◌≡◌, ◌+◌, ◌-◌, length, IsTrue}
+use Rattle.std.proofs.Common.{◌+◌, ◌-◌, length, IsTrue}
 use Rattle.std.specs.List.{list_all}
 use Rattle.warp_tag.specs.Table.{IsTable, live}
 use Rattle.warp_step.specs.Snapshot.{IsStateOf}

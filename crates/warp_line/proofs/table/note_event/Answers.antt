@@ -9,12 +9,12 @@ use Rattle.warp_line.proofs.table.note_event.Goals as goal
 pub returns : goal.returns
 returns c =
     let made = c.note_event.ensures.entry ∙ ap (λ (v : ℤ). with_event c.args.input v c.index_mut.result.now) (to_z-of_z w64 c.args.value c.ranges.value) in
-    let n = noted (with_event c.args.input c.args.value) (with_event_names c.args.input c.args.value) c.args.origin c.args.tag c.args.entries.now.items c.enter-at.new.entries.items c.enter-at.result
-    c.index_mut.result.now c.note_event.new.self c.requires.table c.enter-at.ensures.entry c.enter-at.ensures.change c.index_mut.ensures.value made in
+    let n = noted (with_event c.args.input c.args.value) (with_event_names c.args.input c.args.value) c.args.origin c.args.tag c.args.entries.now.items c.enter_name-at.new.entries.items c.enter_name-at.result
+    c.index_mut.result.now c.note_event.new.self c.requires.table c.enter_name-at.ensures.entry c.enter_name-at.ensures.change c.index_mut.ensures.value made in
     record {
       table = n.table;
       ordered = n.ordered;
       same = λ r. n.stays (c.note_event.ensures.same r);
       changes = λ r h. c.note_event.ensures.changes r (n.shows h);
-      capacity = c.enter-at.ensures.capacity;
+      capacity = c.enter_name-at.ensures.capacity;
     }

@@ -6,12 +6,12 @@ use Rattle.warp_line.proofs.table.note_withdrawal.Goals as goal
 
 pub returns : goal.returns
 returns c =
-    let n = noted with_withdrawal with_withdrawal_names c.args.origin c.args.tag c.args.entries.now.items c.enter-at.new.entries.items c.enter-at.result
-    c.index_mut.result.now c.withdraw.new.self c.requires.table c.enter-at.ensures.entry c.enter-at.ensures.change c.index_mut.ensures.value c.withdraw.ensures.entry in
+    let n = noted with_withdrawal with_withdrawal_names c.args.origin c.args.tag c.args.entries.now.items c.enter_name-at.new.entries.items c.enter_name-at.result
+    c.index_mut.result.now c.withdraw.new.self c.requires.table c.enter_name-at.ensures.entry c.enter_name-at.ensures.change c.index_mut.ensures.value c.withdraw.ensures.entry in
     record {
       table = n.table;
       ordered = n.ordered;
       same = λ r. n.stays (c.withdraw.ensures.same r);
       changes = λ r h. c.withdraw.ensures.changes r (n.shows h);
-      capacity = c.enter-at.ensures.capacity;
+      capacity = c.enter_name-at.ensures.capacity;
     }

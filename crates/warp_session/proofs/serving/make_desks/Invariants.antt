@@ -5,5 +5,6 @@ use Rattle.warp_session.proofs.serving.make_desks.Given as goal
 abbrev pub invariant-loop : goal.invariant-loop
 invariant-loop g l =
     (l.reader.board ≡ l.board)
+    × (length l.desks.items ≡ l.counter)
     × (length l.lanes.items ≡ l.counter)
     × AreFresh l.lanes.items

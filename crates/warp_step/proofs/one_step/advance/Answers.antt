@@ -2,7 +2,7 @@
 use Rattle.std.proofs.Common.{◌≡◌, length, ap, ◌∙◌, sym}
 use Rattle.warp_body.specs.Presence.{Presence, places_of}
 use Rattle.warp_step.specs.Snapshot.{Snapshot}
-use Rattle.warp_step.specs.Step.{Reacting, with_all_wishes, with_links, after_reactions, order_of, no_wishes, arrived, without_entries}
+use Rattle.warp_step.specs.Step.{Reacting, with_all_wishes, with_links, after_reactions, no_wishes, arrived, without_entries}
 use Rattle.warp_step.specs.inner.Room.{lists_of}
 use Rattle.warp_step.proofs.RepeatLemmas.{arrived_timers, same_repeats}
 use Rattle.warp_step.proofs.StepLemmas.{cleared, cleared_places, repeats_vars, Made, reacts_are, state_is, made_later, made_of}
@@ -63,7 +63,7 @@ made c =
           ∙ same_repeats P t 0 P.timers (without_entries t c.args.state.now) taken.new.present c.arrive.new.present timers;
       reacts =
           c.run_reactions-wished.ensures.effect
-          ∙ ap (λ (s : Snapshot). after_reactions P (order_of P) (record { vars = s.vars; present = c.arrive.new.present; wishes = no_wishes P })) c.state.view_is;
+          ∙ ap (λ (s : Snapshot). after_reactions P P.order (record { vars = s.vars; present = c.arrive.new.present; wishes = no_wishes P })) c.state.view_is;
       enters =
           c.enter_later.ensures.state
           ∙ ap (λ (s : Snapshot). with_links P t c.run_reactions-wished.new.present P.links (with_all_wishes P t (lists_of c.run_reactions-wished.new.wishes) (record s { vars = c.run_reactions-wished.new.vars }))) c.state.view_is;

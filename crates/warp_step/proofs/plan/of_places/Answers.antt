@@ -4,7 +4,7 @@ use Rattle.std.specs.List.{range_with_len}
 use Rattle.std.proofs.lemmas.List.{map-append}
 use Rattle.std.proofs.lemmas.List.FromFn.{map-range_with_len_more}
 use Rattle.warp_step.specs.declared.plan.Concerned.{Concerned}
-use Rattle.warp_step.specs.inner.Plan.{first_heeding, marks_of, numbered_place, place_numbers}
+use Rattle.warp_step.specs.inner.Plan.{first_heeding, in_turn, marks_of, numbered_place, place_numbers}
 use Rattle.warp_step.specs.Step.{sources_of}
 use Rattle.warp_step.proofs.plan.of_places.Goals as goal
 
@@ -21,7 +21,7 @@ loop-number-preserved c =
     record {
       marks = one_more (λ (one : Concerned). one.marks.word) (λ (k : ℕ). marks_of P (numbered_place k ∷ [])) n
           c.loop-number.all.items _ c.of_place.result c.in_ok-push.ensures.items c.loop-number.invariant.marks c.of_place.ensures.marks;
-      firsts = one_more (λ (one : Concerned). one.first) (λ (k : ℕ). first_heeding (sources_of P) (numbered_place k) 0 P.reactions) n
+      firsts = one_more (λ (one : Concerned). one.first) (λ (k : ℕ). first_heeding (sources_of P) (numbered_place k) 0 (in_turn P)) n
           c.loop-number.all.items _ c.of_place.result c.in_ok-push.ensures.items c.loop-number.invariant.firsts c.of_place.ensures.first;
     }
 
@@ -37,5 +37,5 @@ returns c =
     let all : c.loop-number.number ≡ 337 = omega (arith, most, c.loop-number-test.false) in
     record {
       marks = all_filled _ (λ n. marks_of P (numbered_place n ∷ [])) c.loop-number.number all c.loop-number.invariant.marks;
-      firsts = all_filled _ (λ n. first_heeding (sources_of P) (numbered_place n) 0 P.reactions) c.loop-number.number all c.loop-number.invariant.firsts;
+      firsts = all_filled _ (λ n. first_heeding (sources_of P) (numbered_place n) 0 (in_turn P)) c.loop-number.number all c.loop-number.invariant.firsts;
     }

@@ -1,7 +1,7 @@
 -- at the tag's place stands its row
 use Rattle.std.proofs.Common.{get_or, set, sym, subst, ◌∙◌, rules}
 use Rattle.warp_tag.specs.Moment.{Moment}
-use Rattle.warp_table.specs.declared.rows.Row.{Row}
+use Rattle.warp_table.specs.declared.rows.NameRow.{NameRow}
 use Rattle.warp_table.specs.inner.NamesByOrigin.{IsWith}
 use Rattle.warp_table.proofs.OriginRows.{tags_changed, row_at_place, says_changed}
 use Rattle.warp_table.proofs.rows.set_at.Goals as goal
@@ -22,7 +22,7 @@ returns-clause-tags c =
     let rows = c.args.rows.now in
     let place = c.place_of-place.result in
     let at = row_at_place c.args.tag rows c.requires.there c.requires.in_order place c.place_of-place.ensures in
-    let row : Row = record { tag = (get_or rows place c.index-rows-place.result).tag; known = c.args.known } in
+    let row : NameRow = record { tag = (get_or rows place c.index-rows-place.result).tag; known = c.args.known } in
     tags_changed row rows place at.0 (λ d. at.1 d ∙ sym (at.1 c.index-rows-place.result))
 
 pub returns-clause-row : goal.returns-clause-row
@@ -30,6 +30,6 @@ returns-clause-row c =
     let rows = c.args.rows.now in
     let place = c.place_of-place.result in
     let at = row_at_place c.args.tag rows c.requires.there c.requires.in_order place c.place_of-place.ensures in
-    let row : Row = record { tag = (get_or rows place c.index-rows-place.result).tag; known = c.args.known } in
+    let row : NameRow = record { tag = (get_or rows place c.index-rows-place.result).tag; known = c.args.known } in
     subst (λ (t : Moment). IsWith t c.args.known rows (set rows place row)) (at.1 c.index-rows-place.result)
     (says_changed row rows place at.0 (λ d. at.1 d ∙ sym (at.1 c.index-rows-place.result)) c.requires.in_order)

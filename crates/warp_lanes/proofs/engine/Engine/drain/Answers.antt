@@ -3,7 +3,7 @@ use Rattle.std.specs.Prelude.{slice_get}
 use Rattle.std.proofs.lemmas.Option.{slice_get-get_or}
 use Rattle.std.proofs.Math.ListN.{set}
 use Rattle.warp_step.proofs.ValidLemmas.{validity}
-use Rattle.warp_lanes.specs.Engine.{ids_of}
+use Rattle.warp_lanes.specs.Engine.{facts_of, ids_of}
 use Rattle.warp_lanes.specs.History.{IsHistory, IsServed}
 use Rattle.warp_lanes.specs.Lanes.{LaneState}
 use Rattle.warp_lanes.proofs.DrainedLanes.{counted, id_there, ids_within, lines_board, lines_history, lines_program}
@@ -27,14 +27,15 @@ drain-requires-clause-answered g c =
 
 pub invariant_of-self-2 : goal.invariant_of-self-2
 invariant_of-self-2 g c =
+    let facts = facts_of g.T.Timeline.settled g.T.Timeline.refused g.T.Timeline.floor g.T.Timeline.SLACK in
     let id : slice_get (ids_of c.self.inside.lanes.items) c.args.lane ≡ Some c.args.end.lane = rw (ap (λ e. e.lanes) c.self.view_is) c.requires in
     let short : c.args.lane < length c.self.inside.lanes.items = ids_within _ _ _ id in
     let at : slice_get c.self.inside.lanes.items c.args.lane ≡ Some c.index_mut.result.now = slice_get-get_or _ _ _ short ∙ ap (λ l. Some l) (sym c.index_mut.ensures.value) in
     let some : 0 < c.self.inside.replica.program.origins = rw (← c.program.ensures) (validity c.program.result.now c.valid.ensures).limits.origins_some in
     let d = c.in_ok-handed.ensures.drains in (
       subst (λ (l : LaneState). IsHistory c.drain.new.replica.program c.drain.new.replica.records c.self.inside.began (set c.self.inside.lanes.items c.args.lane l))
-          (sym d.3) (lines_history g.T.Timeline.settled _ _ _ _ _ _ d.0 d.1 c.self.invariant.0 at d.2),
-      lines_board g.T.Timeline.settled _ _ d.0 d.1 _ _ some c.valid-2.ensures.once c.valid-3.ensures.allowed d.2 c.self.invariant.1,
+          (sym d.3) (lines_history facts _ _ _ _ _ _ d.0 d.1 c.self.invariant.0 at d.2),
+      lines_board facts _ _ d.0 d.1 _ _ some c.valid-2.ensures.once c.valid-3.ensures.allowed d.2 c.self.invariant.1,
     )
 
 pub returns-clause-drains : goal.returns-clause-drains
@@ -46,8 +47,9 @@ returns-clause-drains g c =
 
 pub returns-clause-program : goal.returns-clause-program
 returns-clause-program g c =
+    let facts = facts_of g.T.Timeline.settled g.T.Timeline.refused g.T.Timeline.floor g.T.Timeline.SLACK in
     let d = c.in_ok-handed.ensures.drains in
-    rw (← c.self.view_is) (lines_program g.T.Timeline.settled _ _ d.0 d.1 d.2)
+    rw (← c.self.view_is) (lines_program facts _ _ d.0 d.1 d.2)
 
 pub returns-clause-ids : goal.returns-clause-ids
 returns-clause-ids g c =

@@ -30,15 +30,18 @@ pub returns-clause-new : goal.returns-clause-new
 returns-clause-new g c came ahead done stood =
     let stands = g.T.Timeline.stands_for in
     let slack = g.T.Timeline.SLACK in
+    let drops = g.T.Timeline.drops in
     let said = c.args.record.now in
     let old : ReplicaState _ = record { program = c.self.inside.program; records = c.self.inside.table; timeline = c.self.inside.timeline } in
-    let new : ReplicaState _ = record { program = c.self.inside.program; records = c.add.new.self; timeline = c.enter.new.timeline } in
+    let new : ReplicaState _ = record { program = c.self.inside.program; records = c.add.new.self; timeline = c.enter_record.new.timeline } in
     let is : old ≡ c.args.self.now = c.self.view_is in
     let allowed = subst (λ r. refusal_of r.program said ≡ None) (sym is) c.requires.allowed in
     let before = subst (λ r. Stands stands r done) (sym is) stood in
-    let entered = c.enter.ensures.stands _ (c.prepare.ensures.stands _ before) allowed in
-    let more = with_more stands slack said old new done refl (c.in_ok-added.ensures.new (not_false c.in_ok-added.added.is_new c.if-not-added.false)).2 entered in
-    subst (λ r. (after : List Row) × Stands stands new after × KeepsDone slack (tag_of said) (standing_of r done) (standing_of new after)) is more
+    let entered = c.enter_record.ensures.stands _ (c.prepare.ensures.stands _ before) allowed in
+    let more = with_more stands slack drops said old new done refl
+    (c.in_ok-added.ensures.new (not_false c.in_ok-added.added.is_new c.if-not-added.false)).2 entered in
+    subst (λ r. (after : List Row) × Stands stands new after
+    × KeepsDone slack drops (tag_of said) (standing_of r done) (standing_of new after)) is more
 
 pub returns-clause-calm : goal.returns-clause-calm
 returns-clause-calm g c ahead same =
@@ -48,8 +51,9 @@ returns-clause-calm g c ahead same =
     let allowed = subst (λ r. refusal_of r.program said ≡ None) (sym is) c.requires.allowed in
     let added = (c.in_ok-added.ensures.new (not_false c.in_ok-added.added.is_new c.if-not-added.false)).2 in
     let stay : live (with_record (table_of c.self.inside.table) said) ≡ live (table_of c.self.inside.table) =
-    ap live (sym (ap table_of added ∙ table_more c.self.inside.table said)) ∙ same ∙ ap (λ r. live (table_of r.records)) (sym is) in
-    c.enter.ensures.settled _ (c.prepare.ensures.stands _ c.self.invariant.1.1) allowed stay ∙ c.prepare.ensures.settled
+    ap live (sym (ap table_of added ∙ table_more c.self.inside.table said)) ∙ same
+    ∙ ap (λ r. live (table_of r.records)) (sym is) in
+    c.enter_record.ensures.settled _ (c.prepare.ensures.stands _ c.self.invariant.1.1) allowed stay ∙ c.prepare.ensures.settled
     ∙ ap (λ r. g.T.Timeline.settled r.timeline) is
 
 pub invariant_of-self-2 : goal.invariant_of-self-2
@@ -58,8 +62,14 @@ invariant_of-self-2 g c =
     let said = c.args.record.now in
     let P = c.self.inside.program in
     let fits = subst (λ r. refusal_of r.program said ≡ None) (sym is) c.requires.allowed in
-    let allowed = All-push (λ (one : Record). refusal_of P one ≡ None) c.self.inside.table said c.self.invariant.0 fits in
+    let allowed = All-push
+    (λ (one : Record). refusal_of P one ≡ None) c.self.inside.table said c.self.invariant.0 fits in
     let done = c.self.invariant.1.0 in
-    let ahead = subst (λ r. comes_behind (g.T.Timeline.floor r.timeline) said ≡ false) is (sym c.comes_behind.ensures ∙ c.if-comes_behind.false) in
-    let more = returns-clause-new g c refl ahead done (subst (λ r. Stands g.T.Timeline.stands_for r done) is c.self.invariant.1.1) in
-    (subst (AreAllowed P) (sym (c.in_ok-added.ensures.new (not_false c.in_ok-added.added.is_new c.if-not-added.false)).2) allowed, (more.0, more.1))
+    let ahead = subst (λ r. comes_behind (g.T.Timeline.floor r.timeline) said ≡ false) is
+    (sym c.comes_behind.ensures ∙ c.if-comes_behind.false) in
+    let more = returns-clause-new g c refl ahead done
+    (subst (λ r. Stands g.T.Timeline.stands_for r done) is c.self.invariant.1.1) in (
+      subst (AreAllowed P)
+          (sym (c.in_ok-added.ensures.new (not_false c.in_ok-added.added.is_new c.if-not-added.false)).2) allowed,
+      (more.0, more.1),
+    )

@@ -7,7 +7,8 @@ use Rattle.warp_step.specs.Snapshot.{Snapshot}
 use Rattle.warp_step.specs.Valid.{link_fits}
 use Rattle.warp_step.specs.declared.parts.Link.{Link}
 use Rattle.warp_step.specs.inner.Due.{AreMarked}
-use Rattle.warp_step.proofs.SkipLemmas.{get_or_same, links_one_more, skip_links}
+use Rattle.warp_step.proofs.SkipLemmas.{links_one_more, skip_links}
+use Rattle.warp_step.proofs.TurnLemmas.{get_or_same}
 use Rattle.warp_step.proofs.ValidLemmas.{list_all_get, validity}
 use Rattle.warp_step.proofs.state.State.deliver_due.Goals as goal
 

@@ -1,0 +1,210 @@
+//! Two replicas of one program. Each line is a call of the first:
+//!
+//! - `take RECORD`, `settle`, `answer QUERY` where it is settled, `collect` likewise, `ask LINE`;
+//! - `merge` takes what the second has, `exchange` makes the second the first;
+//! - `length` tells how long its log is, `is_settled` whether it is settled.
+ghost use Rattle.std.specs.Prelude.{◌≡◌, IsTrue};
+
+use crate::mark::{begin, end, program_of, say};
+use std::alloc::Global;
+use std::io::{self, ErrorKind};
+use std::mem;
+use warp_line::Timeline;
+use warp_record::{Line, Query, Record, read_line};
+use warp_replica::{Replica, Took};
+
+/// Makes the calls of the lines over two new replicas of this program.
+pub(crate) fn perform<T: Timeline + Drop, P: Print>(
+    rt: &P,
+    alloc: Global,
+    program: &str,
+    lines: &str,
+) -> io::Result<()> {
+    let mut one = Replica::<T>::new(alloc, program_of(alloc, program)?)?;
+    let mut other = Replica::<T>::new(alloc, program_of(alloc, program)?)?;
+    make_calls(rt, alloc, &mut one, &mut other, lines)
+}
+
+/// Makes the calls of the lines.
+fn make_calls<T: Timeline, P: Print>(
+    rt: &P,
+    alloc: Global,
+    one: &mut Replica<T>,
+    other: &mut Replica<T>,
+    lines: &str,
+) -> io::Result<()> {
+    for line in lines.lines() {
+        make_call(rt, alloc, one, other, line)?;
+    }
+    Ok(())
+}
+
+/// Makes the call of a line.
+fn make_call<T: Timeline, P: Print>(
+    rt: &P,
+    alloc: Global,
+    one: &mut Replica<T>,
+    other: &mut Replica<T>,
+    line: &str,
+) -> io::Result<()> {
+    let (word, rest) = line.split_once(' ').unwrap_or((line, ""));
+    if word == "take" {
+        return take(rt, alloc, one, rest);
+    }
+    if word == "ask" {
+        return ask(rt, alloc, one, rest);
+    }
+    if word == "answer" {
+        return answer(rt, alloc, one, rest);
+    }
+    if word == "settle" {
+        return settle(rt, alloc, one);
+    }
+    if word == "collect" {
+        return collect(rt, alloc, one);
+    }
+    if word == "merge" {
+        return merge(rt, alloc, one, other);
+    }
+    if word == "exchange" {
+        mem::swap(one, other);
+        return Ok(());
+    }
+    if word == "length" {
+        return println!(rt; "length {}", one.len());
+    }
+    if word == "is_settled" {
+        return println!(rt; "settled {}", one.is_settled());
+    }
+    Err(ErrorKind::InvalidInput.into())
+}
+
+/// The line that a text spells.
+fn line_of(text: &str) -> io::Result<Line> {
+    match read_line(text.as_bytes()) {
+        Some(line) => Ok(line),
+        None => Err(ErrorKind::InvalidInput.into()),
+    }
+}
+
+/// The record of a line that spells one.
+fn record_of(text: &str) -> io::Result<Record> {
+    match line_of(text)? {
+        Line::Put(record) => Ok(record),
+        _ => Err(ErrorKind::InvalidInput.into()),
+    }
+}
+
+/// The query of a line that is one.
+fn query_of(line: &Line) -> Option<Query> {
+    match *line {
+        Line::Ask(query) => Some(query),
+        _ => None,
+    }
+}
+
+/// Takes the record that a text spells.
+fn take<T: Timeline, P: Print>(
+    rt: &P,
+    alloc: Global,
+    replica: &mut Replica<T>,
+    text: &str,
+) -> io::Result<()> {
+    let record = record_of(text)?;
+    let _begin = begin(alloc)?;
+    let took = replica.take(alloc, &record);
+    let _end = end(alloc)?;
+    match took {
+        Ok(Took::New(place)) => println!(rt; "taken {place}"),
+        Ok(Took::Known(place)) => println!(rt; "known {place}"),
+        Err(refusal) => println!(rt; "refused {}", refusal.number()),
+    }
+}
+
+/// Answers the line that a text spells.
+fn ask<T: Timeline, P: Print>(
+    rt: &P,
+    alloc: Global,
+    replica: &mut Replica<T>,
+    text: &str,
+) -> io::Result<()> {
+    let line = line_of(text)?;
+    let _begin = begin(alloc)?;
+    let reply = replica.ask(alloc, line);
+    let _end = end(alloc)?;
+    say(rt, alloc, &reply)
+}
+
+/// Answers the query that a text spells, where the replica is settled.
+fn answer<T: Timeline, P: Print>(
+    rt: &P,
+    alloc: Global,
+    replica: &Replica<T>,
+    text: &str,
+) -> io::Result<()> {
+    let Some(query) = query_of(&line_of(text)?) else {
+        return Err(ErrorKind::InvalidInput.into());
+    };
+    if !replica.is_settled() {
+        return rt.println("not settled");
+    }
+    let _begin = begin(alloc)?;
+    let reply = replica.answer(query);
+    let _end = end(alloc)?;
+    say(rt, alloc, &reply)
+}
+
+/// Settles.
+fn settle<T: Timeline, P: Print>(
+    rt: &P,
+    alloc: Global,
+    replica: &mut Replica<T>,
+) -> io::Result<()> {
+    let _begin = begin(alloc)?;
+    let settled = replica.settle_uncounted(alloc);
+    let _end = end(alloc)?;
+    match settled {
+        Ok(()) => rt.println("settled"),
+        Err(_) => rt.println("no memory"),
+    }
+}
+
+/// Collects, where the replica is settled.
+fn collect<T: Timeline, P: Print>(
+    rt: &P,
+    alloc: Global,
+    replica: &mut Replica<T>,
+) -> io::Result<()> {
+    if !replica.is_settled() {
+        return rt.println("not settled");
+    }
+    let _begin = begin(alloc)?;
+    let reply = replica.collect();
+    let _end = end(alloc)?;
+    say(rt, alloc, &reply)
+}
+
+/// Takes what the other has, where both run one program.
+fn merge<T: Timeline, P: Print>(
+    rt: &P,
+    alloc: Global,
+    replica: &mut Replica<T>,
+    other: &Replica<T>,
+) -> io::Result<()> {
+    if !replica.same_program(other) {
+        return rt.println("another program");
+    }
+    let _begin = begin(alloc)?;
+    let merged = replica.merge(alloc, other);
+    let _end = end(alloc)?;
+    match merged {
+        Ok(count) => println!(rt; "merged {count} into {}", replica.len()),
+        Err((count, refusal)) => {
+            println!(rt;
+                "refused {} after {count} into {}",
+                refusal.number(),
+                replica.len()
+            )
+        }
+    }
+}

@@ -1,0 +1,160 @@
+//! Program files, and schedules with their worlds. Each call is made two times.
+ghost use Rattle.std.specs.Prelude.{◌≤◌, IfOk};
+ghost use Rattle.warp_world.specs.Moves.{most_replicas};
+
+use crate::mark::{begin, end, program_of, say, say_bytes, say_made};
+use std::alloc::Global;
+use std::io::{self, ErrorKind};
+use warp_line::Timeline;
+use warp_prog::load;
+use warp_record::Query;
+use warp_replica::Replica;
+use warp_step::Program;
+use warp_world::{MAX_REPLICAS, Move, World, play, play_text, read_schedule};
+
+/// Loads the program of this text, and where that is one copies it.
+pub(crate) fn load_twice<P: Print>(rt: &P, alloc: Global, text: &str) -> io::Result<()> {
+    load_once(rt, alloc, text)?;
+    load_once(rt, alloc, text)
+}
+
+/// Loads the program of this text.
+fn load_once<P: Print>(rt: &P, alloc: Global, text: &str) -> io::Result<()> {
+    let _begin = begin(alloc)?;
+    let loaded = load(alloc, text.as_bytes());
+    let _end = end(alloc)?;
+    match loaded {
+        Ok(program) => {
+            println!(rt;
+                "{} origins, {} reactions",
+                program.origins(),
+                program.reactions().len()
+            )?;
+            copy_once(rt, alloc, &program)?;
+            copy_once(rt, alloc, &program)
+        }
+        Err(error) => println!(rt; "refused {}", error.number()),
+    }
+}
+
+/// Copies a program.
+fn copy_once<P: Print>(rt: &P, alloc: Global, program: &Program) -> io::Result<()> {
+    let _begin = begin(alloc)?;
+    let copy = program.copy(alloc);
+    let _end = end(alloc)?;
+    match copy {
+        Ok(copy) => println!(rt; "copied, the same {}", copy.is_same(program)),
+        Err(_) => rt.println("no memory"),
+    }
+}
+
+/// Reads the schedule, plays it over the program, and makes the text of it.
+pub(crate) fn perform<T: Timeline + Drop, P: Print>(
+    rt: &P,
+    alloc: Global,
+    program: &str,
+    schedule: &str,
+) -> io::Result<()> {
+    let program = program_of(alloc, program)?;
+    let schedule = schedule.as_bytes();
+    read_once(rt, alloc, schedule)?;
+    read_once(rt, alloc, schedule)?;
+    play_once::<T, P>(rt, alloc, &program, schedule)?;
+    play_once::<T, P>(rt, alloc, &program, schedule)?;
+    settle_twice::<T, P>(rt, alloc, &program, schedule)?;
+    tell_once::<T, P>(rt, alloc, &program, schedule)?;
+    tell_once::<T, P>(rt, alloc, &program, schedule)
+}
+
+/// Reads the schedule.
+fn read_once<P: Print>(rt: &P, alloc: Global, schedule: &[u8]) -> io::Result<()> {
+    let _begin = begin(alloc)?;
+    let read = read_schedule(alloc, schedule);
+    let _end = end(alloc)?;
+    match read {
+        Ok((count, moves)) => println!(rt; "{count} replicas, {} moves", moves.len()),
+        Err(fault) => println!(rt; "{fault}"),
+    }
+}
+
+/// Plays the schedule.
+fn play_once<T: Timeline + Drop, P: Print>(
+    rt: &P,
+    alloc: Global,
+    program: &Program,
+    schedule: &[u8],
+) -> io::Result<()> {
+    let (count, moves) = moves_of(alloc, schedule)?;
+    let _begin = begin(alloc)?;
+    let played = play::<T>(alloc, program, count, &moves);
+    let _end = end(alloc)?;
+    say_made(rt, played.is_ok())
+}
+
+/// Plays the schedule, and settles its world two times.
+fn settle_twice<T: Timeline + Drop, P: Print>(
+    rt: &P,
+    alloc: Global,
+    program: &Program,
+    schedule: &[u8],
+) -> io::Result<()> {
+    let (count, moves) = moves_of(alloc, schedule)?;
+    let mut world = play::<T>(alloc, program, count, &moves)?;
+    settle_once(rt, alloc, &mut world)?;
+    settle_once(rt, alloc, &mut world)
+}
+
+/// How many replicas a schedule names, and its moves.
+fn moves_of(alloc: Global, schedule: &[u8]) -> io::Result<(usize, Vec<Move>)>
+    ensures { IfOk result (λ read. (1 ≤ read.0) × (read.0 ≤ most_replicas)) }
+{
+    let Ok((count, moves)) = read_schedule(alloc, schedule) else {
+        return Err(ErrorKind::InvalidInput.into());
+    };
+    if count == 0 || count > MAX_REPLICAS as usize {
+        return Err(ErrorKind::InvalidInput.into());
+    }
+    Ok((count, moves))
+}
+
+/// Settles all replicas of a world, and tells the total of each that is.
+fn settle_once<T: Timeline, P: Print>(
+    rt: &P,
+    alloc: Global,
+    world: &mut World<T>,
+) -> io::Result<()> {
+    let _begin = begin(alloc)?;
+    let settled = world.settle(alloc);
+    let _end = end(alloc)?;
+    say_made(rt, settled.is_ok())?;
+    for number in 0..world.len() {
+        if let Some(replica) = world.replica(number) {
+            say_total(rt, alloc, replica)?;
+        }
+    }
+    Ok(())
+}
+
+/// Tells the first variable of a replica that is settled.
+fn say_total<T: Timeline, P: Print>(rt: &P, alloc: Global, replica: &Replica<T>) -> io::Result<()> {
+    if !replica.is_settled() {
+        return println!(rt; "length {}", replica.len());
+    }
+    say(rt, alloc, &replica.answer(Query::Var(0)))
+}
+
+/// Makes the text of the schedule.
+fn tell_once<T: Timeline + Drop, P: Print>(
+    rt: &P,
+    alloc: Global,
+    program: &Program,
+    schedule: &[u8],
+) -> io::Result<()> {
+    let _begin = begin(alloc)?;
+    let told = play_text::<T>(alloc, program, schedule);
+    let _end = end(alloc)?;
+    match told {
+        Ok(text) => say_bytes(rt, text),
+        Err(fault) => println!(rt; "{fault}"),
+    }
+}

@@ -1,0 +1,17 @@
+-- Labels: one reactor more.
+use Rattle.std.proofs.Common.{◌≡◌, List, ◌++◌, ℕ, ◌+◌, ◌<◌, length, map, drop, get_or, ap, sym, ◌∙◌}
+use Rattle.std.proofs.lemmas.List.{append_assoc, at_drop_more}
+use Rattle.warp_prog.specs.Explain.{labelled, labels_in}
+use Rattle.warp_prog.specs.File.{Word, ReactorPart}
+use Rattle.warp_prog.specs.View.{reactor_tree}
+use Rattle.warp_prog.specs.declared.file.Reactor.{Reactor}
+
+-- one reactor more: the labels of what stands in it are added
+pub labels_more : (its : ReactorPart → List Word) (done new : List Word) (rs : List Reactor) (i : ℕ) (r : Reactor)
+    → i < length rs → r ≡ get_or rs i r → new ≡ done ++ labelled its (reactor_tree r)
+    → new ++ labels_in its (map reactor_tree (drop (i + 1) rs)) ≡ done ++ labels_in its (map reactor_tree (drop i rs))
+labels_more its done new rs i r within here e =
+    let rest = labels_in its (map reactor_tree (drop (i + 1) rs)) in
+    ap (λ xs. xs ++ rest) e ∙ append_assoc done (labelled its (reactor_tree r)) rest
+    ∙ ap (λ s. done ++ (labelled its (reactor_tree s) ++ rest)) here
+    ∙ sym (at_drop_more (λ ss. done ++ labels_in its (map reactor_tree ss)) rs i r within)

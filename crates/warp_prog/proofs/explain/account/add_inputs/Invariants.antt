@@ -1,0 +1,9 @@
+-- the text so far, and then the lines of the labels that are left, is the text before and the lines of all
+use Rattle.std.proofs.Common.{◌≡◌, ◌++◌, drop, map, string_bytes}
+use Rattle.warp_prog.specs.Explain.{input_lines}
+use Rattle.warp_prog.proofs.explain.account.add_inputs.Given as goal
+
+abbrev pub invariant-loop-i : goal.invariant-loop-i
+invariant-loop-i l =
+    string_bytes l.text ++ input_lines l.inputs l.i (map string_bytes (drop l.i l.labels))
+    ≡ string_bytes l.fn.text ++ input_lines l.inputs 0 (map string_bytes l.labels)

@@ -1,0 +1,133 @@
+//! Why a file is no program, in words for who wrote it: where its first fault stands, and what is wrong there.
+//!
+//! `load` says which fault is the first. Here it is looked for a second time, with its place: a walk goes down the file,
+//! and on its way back each level adds its step to the trail.
+
+mod account;
+mod labels;
+mod limits;
+mod links;
+mod names;
+mod neighbour;
+mod reason;
+mod role;
+mod shape;
+mod terms;
+mod trail;
+mod twice;
+
+use crate::error::LoadError;
+use crate::explain::limits::limit_fault;
+use crate::explain::links::order_fault;
+use crate::explain::names::{name_fault, undeclared_fault};
+use crate::explain::reason::{Reason, write_reason};
+use crate::explain::shape::shape_fault;
+use crate::explain::trail::Trail;
+use crate::explain::twice::twice_fault;
+use crate::file::ProgramFile;
+use crate::misread::Misread;
+use crate::shape::file;
+pub use account::program_account;
+pub use labels::{Labels, file_labels};
+use serde_json::{Error, Value};
+use std::alloc::{AllocError, Global};
+
+/// How many bytes a file has at most.
+const LONGEST_FILE: usize = 1_048_576;
+
+/// The place and the reason of the fault for which `load` refuses these bytes with this error, as one line with its
+/// line feed; empty where they have no such fault.
+///
+/// # Errors
+///
+/// Only where a growth was refused.
+pub fn explanation(alloc: Global, bytes: &[u8], error: LoadError) -> Result<String, AllocError> {
+    if bytes.len() > LONGEST_FILE {
+        return String::from_str(alloc, "the file has more than 1,048,576 bytes\n");
+    }
+    match Value::from_slice(alloc, bytes) {
+        Ok(value) => of_value(alloc, &value, error),
+        Err(fault) => of_text(alloc, bytes, &fault),
+    }
+}
+
+/// Where and why bytes are no JSON text.
+fn of_text(alloc: Global, bytes: &[u8], fault: &Error) -> Result<String, AllocError> {
+    if fault.is_memory() {
+        return Err(AllocError);
+    }
+    let line = fault.line();
+    let column = fault.column();
+    let reason = text_reason(bytes, fault);
+    format!(in alloc; "line {line}, column {column}: {reason}\n")
+}
+
+/// Why bytes are no JSON text.
+fn text_reason(bytes: &[u8], fault: &Error) -> &'static str {
+    if std::str::from_utf8(bytes).is_err() {
+        return "this is no text in UTF-8";
+    }
+    if fault.is_eof() {
+        return "the JSON text ends too early";
+    }
+    "this is no JSON text"
+}
+
+/// Where and why a JSON value is no program.
+fn of_value(alloc: Global, value: &Value, error: LoadError) -> Result<String, AllocError> {
+    match file(alloc, value) {
+        Ok(file) => of_file(alloc, value, &file, error),
+        Err(Misread::Shape) => of_shape(alloc, value),
+        Err(Misread::Memory) => Err(AllocError),
+    }
+}
+
+/// Where and why a JSON value has not the shape of a file.
+fn of_shape(alloc: Global, value: &Value) -> Result<String, AllocError> {
+    let mut at = Trail::new();
+    match shape_fault(value, &mut at) {
+        Some(reason) => written(alloc, value, &at, &reason),
+        None => Ok(String::new(alloc)),
+    }
+}
+
+/// Where and why a file, which a value is, is no program.
+fn of_file(
+    alloc: Global,
+    value: &Value,
+    file: &ProgramFile,
+    error: LoadError,
+) -> Result<String, AllocError> {
+    let mut at = Trail::new();
+    match file_fault(file, error.number(), &mut at) {
+        Some(reason) => written(alloc, value, &at, &reason),
+        None => Ok(String::new(alloc)),
+    }
+}
+
+/// The fault of this number in a file.
+fn file_fault<'f>(file: &'f ProgramFile, number: u8, at: &mut Trail) -> Option<Reason<'f>> {
+    match number {
+        3 => Some(limit_fault(file, at)),
+        4 => name_fault(file, at),
+        5 => twice_fault(file, at),
+        6 => order_fault(file, at),
+        7 => undeclared_fault(file, at),
+        _ => None,
+    }
+}
+
+/// The place and the reason in a line.
+fn written(
+    alloc: Global,
+    value: &Value,
+    at: &Trail,
+    reason: &Reason<'_>,
+) -> Result<String, AllocError> {
+    let mut text = String::new(alloc);
+    at.write(&mut text, value)?;
+    text.push_str(": ")?;
+    write_reason(alloc, &mut text, reason)?;
+    text.push('\n')?;
+    Ok(text)
+}

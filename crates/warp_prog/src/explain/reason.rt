@@ -1,0 +1,155 @@
+//! What is wrong at a place of a program file, and its words.
+
+use crate::explain::neighbour::Nearest;
+use crate::explain::role::{Role, compare_all};
+use crate::explain::terms::Vocabulary;
+use crate::file::{PortName, Reactor};
+use crate::name::Name;
+use serde_json::Value;
+use std::alloc::{AllocError, Global};
+
+/// How many bytes of a value are shown.
+const LONGEST_SHOWN: usize = 48;
+
+/// What is wrong at a place.
+#[derive(Clone, Copy)]
+pub(crate) enum Reason<'f> {
+    /// These words.
+    Plain(&'static str),
+    /// The value is not what stands behind "is".
+    Form(&'f Value, &'static str),
+    /// The list is not of this form.
+    Parts(&'static str),
+    /// A word that is none of these.
+    Unread(&'f str, Vocabulary),
+    /// This key is missing.
+    Missing(&'static str),
+    /// The number is not one of the second to the third.
+    Range(i64, i64, i64),
+    /// There are more of these than so many.
+    Many(&'static str, usize),
+    /// The name stands for nothing of the reactor that its role asks.
+    Unknown(&'f Name, Role, &'f Reactor),
+    /// No reactor has the name of the port's.
+    NoReactor(&'f PortName, &'f [Reactor]),
+    /// The name stands twice in its reactor.
+    Again(&'f Name),
+    /// The reactor at this place has this name too.
+    SameReactor(usize),
+    /// The port has a source already.
+    Fed(&'f PortName),
+    /// The port stands twice among the outputs.
+    SameOutput(&'f PortName),
+    /// A link without delay leads from the first reactor to the second, which does not stand later.
+    Backward(&'f Name, &'f Name),
+    /// The name is not declared for reading.
+    Unheard(&'f Name),
+    /// The name is not declared for writing.
+    Unwritten(&'f Name),
+}
+
+/// Writes what is wrong.
+pub(crate) fn write_reason(
+    alloc: Global,
+    text: &mut String,
+    reason: &Reason<'_>,
+) -> Result<(), AllocError> {
+    match *reason {
+        Reason::Plain(words) => text.push_str(words),
+        Reason::Form(value, words) => write_form(alloc, text, value, words),
+        Reason::Parts(form) => write!(text, "this is not {form}"),
+        Reason::Unread(word, vocabulary) => write_unread(alloc, text, word, vocabulary),
+        Reason::Missing(key) => write!(text, "\"{key}\" is missing"),
+        Reason::Range(number, low, high) => write!(text, "{number} is not in {low} to {high}"),
+        Reason::Many(things, most) => write!(text, "there are more than {most} {things}"),
+        Reason::Unknown(name, role, reactor) => write_unknown(alloc, text, name, role, reactor),
+        Reason::NoReactor(port, reactors) => write_no_reactor(alloc, text, port, reactors),
+        Reason::Again(name) => write_named(text, name, " stands twice in its reactor"),
+        Reason::SameReactor(place) => write!(text, "reactors[{place}] has this name too"),
+        Reason::Fed(port) => write_port(text, port, " has a source already"),
+        Reason::SameOutput(port) => write_port(text, port, " stands there already"),
+        Reason::Backward(from, to) => write_backward(text, from, to),
+        Reason::Unheard(name) => write_named(text, name, " is neither in \"on\" nor in \"reads\""),
+        Reason::Unwritten(name) => write_named(text, name, " is not in \"writes\""),
+    }
+}
+
+fn write_named(text: &mut String, name: &Name, words: &str) -> Result<(), AllocError> {
+    let name = name.as_str();
+    write!(text, "\"{name}\"{words}")
+}
+
+fn write_port(text: &mut String, port: &PortName, words: &str) -> Result<(), AllocError> {
+    let reactor = port.reactor.as_str();
+    let name = port.port.as_str();
+    write!(text, "\"{reactor}.{name}\"{words}")
+}
+
+fn write_backward(text: &mut String, from: &Name, to: &Name) -> Result<(), AllocError> {
+    let from = from.as_str();
+    let to = to.as_str();
+    if from == to {
+        return write!(text, "without a delay it leads from \"{from}\" to itself");
+    }
+    write!(
+        text,
+        "without a delay it leads from \"{from}\" back to \"{to}\""
+    )
+}
+
+fn write_form(
+    alloc: Global,
+    text: &mut String,
+    value: &Value,
+    words: &str,
+) -> Result<(), AllocError> {
+    let shown = value.to_string(alloc)?;
+    if shown.len() > LONGEST_SHOWN {
+        return write!(text, "this is {words}");
+    }
+    write!(text, "{shown} is {words}")
+}
+
+fn write_unread(
+    alloc: Global,
+    text: &mut String,
+    word: &str,
+    vocabulary: Vocabulary,
+) -> Result<(), AllocError> {
+    let shown = Value::String(String::from_str(alloc, word)?);
+    write_form(alloc, text, &shown, vocabulary.kind())?;
+    let mut nearest = Nearest::new(alloc, word);
+    vocabulary.compare(&mut nearest)?;
+    nearest.write(text)
+}
+
+fn write_unknown(
+    alloc: Global,
+    text: &mut String,
+    name: &Name,
+    role: Role,
+    reactor: &Reactor,
+) -> Result<(), AllocError> {
+    let words = role.words();
+    let of = reactor.name.as_str();
+    let wanted = name.as_str();
+    write!(text, "\"{wanted}\" is no {words} of \"{of}\"")?;
+    let mut nearest = Nearest::new(alloc, wanted);
+    compare_all(&mut nearest, reactor, role)?;
+    nearest.write(text)
+}
+
+fn write_no_reactor(
+    alloc: Global,
+    text: &mut String,
+    port: &PortName,
+    reactors: &[Reactor],
+) -> Result<(), AllocError> {
+    let wanted = port.reactor.as_str();
+    write!(text, "there is no reactor \"{wanted}\"")?;
+    let mut nearest = Nearest::new(alloc, wanted);
+    for reactor in reactors {
+        nearest.compare(reactor.name.as_str())?;
+    }
+    nearest.write(text)
+}

@@ -1,0 +1,103 @@
+//! Where something stands in a program file.
+
+use arrayvec::ArrayVec;
+use serde_json::Value;
+use std::alloc::AllocError;
+
+/// More steps than a JSON text has levels.
+const MOST_STEPS: usize = 136;
+
+/// A step from a value of the file to a part of it.
+#[derive(Clone, Copy)]
+pub(crate) enum Step {
+    /// The value under this key of an object.
+    Key(&'static str),
+    /// The item at this place, from 0, of the list under this key of an object.
+    Of(&'static str, usize),
+    /// The item at this place, from 0, of a list.
+    Item(usize),
+}
+
+impl Default for Step {
+    fn default() -> Step {
+        Step::Item(0)
+    }
+}
+
+/// The steps from the file to a part of it, the last of them first.
+#[derive(Drop)]
+pub(crate) struct Trail {
+    steps: ArrayVec<Step, MOST_STEPS>,
+}
+
+impl Trail {
+    /// The trail to the file itself.
+    pub(crate) fn new() -> Trail {
+        Trail {
+            steps: ArrayVec::new(),
+        }
+    }
+
+    /// Adds the step before those that are there.
+    pub(crate) fn back(&mut self, step: Step) {
+        if !self.steps.is_full() {
+            self.steps.push(step);
+        }
+    }
+
+    /// Writes the steps from the first on, with the names of the reactors of the file.
+    pub(crate) fn write(&self, text: &mut String, file: &Value) -> Result<(), AllocError> {
+        if self.steps.is_empty() {
+            return text.push_str("the file");
+        }
+        for step in self.steps.as_slice().iter().rev() {
+            write_step(text, *step, file)?;
+        }
+        Ok(())
+    }
+}
+
+/// Writes a step behind those that are there.
+fn write_step(text: &mut String, step: Step, file: &Value) -> Result<(), AllocError> {
+    match step {
+        Step::Key(key) => {
+            write_comma(text)?;
+            write!(text, "\"{key}\"")
+        }
+        Step::Of(key, place) => {
+            write_comma(text)?;
+            write!(text, "{key}[{place}]")?;
+            if key == "reactors" {
+                write_name(text, place, file)?;
+            }
+            Ok(())
+        }
+        Step::Item(place) => write!(text, "[{place}]"),
+    }
+}
+
+/// Writes a comma if something stands before it.
+fn write_comma(text: &mut String) -> Result<(), AllocError> {
+    if text.is_empty() {
+        return Ok(());
+    }
+    text.push_str(", ")
+}
+
+/// Writes the name of the reactor at this place, if it has one.
+fn write_name(text: &mut String, place: usize, file: &Value) -> Result<(), AllocError> {
+    match reactor_name(file, place) {
+        Some(name) => write!(text, " \"{name}\""),
+        None => Ok(()),
+    }
+}
+
+/// The name of the reactor at this place of the file, if it is a name.
+fn reactor_name(file: &Value, place: usize) -> Option<&str> {
+    let reactors = file.get("reactors")?.as_array()?;
+    let name = reactors.get(place)?.get("name")?.as_str()?;
+    if crate::name::Name::read(name).is_none() {
+        return None;
+    }
+    Some(name)
+}

@@ -1,0 +1,204 @@
+//! The order in which a step runs the reactions of a program: the least numbered first whose predecessors all stand.
+//!
+//! For each reaction its predecessors are listed once; then each turn looks along the reactions for the first that does
+//! not stand while all of these do.
+ghost use Rattle.std.specs.Prelude.{◌≡◌, ◌<◌, ◌^◌, false, ◌++◌, replicate, IfOk, OnOk, IfSome, length, map};
+ghost use Rattle.std.specs.List.{list_any, list_all};
+ghost use Rattle.warp_body.specs.declared.place.Target.TheVariants.{Port};
+ghost use Rattle.warp_step.specs.Named.{names};
+ghost use Rattle.warp_step.specs.Program.{rule_of};
+ghost use Rattle.warp_step.specs.View.{program_of};
+ghost use Rattle.warp_step.specs.Order.{file_order};
+ghost use Rattle.warp_prog.specs.Order.{predecessors, loader_order};
+ghost use Rattle.warp_prog.specs.inner.Placing.{numbers_of, has_flag, may_follow, first_free, placed_behind};
+ghost use Rattle.warp_prog.specs.inner.Placing.{reads_by, sources_read, comes_before, with_number};
+
+use crate::numbered::reaction::names;
+use std::alloc::Global;
+use warp_body::Target;
+use warp_step::{Link, Parts, Reaction};
+use warp_tag::OutOfMemory;
+
+/// The order of the reactions in the file.
+pub(crate) fn file_order(alloc: Global, parts: &Parts) -> Result<Vec<u32>, OutOfMemory>
+    requires { length parts.now.reactions.items < 2 ^ 32 }
+    ensures { IfOk result (λ order. order.items ≡ file_order (program_of parts.now)) }
+{
+    let mut order = Vec::with_capacity(alloc, parts.reactions.len())?;
+    for n in 0..parts.reactions.len() {
+        order.push(n as u32)?;
+    }
+    Ok(order)
+}
+
+/// The loader's order of reactions. It has fewer than there are exactly where no order is admissible.
+pub(crate) fn loader_order(alloc: Global, parts: &Parts) -> Result<Vec<u32>, OutOfMemory>
+    requires { length parts.now.reactions.items < 2 ^ 32 }
+    ensures { IfOk result (λ order. order.items ≡ loader_order (program_of parts.now)) }
+{
+    let before = all_predecessors(alloc, parts)?;
+    let mut placed = none_placed(alloc, before.len())?;
+    let mut order = Vec::with_capacity(alloc, before.len())?;
+    place_all(&before, &mut placed, &mut order)?;
+    Ok(order)
+}
+
+/// So many flags, for reactions none of which stands.
+fn none_placed(alloc: Global, count: usize) -> Result<Vec<bool>, OutOfMemory>
+    ensures { IfOk result (λ flags. flags.items ≡ replicate count false) }
+{
+    let mut flags = Vec::with_capacity(alloc, count)?;
+    for _n in 0..count {
+        flags.push(false)?;
+    }
+    Ok(flags)
+}
+
+/// Puts reactions behind those that stand, each the least numbered that may follow, as long as one may.
+fn place_all(
+    before: &[Vec<u32>],
+    placed: &mut [bool],
+    order: &mut Vec<u32>,
+) -> Result<(), OutOfMemory>
+    requires few { length before.now < 2 ^ 32 }
+    requires flags { length placed.old ≡ length before.now }
+    ensures { let its = map numbers_of before.now in
+        OnOk result (order.new.items ≡ placed_behind (length before.now) its placed.old order.old.items) }
+{
+    for _turn in 0..before.len() {
+        let Some(next) = first_free(before, placed) else {
+            return Ok(());
+        };
+        placed[next as usize] = true;
+        order.push(next)?;
+    }
+    Ok(())
+}
+
+/// The least numbered reaction that may follow those that stand.
+fn first_free(before: &[Vec<u32>], placed: &[bool]) -> Option<u32>
+    requires { length before.now < 2 ^ 32 }
+    ensures first { result ≡ first_free placed.now 0 (map numbers_of before.now) }
+    ensures within { IfSome result (λ n. n < length before.now) }
+{
+    for (n, its) in before.iter().enumerate() {
+        if may_follow(placed, n, its) {
+            return Some(n as u32);
+        }
+    }
+    None
+}
+
+/// Whether a reaction does not stand, while those before it do.
+fn may_follow(placed: &[bool], n: usize, before: &[u32]) -> bool
+    ensures { result ≡ may_follow placed.now n before.now }
+{
+    !is_placed(placed, n) && all_placed(placed, before)
+}
+
+/// Whether a reaction stands.
+fn is_placed(placed: &[bool], n: usize) -> bool
+    ensures { result ≡ has_flag placed.now n }
+{
+    match placed.get(n) {
+        Some(flag) => *flag,
+        None => false,
+    }
+}
+
+/// Whether all of these reactions stand.
+fn all_placed(placed: &[bool], reactions: &[u32]) -> bool
+    ensures { result ≡ list_all (has_flag placed.now) reactions.now }
+{
+    for n in reactions {
+        if !is_placed(placed, *n as usize) {
+            return false;
+        }
+    }
+    true
+}
+
+/// For each reaction those that precede it.
+fn all_predecessors(alloc: Global, parts: &Parts) -> Result<Vec<Vec<u32>>, OutOfMemory>
+    requires { length parts.now.reactions.items < 2 ^ 32 }
+    ensures { let P = program_of parts.now in
+        IfOk result (λ all. map numbers_of all.items ≡ map (predecessors P) (file_order P)) }
+{
+    let mut all = Vec::with_capacity(alloc, parts.reactions.len())?;
+    for n in 0..parts.reactions.len() {
+        let before = predecessors(alloc, parts, n)?;
+        all.push(before)?;
+    }
+    Ok(all)
+}
+
+/// The reactions that precede one.
+fn predecessors(alloc: Global, parts: &Parts, n: usize) -> Result<Vec<u32>, OutOfMemory>
+    requires few { length parts.now.reactions.items < 2 ^ 32 }
+    requires within { n < length parts.now.reactions.items }
+    ensures { IfOk result (λ before. before.items ≡ predecessors (program_of parts.now) n) }
+{
+    let reaction = &parts.reactions[n];
+    let sources = sources_read(alloc, reaction, &parts.links)?;
+    let mut before = Vec::new(alloc);
+    for (m, first) in parts.reactions.iter().enumerate() {
+        let is_before = comes_before(first, m, reaction, n, &sources);
+        push_if(&mut before, is_before, m as u32)?;
+    }
+    Ok(before)
+}
+
+/// Whether a reaction precedes another that reads these sources without delay.
+fn comes_before(first: &Reaction, m: usize, second: &Reaction, n: usize, sources: &[u32]) -> bool
+    ensures { result ≡ comes_before (rule_of first.now) m (rule_of second.now) n sources.now }
+{
+    (first.reactor == second.reactor && m < n) || writes_any(first, sources)
+}
+
+/// Whether a reaction writes one of these ports.
+fn writes_any(reaction: &Reaction, ports: &[u32]) -> bool
+    ensures { result ≡ list_any (λ p. names reaction.now.writes.items (Port p)) ports.now }
+{
+    for port in ports {
+        if names(&reaction.writes, Target::Port(*port)) {
+            return true;
+        }
+    }
+    false
+}
+
+/// The outputs that lead without delay to an input that a reaction names.
+fn sources_read(alloc: Global, reaction: &Reaction, links: &[Link]) -> Result<Vec<u32>, OutOfMemory>
+    ensures { IfOk result (λ ports. ports.items ≡ sources_read (rule_of reaction.now) links.now) }
+{
+    let mut ports = Vec::new(alloc);
+    for link in links {
+        push_if(&mut ports, reads_by(reaction, link), link.source)?;
+    }
+    Ok(ports)
+}
+
+/// Puts a number behind others, where a test says so.
+fn push_if(numbers: &mut Vec<u32>, test: bool, number: u32) -> Result<(), OutOfMemory>
+    ensures { OnOk result (numbers.new.items ≡ with_number test number numbers.old.items) }
+{
+    if test {
+        numbers.push(number)?;
+    }
+    Ok(())
+}
+
+/// Whether a link leads without delay to an input that a reaction names.
+fn reads_by(reaction: &Reaction, link: &Link) -> bool
+    ensures { result ≡ reads_by (rule_of reaction.now) link.now }
+{
+    link.delay.is_none() && reads_port(reaction, link.target)
+}
+
+/// Whether a reaction names a port in `on` or `reads`.
+#[tactic(auto, using(crate::proofs::Anys::anys))]
+fn reads_port(reaction: &Reaction, port: u32) -> bool
+    ensures { result ≡ names (reaction.now.triggers.items ++ reaction.now.reads.items) (Port port) }
+{
+    names(&reaction.triggers, Target::Port(port)) || names(&reaction.reads, Target::Port(port))
+}

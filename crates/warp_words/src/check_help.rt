@@ -1,0 +1,31 @@
+//! The texts that `warpd check --help` shows.
+
+pub(crate) const ABOUT: &str = "Tells what is in a program file, or what is wrong in it and where";
+
+pub(crate) const LONG_ABOUT: &str = "\
+Reads a program file as `warpd run` does, and tells in one line what is in it:
+
+  reactors 2, reactions 3, origins 2, variables 1, stop 100
+
+Where the file is refused, standard error says so as `warpd run` does, and in a second line
+where and why:
+
+  program refused 4
+  reactors[0] \"door\", reactions[1], \"writes\": \"shut\" is no output or action of \"door\"
+
+Standard input is not read. The exit status is 0 for a good file, and 3 for one that is refused.";
+
+pub(crate) const NUMBERS_HELP: &str = "Tells the numbers too by which lines and replies speak";
+
+pub(crate) const NOTES: &str = "\
+With --numbers a line follows for each variable, program input and program output, with its
+number and its name:
+
+  var K REACTOR.NAME
+  input I REACTOR.NAME origin O
+  output P REACTOR.NAME
+
+Why a program file is refused: warpd run --help
+
+Example:
+  warpd check --numbers builtin:twice";

@@ -1,0 +1,40 @@
+//! What a long text is printed on, piece by piece.
+ghost use Rattle.std.specs.Prelude.{◌≡◌, ◌+◌, ℕ, List, Option, MatchResult, OnErr, OnOk};
+ghost use Rattle.std.specs.Io.KnownBytes.{Appends};
+ghost use Rattle.warp_world.specs.Printed.{PrintsFront};
+
+/// What a write tells that failed: nothing more.
+#[derive(Clone, Copy, Debug, PartialEq, Eq)]
+pub struct Unprinted;
+
+/// Why a trace was not printed to its end.
+#[derive(Clone, Copy, Debug, PartialEq, Eq)]
+pub enum TraceFault {
+    /// A piece could not be written.
+    Output,
+    /// A growth was refused.
+    NoMemory,
+}
+
+/// Takes the pieces of a text, in order.
+pub trait Printer {
+    /// What there is to it beside its output, which printing leaves as it is.
+    ghost Kept: { Type 0 };
+
+    /// All that.
+    ghost kept: { Self → Kept };
+
+    /// The bytes that were written; `None` where it doesn't tell.
+    ghost written: { Self → Option (List ℕ) };
+
+    /// How many writes have failed.
+    ghost failures: { Self → ℕ };
+
+    /// Writes all of the piece; where a write fails, a front of it was written.
+    fn print(&mut self, piece: &[u8]) -> Result<(), Unprinted>
+        ensures all { OnOk result (Appends (written self.old) (written self.new) piece.now) }
+        ensures front { OnErr result (PrintsFront (written self.old) (written self.new) piece.now) }
+        ensures failures { MatchResult result (λ _. failures self.new ≡ failures self.old)
+            (λ _. failures self.new ≡ failures self.old + 1) }
+        ensures kept { kept self.new ≡ kept self.old };
+}

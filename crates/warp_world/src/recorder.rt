@@ -1,0 +1,131 @@
+//! A desk that takes records, and executes nothing.
+ghost use Rattle.std.specs.Prelude.{◌≡◌, ℕ, ◌<◌, ◌≤◌, [], IfErr, IfOk, None, Contains};
+ghost use Rattle.warp_tag.specs.Limits.{most_origins, most_records};
+ghost use Rattle.warp_record.specs.Reply.{IsReply};
+ghost use Rattle.warp_record.specs.declared.line.Line.{Line};
+ghost use Rattle.warp_replica.specs.Desk.{LocalGives, LocalState};
+ghost use Rattle.warp_replica.specs.Gives.{Takes, told};
+ghost use Rattle.warp_replica.specs.Replica.{AreAllowed};
+ghost use Rattle.warp_table.specs.Check.{refusal_of};
+ghost use Rattle.warp_table.specs.Log.{IsAt};
+ghost use Rattle.warp_table.specs.Names.{origin_of};
+
+use std::alloc::Global;
+use std::marker::Model;
+use warp_exchange::Desk;
+use warp_record::{Line, Record, Refusal, Reply};
+use warp_replica::Took;
+use warp_step::Program;
+use warp_table::Table;
+
+/// A program and the records that it took, for whoever wants them and no answers. Contracts see both, as of a replica.
+#[derive(Drop)]
+pub struct Recorder {
+    program: Program,
+    table: Table,
+}
+
+impl Model for Recorder {
+    ghost use Rattle.warp_replica.specs.Desk.{LocalState};
+    ghost use Rattle.warp_replica.specs.Replica.{AreAllowed};
+    ghost use Rattle.warp_world.specs.Recorded.{recorded_code};
+
+    ghost Value = { LocalState };
+
+    ghost coded = { recorded_code };
+
+    ghost view = { λ r. record { program = r.program; records = r.table } };
+
+    ghost invariant = { λ r. AreAllowed r.program r.table };
+}
+
+impl Recorder {
+    /// A recorder for this program that took no record yet.
+    pub fn new(alloc: Global, program: Program) -> Recorder
+        ensures { result ≡ record { program = program; records = [] } }
+    {
+        Recorder {
+            program,
+            table: Table::new(alloc),
+        }
+    }
+
+    /// Its program.
+    pub fn program(&self) -> &Program
+        ensures { result.now ≡ self.now.program }
+    {
+        &self.program
+    }
+
+    /// Its records, against none of which the program has a reason.
+    pub(crate) fn table(&self) -> &Table
+        ensures table { result.now ≡ self.now.records }
+        ensures allowed { AreAllowed self.now.program self.now.records }
+    {
+        &self.table
+    }
+
+    /// Takes a record. `Err` says the first reason against it: one of the program's, a full log, or no memory.
+    fn take(&mut self, record: &Record) -> Result<Took, Refusal>
+        ensures takes { Takes self.old.program self.old.records «record».now result self.new.records }
+        ensures program { self.new.program ≡ self.old.program }
+        ensures reply { IsReply (told result) }
+    {
+        Table::check(&self.program, record)?;
+        if self.table.is_full() {
+            return self.find(record, Refusal::LogFull);
+        }
+        origin_in_range(&self.program, record);
+        match self.table.add(record) {
+            Ok(added) if added.is_new => Ok(Took::New(added.place)),
+            Ok(added) => Ok(Took::Known(added.place)),
+            Err(_) => self.find(record, Refusal::NoMemory),
+        }
+    }
+
+    /// The place of a record that was there before, which needs neither room nor memory; of another one why it does
+    /// not come in.
+    fn find(&self, record: &Record, refusal: Refusal) -> Result<Took, Refusal>
+        ensures known { IfOk result
+            (λ took. (place : ℕ) × (took ≡ Took.Known place) × IsAt self.now.records place «record».now ×
+            (place ≤ most_records)) }
+        ensures lacking { IfErr result (λ why. (why ≡ refusal) × (¬ Contains self.now.records «record».now)) }
+    {
+        match self.table.position(record) {
+            Some(place) => Ok(Took::Known(place)),
+            None => Err(refusal),
+        }
+    }
+}
+
+impl Desk for Recorder {
+    ghost State = { LocalState };
+
+    ghost state = { λ r. r };
+
+    ghost gives = { LocalGives };
+
+    /// Takes a record that a line brings. It executes nothing, and so a query gets `refused 8`.
+    fn ask(&mut self, line: Line) -> Reply {
+        match line {
+            Line::Put(record) => match self.take(&record) {
+                Ok(Took::New(place)) => Reply::Taken(place),
+                Ok(Took::Known(place)) => Reply::Known(place),
+                Err(refusal) => Reply::Refused(refusal),
+            },
+            Line::Look(_) => Reply::Refused(Refusal::NoBoard),
+            Line::Ask(_) => Reply::Refused(Refusal::NoMemory),
+            Line::Collect => Reply::Refused(Refusal::NoMemory),
+        }
+    }
+}
+
+/// That a record's origin is in range, against which the program has no reason. It does nothing.
+fn origin_in_range(program: &Program, record: &Record)
+    requires { refusal_of program.now «record».now ≡ None }
+    ensures { origin_of «record».now < most_origins }
+{
+    // Each program is valid, and so has few origins.
+    program.valid();
+    let _ = record;
+}

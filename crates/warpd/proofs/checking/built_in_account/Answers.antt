@@ -1,0 +1,10 @@
+-- The account is that of `twice`, by the labels that were made.
+use Rattle.std.proofs.Common.{◌∙◌, ap}
+use Rattle.warp_prog.specs.Explain.{account_text}
+use Rattle.warpd.proofs.checking.built_in_account.Goals as goal
+
+pub returns-in-Ok-program_account-clause-ok : goal.returns-in-Ok-program_account-clause-ok
+returns-in-Ok-program_account-clause-ok c = (
+  c.in-Ok-file_labels.labels,
+  c.in-Ok-program_account.ensures ∙ ap (λ P. account_text P c.in-Ok-file_labels.labels c.args.with_numbers) c.in-Ok.ensures,
+)

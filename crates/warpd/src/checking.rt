@@ -1,0 +1,134 @@
+//! What `warpd check` tells of the program that a word names.
+ghost use Rattle.std.specs.Prelude.{◌≡◌, ◌⊎◌, IfErr, IfOk, ℕ, List, string_bytes};
+ghost use Rattle.warp_step.specs.Twice.{twice};
+ghost use Rattle.warp_prog.specs.Explain.{Names, account_text};
+ghost use Rattle.warp_prog.specs.Load.{IsLoaded, IsRefused};
+ghost use Rattle.warpd.specs.Outcome.{IsNone, IsTold, IsToldOf, refused_outcome};
+
+use crate::file_bytes::{first_bytes, without_file};
+use crate::outcome::Outcome;
+use crate::program_file::{ENOUGH, refused};
+use std::alloc::Global;
+use std::fs::{self, Files};
+use std::io::Read;
+use warp_prog::{LoadError, explanation, file_labels, load, program_account};
+use warp_step::Program;
+
+/// The program `builtin:twice` as a file, for its names.
+const TWICE: &str = "\
+{\"version\":1,\"stop\":100,\"origins\":2,\"reactors\":[{\"name\":\"r\",\"vars\":[[\"total\",0]],\
+\"inputs\":[\"a\",\"b\"],\"outputs\":[\"y\"],\"reactions\":[\
+{\"on\":[\"a\"],\"writes\":[\"y\"],\"body\":[\
+[\"set\",\"total\",[\"+\",[\"*\",2,\"total\"],\"a\"]],[\"put\",\"y\",\"total\"]]},\
+{\"on\":[\"b\"],\"writes\":[\"y\"],\"body\":[\
+[\"set\",\"total\",[\"-\",\"total\",\"b\"]],[\"put\",\"y\",\"total\"]]}]}],\
+\"inputs\":[[0,\"r.a\"],[1,\"r.b\"]],\"outputs\":[\"r.y\"]}";
+
+/// What is told of the program of this name. Where its file is refused, `remark` gets where and why.
+pub(crate) fn account_of<F: Files>(
+    files: &F,
+    alloc: Global,
+    name: &str,
+    with_numbers: bool,
+    remark: &mut String,
+) -> Result<String, Outcome>
+    ensures ok { IfOk result (λ text. IsTold name.now with_numbers (string_bytes text)) }
+    ensures err { IfErr result (IsNone name.now) }
+{
+    if name == "builtin:twice" {
+        let text = built_in_account(alloc, with_numbers)?;
+        return Ok(text);
+    }
+    match fs::open(files, name) {
+        Ok(file) => {
+            let text = file_account(alloc, file, with_numbers, remark)?;
+            Ok(text)
+        }
+        Err(error) => Err(without_file(&error, Outcome::NoProgram)),
+    }
+}
+
+/// What is told of the program `twice`.
+fn built_in_account(alloc: Global, with_numbers: bool) -> Result<String, Outcome>
+    ensures ok { IfOk result
+        (λ text. (names : Names) × (string_bytes text ≡ account_text twice names with_numbers)) }
+    ensures err { IfErr result (λ outcome. outcome ≡ Outcome.Memory) }
+{
+    let Ok(program) = Program::twice(alloc) else {
+        return Err(Outcome::Memory);
+    };
+    let Ok(labels) = file_labels(alloc, TWICE.as_bytes()) else {
+        return Err(Outcome::Memory);
+    };
+    match program_account(alloc, &program, &labels, with_numbers) {
+        Ok(text) => Ok(text),
+        Err(_) => Err(Outcome::Memory),
+    }
+}
+
+/// What is told of the program that a reader's bytes spell.
+fn file_account<R: Read + Drop>(
+    alloc: Global,
+    reader: R,
+    with_numbers: bool,
+    remark: &mut String,
+) -> Result<String, Outcome>
+    ensures ok { IfOk result (λ text. (bytes : List ℕ) × IsToldOf bytes with_numbers (string_bytes text)) }
+    ensures err { IfErr result (λ outcome. (outcome ≡ Outcome.NoProgram) ⊎ (outcome ≡ Outcome.Memory)
+        ⊎ ((bytes : List ℕ) × (error : LoadError) × IsRefused bytes error × (outcome ≡ refused_outcome error))) }
+{
+    let bytes = first_bytes(alloc, reader, ENOUGH, Outcome::NoProgram)?;
+    let text = bytes_account(alloc, &bytes, with_numbers, remark)?;
+    Ok(text)
+}
+
+/// What is told of the program that these bytes spell.
+fn bytes_account(
+    alloc: Global,
+    bytes: &[u8],
+    with_numbers: bool,
+    remark: &mut String,
+) -> Result<String, Outcome>
+    ensures ok { IfOk result (λ text. IsToldOf bytes.now with_numbers (string_bytes text)) }
+    ensures err { IfErr result
+        (λ outcome. (error : LoadError) × IsRefused bytes.now error × (outcome ≡ refused_outcome error)) }
+{
+    match load(alloc, bytes) {
+        Ok(program) => {
+            let text = loaded_account(alloc, bytes, &program, with_numbers)?;
+            Ok(text)
+        }
+        Err(error) => Err(explained(alloc, bytes, error, remark)),
+    }
+}
+
+/// What is told of the program that these bytes spell, and that was loaded.
+fn loaded_account(
+    alloc: Global,
+    bytes: &[u8],
+    program: &Program,
+    with_numbers: bool,
+) -> Result<String, Outcome>
+    requires { IsLoaded bytes.now program.now }
+    ensures ok { IfOk result (λ text. IsToldOf bytes.now with_numbers (string_bytes text)) }
+    ensures err { IfErr result
+        (λ outcome. (error : LoadError) × IsRefused bytes.now error × (outcome ≡ refused_outcome error)) }
+{
+    match file_labels(alloc, bytes) {
+        Ok(labels) => match program_account(alloc, program, &labels, with_numbers) {
+            Ok(text) => Ok(text),
+            Err(_) => Err(refused(LoadError::Memory)),
+        },
+        Err(error) => Err(refused(error)),
+    }
+}
+
+/// How the run ends where these bytes were refused; where and why goes to the remark, if there is memory for it.
+fn explained(alloc: Global, bytes: &[u8], error: LoadError, remark: &mut String) -> Outcome
+    ensures { result ≡ refused_outcome error }
+{
+    if let Ok(text) = explanation(alloc, bytes, error) {
+        *remark = text;
+    }
+    refused(error)
+}
