@@ -13,7 +13,7 @@ import threading
 import time
 from pathlib import Path
 
-SECONDS = 20
+SECONDS = 300
 HOST = "127.0.0.1"
 # Where ports are drawn from: below those that the system gives to who connects.
 PORTS = range(10_000, 32_000)
