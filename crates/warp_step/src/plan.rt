@@ -11,7 +11,7 @@ ghost use Rattle.warp_step.specs.inner.Plan.{numbered_place, output_heeds, place
 ghost use Rattle.warp_step.specs.inner.Plan.{in_turn, reaction_heeds, rule_numbered, with_watchers};
 ghost use Rattle.warp_step.specs.Program.{rule_of};
 ghost use Rattle.warp_step.specs.Step.{sources_of};
-ghost use Rattle.warp_step.specs.inner.Plan.{marks_of, plan_of};
+ghost use Rattle.warp_step.specs.inner.Plan.{marks_of, plan_of, ready_turn, turn_plan};
 
 use crate::marks::{Marks, first_link, first_output};
 use crate::parts::Link;
@@ -280,51 +280,71 @@ fn ports_among(alloc: Global, targets: &[Target]) -> Result<Vec<Target>, OutOfMe
     Ok(ports)
 }
 
-/// A reaction's body, ready to run, and the marks of those whom what the reaction writes concerns.
+/// A reaction, ready to run: its number in the file, its triggers, its body, and the marks of those whom what it writes
+/// concerns.
 #[derive(Drop)]
 pub(crate) struct ReadyReaction {
+    pub(crate) number: usize,
+    pub(crate) triggers: Vec<Target>,
     pub(crate) code: Code,
     pub(crate) after: Marks,
 }
 
-/// The bodies of all reactions, ready to run, by the number of the reaction, and whom the ports that each writes
-/// concern.
-fn of_reactions(
+/// The reaction with this number, ready to run.
+fn ready_reaction(
+    alloc: Global,
+    program: &Program,
+    sources: &[u32],
+    number: usize,
+) -> Result<ReadyReaction, OutOfMemory>
+    requires number { number < length program.now.reactions }
+    requires sources { sources.now ≡ sources_of program.now }
+    ensures { IfOk result (λ ready. ready_turn ready ≡ turn_plan program.now number) }
+{
+    let reaction = &program.reactions()[number];
+    let triggers = reaction.triggers.as_slice().to_vec(alloc)?;
+    let code = Code::new(alloc, &reaction.body)?;
+    let ports = ports_among(alloc, &reaction.writes)?;
+    let after = marks_of(program, sources, &ports);
+    Ok(ReadyReaction {
+        number,
+        triggers,
+        code,
+        after,
+    })
+}
+
+/// The reactions of a program, ready to run, in the order in which a step runs them.
+fn of_turns(
     alloc: Global,
     program: &Program,
     sources: &[u32],
 ) -> Result<Vec<ReadyReaction>, OutOfMemory>
     requires { sources.now ≡ sources_of program.now }
-    ensures bodies { IfOk result
-        (λ all. map (λ one. one.code) all.items ≡ map (λ rule. rule.body) program.now.reactions) }
-    ensures after { IfOk result
-        (λ all.
-        map (λ one. one.after.word) all.items ≡
-        map (λ rule. marks_of program.now (filter is_port rule.writes)) program.now.reactions) }
+    ensures { IfOk result (λ all. map ready_turn all.items ≡ map (turn_plan program.now) program.now.order) }
 {
-    let mut all = Vec::with_capacity(alloc, program.reactions().len())?;
-    for reaction in program.reactions() {
-        let code = Code::new(alloc, &reaction.body)?;
-        let ports = ports_among(alloc, &reaction.writes)?;
-        let after = marks_of(program, sources, &ports);
-        all.push(ReadyReaction { code, after })?;
+    program.valid();
+    let mut all = Vec::with_capacity(alloc, program.order().len())?;
+    for number in program.order() {
+        let ready = ready_reaction(alloc, program, sources, *number as usize)?;
+        all.push(ready)?;
     }
     Ok(all)
 }
 
-/// Whom each place of a program concerns, by the place's number; the body of each reaction, ready to run, and the marks
-/// of those whom what it writes concerns; and the marks of all links.
+/// Whom each place of a program concerns, by the place's number; the reactions, ready to run, in the order in which a
+/// step runs them; and the marks of all links.
 #[derive(Drop)]
 pub(crate) struct Plan {
     places: Vec<Concerned>,
-    reactions: Vec<ReadyReaction>,
+    turns: Vec<ReadyReaction>,
     links: Marks,
 }
 
 impl Model for Plan {
     ghost use Rattle.std.specs.Prelude.{map};
     ghost use Rattle.warp_step.specs.inner.Plan as specs;
-    ghost use Rattle.warp_step.specs.inner.Plan.{plan_code};
+    ghost use Rattle.warp_step.specs.inner.Plan.{plan_code, ready_turn};
 
     ghost Value = { specs.Plan };
 
@@ -333,8 +353,7 @@ impl Model for Plan {
     ghost view = { λ p. record {
       places = map (λ one. one.marks.word) p.places.items;
       firsts = map (λ one. one.first) p.places.items;
-      bodies = map (λ one. one.code) p.reactions.items;
-      after = map (λ one. one.after.word) p.reactions.items;
+      turns = map ready_turn p.turns.items;
       links = p.links.word;
     } };
 }
@@ -346,10 +365,10 @@ impl Plan {
         ensures { IfOk result (λ plan. plan ≡ plan_of program.now) }
     {
         let places = of_places(alloc, program, sources)?;
-        let reactions = of_reactions(alloc, program, sources)?;
+        let turns = of_turns(alloc, program, sources)?;
         Ok(Plan {
             places,
-            reactions,
+            turns,
             links: all_links(program),
         })
     }
@@ -364,14 +383,21 @@ impl Plan {
         self.places[place_number(place)]
     }
 
-    /// The body of the reaction with this number, and the marks of those whom what it writes concerns.
+    /// How many turns there are.
     #[inline(always)]
-    pub fn reaction(&self, number: usize) -> &ReadyReaction
-        requires { number < length self.now.after }
-        ensures body { result.now.code ≡ slice_index_or self.now.bodies number result.now.code }
-        ensures after { result.now.after.word ≡ slice_index_or self.now.after number 0 }
+    pub fn turns(&self) -> usize
+        ensures { result ≡ length self.now.turns }
     {
-        &self.reactions[number]
+        self.turns.len()
+    }
+
+    /// The reaction that has this turn.
+    #[inline(always)]
+    pub fn reaction(&self, turn: usize) -> &ReadyReaction
+        requires { turn < length self.now.turns }
+        ensures { ready_turn result.now ≡ slice_index_or self.now.turns turn (ready_turn result.now) }
+    {
+        &self.turns[turn]
     }
 
     /// The marks of all links.

@@ -7,11 +7,11 @@ ghost use Rattle.warp_body.specs.Presence.{Presence, places_of, present_at, targ
 ghost use Rattle.warp_body.specs.declared.place.Target.TheVariants as to;
 ghost use Rattle.warp_body.specs.Effect.{body_fits, schedules_of, wish_fits};
 ghost use Rattle.warp_body.specs.Term.{sizes_of};
-ghost use Rattle.warp_step.specs.Program.{Program, rule_of};
+ghost use Rattle.warp_step.specs.Program.{Program, Rule};
 ghost use Rattle.warp_step.specs.Valid.{is_valid, program_places, program_sizes, rule_fits};
 ghost use Rattle.warp_step.specs.inner.Due.{AreDue};
 ghost use Rattle.warp_step.specs.inner.Flagged.{HasNone};
-ghost use Rattle.warp_step.specs.inner.Plan.{is_port, marks_of, plan_of};
+ghost use Rattle.warp_step.specs.inner.Plan.{is_port, marks_of, plan_of, ready_turn, turn_rule};
 ghost use Rattle.warp_step.specs.inner.Room.{lists_of};
 ghost use Rattle.warp_step.specs.inner.Sure.{IsSure};
 ghost use Rattle.warp_step.specs.Step.{Reacting, after_reactions, is_triggered, no_wishes};
@@ -20,22 +20,21 @@ ghost use Rattle.warp_step.specs.Step.{outputs_from, react, sources_of, with_out
 use crate::marks::{Marks, first_output};
 use crate::plan::{Plan, ReadyReaction};
 use crate::program::Program;
-use crate::reaction::Reaction;
 use warp_body::{Present, Target, Vars, Wishes};
 use warp_tag::{Out, Tag};
 
 /// Whether one of the reaction's triggers is present. Where that is sure they are not looked at.
 #[inline(always)]
-fn triggered(is_sure: bool, reaction: &Reaction, present: &Present) -> bool
-    requires sure { is_sure ≡ true → is_triggered (rule_of reaction.now) present.now ≡ true }
-    requires triggers { IsTrue (list_all (target_fits (places_of present.now)) (rule_of reaction.now).triggers) }
-    ensures { result ≡ is_triggered (rule_of reaction.now) present.now }
+fn triggered(is_sure: bool, ready: &ReadyReaction, present: &Present) -> bool
+    requires sure { is_sure ≡ true → is_triggered (turn_rule (ready_turn ready.now)) present.now ≡ true }
+    requires triggers { IsTrue (list_all (target_fits (places_of present.now)) (ready_turn ready.now).triggers) }
+    ensures { result ≡ is_triggered (turn_rule (ready_turn ready.now)) present.now }
 {
     if is_sure {
         return true;
     }
     // Nearly always there is one, and a loop would cost more than it.
-    match reaction.triggers.as_slice() {
+    match ready.triggers.as_slice() {
         [] => false,
         [first, rest @ ..] => is_present(*first, present) || is_one_present(rest, present),
     }
@@ -78,28 +77,25 @@ fn is_one_present(targets: &[Target], present: &Present) -> bool
     false
 }
 
-/// Runs the reaction with this number if it is triggered, and says whether it has wishes then. Whether it is may be
-/// sure before. Whom what it writes concerns is due then.
+/// Runs a reaction if it is triggered, and says whether it has wishes then. Whether it is may be sure before. Whom what
+/// it writes concerns is due then.
 #[inline(always)]
 fn run_reaction(
     is_sure: bool,
-    number: usize,
-    reaction: &Reaction,
     ready: &ReadyReaction,
     due: &mut Marks,
     vars: &mut Vars,
     present: &mut Present,
     wishes: &mut [Wishes],
 ) -> bool
-    requires number { number < length wishes.old }
-    requires sure { is_sure ≡ true → is_triggered (rule_of reaction.now) present.old ≡ true }
-    requires triggers { IsTrue (list_all (target_fits (places_of present.old)) (rule_of reaction.now).triggers) }
-    requires body { IsTrue (body_fits (sizes_of vars.old present.old) (rule_of reaction.now).body) }
-    requires room { schedules_of (rule_of reaction.now).body ≤ most_wishes }
-    requires code { ready.now.code ≡ (rule_of reaction.now).body }
-    requires none { slice_index_or (lists_of wishes.old) number [] ≡ [] }
+    requires number { (ready_turn ready.now).number < length wishes.old }
+    requires sure { is_sure ≡ true → is_triggered (turn_rule (ready_turn ready.now)) present.old ≡ true }
+    requires triggers { IsTrue (list_all (target_fits (places_of present.old)) (ready_turn ready.now).triggers) }
+    requires body { IsTrue (body_fits (sizes_of vars.old present.old) (ready_turn ready.now).body) }
+    requires room { schedules_of (ready_turn ready.now).body ≤ most_wishes }
+    requires none { slice_index_or (lists_of wishes.old) (ready_turn ready.now).number [] ≡ [] }
     ensures effect { record { vars = vars.new; present = present.new; wishes = lists_of wishes.new }
-        ≡ react number (rule_of reaction.now) (record {
+        ≡ react (ready_turn ready.now).number (turn_rule (ready_turn ready.now)) (record {
           vars = vars.old;
           present = present.old;
           wishes = lists_of wishes.old;
@@ -110,15 +106,15 @@ fn run_reaction(
     ensures wishes { IsTrue (list_all (list_all (wish_fits (sizes_of vars.old present.old))) (lists_of wishes.old)) →
         IsTrue (list_all (list_all (wish_fits (sizes_of vars.old present.old))) (lists_of wishes.new)) }
     ensures none { result ≡ false → lists_of wishes.new ≡ lists_of wishes.old }
-    ensures due { (P : Program) → IsTrue (is_valid P) → IsTrue (rule_fits P (rule_of reaction.now)) →
-        present.old.sources ≡ sources_of P
-        → ready.now.after.word ≡ marks_of P (filter is_port (rule_of reaction.now).writes)
-        → AreDue P present.old due.old.word → AreDue P present.new due.new.word }
+    ensures due { (P : Program) (rule : Rule) → IsTrue (is_valid P) → IsTrue (rule_fits P rule) →
+        rule.body ≡ (ready_turn ready.now).body → present.old.sources ≡ sources_of P →
+        (ready_turn ready.now).after ≡ marks_of P (filter is_port rule.writes) →
+        AreDue P present.old due.old.word → AreDue P present.new due.new.word }
 {
-    if triggered(is_sure, reaction, present) {
+    if triggered(is_sure, ready, present) {
         due.add_all(ready.after);
-        ready.code.run(vars, present, &mut wishes[number]);
-        return !wishes[number].is_empty();
+        ready.code.run(vars, present, &mut wishes[ready.number]);
+        return !wishes[ready.number].is_empty();
     }
     false
 }
@@ -158,25 +154,13 @@ pub(crate) fn run_reactions(
     ensures due { AreDue program.now present.new due.new.word }
 {
     program.valid();
-    let reactions = program.reactions();
-    let order = program.order();
-    let count = order.len();
+    let count = plan.turns();
     let mut wished = false;
     let mut turn = due.next(0);
     let mut is_sure = turn == sure;
     while turn < count {
-        let number = order[turn] as usize;
-        let ready = plan.reaction(number);
-        wished |= run_reaction(
-            is_sure,
-            number,
-            &reactions[number],
-            ready,
-            due,
-            vars,
-            present,
-            wishes,
-        );
+        let ready = plan.reaction(turn);
+        wished |= run_reaction(is_sure, ready, due, vars, present, wishes);
         is_sure = false;
         turn = due.after(turn);
     }

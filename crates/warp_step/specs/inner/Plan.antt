@@ -3,7 +3,7 @@
 use Rattle.std.specs.Prelude.{ℕ, ◌+◌, ◌-◌, Bool, true, false, nat_lt, nat_eq, List, [], ◌∷◌, length, map, filter, Option, None, Some, slice_index_or, if◌then◌else◌, refl}
 use Rattle.std.specs.Coded.{Coded, code_by, coded×, coded_ℕ, coded_list}
 use Rattle.std.specs.List.{list_any, range_with_len}
-use Rattle.warp_body.specs.Codes.{body_code}
+use Rattle.warp_body.specs.Codes.{body_code, target_code}
 use Rattle.warp_body.specs.Effect.{Body, Done}
 use Rattle.warp_body.specs.Presence.{is_target}
 use Rattle.warp_body.specs.declared.place.Target.{Target}
@@ -12,6 +12,7 @@ use Rattle.warp_step.specs.inner.Marks.{first_link, first_output, first_reaction
 use Rattle.warp_step.specs.Program.{Rule, Program}
 use Rattle.warp_step.specs.Step.{sources_of}
 use Rattle.warp_step.specs.declared.parts.Link.{Link}
+use Rattle.warp_step.specs.declared.plan.ReadyReaction.{ReadyReaction}
 
 -- the place by whose presence a target is present: of a port its source, else itself
 abbrev pub place_of : List ℕ → Target → Target
@@ -89,14 +90,28 @@ most_places = 337
 unfoldable pub place_numbers : List ℕ
 place_numbers = range_with_len 0 most_places
 
--- Whom each place concerns, by the place's number, and whom what a reaction writes concerns, by the reaction's number: as marks.
--- The turn of the first reaction that each place triggers, by the place's number. The bodies of the reactions, by their numbers.
--- And the marks of all links.
+-- What is kept for a turn: the number of the reaction that has it, what triggers it, its body, and the marks of those whom what it
+-- writes concerns.
+pub record TurnPlan : Type 0 where
+  pub number : ℕ
+  pub triggers : List Target
+  pub body : Body
+  pub after : ℕ
+
+-- what a reaction that is ready to run keeps for its turn
+abbrev pub ready_turn : ReadyReaction → TurnPlan
+ready_turn r = record { number = r.number; triggers = r.triggers.items; body = r.code; after = r.after.word }
+
+-- a rule that is triggered and does as the reaction that has the turn
+abbrev pub turn_rule : TurnPlan → Rule
+turn_rule turn = record { reactor = 0; triggers = turn.triggers; reads = []; writes = []; body = turn.body }
+
+-- Whom each place concerns, by the place's number, as marks. The turn of the first reaction that each place triggers, by the place's
+-- number. What is kept for each turn. And the marks of all links.
 pub record Plan : Type 0 where
   pub places : List ℕ
   pub firsts : List ℕ
-  pub bodies : List Body
-  pub after : List ℕ
+  pub turns : List TurnPlan
   pub links : ℕ
 
 -- the marks of those whom the presence of one of these places concerns
@@ -107,25 +122,39 @@ marks_of P places =
     (with_watchers link_heeds (first_link P) sources places 0 P.links
     (with_watchers reaction_heeds first_reaction sources places 0 (in_turn P) no_marks))
 
--- whom each place of the program concerns, which reaction first, the bodies of its reactions, whom what each writes concerns, and
--- all its links
+-- what is kept for the turn of the reaction with this number
+abbrev pub turn_plan : Program → ℕ → TurnPlan
+turn_plan P n =
+    let rule = rule_numbered P.reactions n in
+    record { number = n; triggers = rule.triggers; body = rule.body; after = marks_of P (filter is_port rule.writes) }
+
+-- whom each place of the program concerns, which reaction first, what is kept for the turns of its order, and all its links
 abbrev pub plan_of : Program → Plan
 plan_of P = record {
   places = map (λ n. marks_of P (numbered_place n ∷ [])) place_numbers;
   firsts = map (λ n. first_heeding (sources_of P) (numbered_place n) 0 (in_turn P)) place_numbers;
-  bodies = map (λ rule. rule.body) P.reactions;
-  after = map (λ rule. marks_of P (filter is_port rule.writes)) P.reactions;
+  turns = map (turn_plan P) P.order;
   links = marks_from (first_link P) (length P.links);
 }
 
--- whom each place concerns, and which reaction first; bodies; and whom what each reaction writes concerns, and all links
+-- number, triggers, body and marks of a turn
+abbrev pub TurnParts : Type 0
+TurnParts = ℕ × (List Target × (Body × ℕ))
+
+abbrev pub turn_code : Coded TurnPlan
+turn_code =
+    code_by TurnParts (coded× coded_ℕ (coded× (coded_list target_code) (coded× body_code coded_ℕ)))
+    (λ t. (t.number, (t.triggers, (t.body, t.after))))
+    (λ q. record { number = q.0; triggers = q.1.0; body = q.1.1.0; after = q.1.1.1 })
+    (λ _. refl)
+
+-- whom each place concerns, and which reaction first; the turns; and all links
 abbrev pub PlanParts : Type 0
-PlanParts = List ℕ × (List ℕ × (List Body × (List ℕ × ℕ)))
+PlanParts = List ℕ × (List ℕ × (List TurnPlan × ℕ))
 
 abbrev pub plan_code : Coded Plan
 plan_code =
-    code_by PlanParts
-    (coded× (coded_list coded_ℕ) (coded× (coded_list coded_ℕ) (coded× (coded_list body_code) (coded× (coded_list coded_ℕ) coded_ℕ))))
-    (λ p. (p.places, (p.firsts, (p.bodies, (p.after, p.links)))))
-    (λ q. record { places = q.0; firsts = q.1.0; bodies = q.1.1.0; after = q.1.1.1.0; links = q.1.1.1.1 })
+    code_by PlanParts (coded× (coded_list coded_ℕ) (coded× (coded_list coded_ℕ) (coded× (coded_list turn_code) coded_ℕ)))
+    (λ p. (p.places, (p.firsts, (p.turns, p.links))))
+    (λ q. record { places = q.0; firsts = q.1.0; turns = q.1.1.0; links = q.1.1.1 })
     (λ _. refl)

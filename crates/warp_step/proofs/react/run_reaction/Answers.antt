@@ -8,12 +8,11 @@ use Rattle.arrayvec.specs.ArrayVec.{ArrayVec}
 use Rattle.warp_body.specs.Effect.{Body, Effect, effect_of, wish_fits}
 use Rattle.warp_body.specs.Term.{sizes_of}
 use Rattle.warp_body.specs.declared.stmt.Wish.{Wish}
-use Rattle.warp_step.specs.Program.{rule_of}
 use Rattle.warp_step.specs.Step.{Reacting, effect_in, is_triggered}
 use Rattle.warp_step.specs.inner.Room.{lists_of}
 use Rattle.warp_body.specs.Presence.{Presence}
 use Rattle.warp_step.specs.inner.Due.{AreDue}
-use Rattle.warp_step.specs.inner.Plan.{is_port}
+use Rattle.warp_step.specs.inner.Plan.{is_port, ready_turn, turn_rule}
 use Rattle.warp_step.proofs.DueBodies.{follows_body}
 use Rattle.warp_step.proofs.DueLemmas.{due_after}
 use Rattle.warp_step.proofs.ReactLemmas.{list_all_set}
@@ -21,10 +20,11 @@ use Rattle.warp_step.proofs.react.run_reaction.Goals as goal
 
 pub returns-then-triggered-clause-effect : goal.returns-then-triggered-clause-effect
 returns-then-triggered-clause-effect c =
-    let rule = rule_of c.args.reaction.now in
+    let ready = ready_turn c.args.ready.now in
+    let rule = turn_rule ready in
     let W = c.args.wishes.now in
-    let n = c.args.number in
-    let room = c.index-wishes-number.result in
+    let n = ready.number in
+    let room = c.index-wishes-ready.result in
     let vars = c.args.vars.now in
     let present = c.args.present.now in
     let now : Reacting = record { vars = vars; present = present; wishes = lists_of W } in
@@ -32,7 +32,6 @@ returns-then-triggered-clause-effect c =
     sym (get_or-map (λ (w : ArrayVec Wish). w.items) W n room [] c.requires.number) ∙ c.requires.none in
     let effect =
     c.run.ensures.effect
-    ∙ ap (λ (b : Body). effect_of b (record { vars = vars; present = present; wishes = (get_or W n room).items })) c.requires.code
     ∙ ap (λ (ws : List Wish). effect_of rule.body (record { vars = vars; present = present; wishes = ws })) none in
     let lists : lists_of (slice_set W n c.run.new.wishes) ≡ slice_set (lists_of W) n (effect_in rule now).wishes =
     map-set (λ (w : ArrayVec Wish). w.items) W n c.run.new.wishes
@@ -47,8 +46,8 @@ returns-then-triggered-clause-effect c =
 pub returns-then-triggered-clause-wishes : goal.returns-then-triggered-clause-wishes
 returns-then-triggered-clause-wishes c = λ all.
     let W = c.args.wishes.now in
-    let n = c.args.number in
-    let room = c.index-wishes-number.result in
+    let n = (ready_turn c.args.ready.now).number in
+    let room = c.index-wishes-ready.result in
     let fits = wish_fits (sizes_of c.args.vars.now c.args.present.now) in
     let none : [] ≡ (get_or W n room).items =
     sym (sym (get_or-map (λ (w : ArrayVec Wish). w.items) W n room [] c.requires.number) ∙ c.requires.none) in
@@ -59,13 +58,12 @@ returns-then-triggered-clause-wishes c = λ all.
     (list_all_set (list_all fits) (lists_of W) n c.run.new.wishes.items all own)
 
 pub returns-then-triggered-clause-due : goal.returns-then-triggered-clause-due
-returns-then-triggered-clause-due c = λ P valid fits own after_is were.
-    let rule = rule_of c.args.reaction.now in
+returns-then-triggered-clause-due c = λ P rule valid fits body own after_is were.
     let W = c.args.wishes.now in
-    let room = c.index-wishes-number.result in
-    let now : Effect = record { vars = c.args.vars.now; present = c.args.present.now; wishes = (get_or W c.args.number room).items } in
+    let room = c.index-wishes-ready.result in
+    let now : Effect = record { vars = c.args.vars.now; present = c.args.present.now; wishes = (get_or W (ready_turn c.args.ready.now).number room).items } in
     let effect =
-    c.run.ensures.effect ∙ ap (λ (b : Body). effect_of b now) c.requires.code in
+    c.run.ensures.effect ∙ ap (λ (b : Body). effect_of b now) (sym body) in
     subst (λ (p : Presence). AreDue P p c.add_all.new.self.word) (sym (ap (λ (e : Effect). e.present) effect))
     (due_after P (filter is_port rule.writes) c.args.present.now (effect_of rule.body now).present c.args.due.now.word c.args.ready.now.after.word c.add_all.new.self.word
     own (follows_body P rule fits now) after_is c.add_all.ensures were)
