@@ -6,6 +6,7 @@ ghost use Rattle.warp_step.specs.Program.{Program};
 ghost use Rattle.warp_step.specs.Events.{IsNameOf};
 ghost use Rattle.warp_step.specs.Run.{Row, IsNext, is_after};
 ghost use Rattle.warp_arena.specs.Places.{Reaches, entries_of, entry_of};
+ghost use Rattle.warp_line.specs.Begin.{last_after};
 ghost use Rattle.warp_line.specs.Timeline.{Standing, IsDone};
 ghost use Rattle.warp_run.specs.Walk.{IsAhead, IsAtFirst, ahead, tag_of_next};
 ghost use Rattle.warp_run.specs.Front.{GoesBack, IsAt, KeepsRoom};
@@ -153,6 +154,13 @@ impl Warp {
             entries_of result.now.places ≡ ahead_of (floor_of self.now) m.table }
     {
         &self.arena
+    }
+
+    /// The tag of the last row that is done, if there is one.
+    pub fn last(&self) -> Option<Tag>
+        ensures { (m : Standing) → StandsFor self.now m → result ≡ last_after None m.done }
+    {
+        self.front.last()
     }
 
     /// How many names its arena holds: those that are not behind.

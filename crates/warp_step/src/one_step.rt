@@ -147,6 +147,7 @@ pub fn step<M: Meter>(
     ensures ticks { M.ticks meter.new ≡ M.ticks meter.old + 1 }
 {
     meter.tick();
+    meter.look_before(tag, state, given);
     let due = advance(
         program,
         state,
@@ -157,6 +158,7 @@ pub fn step<M: Meter>(
         given,
     );
     put_outputs(program, tag, due, &scratch.present, out);
+    meter.look_after(state, out);
 }
 
 /// Takes the state through the step, leaves what is present after the reactions, and answers whom that concerns. There

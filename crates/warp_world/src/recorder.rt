@@ -1,8 +1,9 @@
 //! A desk that takes records, and executes nothing.
-ghost use Rattle.std.specs.Prelude.{◌≡◌, ℕ, ◌<◌, ◌≤◌, [], IfErr, IfOk, None, Contains};
+ghost use Rattle.std.specs.Prelude.{◌≡◌, ℕ, ◌<◌, ◌≤◌, [], IfErr, IfNone, IfOk, IfSome, None, Contains, length};
 ghost use Rattle.warp_tag.specs.Limits.{most_origins, most_records};
 ghost use Rattle.warp_record.specs.Reply.{IsReply};
 ghost use Rattle.warp_record.specs.declared.line.Line.{Line};
+ghost use Rattle.warp_record.specs.declared.record.Record.{Record};
 ghost use Rattle.warp_replica.specs.Desk.{LocalGives, LocalState};
 ghost use Rattle.warp_replica.specs.Gives.{Takes, told};
 ghost use Rattle.warp_replica.specs.Replica.{AreAllowed};
@@ -55,6 +56,22 @@ impl Recorder {
         ensures { result.now ≡ self.now.program }
     {
         &self.program
+    }
+
+    /// How many records it took, 0 to 100,000.
+    pub fn len(&self) -> u32
+        ensures value { result ≡ length self.now.records }
+        ensures bound { result ≤ most_records }
+    {
+        self.table.len()
+    }
+
+    /// The record at this place of its log, from 1; `None` where there is none.
+    pub fn entry(&self, place: u32) -> Option<Record>
+        ensures found { IfSome result (λ said. IsAt self.now.records place said) }
+        ensures none { IfNone result ((said : Record) → ¬ IsAt self.now.records place said) }
+    {
+        self.table.entry(place)
     }
 
     /// Its records, against none of which the program has a reason.

@@ -12,7 +12,7 @@ use warp_step::State;
 use warp_tag::{OutOfMemory, Tag};
 
 /// Appends a number.
-fn append_number(text: &mut Vec<u8>, number: u64) -> Result<(), OutOfMemory>
+pub(crate) fn append_number(text: &mut Vec<u8>, number: u64) -> Result<(), OutOfMemory>
     ensures { OnOk result (text.new.items ≡ text.old.items ++ decimal number) }
 {
     let mut digits = Buffer::new();
@@ -104,7 +104,7 @@ fn append_due(
 }
 
 /// Appends a name and a value.
-fn append_pair(
+pub(crate) fn append_pair(
     text: &mut Vec<u8>,
     names: &[String],
     number: u32,
@@ -187,7 +187,7 @@ pub(crate) fn append_last(
 }
 
 /// Appends how many entries are pending.
-fn append_pending(text: &mut Vec<u8>, state: &State) -> Result<(), OutOfMemory>
+pub(crate) fn append_pending(text: &mut Vec<u8>, state: &State) -> Result<(), OutOfMemory>
     ensures { OnOk result (text.new.items ≡ text.old.items ++ decimal (length state.now.pending)) }
 {
     append_number(text, state.pending().len() as u64)
