@@ -1,4 +1,4 @@
-//! Pulling, which nothing uses yet: the whole log of another replica.
+//! Pulling the whole log of another replica.
 use crate::steps::{answers, desk, event};
 use std::alloc::Global;
 use std::process::Abort;

@@ -118,7 +118,7 @@ Why a program file is refused (warpd check says where):
   3  it goes past a limit
   4  a name is unknown in its place
   5  something stands twice
-  6  a link without delay leads back
+  6  a link without delay leads back, or reactions wait for each other
   7  a reaction uses what it doesn't declare
 
 Example:
