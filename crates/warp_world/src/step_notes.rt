@@ -1,4 +1,5 @@
 //! What is executed, step by step, in the order in which it is executed.
+ghost use Rattle.std.specs.Prelude.{◌≡◌};
 ghost use Rattle.warp_step.specs.Counter.{IsUnused};
 
 use crate::item::{Item, gather_changed, gather_due, gather_put};
@@ -98,7 +99,9 @@ impl<L: Ledger> StepNotes<L> {
     }
 
     /// Notes what of a step is known before it.
-    fn note_before(&mut self, state: &State, given: &[Given]) -> Result<(), OutOfMemory> {
+    fn note_before(&mut self, state: &State, given: &[Given]) -> Result<(), OutOfMemory>
+        ensures { self.new.ticks ≡ self.old.ticks }
+    {
         append_tag(&mut self.lines, self.tag)?;
         append_given(&mut self.lines, &self.labels, given)?;
         gather_due(state, self.tag, &mut self.items)?;
@@ -108,7 +111,9 @@ impl<L: Ledger> StepNotes<L> {
     }
 
     /// Notes what of a step is known after it.
-    fn note_after(&mut self, state: &State, outputs: &[Out]) -> Result<(), OutOfMemory> {
+    fn note_after(&mut self, state: &State, outputs: &[Out]) -> Result<(), OutOfMemory>
+        ensures { self.new.ticks ≡ self.old.ticks }
+    {
         gather_changed(&self.before, state, &mut self.items)?;
         append_part(
             &mut self.lines,
@@ -188,5 +193,6 @@ fn append_place(text: &mut Vec<u8>, tag: Tag) -> Result<(), OutOfMemory> {
     append_number(text, tag.time())?;
     text.push(b',')?;
     append_number(text, u64::from(tag.micro()))?;
-    text.push(b']')
+    text.push(b']')?;
+    Ok(())
 }
