@@ -4,3 +4,4 @@ pub mod Room
 pub mod Read
 pub mod Placing
 pub mod Cause
+pub mod Circle

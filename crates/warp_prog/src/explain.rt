@@ -4,6 +4,7 @@
 //! and on its way back each level adds its step to the trail.
 
 mod account;
+mod circle;
 mod labels;
 mod limits;
 mod links;
@@ -17,14 +18,16 @@ mod trail;
 mod twice;
 
 use crate::error::LoadError;
+use crate::explain::circle::{circle_of, seat_of};
 use crate::explain::limits::limit_fault;
 use crate::explain::links::order_fault;
 use crate::explain::names::{name_fault, undeclared_fault};
 use crate::explain::reason::{Reason, write_reason};
 use crate::explain::shape::shape_fault;
-use crate::explain::trail::Trail;
+use crate::explain::trail::{Step, Trail};
 use crate::explain::twice::twice_fault;
 use crate::file::ProgramFile;
+use crate::limits::FIRST_VERSION;
 use crate::misread::Misread;
 use crate::shape::file;
 pub use account::program_account;
@@ -98,11 +101,28 @@ fn of_file(
     file: &ProgramFile,
     error: LoadError,
 ) -> Result<String, AllocError> {
+    if error == LoadError::Causality && file.version != FIRST_VERSION {
+        return of_order(alloc, value, file);
+    }
     let mut at = Trail::new();
     match file_fault(file, error.number(), &mut at) {
         Some(reason) => written(alloc, value, &at, &reason),
         None => Ok(String::new(alloc)),
     }
+}
+
+/// Where and why the reactions of a file have no order.
+fn of_order(alloc: Global, value: &Value, file: &ProgramFile) -> Result<String, AllocError> {
+    let circle = circle_of(alloc, file)?;
+    let Some(first) = circle.first() else {
+        return Ok(String::new(alloc));
+    };
+    let mut at = Trail::new();
+    if let Some((reactor, reaction)) = seat_of(&file.reactors, *first) {
+        at.back(Step::Of("reactions", reaction));
+        at.back(Step::Of("reactors", reactor));
+    }
+    written(alloc, value, &at, &Reason::Circle(&circle, &file.reactors))
 }
 
 /// The fault of this number in a file.

@@ -44,7 +44,7 @@ pub(crate) fn loader_order(alloc: Global, parts: &Parts) -> Result<Vec<u32>, Out
 }
 
 /// So many flags, for reactions none of which stands.
-fn none_placed(alloc: Global, count: usize) -> Result<Vec<bool>, OutOfMemory>
+pub(crate) fn none_placed(alloc: Global, count: usize) -> Result<Vec<bool>, OutOfMemory>
     ensures { IfOk result (λ flags. flags.items ≡ replicate count false) }
 {
     let mut flags = Vec::with_capacity(alloc, count)?;
@@ -55,7 +55,7 @@ fn none_placed(alloc: Global, count: usize) -> Result<Vec<bool>, OutOfMemory>
 }
 
 /// Puts reactions behind those that stand, each the least numbered that may follow, as long as one may.
-fn place_all(
+pub(crate) fn place_all(
     before: &[Vec<u32>],
     placed: &mut [bool],
     order: &mut Vec<u32>,
@@ -97,7 +97,7 @@ fn may_follow(placed: &[bool], n: usize, before: &[u32]) -> bool
 }
 
 /// Whether a reaction stands.
-fn is_placed(placed: &[bool], n: usize) -> bool
+pub(crate) fn is_placed(placed: &[bool], n: usize) -> bool
     ensures { result ≡ has_flag placed.now n }
 {
     match placed.get(n) {
@@ -119,7 +119,7 @@ fn all_placed(placed: &[bool], reactions: &[u32]) -> bool
 }
 
 /// For each reaction those that precede it.
-fn all_predecessors(alloc: Global, parts: &Parts) -> Result<Vec<Vec<u32>>, OutOfMemory>
+pub(crate) fn all_predecessors(alloc: Global, parts: &Parts) -> Result<Vec<Vec<u32>>, OutOfMemory>
     requires { length parts.now.reactions.items < 2 ^ 32 }
     ensures { let P = program_of parts.now in
         IfOk result (λ all. map numbers_of all.items ≡ map (predecessors P) (file_order P)) }

@@ -7,6 +7,7 @@ use Rattle.warp_body.specs.declared.place.Target.TheVariants as to
 use Rattle.warp_step.specs.Program.{Rule}
 use Rattle.warp_step.specs.Named.{names}
 use Rattle.warp_step.specs.declared.parts.Link.{Link}
+use Rattle.warp_prog.specs.Order.{stands_in}
 
 -- a list of numbers
 abbrev pub numbers_of : {Z : Type 0} → Vec ℕ Z → List ℕ
@@ -46,3 +47,7 @@ comes_before first m second n sources =
 -- a number behind a list, where a test says so
 abbrev pub with_number : Bool → ℕ → List ℕ → List ℕ
 with_number test n ns = if test then ns ++ n ∷ [] else ns
+
+-- whether a reaction waits for another one, where those before each are listed
+abbrev pub awaits : List (List ℕ) → ℕ → ℕ → Bool
+awaits before n m = stands_in (get_or before n []) m

@@ -4,6 +4,7 @@ use crate::explain::reason::Reason;
 use crate::explain::role::{Role, fits};
 use crate::explain::trail::{Step, Trail};
 use crate::file::{InputPart, LinkPart, PortName, ProgramFile, Reactor};
+use crate::limits::FIRST_VERSION;
 use crate::name::Name;
 use crate::named::is_same;
 
@@ -83,12 +84,10 @@ fn port_fault<'f>(reactors: &'f [Reactor], port: &'f PortName, role: Role) -> Op
     Some(reason)
 }
 
-/// Which link without delay leads back, or that reactions wait for each other.
+/// Which link without delay leads back, in a file of version 1.
 pub(crate) fn order_fault<'f>(file: &'f ProgramFile, at: &mut Trail) -> Option<Reason<'f>> {
-    if file.version != 1 {
-        return Some(Reason::Plain(
-            "reactions wait for each other in a circle of links without delay",
-        ));
+    if file.version != FIRST_VERSION {
+        return None;
     }
     for (i, link) in file.links.iter().enumerate() {
         if is_backward(&file.reactors, link) {

@@ -1,5 +1,6 @@
 //! What is wrong at a place of a program file, and its words.
 
+use crate::explain::circle::write_circle;
 use crate::explain::neighbour::Nearest;
 use crate::explain::role::{Role, compare_all};
 use crate::explain::terms::Vocabulary;
@@ -42,6 +43,8 @@ pub(crate) enum Reason<'f> {
     SameOutput(&'f PortName),
     /// A link without delay leads from the first reactor to the second, which does not stand later.
     Backward(&'f Name, &'f Name),
+    /// Reactions of these reactors, by their numbers: each waits for the next, and the last for the first.
+    Circle(&'f [u32], &'f [Reactor]),
     /// The name is not declared for reading.
     Unheard(&'f Name),
     /// The name is not declared for writing.
@@ -69,6 +72,7 @@ pub(crate) fn write_reason(
         Reason::Fed(port) => write_port(text, port, " has a source already"),
         Reason::SameOutput(port) => write_port(text, port, " stands there already"),
         Reason::Backward(from, to) => write_backward(text, from, to),
+        Reason::Circle(circle, reactors) => write_circle(text, circle, reactors),
         Reason::Unheard(name) => write_named(text, name, " is neither in \"on\" nor in \"reads\""),
         Reason::Unwritten(name) => write_named(text, name, " is not in \"writes\""),
     }

@@ -1,5 +1,5 @@
 use Rattle.std.proofs.Common.{string_bytes, sym, ◌∙◌}
-use Rattle.warp_prog.proofs.AccountLemmas.{inputs_all, inputs_more}
+use Rattle.warp_prog.proofs.AccountLemmas.{inputs_all}
 use Rattle.warp_prog.proofs.explain.account.add_inputs.Goals as goal
 
 pub returns : goal.returns

@@ -1,4 +1,4 @@
-use Rattle.std.proofs.Common.{codes, length, string_bytes, ◌++◌, ◌∷◌, []}
+use Rattle.std.proofs.Common.{codes, length, string_bytes, ◌∷◌, []}
 use Rattle.warp_prog.specs.Explain.{counted}
 use Rattle.warp_prog.proofs.AccountLemmas.{six}
 use Rattle.warp_prog.proofs.explain.account.add_summary.Goals as goal
