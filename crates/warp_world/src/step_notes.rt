@@ -88,9 +88,7 @@ impl<L: Ledger> StepNotes<L> {
         if self.lacks {
             return Err(OutOfMemory);
         }
-        if let Some(stood) = self.stood
-            && is_earlier(back, stood)
-        {
+        if let Some(stood) = self.stood {
             append_back(text, stood, back, self.again)?;
         }
         text.extend_from_slice(&self.lines)?;
@@ -168,13 +166,16 @@ fn append_given(text: &mut Vec<u8>, labels: &Labels, given: &[Given]) -> Result<
     Ok(())
 }
 
-/// Appends the line on a going back: from which tag, to which, and how many steps were made again.
+/// Appends the line on a going back, if there was one: from which tag, to which, and how many steps were made again.
 fn append_back(
     text: &mut Vec<u8>,
     stood: Tag,
     back: Option<Tag>,
     again: u64,
 ) -> Result<(), OutOfMemory> {
+    if !is_earlier(back, stood) {
+        return Ok(());
+    }
     text.extend_from_slice(b"{\"rollback\":{\"from\":")?;
     append_place(text, stood)?;
     text.extend_from_slice(b",\"to\":")?;
