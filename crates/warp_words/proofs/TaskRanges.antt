@@ -7,7 +7,7 @@ use Rattle.clap.specs.ValueTests.{is_unsigned_in}
 use Rattle.clap.specs.Walk.{Row, Text, first_of}
 use Rattle.clap.specs.declared.builder.value_parser.ValueParser.TheVariants.{Unsigned}
 use Rattle.clap.proofs.ValueTestLemmas.{accepts-Accepts}
-use Rattle.warp_words.specs.Words.{IsInRange, CheckProgram, RunProgram, PlaySchedule, ServeProgram, check_task, is_set, last_port, most_sessions, number_up_to, play_task, run_task, serve_task, task_found}
+use Rattle.warp_words.specs.Words.{IsInRange, CheckProgram, RunProgram, PlaySchedule, ServeProgram, TraceProgram, check_task, is_set, last_port, most_sessions, number_up_to, play_task, run_task, serve_task, task_found, trace_task}
 
 abbrev IsUpTo : ℕ → ℕ → Type 0
 IsUpTo most n = (1 ≤ n) × (n ≤ most)
@@ -40,18 +40,24 @@ check_in_range : (with_numbers : Bool) (o : Option Text) → IfSome (option_map 
 check_in_range with_numbers None = tt
 check_in_range with_numbers (Some program) = tt
 
+trace_in_range : (o : Option Text) → IfSome (option_map TraceProgram o) IsInRange
+trace_in_range None = tt
+trace_in_range (Some program) = tt
+
 pub task_in_range : (found : Option (Text × List Row)) → IfSome (task_found found) IsInRange
 task_in_range None = tt
 task_in_range (Some (name, rows)) =
     go (bytes_eq name (codes "run")) (bytes_eq name (codes "play")) (bytes_eq name (codes "serve")) (bytes_eq name (codes "check"))
+    (bytes_eq name (codes "trace"))
   where
-    go : (is_run is_play is_serve is_check : Bool)
+    go : (is_run is_play is_serve is_check is_trace : Bool)
         → IfSome (cond is_run (run_task rows) (cond is_play (play_task rows) (cond is_serve (serve_task rows)
-        (cond is_check (check_task rows) None)))) IsInRange
-    go true is_play is_serve is_check = run_in_range (first_of (codes "PROGRAM") rows)
-    go false true is_serve is_check = play_in_range (first_of (codes "PROGRAM") rows) (first_of (codes "SCHEDULE") rows)
-    go false false false true = check_in_range (is_set (codes "numbers") rows) (first_of (codes "PROGRAM") rows)
-    go false false true is_check =
+        (cond is_check (check_task rows) (cond is_trace (trace_task rows) None))))) IsInRange
+    go true is_play is_serve is_check is_trace = run_in_range (first_of (codes "PROGRAM") rows)
+    go false true is_serve is_check is_trace = play_in_range (first_of (codes "PROGRAM") rows) (first_of (codes "SCHEDULE") rows)
+    go false false true is_check is_trace =
         served_in_range _ (first_of (codes "PROGRAM") rows) _ _
         (in_range last_port (first_of (codes "port") rows)) (in_range most_sessions (first_of (codes "sessions") rows))
-    go false false false false = tt
+    go false false false true is_trace = check_in_range (is_set (codes "numbers") rows) (first_of (codes "PROGRAM") rows)
+    go false false false false true = trace_in_range (first_of (codes "PROGRAM") rows)
+    go false false false false false = tt

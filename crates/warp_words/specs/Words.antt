@@ -9,7 +9,7 @@ use Rattle.clap.specs.ValueTests.{is_unsigned_in}
 use Rattle.clap.specs.declared.builder.action.ArgAction.TheVariants.{Append, SetTrue}
 use Rattle.clap.specs.declared.builder.value_parser.ValueParser.TheVariants.{Unsigned}
 use Rattle.warp_words.specs.declared.command_line.Job.{Job}
-use Rattle.warp_words.specs.declared.command_line.Job.TheVariants.{Run, Play, Serve, Check}
+use Rattle.warp_words.specs.declared.command_line.Job.TheVariants.{Run, Play, Serve, Check, Trace}
 
 -- a place for one word, which has to be there
 abbrev pub wanted_word : Text → Rule
@@ -58,6 +58,10 @@ flag name = record (new_rule name) { long = Some name; action = Some SetTrue }
 abbrev pub check_command : App
 check_command = with_rule (with_rule (new_app (codes "check")) (wanted_word (codes "PROGRAM"))) (flag (codes "numbers"))
 
+-- `trace` with PROGRAM
+abbrev pub trace_command : App
+trace_command = with_rule (new_app (codes "trace")) (wanted_word (codes "PROGRAM"))
+
 -- `warpd` wants a subcommand, answers with help where no word comes, and has a version
 abbrev pub top_command : App
 top_command = on_top
@@ -67,17 +71,18 @@ top_command = on_top
 -- `warpd` with its subcommands
 abbrev pub warpd_command : App
 warpd_command =
-    with_subcommand (with_subcommand (with_subcommand (with_subcommand top_command run_command.top) play_command.top)
-    serve_command.top) check_command.top
+    with_subcommand (with_subcommand (with_subcommand (with_subcommand (with_subcommand top_command run_command.top) play_command.top)
+    serve_command.top) check_command.top) trace_command.top
 
 -- what the words may ask for: to run the program of this name; or over the program of the first name to play the schedule of
 -- the second; or to serve the program of this name at a port, for so many sessions, and to pull from these peers; or to check the
--- program of this name, and to tell its numbers or not
+-- program of this name, and to tell its numbers or not; or to print the rows of a run of the program of this name
 pub data Task : Type 0 where
   RunProgram : Text → Task
   PlaySchedule : Text → Text → Task
   ServeProgram : Text → ℕ → ℕ → List Text → Task
   CheckProgram : Text → Bool → Task
+  TraceProgram : Text → Task
 
 -- what `run` asks for, of what was found for it: the word in the place of PROGRAM
 abbrev pub run_task : List Row → Option Task
@@ -118,13 +123,18 @@ is_set name found = option_map_or (λ word. bytes_eq word (codes "true")) (first
 abbrev pub check_task : List Row → Option Task
 check_task found = option_map (λ program. CheckProgram program (is_set (codes "numbers") found)) (first_of (codes "PROGRAM") found)
 
+-- what `trace` asks for, of what was found for it: the word in the place of PROGRAM
+abbrev pub trace_task : List Row → Option Task
+trace_task found = option_map TraceProgram (first_of (codes "PROGRAM") found)
+
 -- what the subcommand of this name asks for
 abbrev pub task_named : Text → List Row → Option Task
 task_named name found =
     if bytes_eq name (codes "run") then run_task found
     else (if bytes_eq name (codes "play") then play_task found
     else (if bytes_eq name (codes "serve") then serve_task found
-    else (if bytes_eq name (codes "check") then check_task found else None)))
+    else (if bytes_eq name (codes "check") then check_task found
+    else (if bytes_eq name (codes "trace") then trace_task found else None))))
 
 -- what a subcommand asks for, with what was found for it
 abbrev pub task_found : Option (Text × List Row) → Option Task
@@ -140,6 +150,7 @@ task_of (Run program) = RunProgram program.now
 task_of (Play program schedule) = PlaySchedule program.now schedule.now
 task_of (Serve program port sessions peers) = ServeProgram program.now port sessions (map (λ word. word.now) peers.items)
 task_of (Check program with_numbers) = CheckProgram program.now with_numbers
+task_of (Trace program) = TraceProgram program.now
 
 -- the port and the number of sessions are in their ranges
 abbrev pub IsInRange : Task → Type 0

@@ -8,9 +8,10 @@ ghost use Rattle.clap.specs.declared.builder.command.Command.TheViews.{out-Comma
 ghost use Rattle.warp_words.specs.Words.{play_command, play_task, run_command, run_task, task_found, task_in, task_of};
 ghost use Rattle.warp_words.specs.Words.{IsInRange, all_of_or_none, any_words, number_found, number_up_to};
 ghost use Rattle.warp_words.specs.Words.{check_command, check_task, flag, is_set, serve_command, serve_task};
+ghost use Rattle.warp_words.specs.Words.{trace_command, trace_task};
 ghost use Rattle.warp_words.specs.Words.{top_command, wanted_number, wanted_word, warpd_command};
 
-use crate::{check_help, serve_help};
+use crate::{check_help, serve_help, trace_help};
 use clap::builder::ValueParser;
 use clap::{Arg, ArgAction, ArgMatches, Command, Error};
 use std::alloc::{AllocError, Global};
@@ -47,6 +48,11 @@ pub enum Job<'a> {
         program: &'a str,
         /// Whether to tell the numbers of its things too.
         with_numbers: bool,
+    },
+    /// Print the rows of the one run over the lines of standard input.
+    Trace {
+        /// The word that names the program to run.
+        program: &'a str,
     },
 }
 
@@ -231,6 +237,9 @@ fn job_asked<'a>(alloc: Global, matches: &ArgMatches<'a>) -> Result<Option<Job<'
     if let Some(found) = matches.subcommand_matches("check") {
         return Ok(check_job(found));
     }
+    if let Some(found) = matches.subcommand_matches("trace") {
+        return Ok(trace_job(found));
+    }
     Ok(None)
 }
 
@@ -261,6 +270,14 @@ fn check_job<'a>(found: &ArgMatches<'a>) -> Option<Job<'a>>
         program,
         with_numbers,
     })
+}
+
+/// What `trace` asks for.
+fn trace_job<'a>(found: &ArgMatches<'a>) -> Option<Job<'a>>
+    ensures { option_map task_of result ≡ trace_task (rows_of (found_of found.now)) }
+{
+    let program = text(found, PROGRAM)?;
+    Some(Job::Trace { program })
 }
 
 /// Whether the option with this id is there.
@@ -352,7 +369,22 @@ fn command<'a>(alloc: Global) -> Result<Command<'a>, AllocError>
     let command = with_run(alloc)?;
     let command = with_play(command, play(alloc))?;
     let command = with_serve(command, serve(alloc))?;
-    with_check(command, check(alloc))
+    let command = with_check(command, check(alloc))?;
+    with_trace(command, trace(alloc))
+}
+
+/// The command with this subcommand `trace` too, if there was memory for it.
+fn with_trace<'a>(
+    command: Command<'a>,
+    trace: Result<Command<'a>, AllocError>,
+) -> Result<Command<'a>, AllocError>
+    requires { IfOk trace (λ c. (app_of c ≡ trace_command) × ((fields_of c).has_globals ≡ false)) }
+    ensures { IfOk result (λ c. app_of c ≡ with_subcommand (app_of command.entry) trace_command.top) }
+{
+    match trace {
+        Ok(trace) => command.subcommand(trace),
+        Err(error) => Err(error),
+    }
 }
 
 /// The command with this subcommand `check` too, if there was memory for it.
@@ -476,6 +508,18 @@ fn check<'a>(alloc: Global) -> Result<Command<'a>, AllocError>
         .after_long_help(check_help::NOTES);
     let check = with_word(alloc, check, PROGRAM, PROGRAM_HELP)?;
     with_flag(alloc, check, NUMBERS, check_help::NUMBERS_HELP)
+}
+
+/// The subcommand `trace`.
+fn trace<'a>(alloc: Global) -> Result<Command<'a>, AllocError>
+    ensures shape { IfOk result (λ c. app_of c ≡ trace_command) }
+    ensures local { IfOk result (λ c. (fields_of c).has_globals ≡ false) }
+{
+    let trace = Command::new(alloc, "trace")
+        .about(trace_help::ABOUT)
+        .long_about(trace_help::LONG_ABOUT)
+        .after_long_help(trace_help::NOTES);
+    with_word(alloc, trace, PROGRAM, PROGRAM_HELP)
 }
 
 /// The command with an option that may be there.

@@ -4,5 +4,6 @@
 mod check_help;
 mod command_line;
 mod serve_help;
+mod trace_help;
 
 pub use command_line::{Job, words};

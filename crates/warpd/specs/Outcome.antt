@@ -1,5 +1,5 @@
 -- How a run of the program ends.
-use Rattle.std.specs.Prelude.{◌≡◌, ◌≢◌, ◌⊎◌, ◌+◌, ◌<◌, ◌≤◌, ℕ, Bool, List, [], ◌++◌, Option, Some, IfSome, codes, decimal, length, take}
+use Rattle.std.specs.Prelude.{◌≡◌, ◌≢◌, ◌⊎◌, ◌+◌, ◌<◌, ◌≤◌, ℕ, Bool, List, [], ◌++◌, Option, Some, IfSome, codes, decimal, false, length, take}
 use Rattle.std.specs.Io.KnownBytes.{Appends}
 use Rattle.clap.specs.Words.{IsAmong, Text, fault_of}
 use Rattle.clap.specs.declared.error.kind.ErrorKind.{ErrorKind}
@@ -15,16 +15,26 @@ use Rattle.warp_prog.specs.declared.error.LoadError.TheVariants.{Memory as WantO
 use Rattle.warp_world.specs.Schedule.{IsFault}
 use Rattle.warp_world.specs.declared.fault.ScheduleFault.{ScheduleFault}
 use Rattle.warp_world.specs.declared.fault.ScheduleFault.TheVariants as schedule_fault
+use Rattle.warp_record.specs.declared.line.Line.{Line}
+use Rattle.warp_record.specs.declared.record.Record.{Record}
+use Rattle.warp_record.specs.declared.reply.Reply.{Reply}
+use Rattle.warp_replica.specs.Gives.{Gives}
+use Rattle.warp_table.specs.Records.{Records, set_of}
+use Rattle.warp_world.specs.Labels.{Names as TraceNames}
+use Rattle.warp_world.specs.Trace.{IsTrace}
+use Rattle.warp_world.specs.declared.printer.TraceFault.{TraceFault}
+use Rattle.warp_world.specs.declared.printer.TraceFault.TheVariants as trace_fault
 use Rattle.warp_session.specs.LocalSession.{TranscribesAll, TranscribesSoFar, TranscribesSome}
-use Rattle.warp_session.specs.Session.{FailsSo}
+use Rattle.warp_session.specs.Session.{FailsSo, Session}
 use Rattle.warp_session.specs.Stream.{WritesFront}
 use Rattle.warp_world.specs.Play.{PlaysSchedule}
 use Rattle.warp_lanes.specs.Engine.{most_lanes}
-use Rattle.warp_words.specs.Words.{Task, RunProgram, PlaySchedule, ServeProgram, CheckProgram, task_in, warpd_command}
+use Rattle.warp_words.specs.Words.{Task, RunProgram, PlaySchedule, ServeProgram, CheckProgram, TraceProgram, task_in, warpd_command}
 use Rattle.warp_session.specs.declared.door.ServeFault.{ServeFault}
 use Rattle.warp_session.specs.declared.door.ServeFault.TheVariants as serve_fault
 use Rattle.warp_session.specs.declared.desk_session.SessionEnd.{SessionEnd}
 use Rattle.warp_session.specs.declared.desk_session.SessionEnd.TheVariants.{End, ReadFault, WriteFault, TooManyReads, NoMemory}
+use Rattle.warpd.specs.Gathered.{lacks_memory}
 use Rattle.warpd.specs.declared.outcome.Outcome.{Outcome}
 use Rattle.warpd.specs.declared.outcome.Outcome.TheVariants.{Done, Words, TooManyLanes, Program, Schedule, NoProgram, NoSchedule, Input, Output, Memory, Listen, Accept}
 
@@ -210,6 +220,79 @@ ServesInLanes name port lanes before after outcome =
     ((most_lanes < lanes) × (outcome ≡ TooManyLanes) × (after ≡ before))
     ⊎ ((lanes ≤ most_lanes) × ServesNamed name port before after outcome)
 
+-- the names that a trace writes, of the labels of a file
+abbrev pub trace_names : Names → TraceNames
+trace_names labels = record {
+  variables = labels.variables;
+  inputs = labels.inputs;
+  outputs = labels.outputs;
+  timers = labels.timers;
+  actions = labels.actions;
+  ports = labels.ports;
+}
+
+-- the program of this name with the names that a trace writes: `builtin:twice`, or that of some bytes, which were read of a
+-- file, with their labels
+abbrev pub IsNamedWith : List ℕ → ReactorProgram → TraceNames → Type 0
+IsNamedWith name P names =
+    (name ≡ codes "builtin:twice" → P ≡ twice)
+    × (name ≢ codes "builtin:twice"
+    → (bytes : List ℕ) × (labels : Names) × IsLoaded bytes P × IsLabelled bytes labels × (names ≡ trace_names labels))
+
+-- on this log of this program the line may give this reply, and leave this log; but no record is refused for want of memory
+abbrev pub GivesAmply : ReactorProgram → List Record → Line → Reply → List Record → Type 0
+GivesAmply P records said reply records' = Gives P records said reply records' × (lacks_memory said reply ≡ false)
+
+-- a session over these bytes may leave this log, and memory was wanting for no record
+abbrev pub LeavesLog : ReactorProgram → List ℕ → List Record → Type 0
+LeavesLog P input log = (text : List ℕ) × Session (GivesAmply P) [] input text log
+
+-- of a source that tells its bytes, the text is the trace of the program, with these names, over the log that its lines leave
+abbrev pub IsTraceOf : TraceNames → ReactorProgram → Option (List ℕ) → List ℕ → Type 0
+IsTraceOf names P left text = IfSome left (λ input. (log : List Record) × LeavesLog P input log × IsTrace names P (set_of log) text)
+
+-- nothing was written, and no write has failed
+abbrev pub WritesNothing : Seen → Seen → Type 0
+WritesNothing before after = (after.written ≡ before.written) × (after.failed_writes ≡ before.failed_writes)
+
+-- the text was printed, or one write failed, as above; or memory was wanting, and a front of the text was written
+abbrev pub IsPrintedUnless : List ℕ → Seen → Seen → Outcome → Type 0
+IsPrintedUnless text before after outcome =
+    IsPrinted text before after outcome
+    ⊎ ((outcome ≡ Memory) × (after.left ≡ before.left) × (after.failed_reads ≡ before.failed_reads)
+    × WritesFront before.written after.written text × (after.failed_writes ≡ before.failed_writes))
+
+-- the outcome where a trace was not printed to its end for this reason
+abbrev pub trace_outcome : TraceFault → Outcome
+trace_outcome trace_fault.Output = Output
+trace_outcome trace_fault.NoMemory = Memory
+
+-- the trace of the program over these records is printed so, with these names
+abbrev pub PrintsRows : TraceNames → ReactorProgram → Records → Seen → Seen → Outcome → Type 0
+PrintsRows names P S before after outcome = (text : List ℕ) × IsTrace names P S text × IsPrintedUnless text before after outcome
+
+-- reading came to no end, and the run ends so: a read failed, or there were too many; or memory was wanting
+abbrev pub StopsReading : Seen → Seen → Outcome → Type 0
+StopsReading before after outcome =
+    ((outcome ≡ Input) × (after.failed_reads ≡ before.failed_reads + 1))
+    ⊎ ((outcome ≡ Input) × (after.failed_reads ≡ before.failed_reads) × IfSome before.left (λ input. most_reads ≤ length input))
+    ⊎ ((outcome ≡ Memory) × (after.failed_reads ≡ before.failed_reads))
+
+-- Tracing the program with these names ends so: all lines were read, and then the trace over the log that they leave is printed; or
+-- reading came to no end, or memory was wanting for a record, and nothing is printed.
+abbrev pub TracesOver : ReactorProgram → TraceNames → Seen → Seen → Outcome → Type 0
+TracesOver P names before after outcome =
+    (read : Seen) × WritesNothing before read
+    × (((text : List ℕ) × IsTraceOf names P before.left text × (read.failed_reads ≡ before.failed_reads)
+    × IsPrintedUnless text read after outcome)
+    ⊎ (StopsReading before read outcome × (after ≡ read)))
+
+-- tracing the program of this name ends so; or where there is none, nothing is done
+abbrev pub Traces : List ℕ → Seen → Seen → Outcome → Type 0
+Traces name before after outcome =
+    ((P : ReactorProgram) × (names : TraceNames) × IsNamedWith name P names × TracesOver P names before after outcome)
+    ⊎ (IsNone name outcome × (after ≡ before))
+
 -- The run that is asked for this ends so. What the file of a schedule has is not known from its name.
 abbrev pub Does : Task → Seen → Seen → Outcome → Type 0
 Does (RunProgram program) before after outcome = Runs program before after outcome
@@ -217,6 +300,7 @@ Does (PlaySchedule program schedule) before after outcome = Plays program before
 Does (ServeProgram program port sessions peers) before after outcome =
     ServesInLanes program port (sessions + length peers) before after outcome
 Does (CheckProgram program with_numbers) before after outcome = Checks program with_numbers before after outcome
+Does (TraceProgram program) before after outcome = Traces program before after outcome
 
 -- the run whose words are these ends so: words with no fault have what they ask for done, and of others the
 -- parser's text is shown; for want of memory nothing is done

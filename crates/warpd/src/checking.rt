@@ -7,22 +7,12 @@ ghost use Rattle.warpd.specs.Outcome.{IsNone, IsTold, IsToldOf, refused_outcome}
 
 use crate::file_bytes::{first_bytes, without_file};
 use crate::outcome::Outcome;
-use crate::program_file::{ENOUGH, refused};
+use crate::program_file::{ENOUGH, TWICE, refused};
 use std::alloc::Global;
 use std::fs::{self, Files};
 use std::io::Read;
 use warp_prog::{LoadError, explanation, file_labels, load, program_account};
 use warp_step::Program;
-
-/// The program `builtin:twice` as a file, for its names.
-const TWICE: &str = "\
-{\"version\":1,\"stop\":100,\"origins\":2,\"reactors\":[{\"name\":\"r\",\"vars\":[[\"total\",0]],\
-\"inputs\":[\"a\",\"b\"],\"outputs\":[\"y\"],\"reactions\":[\
-{\"on\":[\"a\"],\"writes\":[\"y\"],\"body\":[\
-[\"set\",\"total\",[\"+\",[\"*\",2,\"total\"],\"a\"]],[\"put\",\"y\",\"total\"]]},\
-{\"on\":[\"b\"],\"writes\":[\"y\"],\"body\":[\
-[\"set\",\"total\",[\"-\",\"total\",\"b\"]],[\"put\",\"y\",\"total\"]]}]}],\
-\"inputs\":[[0,\"r.a\"],[1,\"r.b\"]],\"outputs\":[\"r.y\"]}";
 
 /// What is told of the program of this name. Where its file is refused, `remark` gets where and why.
 pub(crate) fn account_of<F: Files>(

@@ -4,10 +4,15 @@
 mod checking;
 mod connection;
 mod file_bytes;
+mod gatherer;
+mod labelled;
 mod outcome;
 mod program_file;
+mod refused_lines;
 mod schedule_file;
 mod service;
+mod streams;
+mod tracing;
 
 ghost use Rattle.std.specs.Prelude.{◌≡◌, ◌≢◌, ◌+◌, ◌<◌, ◌≤◌, ◌⊎◌, IfErr, IfOk, MatchBool, MatchResult, OnOk};
 ghost use Rattle.std.specs.Prelude.{codes, map, string_bytes, vec_len};
@@ -19,12 +24,13 @@ ghost use Rattle.clap.specs.Words.{kind_of};
 ghost use Rattle.warp_lanes.specs.Engine.{most_lanes};
 ghost use Rattle.warp_step.specs.Counter.{IsUnused};
 ghost use Rattle.warpd.specs.Outcome.{Checks, Does, EndsSo, IsPrinted, IsShown, Obeys, Plays, PlaysBytes, PlaysOver, Runs};
-ghost use Rattle.warpd.specs.Outcome.{Seen, ServesAt, ServesInLanes, ServesNamed, ready_line, untouched};
+ghost use Rattle.warpd.specs.Outcome.{Seen, ServesAt, ServesInLanes, ServesNamed, Traces, ready_line, untouched};
 ghost use Rattle.warpd.specs.Outcome.{told_line, status_of};
 ghost use Rattle.warp_words.specs.Words.{task_of};
 
 use checking::account_of;
 use clap::error::ErrorKind;
+use labelled::{Labelled, labelled_program};
 use outcome::{Outcome, outcome_of, outcome_of_fault, outcome_of_serving, ready, say, status};
 use program_file::program_named;
 use schedule_file::schedule_bytes;
@@ -32,11 +38,13 @@ use service::{Host, Service, listen, serve_at};
 use std::alloc::{AllocError, Global};
 use std::fs::Files;
 use std::io::{Eprint, Print, Read, Write};
-use std::marker::{Brand, Model};
+use std::marker::Brand;
 use std::net::{Net, TcpListener, TcpStream};
 use std::process::ExitCode;
 use std::sync::ledger::{Blank, Ledger};
 use std::{env, io};
+use streams::Streams;
+use tracing::trace_lines;
 use warp_line::Timeline;
 use warp_run::Warp;
 use warp_session::{SessionEnd, Sink, Source, Stream, run_session, write_all};
@@ -91,26 +99,6 @@ fn start<
     let (status, _told) = perform(rt, alloc, arguments, &mut streams, errors);
     let _ = errors.write_all(streams.remark.as_str().as_bytes());
     status
-}
-
-/// Standard input and output, or what stands for them.
-#[derive(Drop)]
-struct Streams<R: Source, W: Sink> {
-    source: R,
-    sink: W,
-    // What standard error tells behind the line of the outcome.
-    remark: String,
-}
-
-impl<R: Source, W: Sink> Model for Streams<R, W> {
-    ghost Value = { Seen };
-
-    ghost view = { λ s. record {
-      left = R.left s.source;
-      written = W.written s.sink;
-      failed_reads = R.failures s.source;
-      failed_writes = W.failures s.sink;
-    } };
 }
 
 /// The words of the command line, or how the run ends without them.
@@ -221,6 +209,7 @@ fn carry_out<P: Host + Net<Listener = TcpListener, Stream = TcpStream>, R: Sourc
             program,
             with_numbers,
         } => check(rt, alloc, program, with_numbers, streams),
+        Job::Trace { program } => trace(rt, alloc, program, streams),
     }
 }
 
@@ -345,6 +334,21 @@ fn check<F: Files, R: Source, W: Sink>(
 {
     match account_of(files, alloc, name, with_numbers, &mut streams.remark) {
         Ok(text) => print(text.as_str().as_bytes(), streams),
+        Err(outcome) => outcome,
+    }
+}
+
+/// Prints the rows of the run of the program of this name over the lines of the streams.
+fn trace<F: Files, R: Source, W: Sink>(
+    files: &F,
+    alloc: Global,
+    name: &str,
+    streams: &mut Streams<R, W>,
+) -> Outcome
+    ensures { Traces name.now streams.old streams.new result }
+{
+    match labelled_program(files, alloc, name) {
+        Ok(Labelled { program, labels }) => trace_lines(alloc, program, &labels, streams),
         Err(outcome) => outcome,
     }
 }

@@ -1,12 +1,12 @@
 //! How a run of the program ends: its exit status, and the line that it says on standard error.
 ghost use Rattle.std.specs.Prelude.{◌≡◌, ◌+◌, ◌++◌, ◌≤◌, [], ◌∷◌, MatchResult, decimal, length};
 ghost use Rattle.warpd.specs.Outcome.{EndsServing, end_outcome, fault_outcome, ready_line, serve_outcome};
-ghost use Rattle.warpd.specs.Outcome.{told_line, status_of};
+ghost use Rattle.warpd.specs.Outcome.{told_line, trace_outcome, status_of};
 
 use arrayvec::ArrayString;
 use itoa::Buffer;
 use warp_session::{ServeFault, SessionEnd};
-use warp_world::ScheduleFault;
+use warp_world::{ScheduleFault, TraceFault};
 
 /// The room for a line, in bytes: none is longer.
 pub const LONGEST_LINE: usize = 64;
@@ -121,6 +121,17 @@ pub fn outcome_of_fault(fault: ScheduleFault) -> Outcome
     match fault {
         ScheduleFault::Line(line) => Outcome::Schedule(line),
         ScheduleFault::NoMemory => Outcome::Memory,
+    }
+}
+
+/// What it makes of the run how printing a trace ended.
+pub fn outcome_of_trace(printed: Result<(), TraceFault>) -> Outcome
+    ensures { MatchResult printed (λ _. result ≡ Outcome.Done) (λ fault. result ≡ trace_outcome fault) }
+{
+    match printed {
+        Ok(()) => Outcome::Done,
+        Err(TraceFault::Output) => Outcome::Output,
+        Err(TraceFault::NoMemory) => Outcome::Memory,
     }
 }
 

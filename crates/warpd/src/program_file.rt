@@ -16,6 +16,16 @@ use warp_step::Program;
 /// One more than the most bytes of a program file: as many are read, so that a longer one is seen to be longer.
 pub(crate) const ENOUGH: u64 = 1_048_577;
 
+/// The program `builtin:twice` as a file, for its names.
+pub(crate) const TWICE: &str = "\
+{\"version\":1,\"stop\":100,\"origins\":2,\"reactors\":[{\"name\":\"r\",\"vars\":[[\"total\",0]],\
+\"inputs\":[\"a\",\"b\"],\"outputs\":[\"y\"],\"reactions\":[\
+{\"on\":[\"a\"],\"writes\":[\"y\"],\"body\":[\
+[\"set\",\"total\",[\"+\",[\"*\",2,\"total\"],\"a\"]],[\"put\",\"y\",\"total\"]]},\
+{\"on\":[\"b\"],\"writes\":[\"y\"],\"body\":[\
+[\"set\",\"total\",[\"-\",\"total\",\"b\"]],[\"put\",\"y\",\"total\"]]}]}],\
+\"inputs\":[[0,\"r.a\"],[1,\"r.b\"]],\"outputs\":[\"r.y\"]}";
+
 /// The program of this name: `builtin:twice`, or that of the file at this path.
 pub(crate) fn program_named<F: Files>(
     files: &F,
@@ -35,7 +45,7 @@ pub(crate) fn program_named<F: Files>(
 }
 
 /// The program `twice`.
-fn built_in(alloc: Global) -> Result<Program, Outcome>
+pub(crate) fn built_in(alloc: Global) -> Result<Program, Outcome>
     ensures ok { IfOk result (λ P. P ≡ twice) }
     ensures err { IfErr result (λ outcome. outcome ≡ Outcome.Memory) }
 {
@@ -61,7 +71,7 @@ fn loaded<R: Read + Drop>(alloc: Global, reader: R) -> Result<Program, Outcome>
 
 /// The program that these bytes spell. Where they are refused, the run ends with the number of the reason, or for want
 /// of memory.
-fn spelled_program(alloc: Global, bytes: &[u8]) -> Result<Program, Outcome>
+pub(crate) fn spelled_program(alloc: Global, bytes: &[u8]) -> Result<Program, Outcome>
     ensures ok { IfOk result (IsLoaded bytes.now) }
     ensures err { IfErr result
         (λ outcome. (error : LoadError) × IsRefused bytes.now error × (outcome ≡ refused_outcome error)) }

@@ -54,9 +54,14 @@ serve_gives words e =
 check_gives : Gives whole HasTask (codes "check")
 check_gives words e = one_word _ _ ((level_given (slice_index_or whole.subs 3 help_shape) (refl, refl) words e).0.there refl)
 
+trace_gives : Gives whole HasTask (codes "trace")
+trace_gives words e = one_word _ _ ((level_given (slice_index_or whole.subs 4 help_shape) (refl, refl) words e).0.there refl)
+
 has_task : (words : List Text) → fault_of warpd_command words ≡ [] → HasTask (subcommand_of warpd_command words)
 has_task words e =
-    entered_gives whole HasTask refl (λ _. run_gives, (λ _. play_gives, (λ _. serve_gives, (λ _. check_gives, (λ help. cc, tt))))) (argument_words warpd_command words) e
+    entered_gives whole HasTask refl
+    (λ _. run_gives, (λ _. play_gives, (λ _. serve_gives, (λ _. check_gives, (λ _. trace_gives, (λ help. cc, tt))))))
+    (argument_words warpd_command words) e
 
 pub unreachable-requires : goal.unreachable-requires
 unreachable-requires c =

@@ -1,0 +1,34 @@
+//! The texts that `warpd trace --help` shows.
+
+pub(crate) const ABOUT: &str = "Prints the rows of the one run over the lines of standard input";
+
+pub(crate) const LONG_ABOUT: &str = "\
+Reads lines on standard input up to its end, as `warpd run` does, and prints then the rows of
+the program's one run over the events that count: those that were not withdrawn. Lines are not
+answered, and queries are passed over.
+
+A row is a tag at which something came or was due, in the order of tags. It is one line, a JSON
+object with these keys:
+
+  tag        its time and its microstep
+  events     what came: of each event its origin, its program input and its value
+  due        what was pending for this tag: of each entry its target and its value
+  changed    the variables that changed, each with its new value
+  outputs    the program outputs that were put, each with its value
+  pending    how many entries are pending behind the row
+  released   whether it is before the horizon: then its outputs are released
+
+Names are those of the program file: startup, or REACTOR.NAME.";
+
+pub(crate) const NOTES: &str = "\
+A line that `warpd run` refuses counts for nothing. Standard error tells how many there were,
+and the first of them with its reason:
+
+  lines refused 2, first line 7: refused 3
+
+Without memory for all records, or where reading fails, no row is printed.
+
+Why a line or a program file is refused: warpd run --help
+
+Example:
+  printf 'event 0 5 0 0 3\\nevent 1 2 0 1 4\\n' | warpd trace builtin:twice";
