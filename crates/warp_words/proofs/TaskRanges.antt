@@ -40,9 +40,9 @@ check_in_range : (with_numbers : Bool) (o : Option Text) → IfSome (option_map 
 check_in_range with_numbers None = tt
 check_in_range with_numbers (Some program) = tt
 
-trace_in_range : (o : Option Text) → IfSome (option_map TraceProgram o) IsInRange
-trace_in_range None = tt
-trace_in_range (Some program) = tt
+trace_in_range : (with_steps : Bool) (o : Option Text) → IfSome (option_map (λ program. TraceProgram program with_steps) o) IsInRange
+trace_in_range with_steps None = tt
+trace_in_range with_steps (Some program) = tt
 
 pub task_in_range : (found : Option (Text × List Row)) → IfSome (task_found found) IsInRange
 task_in_range None = tt
@@ -59,5 +59,6 @@ task_in_range (Some (name, rows)) =
         served_in_range _ (first_of (codes "PROGRAM") rows) _ _
         (in_range last_port (first_of (codes "port") rows)) (in_range most_sessions (first_of (codes "sessions") rows))
     go false false false true is_trace = check_in_range (is_set (codes "numbers") rows) (first_of (codes "PROGRAM") rows)
-    go false false false false true = trace_in_range (first_of (codes "PROGRAM") rows)
+    go false false false false true =
+        trace_in_range (is_set (codes "steps") rows) (first_of (codes "PROGRAM") rows)
     go false false false false false = tt

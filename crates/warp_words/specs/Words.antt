@@ -58,9 +58,9 @@ flag name = record (new_rule name) { long = Some name; action = Some SetTrue }
 abbrev pub check_command : App
 check_command = with_rule (with_rule (new_app (codes "check")) (wanted_word (codes "PROGRAM"))) (flag (codes "numbers"))
 
--- `trace` with PROGRAM
+-- `trace` with PROGRAM and `--steps`
 abbrev pub trace_command : App
-trace_command = with_rule (new_app (codes "trace")) (wanted_word (codes "PROGRAM"))
+trace_command = with_rule (with_rule (new_app (codes "trace")) (wanted_word (codes "PROGRAM"))) (flag (codes "steps"))
 
 -- `warpd` wants a subcommand, answers with help where no word comes, and has a version
 abbrev pub top_command : App
@@ -76,13 +76,14 @@ warpd_command =
 
 -- what the words may ask for: to run the program of this name; or over the program of the first name to play the schedule of
 -- the second; or to serve the program of this name at a port, for so many sessions, and to pull from these peers; or to check the
--- program of this name, and to tell its numbers or not; or to print the rows of a run of the program of this name
+-- program of this name, and to tell its numbers or not; or to print the rows of a run of the program of this
+-- name, or its steps as they were executed
 pub data Task : Type 0 where
   RunProgram : Text → Task
   PlaySchedule : Text → Text → Task
   ServeProgram : Text → ℕ → ℕ → List Text → Task
   CheckProgram : Text → Bool → Task
-  TraceProgram : Text → Task
+  TraceProgram : Text → Bool → Task
 
 -- what `run` asks for, of what was found for it: the word in the place of PROGRAM
 abbrev pub run_task : List Row → Option Task
@@ -123,9 +124,9 @@ is_set name found = option_map_or (λ word. bytes_eq word (codes "true")) (first
 abbrev pub check_task : List Row → Option Task
 check_task found = option_map (λ program. CheckProgram program (is_set (codes "numbers") found)) (first_of (codes "PROGRAM") found)
 
--- what `trace` asks for, of what was found for it: the word in the place of PROGRAM
+-- what `trace` asks for, of what was found for it: the word in the place of PROGRAM, and whether `--steps` is there
 abbrev pub trace_task : List Row → Option Task
-trace_task found = option_map TraceProgram (first_of (codes "PROGRAM") found)
+trace_task found = option_map (λ program. TraceProgram program (is_set (codes "steps") found)) (first_of (codes "PROGRAM") found)
 
 -- what the subcommand of this name asks for
 abbrev pub task_named : Text → List Row → Option Task
@@ -150,7 +151,7 @@ task_of (Run program) = RunProgram program.now
 task_of (Play program schedule) = PlaySchedule program.now schedule.now
 task_of (Serve program port sessions peers) = ServeProgram program.now port sessions (map (λ word. word.now) peers.items)
 task_of (Check program with_numbers) = CheckProgram program.now with_numbers
-task_of (Trace program) = TraceProgram program.now
+task_of (Trace program with_steps) = TraceProgram program.now with_steps
 
 -- the port and the number of sessions are in their ranges
 abbrev pub IsInRange : Task → Type 0

@@ -53,6 +53,8 @@ pub enum Job<'a> {
     Trace {
         /// The word that names the program to run.
         program: &'a str,
+        /// Whether to print the steps in the order in which they were executed in their place.
+        with_steps: bool,
     },
 }
 
@@ -190,6 +192,8 @@ const PEER: &str = "PEER";
 
 const NUMBERS: &str = "numbers";
 
+const STEPS: &str = "steps";
+
 /// The highest port.
 const LAST_PORT: u64 = 65_535;
 
@@ -277,7 +281,11 @@ fn trace_job<'a>(found: &ArgMatches<'a>) -> Option<Job<'a>>
     ensures { option_map task_of result ≡ trace_task (rows_of (found_of found.now)) }
 {
     let program = text(found, PROGRAM)?;
-    Some(Job::Trace { program })
+    let with_steps = is_set(found, STEPS);
+    Some(Job::Trace {
+        program,
+        with_steps,
+    })
 }
 
 /// Whether the option with this id is there.
@@ -519,7 +527,8 @@ fn trace<'a>(alloc: Global) -> Result<Command<'a>, AllocError>
         .about(trace_help::ABOUT)
         .long_about(trace_help::LONG_ABOUT)
         .after_long_help(trace_help::NOTES);
-    with_word(alloc, trace, PROGRAM, PROGRAM_HELP)
+    let trace = with_word(alloc, trace, PROGRAM, PROGRAM_HELP)?;
+    with_flag(alloc, trace, STEPS, trace_help::STEPS_HELP)
 }
 
 /// The command with an option that may be there.

@@ -18,7 +18,17 @@ object with these keys:
   pending    how many entries are pending behind the row
   released   whether it is before the horizon: then its outputs are released
 
-Names are those of the program file: startup, or REACTOR.NAME.";
+Names are those of the program file: startup, or REACTOR.NAME.
+
+With --steps it prints what was executed, in the order in which it was executed, where each
+line was taken as it came: of each step tag, given, due, changed, outputs and pending, where
+given has the values of the program inputs; and before the steps that a late line brings
+
+  rollback   from which tag the run went back, to which (null for its start), and how many
+             steps up to the first of the two were then made again";
+
+pub(crate) const STEPS_HELP: &str =
+    "Prints the steps in the order in which they were executed, with rollbacks";
 
 pub(crate) const NOTES: &str = "\
 A line that `warpd run` refuses counts for nothing. Standard error tells how many there were,

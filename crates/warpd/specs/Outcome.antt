@@ -1,5 +1,5 @@
 -- How a run of the program ends.
-use Rattle.std.specs.Prelude.{◌≡◌, ◌≢◌, ◌⊎◌, ◌+◌, ◌<◌, ◌≤◌, ℕ, Bool, List, [], ◌++◌, Option, Some, IfSome, codes, decimal, false, length, take}
+use Rattle.std.specs.Prelude.{◌≡◌, ◌≢◌, ◌⊎◌, ◌+◌, ◌<◌, ◌≤◌, ℕ, Bool, List, [], ◌++◌, Option, Some, IfSome, codes, decimal, false, length, take, true}
 use Rattle.std.specs.Io.KnownBytes.{Appends}
 use Rattle.clap.specs.Words.{IsAmong, Text, fault_of}
 use Rattle.clap.specs.declared.error.kind.ErrorKind.{ErrorKind}
@@ -287,10 +287,34 @@ TracesOver P names before after outcome =
     × IsPrintedUnless text read after outcome)
     ⊎ (StopsReading before read outcome × (after ≡ read)))
 
+-- how many writes have failed where printing ended so, of so many before
+abbrev pub failures_with : ℕ → TraceFault → ℕ
+failures_with n trace_fault.Output = n + 1
+failures_with n trace_fault.NoMemory = n
+
+-- Something was printed, of which nothing is said, and the run ends so: done; or one write has failed; or memory was wanting.
+abbrev pub PrintsSome : Seen → Seen → Outcome → Type 0
+PrintsSome before after outcome =
+    (after.left ≡ before.left) × (after.failed_reads ≡ before.failed_reads)
+    × (((outcome ≡ Done) × (after.failed_writes ≡ before.failed_writes))
+    ⊎ ((fault : TraceFault) × (outcome ≡ trace_outcome fault) × (after.failed_writes ≡ failures_with before.failed_writes fault)))
+
+-- Printing the steps ends so: all lines were read, and then something is printed; or reading came to no end, and nothing is. Of what is
+-- printed contracts say nothing.
+abbrev pub StepsOver : Seen → Seen → Outcome → Type 0
+StepsOver before after outcome =
+    (read : Seen) × WritesNothing before read
+    × (((read.failed_reads ≡ before.failed_reads) × PrintsSome read after outcome) ⊎ (StopsReading before read outcome × (after ≡ read)))
+
+-- tracing the program, with these names, ends so: its rows are printed, or its steps
+abbrev pub TracesAs : Bool → ReactorProgram → TraceNames → Seen → Seen → Outcome → Type 0
+TracesAs false P names before after outcome = TracesOver P names before after outcome
+TracesAs true P names before after outcome = StepsOver before after outcome
+
 -- tracing the program of this name ends so; or where there is none, nothing is done
-abbrev pub Traces : List ℕ → Seen → Seen → Outcome → Type 0
-Traces name before after outcome =
-    ((P : ReactorProgram) × (names : TraceNames) × IsNamedWith name P names × TracesOver P names before after outcome)
+abbrev pub Traces : List ℕ → Bool → Seen → Seen → Outcome → Type 0
+Traces name with_steps before after outcome =
+    ((P : ReactorProgram) × (names : TraceNames) × IsNamedWith name P names × TracesAs with_steps P names before after outcome)
     ⊎ (IsNone name outcome × (after ≡ before))
 
 -- The run that is asked for this ends so. What the file of a schedule has is not known from its name.
@@ -300,7 +324,7 @@ Does (PlaySchedule program schedule) before after outcome = Plays program before
 Does (ServeProgram program port sessions peers) before after outcome =
     ServesInLanes program port (sessions + length peers) before after outcome
 Does (CheckProgram program with_numbers) before after outcome = Checks program with_numbers before after outcome
-Does (TraceProgram program) before after outcome = Traces program before after outcome
+Does (TraceProgram program with_steps) before after outcome = Traces program with_steps before after outcome
 
 -- the run whose words are these ends so: words with no fault have what they ask for done, and of others the
 -- parser's text is shown; for want of memory nothing is done

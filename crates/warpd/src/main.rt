@@ -11,6 +11,7 @@ mod program_file;
 mod refused_lines;
 mod schedule_file;
 mod service;
+mod stepping;
 mod streams;
 mod tracing;
 
@@ -24,7 +25,7 @@ ghost use Rattle.clap.specs.Words.{kind_of};
 ghost use Rattle.warp_lanes.specs.Engine.{most_lanes};
 ghost use Rattle.warp_step.specs.Counter.{IsUnused};
 ghost use Rattle.warpd.specs.Outcome.{Checks, Does, EndsSo, IsPrinted, IsShown, Obeys, Plays, PlaysBytes, PlaysOver, Runs};
-ghost use Rattle.warpd.specs.Outcome.{Seen, ServesAt, ServesInLanes, ServesNamed, Traces, ready_line, untouched};
+ghost use Rattle.warpd.specs.Outcome.{Seen, ServesAt, ServesInLanes, ServesNamed, Traces, TracesAs, ready_line, untouched};
 ghost use Rattle.warpd.specs.Outcome.{told_line, status_of};
 ghost use Rattle.warp_words.specs.Words.{task_of};
 
@@ -44,7 +45,7 @@ use std::process::ExitCode;
 use std::sync::ledger::{Blank, Ledger};
 use std::{env, io};
 use streams::Streams;
-use tracing::trace_lines;
+use tracing::{step_lines, trace_lines};
 use warp_line::Timeline;
 use warp_run::Warp;
 use warp_session::{SessionEnd, Sink, Source, Stream, run_session, write_all};
@@ -209,7 +210,10 @@ fn carry_out<P: Host + Net<Listener = TcpListener, Stream = TcpStream>, R: Sourc
             program,
             with_numbers,
         } => check(rt, alloc, program, with_numbers, streams),
-        Job::Trace { program } => trace(rt, alloc, program, streams),
+        Job::Trace {
+            program,
+            with_steps,
+        } => trace(rt, alloc, program, with_steps, streams),
     }
 }
 
@@ -338,18 +342,37 @@ fn check<F: Files, R: Source, W: Sink>(
     }
 }
 
-/// Prints the rows of the run of the program of this name over the lines of the streams.
+/// Prints the rows of the run of the program of this name over the lines of the streams, or its steps as they were
+/// executed.
 fn trace<F: Files, R: Source, W: Sink>(
     files: &F,
     alloc: Global,
     name: &str,
+    with_steps: bool,
     streams: &mut Streams<R, W>,
 ) -> Outcome
-    ensures { Traces name.now streams.old streams.new result }
+    ensures { Traces name.now with_steps streams.old streams.new result }
 {
     match labelled_program(files, alloc, name) {
-        Ok(Labelled { program, labels }) => trace_lines(alloc, program, &labels, streams),
+        Ok(labelled) => trace_labelled(alloc, labelled, with_steps, streams),
         Err(outcome) => outcome,
+    }
+}
+
+/// Prints the rows of the run of this program, or its steps.
+fn trace_labelled<R: Source, W: Sink>(
+    alloc: Global,
+    labelled: Labelled,
+    with_steps: bool,
+    streams: &mut Streams<R, W>,
+) -> Outcome
+    ensures { TracesAs with_steps labelled.program labelled.labels streams.old streams.new result }
+{
+    let Labelled { program, labels } = labelled;
+    if with_steps {
+        step_lines(alloc, program, labels, streams)
+    } else {
+        trace_lines(alloc, program, &labels, streams)
     }
 }
 

@@ -1,5 +1,8 @@
 //! What `warpd trace --steps` does: it executes what each record brings, as it came, and prints what was executed.
+ghost use Rattle.std.specs.Prelude.{◌≡◌, MatchResult, OnErr};
 ghost use Rattle.warp_step.specs.Counter.{IsUnused};
+ghost use Rattle.warp_world.specs.declared.printer.TraceFault.TheVariants as trace_fault;
+ghost use Rattle.warpd.specs.Outcome.{failures_with};
 
 use std::alloc::Global;
 use std::marker::Brand;
@@ -13,13 +16,18 @@ use warp_world::{Labels, Printer, Recorder, StepNotes, TraceFault};
 const PIECE: usize = 65_536;
 
 /// Has a replica take the recorder's records one by one, in the order in which they came, and prints each step in the
-/// order of execution, with a line where the run went back before it.
+/// order of execution, with a line where the run went back before it. Contracts say how printing ended, and nothing of
+/// the text.
 pub(crate) fn print_steps<O: Printer>(
     alloc: Global,
     labels: Labels,
     recorder: &Recorder,
     out: &mut O,
-) -> Result<(), TraceFault> {
+) -> Result<(), TraceFault>
+    ensures failures { MatchResult result (λ _. O.failures out.new ≡ O.failures out.old)
+        (λ fault. O.failures out.new ≡ failures_with (O.failures out.old) fault) }
+    ensures kept { O.kept out.new ≡ O.kept out.old }
+{
     print_counted::<O, Brand>(alloc, labels, recorder, out, Blank::new(1))
 }
 
@@ -32,6 +40,9 @@ fn print_counted<O: Printer, L: Ledger>(
     blank: Blank,
 ) -> Result<(), TraceFault>
     requires { IsUnused blank L.name L.parts }
+    ensures failures { MatchResult result (λ _. O.failures out.new ≡ O.failures out.old)
+        (λ fault. O.failures out.new ≡ failures_with (O.failures out.old) fault) }
+    ensures kept { O.kept out.new ≡ O.kept out.old }
 {
     let mut notes = StepNotes::<L>::new(alloc, labels, blank);
     let Some(mut replica) = replica_for(alloc, recorder) else {
@@ -62,7 +73,9 @@ fn note<L: Ledger>(
     record: &Record,
     notes: &mut StepNotes<L>,
     text: &mut Vec<u8>,
-) -> Result<(), TraceFault> {
+) -> Result<(), TraceFault>
+    ensures { OnErr result (result ≡ Err trace_fault.NoMemory) }
+{
     notes.begin(replica.timeline().last());
     let Ok(Took::New(_)) = replica.take(alloc, record) else {
         return Err(TraceFault::NoMemory);
@@ -78,7 +91,11 @@ fn note<L: Ledger>(
 }
 
 /// Prints the text where enough is gathered.
-fn print_full<O: Printer>(text: &mut Vec<u8>, out: &mut O) -> Result<(), TraceFault> {
+fn print_full<O: Printer>(text: &mut Vec<u8>, out: &mut O) -> Result<(), TraceFault>
+    ensures failures { MatchResult result (λ _. O.failures out.new ≡ O.failures out.old)
+        (λ fault. O.failures out.new ≡ failures_with (O.failures out.old) fault) }
+    ensures kept { O.kept out.new ≡ O.kept out.old }
+{
     if text.len() < PIECE {
         return Ok(());
     }
@@ -88,7 +105,11 @@ fn print_full<O: Printer>(text: &mut Vec<u8>, out: &mut O) -> Result<(), TraceFa
 }
 
 /// Prints the text.
-fn print<O: Printer>(text: &[u8], out: &mut O) -> Result<(), TraceFault> {
+fn print<O: Printer>(text: &[u8], out: &mut O) -> Result<(), TraceFault>
+    ensures failures { MatchResult result (λ _. O.failures out.new ≡ O.failures out.old)
+        (λ fault. O.failures out.new ≡ failures_with (O.failures out.old) fault) }
+    ensures kept { O.kept out.new ≡ O.kept out.old }
+{
     match out.print(text) {
         Ok(()) => Ok(()),
         Err(_) => Err(TraceFault::Output),

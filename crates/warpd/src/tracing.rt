@@ -1,14 +1,16 @@
-//! What `warpd trace` does: it takes the records that lines bring, and then prints the rows of the run over them.
+//! What `warpd trace` does: it takes the records that lines bring, and then prints the rows of the run over them, or has a
+//! replica take them one by one, and prints its steps.
 ghost use Rattle.std.specs.Prelude.{◌≡◌, ◌≢◌, ◌≤◌, ◌⊎◌, [], false, true, IfSome, None, length};
 ghost use Rattle.warp_tag.specs.Limits.{most_reads};
 ghost use Rattle.warp_table.specs.Records.{set_of};
 ghost use Rattle.warp_session.specs.Session.{FailsSo, Transcribes};
 ghost use Rattle.warpd.specs.Gathered.{Gathers};
-ghost use Rattle.warpd.specs.Outcome.{PrintsRows, TracesOver, WritesNothing};
+ghost use Rattle.warpd.specs.Outcome.{PrintsRows, PrintsSome, StepsOver, TracesOver, WritesNothing};
 
 use crate::gatherer::Gatherer;
 use crate::outcome::{Outcome, outcome_of, outcome_of_trace};
 use crate::refused_lines::RefusedLines;
+use crate::stepping::print_steps;
 use crate::streams::Streams;
 use std::alloc::Global;
 use warp_session::{SessionEnd, Sink, Source, session};
@@ -78,4 +80,36 @@ fn print_rows<R: Source, W: Sink>(
         return Outcome::Memory;
     }
     outcome_of_trace(print_trace(alloc, labels, &desk.recorder, streams))
+}
+
+/// Reads lines to the end of the source, and then prints what a replica of the program executes that takes their
+/// records as they came.
+pub(crate) fn step_lines<R: Source, W: Sink>(
+    alloc: Global,
+    program: Program,
+    labels: Labels,
+    streams: &mut Streams<R, W>,
+) -> Outcome
+    ensures { StepsOver streams.old streams.new result }
+{
+    let mut desk = Gatherer::new(alloc, program);
+    match read_lines(alloc, &mut desk, streams) {
+        SessionEnd::End => print_executed(alloc, labels, &desk, streams),
+        end => outcome_of(end),
+    }
+}
+
+/// Prints what is executed for the records that the desk took, unless memory was wanting for one.
+fn print_executed<R: Source, W: Sink>(
+    alloc: Global,
+    labels: Labels,
+    desk: &Gatherer,
+    streams: &mut Streams<R, W>,
+) -> Outcome
+    ensures { PrintsSome streams.old streams.new result }
+{
+    if desk.has_lacked {
+        return Outcome::Memory;
+    }
+    outcome_of_trace(print_steps(alloc, labels, &desk.recorder, streams))
 }
