@@ -95,7 +95,7 @@ pub(crate) fn step_lines<R: Source, W: Sink>(
     let mut desk = Gatherer::new(alloc, program);
     match read_lines(alloc, &mut desk, streams) {
         SessionEnd::End => print_executed(alloc, labels, &desk, streams),
-        end => outcome_of(end),
+        other => outcome_of(other),
     }
 }
 
