@@ -88,8 +88,8 @@ impl<L: Ledger> StepNotes<L> {
         if self.lacks {
             return Err(OutOfMemory);
         }
-        if let Some(stood) = self.stood {
-            append_back(text, stood, back, self.again)?;
+        if let Some(stood) = &self.stood {
+            append_back(text, *stood, &back, self.again)?;
         }
         text.extend_from_slice(&self.lines)?;
         self.lines.clear();
@@ -141,7 +141,7 @@ fn is_through(stood: Option<Tag>, tag: Tag) -> bool {
 }
 
 /// Whether a tag is before another; where there is none, it is.
-fn is_earlier(tag: Option<Tag>, other: Tag) -> bool {
+fn is_earlier(tag: &Option<Tag>, other: Tag) -> bool {
     match tag {
         Some(tag) => tag.is_before(other),
         None => true,
@@ -170,7 +170,7 @@ fn append_given(text: &mut Vec<u8>, labels: &Labels, given: &[Given]) -> Result<
 fn append_back(
     text: &mut Vec<u8>,
     stood: Tag,
-    back: Option<Tag>,
+    back: &Option<Tag>,
     again: u64,
 ) -> Result<(), OutOfMemory> {
     if !is_earlier(back, stood) {
@@ -180,7 +180,7 @@ fn append_back(
     append_place(text, stood)?;
     text.extend_from_slice(b",\"to\":")?;
     match back {
-        Some(back) => append_place(text, back)?,
+        Some(back) => append_place(text, *back)?,
         None => text.extend_from_slice(b"null")?,
     }
     text.extend_from_slice(b",\"again\":")?;
