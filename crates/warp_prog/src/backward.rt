@@ -21,7 +21,7 @@ pub(crate) fn leads_back(file: &ProgramFile) -> bool
     false
 }
 
-fn is_backward(reactors: &[Reactor], link: &LinkPart) -> bool
+pub(crate) fn is_backward(reactors: &[Reactor], link: &LinkPart) -> bool
     ensures { result ≡ is_backward (map reactor_tree reactors.now) link.now }
 {
     link.delay.is_none()
@@ -29,7 +29,7 @@ fn is_backward(reactors: &[Reactor], link: &LinkPart) -> bool
 }
 
 /// The place of the first reactor of a name, from 0; how many there are where there is none.
-fn place(reactors: &[Reactor], name: &Name) -> usize
+pub(crate) fn place(reactors: &[Reactor], name: &Name) -> usize
     ensures { result ≡ place (map reactor_tree reactors.now) name.now }
 {
     for (i, reactor) in reactors.iter().enumerate() {

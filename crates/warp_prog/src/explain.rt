@@ -19,13 +19,13 @@ mod twice;
 
 use crate::error::LoadError;
 use crate::explain::circle::{circle_of, seat_of};
-use crate::explain::limits::limit_fault;
-use crate::explain::links::order_fault;
-use crate::explain::names::{name_fault, undeclared_fault};
+use crate::explain::limits::check_limits;
+use crate::explain::links::check_order;
+use crate::explain::names::{check_declared, check_names};
 use crate::explain::reason::{Reason, write_reason};
-use crate::explain::shape::shape_fault;
+use crate::explain::shape::check_shape;
 use crate::explain::trail::{Step, Trail};
-use crate::explain::twice::twice_fault;
+use crate::explain::twice::check_once;
 use crate::file::ProgramFile;
 use crate::limits::FIRST_VERSION;
 use crate::misread::Misread;
@@ -88,9 +88,9 @@ fn of_value(alloc: Global, value: &Value, error: LoadError) -> Result<String, Al
 /// Where and why a JSON value has not the shape of a file.
 fn of_shape(alloc: Global, value: &Value) -> Result<String, AllocError> {
     let mut at = Trail::new();
-    match shape_fault(value, &mut at) {
-        Some(reason) => written(alloc, value, &at, &reason),
-        None => Ok(String::new(alloc)),
+    match check_shape(value, &mut at) {
+        Err(reason) => written(alloc, value, &at, &reason),
+        Ok(()) => Ok(String::new(alloc)),
     }
 }
 
@@ -105,9 +105,9 @@ fn of_file(
         return of_order(alloc, value, file);
     }
     let mut at = Trail::new();
-    match file_fault(file, error.number(), &mut at) {
-        Some(reason) => written(alloc, value, &at, &reason),
-        None => Ok(String::new(alloc)),
+    match check_file(file, error.number(), &mut at) {
+        Err(reason) => written(alloc, value, &at, &reason),
+        Ok(()) => Ok(String::new(alloc)),
     }
 }
 
@@ -125,15 +125,15 @@ fn of_order(alloc: Global, value: &Value, file: &ProgramFile) -> Result<String, 
     written(alloc, value, &at, &Reason::Circle(&circle, &file.reactors))
 }
 
-/// The fault of this number in a file.
-fn file_fault<'f>(file: &'f ProgramFile, number: u8, at: &mut Trail) -> Option<Reason<'f>> {
+/// That a file has no fault of this number.
+fn check_file<'f>(file: &'f ProgramFile, number: u8, at: &mut Trail) -> Result<(), Reason<'f>> {
     match number {
-        3 => Some(limit_fault(file, at)),
-        4 => name_fault(file, at),
-        5 => twice_fault(file, at),
-        6 => order_fault(file, at),
-        7 => undeclared_fault(file, at),
-        _ => None,
+        3 => check_limits(file, at),
+        4 => check_names(file, at),
+        5 => check_once(file, at),
+        6 => check_order(file, at),
+        7 => check_declared(file, at),
+        _ => Ok(()),
     }
 }
 

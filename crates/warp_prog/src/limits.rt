@@ -9,38 +9,38 @@ ghost use Rattle.warp_prog.specs.View.{file_tree, reactor_tree, reaction_tree};
 ghost use Rattle.warp_prog.specs.inner.Kind.{count_of};
 ghost use Rattle.warp_prog.specs.declared.file.InputPart.{InputPart};
 
-mod body;
+pub(crate) mod body;
 
 use crate::file::{ActionPart, InputPart, LinkPart, ProgramFile, Reaction, Reactor, TimerPart};
 use crate::limits::body::body_exceeds;
 
 pub(crate) const FIRST_VERSION: i64 = 1;
 
-const LAST_VERSION: i64 = 2;
+pub(crate) const LAST_VERSION: i64 = 2;
 
-const LONGEST_STOP: i64 = 1_000_000;
+pub(crate) const LONGEST_STOP: i64 = 1_000_000;
 
-const LONGEST_PERIOD: i64 = 1_000_000;
+pub(crate) const LONGEST_PERIOD: i64 = 1_000_000;
 
-const MOST_ORIGINS: i64 = 32;
+pub(crate) const MOST_ORIGINS: i64 = 32;
 
-const MOST_REACTORS: usize = 64;
+pub(crate) const MOST_REACTORS: usize = 64;
 
-const MOST_VARIABLES: usize = 256;
+pub(crate) const MOST_VARIABLES: usize = 256;
 
-const MOST_PORTS: usize = 256;
+pub(crate) const MOST_PORTS: usize = 256;
 
-const MOST_ACTIONS: usize = 64;
+pub(crate) const MOST_ACTIONS: usize = 64;
 
-const MOST_TIMERS: usize = 16;
+pub(crate) const MOST_TIMERS: usize = 16;
 
-const MOST_REACTIONS: usize = 256;
+pub(crate) const MOST_REACTIONS: usize = 256;
 
-const MOST_LINKS: usize = 256;
+pub(crate) const MOST_LINKS: usize = 256;
 
-const MOST_INPUTS: usize = 64;
+pub(crate) const MOST_INPUTS: usize = 64;
 
-const MOST_OUTPUTS: usize = 64;
+pub(crate) const MOST_OUTPUTS: usize = 64;
 
 /// Things of which all reactors together have a limit.
 enum Kind {
@@ -218,7 +218,7 @@ fn period_exceeds(number: i64) -> bool
 }
 
 /// Whether a number is not one of `low` to `high`.
-fn is_outside(number: i64, low: i64, high: i64) -> bool
+pub(crate) fn is_outside(number: i64, low: i64, high: i64) -> bool
     ensures { result ≡ is_outside low high number }
 {
     number < low || number > high

@@ -159,7 +159,7 @@ fn room_for<T: Named>(things: &[T], name: &str, room: usize) -> Option<usize>
 }
 
 /// A thing that refers to a port.
-trait Refers {
+pub(crate) trait Refers {
     ghost refers_to: { Self → PortName };
 
     /// The port.
@@ -250,7 +250,7 @@ fn room_for_port<T: Refers>(things: &[T], port: &PortName, room: usize) -> Optio
     Some(left)
 }
 
-fn is_same_port(a: &PortName, b: &PortName) -> bool
+pub(crate) fn is_same_port(a: &PortName, b: &PortName) -> bool
     ensures { result ≡ same_port a.now b.now }
 {
     is_same(&a.reactor, &b.reactor) && is_same(&a.port, &b.port)

@@ -34,7 +34,8 @@ pub(crate) enum Rule<'f> {
 }
 
 impl Rule<'_> {
-    fn is_met(&self, what: &Use) -> bool
+    /// Whether a use is as the rule asks.
+    pub(crate) fn is_met(&self, what: &Use) -> bool
         ensures { result ≡ meets self.now (use_of what.now) }
     {
         match self {

@@ -1,236 +1,190 @@
 //! Where a name stands for nothing of its kind, and where a body uses what its reaction does not declare.
 
-use crate::explain::links::ports_fault;
+use crate::explain::links::check_ports;
 use crate::explain::reason::Reason;
 use crate::explain::role::{Role, fits};
 use crate::explain::trail::{Step, Trail};
 use crate::file::{Expression, ProgramFile, Reaction, Reactor, Statement};
 use crate::name::Name;
-use crate::named::is_among;
+use crate::uses::{Rule, Use};
 
-/// Where a name stands for nothing of the kind that its place asks.
-pub(crate) fn name_fault<'f>(file: &'f ProgramFile, at: &mut Trail) -> Option<Reason<'f>> {
+/// That each name stands for something of the kind that its place asks.
+pub(crate) fn check_names<'f>(file: &'f ProgramFile, at: &mut Trail) -> Result<(), Reason<'f>> {
     for (i, reactor) in file.reactors.iter().enumerate() {
-        if let Some(reason) = reactor_fault(reactor, at) {
-            at.back(Step::Of("reactors", i));
-            return Some(reason);
-        }
+        let found = check_reactor(reactor, at);
+        at.along(Step::Of("reactors", i), found)?;
     }
-    ports_fault(file, at)
+    check_ports(file, at)
 }
 
-fn reactor_fault<'f>(reactor: &'f Reactor, at: &mut Trail) -> Option<Reason<'f>> {
+fn check_reactor<'f>(reactor: &'f Reactor, at: &mut Trail) -> Result<(), Reason<'f>> {
     for (i, reaction) in reactor.reactions.iter().enumerate() {
-        if let Some(reason) = reaction_fault(reactor, reaction, at) {
-            at.back(Step::Of("reactions", i));
-            return Some(reason);
-        }
+        let found = check_reaction(reactor, reaction, at);
+        at.along(Step::Of("reactions", i), found)?;
     }
-    None
+    Ok(())
 }
 
-fn reaction_fault<'f>(
+fn check_reaction<'f>(
     reactor: &'f Reactor,
     reaction: &'f Reaction,
     at: &mut Trail,
-) -> Option<Reason<'f>> {
-    if let Some(reason) = list_fault(reactor, &reaction.triggers, Role::Cause, "on", at) {
-        return Some(reason);
-    }
-    if let Some(reason) = list_fault(reactor, &reaction.reads, Role::Cause, "reads", at) {
-        return Some(reason);
-    }
-    if let Some(reason) = list_fault(reactor, &reaction.writes, Role::Written, "writes", at) {
-        return Some(reason);
-    }
-    let found = broken_use(&Rule::Known(reactor), &reaction.body, at)?;
-    at.back(Step::Key("body"));
-    Some(Reason::Unknown(found.name, found.role, reactor))
+) -> Result<(), Reason<'f>> {
+    check_list(reactor, &reaction.triggers, Role::Cause, "on", at)?;
+    check_list(reactor, &reaction.reads, Role::Cause, "reads", at)?;
+    check_list(reactor, &reaction.writes, Role::Written, "writes", at)?;
+    let found = check_uses(&Rule::Known(reactor), &reaction.body, at);
+    at.along(Step::Key("body"), found)
 }
 
-/// That one of the names under this key has not this role in the reactor.
-fn list_fault<'f>(
+/// That each of the names under this key has this role in the reactor.
+fn check_list<'f>(
     reactor: &'f Reactor,
     names: &'f [Name],
     role: Role,
     key: &'static str,
     at: &mut Trail,
-) -> Option<Reason<'f>> {
+) -> Result<(), Reason<'f>> {
     for name in names {
         if !fits(reactor, role, name) {
             at.back(Step::Key(key));
-            return Some(Reason::Unknown(name, role, reactor));
+            return Err(Reason::Unknown(name, role, reactor));
         }
     }
-    None
+    Ok(())
 }
 
-/// Where a body reads or asks for what its reaction neither is on nor reads, or puts or schedules what it does not
-/// write.
-pub(crate) fn undeclared_fault<'f>(file: &'f ProgramFile, at: &mut Trail) -> Option<Reason<'f>> {
+/// That bodies read and ask for only what their reactions are on or read, and put and schedule only what they write.
+pub(crate) fn check_declared<'f>(file: &'f ProgramFile, at: &mut Trail) -> Result<(), Reason<'f>> {
     for (i, reactor) in file.reactors.iter().enumerate() {
-        if let Some(reason) = undeclared_in(reactor, at) {
-            at.back(Step::Of("reactors", i));
-            return Some(reason);
-        }
+        let found = check_declared_in(reactor, at);
+        at.along(Step::Of("reactors", i), found)?;
     }
-    None
+    Ok(())
 }
 
-fn undeclared_in<'f>(reactor: &'f Reactor, at: &mut Trail) -> Option<Reason<'f>> {
+fn check_declared_in<'f>(reactor: &'f Reactor, at: &mut Trail) -> Result<(), Reason<'f>> {
     for (i, reaction) in reactor.reactions.iter().enumerate() {
-        if let Some(found) = broken_use(&Rule::Declared(reactor, reaction), &reaction.body, at) {
-            at.back(Step::Key("body"));
-            at.back(Step::Of("reactions", i));
-            return Some(undeclared(&found));
-        }
+        let found = check_uses(&Rule::Declared(reactor, reaction), &reaction.body, at);
+        let found = at.along(Step::Key("body"), found);
+        at.along(Step::Of("reactions", i), found)?;
     }
-    None
+    Ok(())
 }
 
-fn undeclared<'f>(found: &Use<'f>) -> Reason<'f> {
-    match found.role {
-        Role::Cause | Role::Value => Reason::Unheard(found.name),
-        _ => Reason::Unwritten(found.name),
-    }
-}
-
-/// A name and what the body does with it.
-#[derive(Clone, Copy)]
-struct Use<'f> {
-    name: &'f Name,
-    role: Role,
-}
-
-/// What is asked of each use.
-#[derive(Drop)]
-enum Rule<'r> {
-    /// The name has its role in the reactor.
-    Known(&'r Reactor),
-    /// The reaction declares it.
-    Declared(&'r Reactor, &'r Reaction),
-}
-
-fn is_met(rule: &Rule<'_>, name: &Name, role: Role) -> bool {
+/// What a use breaks a rule by.
+fn broken<'f>(rule: &Rule<'f>, what: &Use<'f>) -> Reason<'f> {
     match rule {
-        Rule::Known(reactor) => fits(reactor, role, name),
-        Rule::Declared(reactor, reaction) => is_declared(reactor, reaction, name, role),
+        Rule::Known(reactor) => unknown(what, reactor),
+        Rule::Declared(..) => undeclared(what),
     }
 }
 
-/// Whether a reaction declares a use. A variable needs no declaration.
-fn is_declared(reactor: &Reactor, reaction: &Reaction, name: &Name, role: Role) -> bool {
-    match role {
-        Role::Variable => true,
-        Role::Value => is_among(&reactor.variables, name) || may_read(reaction, name),
-        Role::Cause => may_read(reaction, name),
-        _ => is_among(&reaction.writes, name),
+fn unknown<'f>(what: &Use<'f>, reactor: &'f Reactor) -> Reason<'f> {
+    match what {
+        Use::Reads(name) => Reason::Unknown(name, Role::Value, reactor),
+        Use::Asks(name) => Reason::Unknown(name, Role::Cause, reactor),
+        Use::Sets(name) => Reason::Unknown(name, Role::Variable, reactor),
+        Use::Puts(name) => Reason::Unknown(name, Role::Output, reactor),
+        Use::Schedules(name) => Reason::Unknown(name, Role::Action, reactor),
     }
 }
 
-fn may_read(reaction: &Reaction, name: &Name) -> bool {
-    is_among(&reaction.triggers, name) || is_among(&reaction.reads, name)
-}
-
-/// The use, if it breaks the rule.
-fn misused<'f>(rule: &Rule<'_>, name: &'f Name, role: Role) -> Option<Use<'f>> {
-    if is_met(rule, name, role) {
-        return None;
+fn undeclared<'f>(what: &Use<'f>) -> Reason<'f> {
+    match what {
+        Use::Reads(name) | Use::Asks(name) => Reason::Unheard(name),
+        Use::Sets(name) | Use::Puts(name) | Use::Schedules(name) => Reason::Unwritten(name),
     }
-    Some(Use { name, role })
 }
 
-/// The use, if it breaks the rule; the name is the second item of its list.
-fn named_use<'f>(rule: &Rule<'_>, name: &'f Name, role: Role, at: &mut Trail) -> Option<Use<'f>> {
-    let found = misused(rule, name, role);
-    if found.is_some() {
-        at.back(Step::Item(1));
+/// That a use keeps to the rule.
+fn check_one<'f>(rule: &Rule<'f>, what: &Use<'f>) -> Result<(), Reason<'f>> {
+    if rule.is_met(what) {
+        return Ok(());
     }
-    found
+    Err(broken(rule, what))
 }
 
-/// The first use in the body that breaks the rule.
-#[cycle(broken_use)]
-fn broken_use<'f>(rule: &Rule<'_>, body: &'f [Statement], at: &mut Trail) -> Option<Use<'f>> {
+/// The same of a name that is the second item of its list.
+fn check_use<'f>(rule: &Rule<'f>, what: &Use<'f>, at: &mut Trail) -> Result<(), Reason<'f>> {
+    let found = check_one(rule, what);
+    at.along(Step::Item(1), found)
+}
+
+/// That all uses in the body keep to the rule.
+#[cycle(check_uses)]
+fn check_uses<'f>(
+    rule: &Rule<'f>,
+    body: &'f [Statement],
+    at: &mut Trail,
+) -> Result<(), Reason<'f>> {
     for (i, statement) in body.iter().enumerate() {
-        if let Some(found) = broken_use_of(rule, statement, at) {
-            at.back(Step::Item(i));
-            return Some(found);
-        }
+        let found = check_uses_of(rule, statement, at);
+        at.along(Step::Item(i), found)?;
     }
-    None
+    Ok(())
 }
 
-#[cycle(broken_use)]
-fn broken_use_of<'f>(rule: &Rule<'_>, statement: &'f Statement, at: &mut Trail) -> Option<Use<'f>> {
+#[cycle(check_uses)]
+fn check_uses_of<'f>(
+    rule: &Rule<'f>,
+    statement: &'f Statement,
+    at: &mut Trail,
+) -> Result<(), Reason<'f>> {
     match statement {
         Statement::Set(name, term) => {
-            if let Some(found) = named_use(rule, name, Role::Variable, at) {
-                return Some(found);
-            }
-            use_in(rule, term, 2, at)
+            check_use(rule, &Use::Sets(name), at)?;
+            check_term(rule, term, 2, at)
         }
         Statement::Put(name, term) => {
-            if let Some(found) = named_use(rule, name, Role::Output, at) {
-                return Some(found);
-            }
-            use_in(rule, term, 2, at)
+            check_use(rule, &Use::Puts(name), at)?;
+            check_term(rule, term, 2, at)
         }
         Statement::Schedule(name, _, term) => {
-            if let Some(found) = named_use(rule, name, Role::Action, at) {
-                return Some(found);
-            }
-            use_in(rule, term, 3, at)
+            check_use(rule, &Use::Schedules(name), at)?;
+            check_term(rule, term, 3, at)
         }
         Statement::If(test, first, second) => {
-            if let Some(found) = use_in(rule, test, 1, at) {
-                return Some(found);
-            }
-            if let Some(found) = broken_use(rule, first, at) {
-                at.back(Step::Item(2));
-                return Some(found);
-            }
-            let found = broken_use(rule, second, at);
-            if found.is_some() {
-                at.back(Step::Item(3));
-            }
-            found
+            check_term(rule, test, 1, at)?;
+            let found = check_uses(rule, first, at);
+            at.along(Step::Item(2), found)?;
+            let found = check_uses(rule, second, at);
+            at.along(Step::Item(3), found)
         }
     }
 }
 
-/// The first use that breaks the rule in the expression at this place.
-fn use_in<'f>(
-    rule: &Rule<'_>,
+/// That all uses in the expression at this place keep to the rule.
+#[cycle(check_term)]
+fn check_term<'f>(
+    rule: &Rule<'f>,
     term: &'f Expression,
     place: usize,
     at: &mut Trail,
-) -> Option<Use<'f>> {
-    let found = match term {
-        Expression::Number(_) => None,
-        Expression::Value(name) => misused(rule, name, Role::Value),
-        Expression::Present(name) => named_use(rule, name, Role::Cause, at),
-        Expression::Unary(_, a) => use_in(rule, a, 1, at),
+) -> Result<(), Reason<'f>> {
+    let found = check_parts(rule, term, at);
+    at.along(Step::Item(place), found)
+}
+
+#[cycle(check_term)]
+fn check_parts<'f>(
+    rule: &Rule<'f>,
+    term: &'f Expression,
+    at: &mut Trail,
+) -> Result<(), Reason<'f>> {
+    match term {
+        Expression::Number(_) => Ok(()),
+        Expression::Value(name) => check_one(rule, &Use::Reads(name)),
+        Expression::Present(name) => check_use(rule, &Use::Asks(name), at),
+        Expression::Unary(_, a) => check_term(rule, a, 1, at),
         Expression::Binary(_, a, b) => {
-            let mut found = use_in(rule, a, 1, at);
-            if found.is_none() {
-                found = use_in(rule, b, 2, at);
-            }
-            found
+            check_term(rule, a, 1, at)?;
+            check_term(rule, b, 2, at)
         }
         Expression::If(test, a, b) => {
-            let mut found = use_in(rule, test, 1, at);
-            if found.is_none() {
-                found = use_in(rule, a, 2, at);
-            }
-            if found.is_none() {
-                found = use_in(rule, b, 3, at);
-            }
-            found
+            check_term(rule, test, 1, at)?;
+            check_term(rule, a, 2, at)?;
+            check_term(rule, b, 3, at)
         }
-    };
-    if found.is_some() {
-        at.back(Step::Item(place));
     }
-    found
 }

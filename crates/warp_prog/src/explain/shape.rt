@@ -4,165 +4,116 @@ mod body;
 mod part;
 
 use crate::explain::reason::Reason;
-use crate::explain::shape::body::body_fault;
-use crate::explain::shape::part::{Part, list_fault, part_fault};
+use crate::explain::shape::body::check_body;
+use crate::explain::shape::part::{Part, check_list, check_part};
 use crate::explain::terms::Vocabulary;
 use crate::explain::trail::{Step, Trail};
 use serde_json::Value;
 
-/// Where and why a value is no file.
-pub(crate) fn shape_fault<'v>(value: &'v Value, at: &mut Trail) -> Option<Reason<'v>> {
-    if let Some(reason) = keys_fault(value, Vocabulary::File) {
-        return Some(reason);
-    }
-    if let Some(reason) = numbers_fault(value, at) {
-        return Some(reason);
-    }
-    if let Some(reason) = reactors_fault(value, at) {
-        return Some(reason);
-    }
-    if let Some(reason) = list_fault(value, "links", Part::Link, at) {
-        return Some(reason);
-    }
-    if let Some(reason) = list_fault(value, "inputs", Part::ProgramInput, at) {
-        return Some(reason);
-    }
-    list_fault(value, "outputs", Part::Port, at)
+/// That a value is a file.
+pub(crate) fn check_shape<'v>(value: &'v Value, at: &mut Trail) -> Result<(), Reason<'v>> {
+    check_keys(value, Vocabulary::File)?;
+    check_needed(value, "version", Part::Number, at)?;
+    check_needed(value, "stop", Part::Number, at)?;
+    check_needed(value, "origins", Part::Number, at)?;
+    check_reactors(value, at)?;
+    check_list(value, "links", Part::Link, at)?;
+    check_list(value, "inputs", Part::ProgramInput, at)?;
+    check_list(value, "outputs", Part::Port, at)
 }
 
-/// That a value is no object, or has a key that is none of these.
-fn keys_fault<'v>(value: &'v Value, keys: Vocabulary) -> Option<Reason<'v>> {
+/// That a value is an object, and each of its keys is one of these.
+fn check_keys<'v>(value: &'v Value, keys: Vocabulary) -> Result<(), Reason<'v>> {
     let Some(members) = value.as_object() else {
-        return Some(Reason::Form(value, "no object"));
+        return Err(Reason::Form(value, "no object"));
     };
     for (key, _) in members.iter() {
         if !keys.has(key.as_str()) {
-            return Some(Reason::Unread(key.as_str(), keys));
+            return Err(Reason::Unread(key.as_str(), keys));
         }
     }
-    None
+    Ok(())
 }
 
-fn numbers_fault<'v>(value: &'v Value, at: &mut Trail) -> Option<Reason<'v>> {
-    if let Some(reason) = needed_fault(value, "version", Part::Number, at) {
-        return Some(reason);
-    }
-    if let Some(reason) = needed_fault(value, "stop", Part::Number, at) {
-        return Some(reason);
-    }
-    needed_fault(value, "origins", Part::Number, at)
-}
-
-/// That a key is missing, or its value is not what it has to be.
-fn needed_fault<'v>(
+/// That a key is there, and its value what it has to be.
+fn check_needed<'v>(
     value: &'v Value,
     key: &'static str,
     part: Part,
     at: &mut Trail,
-) -> Option<Reason<'v>> {
+) -> Result<(), Reason<'v>> {
     let Some(found) = value.get(key) else {
-        return Some(Reason::Missing(key));
+        return Err(Reason::Missing(key));
     };
-    let reason = part_fault(found, part, at);
-    if reason.is_some() {
-        at.back(Step::Key(key));
-    }
-    reason
+    let found = check_part(found, part, at);
+    at.along(Step::Key(key), found)
 }
 
-/// The list under a key, or that it is none, or none is there where one has to be.
-fn reactors_fault<'v>(value: &'v Value, at: &mut Trail) -> Option<Reason<'v>> {
+/// That a list of reactors is there, with one at least.
+fn check_reactors<'v>(value: &'v Value, at: &mut Trail) -> Result<(), Reason<'v>> {
     let Some(found) = value.get("reactors") else {
-        return Some(Reason::Missing("reactors"));
+        return Err(Reason::Missing("reactors"));
     };
     let Some(reactors) = found.as_array() else {
         at.back(Step::Key("reactors"));
-        return Some(Reason::Form(found, "no list of reactors"));
+        return Err(Reason::Form(found, "no list of reactors"));
     };
     if reactors.is_empty() {
         at.back(Step::Key("reactors"));
-        return Some(Reason::Plain("there is no reactor"));
+        return Err(Reason::Plain("there is no reactor"));
     }
     for (i, reactor) in reactors.iter().enumerate() {
-        if let Some(reason) = reactor_fault(reactor, at) {
-            at.back(Step::Of("reactors", i));
-            return Some(reason);
-        }
+        let found = check_reactor(reactor, at);
+        at.along(Step::Of("reactors", i), found)?;
     }
-    None
+    Ok(())
 }
 
-fn reactor_fault<'v>(value: &'v Value, at: &mut Trail) -> Option<Reason<'v>> {
-    if let Some(reason) = keys_fault(value, Vocabulary::Reactor) {
-        return Some(reason);
-    }
-    if let Some(reason) = needed_fault(value, "name", Part::Name, at) {
-        return Some(reason);
-    }
-    if let Some(reason) = ports_fault(value, at) {
-        return Some(reason);
-    }
-    if let Some(reason) = list_fault(value, "actions", Part::Action, at) {
-        return Some(reason);
-    }
-    if let Some(reason) = list_fault(value, "timers", Part::Timer, at) {
-        return Some(reason);
-    }
-    reactions_fault(value, at)
+fn check_reactor<'v>(value: &'v Value, at: &mut Trail) -> Result<(), Reason<'v>> {
+    check_keys(value, Vocabulary::Reactor)?;
+    check_needed(value, "name", Part::Name, at)?;
+    check_list(value, "vars", Part::Variable, at)?;
+    check_list(value, "inputs", Part::Name, at)?;
+    check_list(value, "outputs", Part::Name, at)?;
+    check_list(value, "actions", Part::Action, at)?;
+    check_list(value, "timers", Part::Timer, at)?;
+    check_reactions(value, at)
 }
 
-fn ports_fault<'v>(value: &'v Value, at: &mut Trail) -> Option<Reason<'v>> {
-    if let Some(reason) = list_fault(value, "vars", Part::Variable, at) {
-        return Some(reason);
-    }
-    if let Some(reason) = list_fault(value, "inputs", Part::Name, at) {
-        return Some(reason);
-    }
-    list_fault(value, "outputs", Part::Name, at)
-}
-
-fn reactions_fault<'v>(value: &'v Value, at: &mut Trail) -> Option<Reason<'v>> {
-    let found = value.get("reactions")?;
+fn check_reactions<'v>(value: &'v Value, at: &mut Trail) -> Result<(), Reason<'v>> {
+    let Some(found) = value.get("reactions") else {
+        return Ok(());
+    };
     let Some(reactions) = found.as_array() else {
         at.back(Step::Key("reactions"));
-        return Some(Reason::Form(found, "no list of reactions"));
+        return Err(Reason::Form(found, "no list of reactions"));
     };
     for (i, reaction) in reactions.iter().enumerate() {
-        if let Some(reason) = reaction_fault(reaction, at) {
-            at.back(Step::Of("reactions", i));
-            return Some(reason);
-        }
+        let found = check_reaction(reaction, at);
+        at.along(Step::Of("reactions", i), found)?;
     }
-    None
+    Ok(())
 }
 
-fn reaction_fault<'v>(value: &'v Value, at: &mut Trail) -> Option<Reason<'v>> {
-    if let Some(reason) = keys_fault(value, Vocabulary::Reaction) {
-        return Some(reason);
+fn check_reaction<'v>(value: &'v Value, at: &mut Trail) -> Result<(), Reason<'v>> {
+    check_keys(value, Vocabulary::Reaction)?;
+    check_triggers(value, at)?;
+    check_list(value, "reads", Part::Name, at)?;
+    check_list(value, "writes", Part::Name, at)?;
+    match value.get("body") {
+        Some(body) => check_body(body, Step::Key("body"), at),
+        None => Ok(()),
     }
-    if let Some(reason) = triggers_fault(value, at) {
-        return Some(reason);
-    }
-    if let Some(reason) = list_fault(value, "reads", Part::Name, at) {
-        return Some(reason);
-    }
-    if let Some(reason) = list_fault(value, "writes", Part::Name, at) {
-        return Some(reason);
-    }
-    body_fault(value.get("body")?, Step::Key("body"), at)
 }
 
-fn triggers_fault<'v>(value: &'v Value, at: &mut Trail) -> Option<Reason<'v>> {
+fn check_triggers<'v>(value: &'v Value, at: &mut Trail) -> Result<(), Reason<'v>> {
     let Some(found) = value.get("on") else {
-        return Some(Reason::Missing("on"));
+        return Err(Reason::Missing("on"));
     };
-    if let Some(reason) = list_fault(value, "on", Part::Name, at) {
-        return Some(reason);
-    }
-    let names = found.as_array()?;
-    if names.is_empty() {
+    check_list(value, "on", Part::Name, at)?;
+    if found.as_array().is_some_and(Vec::is_empty) {
         at.back(Step::Key("on"));
-        return Some(Reason::Plain("there is no name"));
+        return Err(Reason::Plain("there is no name"));
     }
-    None
+    Ok(())
 }

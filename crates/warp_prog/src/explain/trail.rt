@@ -1,5 +1,6 @@
 //! Where something stands in a program file.
 
+use crate::explain::reason::Reason;
 use arrayvec::ArrayVec;
 use serde_json::Value;
 use std::alloc::AllocError;
@@ -43,6 +44,18 @@ impl Trail {
         if !self.steps.is_full() {
             self.steps.push(step);
         }
+    }
+
+    /// Adds the step before those that are there, if a fault was found behind it.
+    pub(crate) fn along<'f>(
+        &mut self,
+        step: Step,
+        found: Result<(), Reason<'f>>,
+    ) -> Result<(), Reason<'f>> {
+        if found.is_err() {
+            self.back(step);
+        }
+        found
     }
 
     /// Writes the steps from the first on, with the names of the reactors of the file.

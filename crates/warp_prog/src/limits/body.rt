@@ -10,10 +10,10 @@ use crate::file::{Expression, Statement};
 use crate::limits::period_exceeds;
 
 /// How deep an expression may be, and a list of statements.
-const DEEPEST: usize = 24;
+pub(crate) const DEEPEST: usize = 24;
 
 /// How many schedulings may be written in a body.
-const MOST_WISHES: usize = 16;
+pub(crate) const MOST_WISHES: usize = 16;
 
 /// Whether a body is too deep or schedules too often, an expression in it is too deep, or a delay is outside its range.
 pub(crate) fn body_exceeds(body: &[Statement]) -> bool
@@ -55,7 +55,7 @@ fn statement_has_deep_term(statement: &Statement) -> bool
 }
 
 /// Whether an expression has more than so many levels.
-fn is_deeper_term(term: &Expression, levels: usize) -> bool
+pub(crate) fn is_deeper_term(term: &Expression, levels: usize) -> bool
     ensures { result ≡ nat_lt levels (term_depth (term_tree term.now)) }
 {
     let Some(below) = levels.checked_sub(1) else {
@@ -125,7 +125,7 @@ fn statement_delay_exceeds(statement: &Statement) -> bool
 
 /// The room that is left of so much after the schedulings in the body; `None` where it is not enough.
 #[cycle(room_for_wishes)]
-fn room_for_wishes(body: &[Statement], room: usize) -> Option<usize>
+pub(crate) fn room_for_wishes(body: &[Statement], room: usize) -> Option<usize>
     ensures { let n = length (body_delays (statements_tree body.now)) in SomeIff result (n ≤ room) (room - n) }
 {
     let mut left = room;

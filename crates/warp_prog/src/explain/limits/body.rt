@@ -3,124 +3,71 @@
 use crate::explain::reason::Reason;
 use crate::explain::trail::{Step, Trail};
 use crate::file::{Expression, Statement};
+use crate::limits::body::{DEEPEST, MOST_WISHES, is_deeper_term, room_for_wishes};
+use crate::limits::{LONGEST_PERIOD, is_outside};
 
-/// How deep an expression may be, and a list of statements.
-const DEEPEST: usize = 24;
-
-/// How many schedulings may be written in a body.
-const MOST_WISHES: usize = 16;
-
-const LONGEST_DELAY: i64 = 1_000_000;
-
-/// Where and how a body goes past a limit.
-pub(crate) fn body_fault<'f>(body: &'f [Statement], at: &mut Trail) -> Option<Reason<'f>> {
-    let reason = statements_fault(body, DEEPEST, at);
-    if reason.is_some() {
-        at.back(Step::Key("body"));
-        return reason;
+/// That a body goes past no limit.
+pub(crate) fn check_body<'f>(body: &'f [Statement], at: &mut Trail) -> Result<(), Reason<'f>> {
+    let mut found = check_statements(body, DEEPEST, at);
+    if found.is_ok() && room_for_wishes(body, MOST_WISHES).is_none() {
+        found = Err(Reason::Many("\"schedule\"", MOST_WISHES));
     }
-    if left_after(body, MOST_WISHES).is_none() {
-        at.back(Step::Key("body"));
-        return Some(Reason::Many("\"schedule\"", MOST_WISHES));
-    }
-    None
+    at.along(Step::Key("body"), found)
 }
 
-/// The fault of one of the statements, whose lists may have so many levels.
-#[cycle(statement_limit)]
-fn statements_fault<'f>(
+/// The same of each of the statements, whose lists may have so many levels.
+#[cycle(check_statements)]
+fn check_statements<'f>(
     body: &'f [Statement],
     levels: usize,
     at: &mut Trail,
-) -> Option<Reason<'f>> {
+) -> Result<(), Reason<'f>> {
     for (i, statement) in body.iter().enumerate() {
-        if let Some(reason) = statement_fault(statement, levels, at) {
-            at.back(Step::Item(i));
-            return Some(reason);
-        }
+        let found = check_statement(statement, levels, at);
+        at.along(Step::Item(i), found)?;
     }
-    None
+    Ok(())
 }
 
-#[cycle(statement_limit)]
-fn statement_fault<'f>(
+#[cycle(check_statements)]
+fn check_statement<'f>(
     statement: &'f Statement,
     levels: usize,
     at: &mut Trail,
-) -> Option<Reason<'f>> {
+) -> Result<(), Reason<'f>> {
     let Some(below) = levels.checked_sub(1) else {
-        return Some(Reason::Plain("the lists of statements are more than 24 deep"));
+        return Err(Reason::Plain("the lists of statements are more than 24 deep"));
     };
     match statement {
-        Statement::Set(_, term) | Statement::Put(_, term) => term_fault(term, 2, at),
-        Statement::Schedule(_, delay, term) => scheduling_fault(*delay, term, at),
+        Statement::Set(_, term) | Statement::Put(_, term) => check_term(term, 2, at),
+        Statement::Schedule(_, delay, term) => check_scheduling(*delay, term, at),
         Statement::If(test, first, second) => {
-            if let Some(reason) = term_fault(test, 1, at) {
-                return Some(reason);
-            }
-            if let Some(reason) = statements_fault(first, below, at) {
-                at.back(Step::Item(2));
-                return Some(reason);
-            }
-            let reason = statements_fault(second, below, at);
-            if reason.is_some() {
-                at.back(Step::Item(3));
-            }
-            reason
+            check_term(test, 1, at)?;
+            let found = check_statements(first, below, at);
+            at.along(Step::Item(2), found)?;
+            let found = check_statements(second, below, at);
+            at.along(Step::Item(3), found)
         }
     }
 }
 
-fn scheduling_fault<'f>(delay: i64, term: &'f Expression, at: &mut Trail) -> Option<Reason<'f>> {
-    if delay < 0 || delay > LONGEST_DELAY {
+fn check_scheduling<'f>(
+    delay: i64,
+    term: &'f Expression,
+    at: &mut Trail,
+) -> Result<(), Reason<'f>> {
+    if is_outside(delay, 0, LONGEST_PERIOD) {
         at.back(Step::Item(2));
-        return Some(Reason::Range(delay, 0, LONGEST_DELAY));
+        return Err(Reason::Range(delay, 0, LONGEST_PERIOD));
     }
-    term_fault(term, 3, at)
+    check_term(term, 3, at)
 }
 
-/// That an expression is too deep; it stands at this place of its statement.
-fn term_fault<'f>(term: &'f Expression, place: usize, at: &mut Trail) -> Option<Reason<'f>> {
-    if is_deeper(term, DEEPEST) {
+/// That an expression is not too deep; it stands at this place of its statement.
+fn check_term<'f>(term: &'f Expression, place: usize, at: &mut Trail) -> Result<(), Reason<'f>> {
+    if is_deeper_term(term, DEEPEST) {
         at.back(Step::Item(place));
-        return Some(Reason::Plain("the expression is more than 24 deep"));
+        return Err(Reason::Plain("the expression is more than 24 deep"));
     }
-    None
-}
-
-/// Whether an expression has more than so many levels.
-fn is_deeper(term: &Expression, levels: usize) -> bool {
-    let Some(below) = levels.checked_sub(1) else {
-        return true;
-    };
-    match term {
-        Expression::Number(_) | Expression::Value(_) | Expression::Present(_) => false,
-        Expression::Unary(_, a) => is_deeper(a, below),
-        Expression::Binary(_, a, b) => is_deeper(a, below) || is_deeper(b, below),
-        Expression::If(test, a, b) => {
-            is_deeper(test, below) || is_deeper(a, below) || is_deeper(b, below)
-        }
-    }
-}
-
-/// The room that is left of so much after the schedulings in the body; `None` where it is not enough.
-#[cycle(left_after)]
-fn left_after(body: &[Statement], room: usize) -> Option<usize> {
-    let mut left = room;
-    for statement in body {
-        left = left_after_one(statement, left)?;
-    }
-    Some(left)
-}
-
-#[cycle(left_after)]
-fn left_after_one(statement: &Statement, room: usize) -> Option<usize> {
-    match statement {
-        Statement::Set(..) | Statement::Put(..) => Some(room),
-        Statement::Schedule(..) => room.checked_sub(1),
-        Statement::If(_, first, second) => {
-            let left = left_after(first, room)?;
-            left_after(second, left)
-        }
-    }
+    Ok(())
 }

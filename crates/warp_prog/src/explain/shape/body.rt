@@ -1,73 +1,68 @@
 //! Bodies, statements and expressions.
 
 use crate::explain::reason::Reason;
-use crate::explain::shape::part::{name_fault, number_fault};
+use crate::explain::shape::part::{check_name, check_number};
 use crate::explain::terms::{Vocabulary, operands};
 use crate::explain::trail::{Step, Trail};
 use serde_json::Value;
 
-/// That a value is no list of statements; this step leads to it.
-#[cycle(statement_fault)]
-pub(crate) fn body_fault<'v>(value: &'v Value, step: Step, at: &mut Trail) -> Option<Reason<'v>> {
-    let reason = match value {
-        Value::Array(items) => statements_fault(items.as_slice(), at),
-        _ => Some(Reason::Form(value, "no list of statements")),
+/// That a value is a list of statements; this step leads to it.
+#[cycle(check_statement)]
+pub(crate) fn check_body<'v>(
+    value: &'v Value,
+    step: Step,
+    at: &mut Trail,
+) -> Result<(), Reason<'v>> {
+    let found = match value {
+        Value::Array(items) => check_statements(items.as_slice(), at),
+        _ => Err(Reason::Form(value, "no list of statements")),
     };
-    if reason.is_some() {
-        at.back(step);
-    }
-    reason
+    at.along(step, found)
 }
 
-#[cycle(statement_fault)]
-fn statements_fault<'v>(items: &'v [Value], at: &mut Trail) -> Option<Reason<'v>> {
+#[cycle(check_statement)]
+fn check_statements<'v>(items: &'v [Value], at: &mut Trail) -> Result<(), Reason<'v>> {
     for (i, item) in items.iter().enumerate() {
-        if let Some(reason) = statement_fault(item, at) {
-            at.back(Step::Item(i));
-            return Some(reason);
-        }
+        let found = check_statement(item, at);
+        at.along(Step::Item(i), found)?;
     }
-    None
+    Ok(())
 }
 
-#[cycle(statement_fault)]
-fn statement_fault<'v>(value: &'v Value, at: &mut Trail) -> Option<Reason<'v>> {
+#[cycle(check_statement)]
+fn check_statement<'v>(value: &'v Value, at: &mut Trail) -> Result<(), Reason<'v>> {
     match value {
-        Value::Array(items) => parts_fault(items.as_slice(), at),
-        _ => Some(Reason::Form(value, "no statement")),
+        Value::Array(items) => check_parts(items.as_slice(), at),
+        _ => Err(Reason::Form(value, "no statement")),
     }
 }
 
-/// The fault of a statement that is a list of these items.
-#[cycle(statement_fault)]
-fn parts_fault<'v>(items: &'v [Value], at: &mut Trail) -> Option<Reason<'v>> {
+/// That a list of these items is a statement.
+#[cycle(check_statement)]
+fn check_parts<'v>(items: &'v [Value], at: &mut Trail) -> Result<(), Reason<'v>> {
     let Some(word) = word_of(items) else {
-        return Some(Reason::Plain("this is no statement"));
+        return Err(Reason::Plain("this is no statement"));
     };
     if word != "if" {
-        return simple_fault(word, items, at);
+        return check_simple(word, items, at);
     }
     match items {
         [_, test, first, second] => {
-            if let Some(reason) = expression_fault(test, 1, at) {
-                return Some(reason);
-            }
-            if let Some(reason) = body_fault(first, Step::Item(2), at) {
-                return Some(reason);
-            }
-            body_fault(second, Step::Item(3), at)
+            check_expression(test, 1, at)?;
+            check_body(first, Step::Item(2), at)?;
+            check_body(second, Step::Item(3), at)
         }
-        _ => Some(Reason::Parts("[\"if\", expression, [..], [..]]")),
+        _ => Err(Reason::Parts("[\"if\", expression, [..], [..]]")),
     }
 }
 
-/// The fault of a statement of this word, which is not `if`.
-fn simple_fault<'v>(word: &'v str, items: &'v [Value], at: &mut Trail) -> Option<Reason<'v>> {
+/// The same of a statement of this word, which is not `if`.
+fn check_simple<'v>(word: &'v str, items: &'v [Value], at: &mut Trail) -> Result<(), Reason<'v>> {
     match word {
-        "set" => assignment_fault(items, "[\"set\", variable, expression]", at),
-        "put" => assignment_fault(items, "[\"put\", output, expression]", at),
-        "schedule" => scheduling_fault(items, at),
-        _ => Some(Reason::Unread(word, Vocabulary::Statements)),
+        "set" => check_assignment(items, "[\"set\", variable, expression]", at),
+        "put" => check_assignment(items, "[\"put\", output, expression]", at),
+        "schedule" => check_scheduling(items, at),
+        _ => Err(Reason::Unread(word, Vocabulary::Statements)),
     }
 }
 
@@ -76,110 +71,87 @@ fn word_of<'v>(items: &'v [Value]) -> Option<&'v str> {
     items.first()?.as_str()
 }
 
-fn assignment_fault<'v>(
+fn check_assignment<'v>(
     items: &'v [Value],
     form: &'static str,
     at: &mut Trail,
-) -> Option<Reason<'v>> {
+) -> Result<(), Reason<'v>> {
     match items {
         [_, name, value] => {
-            if let Some(reason) = name_fault(name) {
-                at.back(Step::Item(1));
-                return Some(reason);
-            }
-            expression_fault(value, 2, at)
+            at.along(Step::Item(1), check_name(name))?;
+            check_expression(value, 2, at)
         }
-        _ => Some(Reason::Parts(form)),
+        _ => Err(Reason::Parts(form)),
     }
 }
 
-fn scheduling_fault<'v>(items: &'v [Value], at: &mut Trail) -> Option<Reason<'v>> {
+fn check_scheduling<'v>(items: &'v [Value], at: &mut Trail) -> Result<(), Reason<'v>> {
     match items {
         [_, action, delay, value] => {
-            if let Some(reason) = name_fault(action) {
-                at.back(Step::Item(1));
-                return Some(reason);
-            }
-            if let Some(reason) = number_fault(delay) {
-                at.back(Step::Item(2));
-                return Some(reason);
-            }
-            expression_fault(value, 3, at)
+            at.along(Step::Item(1), check_name(action))?;
+            at.along(Step::Item(2), check_number(delay))?;
+            check_expression(value, 3, at)
         }
-        _ => Some(Reason::Parts("[\"schedule\", action, delay, expression]")),
+        _ => Err(Reason::Parts("[\"schedule\", action, delay, expression]")),
     }
 }
 
-/// That a value is no expression; it stands at this place of a list.
-#[cycle(expression_fault)]
-fn expression_fault<'v>(value: &'v Value, place: usize, at: &mut Trail) -> Option<Reason<'v>> {
-    let reason = match value {
-        Value::Number(_) => number_fault(value),
-        Value::String(_) => name_fault(value),
-        Value::Array(items) => operation_fault(items.as_slice(), at),
-        _ => Some(Reason::Form(value, "no expression")),
+/// That a value is an expression; it stands at this place of a list.
+#[cycle(check_expression)]
+fn check_expression<'v>(value: &'v Value, place: usize, at: &mut Trail) -> Result<(), Reason<'v>> {
+    let found = match value {
+        Value::Number(_) => check_number(value),
+        Value::String(_) => check_name(value),
+        Value::Array(items) => check_operation(items.as_slice(), at),
+        _ => Err(Reason::Form(value, "no expression")),
     };
-    if reason.is_some() {
-        at.back(Step::Item(place));
-    }
-    reason
+    at.along(Step::Item(place), found)
 }
 
-/// The fault of an expression that is a list of these items.
-#[cycle(expression_fault)]
-fn operation_fault<'v>(items: &'v [Value], at: &mut Trail) -> Option<Reason<'v>> {
+/// That a list of these items is an expression.
+#[cycle(check_expression)]
+fn check_operation<'v>(items: &'v [Value], at: &mut Trail) -> Result<(), Reason<'v>> {
     let Some(word) = word_of(items) else {
-        return Some(Reason::Plain("this is no expression"));
+        return Err(Reason::Plain("this is no expression"));
     };
-    if let Some(reason) = operator_fault(word, items.len()) {
-        return Some(reason);
-    }
+    check_operator(word, items.len())?;
     if word == "present" {
-        return presence_fault(items, at);
+        return check_presence(items, at);
     }
     match items {
-        [_, a] => expression_fault(a, 1, at),
+        [_, a] => check_expression(a, 1, at),
         [_, a, b] => {
-            if let Some(reason) = expression_fault(a, 1, at) {
-                return Some(reason);
-            }
-            expression_fault(b, 2, at)
+            check_expression(a, 1, at)?;
+            check_expression(b, 2, at)
         }
         [_, test, a, b] => {
-            if let Some(reason) = expression_fault(test, 1, at) {
-                return Some(reason);
-            }
-            if let Some(reason) = expression_fault(a, 2, at) {
-                return Some(reason);
-            }
-            expression_fault(b, 3, at)
+            check_expression(test, 1, at)?;
+            check_expression(a, 2, at)?;
+            check_expression(b, 3, at)
         }
-        [] => None,
-        [_] => None,
-        [_, _, _, _, _, ..] => None,
+        _ => Ok(()),
     }
 }
 
-/// That the second of these items is no name.
-fn presence_fault<'v>(items: &'v [Value], at: &mut Trail) -> Option<Reason<'v>> {
-    let reason = name_fault(items.get(1)?);
-    if reason.is_some() {
-        at.back(Step::Item(1));
+/// That the second of these items is a name.
+fn check_presence<'v>(items: &'v [Value], at: &mut Trail) -> Result<(), Reason<'v>> {
+    match items.get(1) {
+        Some(name) => at.along(Step::Item(1), check_name(name)),
+        None => Ok(()),
     }
-    reason
 }
 
-/// That a word is no operator, or its list has another number of items.
-fn operator_fault<'v>(word: &'v str, items: usize) -> Option<Reason<'v>> {
+/// That a word is an operator, and its list has as many items as it asks.
+fn check_operator<'v>(word: &'v str, items: usize) -> Result<(), Reason<'v>> {
     let Some(parts) = operands(word) else {
-        return Some(Reason::Unread(word, Vocabulary::Operators));
+        return Err(Reason::Unread(word, Vocabulary::Operators));
     };
     if items == parts.saturating_add(1) {
-        return None;
+        return Ok(());
     }
     match parts {
-        1 => Some(Reason::Plain("this operator has one part")),
-        2 => Some(Reason::Plain("this operator has two parts")),
-        _ => Some(Reason::Parts("[\"if\", expression, expression, expression]")),
+        1 => Err(Reason::Plain("this operator has one part")),
+        2 => Err(Reason::Plain("this operator has two parts")),
+        _ => Err(Reason::Parts("[\"if\", expression, expression, expression]")),
     }
 }

@@ -20,69 +20,73 @@ pub(crate) enum Part {
     ProgramInput,
 }
 
-/// That the value under a key is no list, or one of its items not what it has to be.
-pub(crate) fn list_fault<'v>(
+/// That the value under a key is a list, each of whose items is what it has to be; nothing where the key is not there.
+pub(crate) fn check_list<'v>(
     value: &'v Value,
     key: &'static str,
     part: Part,
     at: &mut Trail,
-) -> Option<Reason<'v>> {
-    let found = value.get(key)?;
+) -> Result<(), Reason<'v>> {
+    let Some(found) = value.get(key) else {
+        return Ok(());
+    };
     let Some(items) = found.as_array() else {
         at.back(Step::Key(key));
-        return Some(Reason::Form(found, "no list"));
+        return Err(Reason::Form(found, "no list"));
     };
     for (i, item) in items.iter().enumerate() {
-        if let Some(reason) = part_fault(item, part, at) {
-            at.back(Step::Of(key, i));
-            return Some(reason);
-        }
+        let found = check_part(item, part, at);
+        at.along(Step::Of(key, i), found)?;
     }
-    None
+    Ok(())
 }
 
-/// That a value is not what it has to be.
-pub(crate) fn part_fault<'v>(value: &'v Value, part: Part, at: &mut Trail) -> Option<Reason<'v>> {
+/// That a value is what it has to be.
+pub(crate) fn check_part<'v>(
+    value: &'v Value,
+    part: Part,
+    at: &mut Trail,
+) -> Result<(), Reason<'v>> {
     match part {
-        Part::Number => number_fault(value),
-        Part::Name => name_fault(value),
-        Part::Port => port_fault(value),
-        Part::Variable => pair_fault(value, "[name, start]", Part::Name, Part::Number, at),
-        Part::Action => pair_fault(value, "[name, delay]", Part::Name, Part::Number, at),
-        Part::Timer => timer_fault(value, at),
-        Part::Link => link_fault(value, at),
-        Part::ProgramInput => pair_fault(value, "[origin, port]", Part::Number, Part::Port, at),
+        Part::Number => check_number(value),
+        Part::Name => check_name(value),
+        Part::Port => check_port(value),
+        Part::Variable => check_pair(value, "[name, start]", Part::Name, Part::Number, at),
+        Part::Action => check_pair(value, "[name, delay]", Part::Name, Part::Number, at),
+        Part::Timer => check_timer(value, at),
+        Part::Link => check_link(value, at),
+        Part::ProgramInput => check_pair(value, "[origin, port]", Part::Number, Part::Port, at),
     }
 }
 
-/// That a value is no number.
-pub(crate) fn number_fault(value: &Value) -> Option<Reason<'_>> {
+/// That a value is a number.
+pub(crate) fn check_number(value: &Value) -> Result<(), Reason<'_>> {
     if value.as_i64().is_some() {
-        return None;
+        return Ok(());
     }
-    Some(Reason::Form(value, "no integer of 64 bits"))
+    Err(Reason::Form(value, "no integer of 64 bits"))
 }
 
-/// That a value is no name.
-pub(crate) fn name_fault(value: &Value) -> Option<Reason<'_>> {
+/// That a value is a name.
+pub(crate) fn check_name(value: &Value) -> Result<(), Reason<'_>> {
     if value
         .as_str()
         .is_some_and(|text| Name::read(text).is_some())
     {
-        return None;
+        return Ok(());
     }
-    Some(Reason::Form(
+    Err(Reason::Form(
         value,
         "no name: 1 to 32 letters, digits and _, the first a letter",
     ))
 }
 
-/// That a value is no reference to a port.
-fn port_fault(value: &Value) -> Option<Reason<'_>> {
+/// That a value is a reference to a port.
+fn check_port(value: &Value) -> Result<(), Reason<'_>> {
     if value.as_str().is_some_and(is_port) {
-        return None;
+        return Ok(());
     }
-    Some(Reason::Form(value, "no port: REACTOR.PORT, two names"))
+    Err(Reason::Form(value, "no port: REACTOR.PORT, two names"))
 }
 
 fn is_port(text: &str) -> bool {
@@ -92,83 +96,70 @@ fn is_port(text: &str) -> bool {
     }
 }
 
-/// The fault of a number, a name or a port at this place of a list.
-fn item_fault<'v>(
+/// The same of a number, a name or a port at this place of a list.
+fn check_item<'v>(
     value: &'v Value,
     place: usize,
     part: Part,
     at: &mut Trail,
-) -> Option<Reason<'v>> {
-    let reason = match part {
-        Part::Number => number_fault(value),
-        Part::Name => name_fault(value),
-        _ => port_fault(value),
+) -> Result<(), Reason<'v>> {
+    let found = match part {
+        Part::Number => check_number(value),
+        Part::Name => check_name(value),
+        _ => check_port(value),
     };
-    if reason.is_some() {
-        at.back(Step::Item(place));
-    }
-    reason
+    at.along(Step::Item(place), found)
 }
 
-fn pair_fault<'v>(
+fn check_pair<'v>(
     value: &'v Value,
     form: &'static str,
     one: Part,
     other: Part,
     at: &mut Trail,
-) -> Option<Reason<'v>> {
+) -> Result<(), Reason<'v>> {
     let Some(items) = value.as_array() else {
-        return Some(Reason::Parts(form));
+        return Err(Reason::Parts(form));
     };
     match items.as_slice() {
         [a, b] => {
-            if let Some(reason) = item_fault(a, 0, one, at) {
-                return Some(reason);
-            }
-            item_fault(b, 1, other, at)
+            check_item(a, 0, one, at)?;
+            check_item(b, 1, other, at)
         }
-        _ => Some(Reason::Parts(form)),
+        _ => Err(Reason::Parts(form)),
     }
 }
 
-fn timer_fault<'v>(value: &'v Value, at: &mut Trail) -> Option<Reason<'v>> {
+fn check_timer<'v>(value: &'v Value, at: &mut Trail) -> Result<(), Reason<'v>> {
     let Some(items) = value.as_array() else {
-        return Some(Reason::Parts("[name, offset, period]"));
+        return Err(Reason::Parts("[name, offset, period]"));
     };
     match items.as_slice() {
         [a, b, c] => {
-            if let Some(reason) = item_fault(a, 0, Part::Name, at) {
-                return Some(reason);
-            }
-            if let Some(reason) = item_fault(b, 1, Part::Number, at) {
-                return Some(reason);
-            }
-            item_fault(c, 2, Part::Number, at)
+            check_item(a, 0, Part::Name, at)?;
+            check_item(b, 1, Part::Number, at)?;
+            check_item(c, 2, Part::Number, at)
         }
-        _ => Some(Reason::Parts("[name, offset, period]")),
+        _ => Err(Reason::Parts("[name, offset, period]")),
     }
 }
 
-fn link_fault<'v>(value: &'v Value, at: &mut Trail) -> Option<Reason<'v>> {
+fn check_link<'v>(value: &'v Value, at: &mut Trail) -> Result<(), Reason<'v>> {
     let Some(items) = value.as_array() else {
-        return Some(Reason::Parts("[from, to] or [from, to, delay]"));
+        return Err(Reason::Parts("[from, to] or [from, to, delay]"));
     };
     match items.as_slice() {
-        [a, b] => ends_fault(a, b, at),
+        [a, b] => check_ends(a, b, at),
         [a, b, c] => {
-            if let Some(reason) = ends_fault(a, b, at) {
-                return Some(reason);
-            }
-            item_fault(c, 2, Part::Number, at)
+            check_ends(a, b, at)?;
+            check_item(c, 2, Part::Number, at)
         }
-        _ => Some(Reason::Parts("[from, to] or [from, to, delay]")),
+        _ => Err(Reason::Parts("[from, to] or [from, to, delay]")),
     }
 }
 
-/// The fault of the ports of a link.
-fn ends_fault<'v>(from: &'v Value, to: &'v Value, at: &mut Trail) -> Option<Reason<'v>> {
-    if let Some(reason) = item_fault(from, 0, Part::Port, at) {
-        return Some(reason);
-    }
-    item_fault(to, 1, Part::Port, at)
+/// The same of the ports of a link.
+fn check_ends<'v>(from: &'v Value, to: &'v Value, at: &mut Trail) -> Result<(), Reason<'v>> {
+    check_item(from, 0, Part::Port, at)?;
+    check_item(to, 1, Part::Port, at)
 }
