@@ -23,6 +23,7 @@ pub mod LoadLemmas
 pub mod MemberLemmas
 pub mod OrderLemmas
 pub mod PlacingLemmas
+pub mod MarkLemmas
 pub mod CircleLemmas
 pub mod CauseLemmas
 pub mod StatementLemmas

@@ -1,17 +1,18 @@
 //! The order in which a step runs the reactions of a program: the least numbered first whose predecessors all stand.
 //!
-//! For each reaction its predecessors are listed once; then each turn looks along the reactions for the first that does
-//! not stand while all of these do.
-ghost use Rattle.std.specs.Prelude.{◌≡◌, ◌<◌, ◌^◌, false, ◌++◌, replicate, IfOk, OnOk, IfSome, length, map};
+//! For each reaction its predecessors are listed once, by marks on the ports that it waits for; then each turn looks
+//! along the reactions for the first that does not stand while all of these do.
+ghost use Rattle.std.specs.Prelude.{◌≡◌, ◌<◌, ◌^◌, true, false, ◌++◌, replicate, IfOk, OnOk, IfSome, length, map, slice_set};
 ghost use Rattle.std.specs.List.{list_any, list_all};
 ghost use Rattle.warp_body.specs.declared.place.Target.TheVariants.{Port};
+ghost use Rattle.warp_body.specs.Presence.{is_target};
 ghost use Rattle.warp_step.specs.Named.{names};
 ghost use Rattle.warp_step.specs.Program.{rule_of};
 ghost use Rattle.warp_step.specs.View.{program_of};
 ghost use Rattle.warp_step.specs.Order.{file_order};
-ghost use Rattle.warp_prog.specs.Order.{predecessors, loader_order};
+ghost use Rattle.warp_prog.specs.Order.{predecessors, loader_order, stands_in};
 ghost use Rattle.warp_prog.specs.inner.Placing.{numbers_of, has_flag, may_follow, first_free, placed_behind};
-ghost use Rattle.warp_prog.specs.inner.Placing.{reads_by, sources_read, comes_before, with_number};
+ghost use Rattle.warp_prog.specs.inner.Placing.{reads_by, sources_read, comes_before, with_number, AreMarks};
 
 use crate::numbered::reaction::names;
 use std::alloc::Global;
@@ -140,27 +141,99 @@ fn predecessors(alloc: Global, parts: &Parts, n: usize) -> Result<Vec<u32>, OutO
 {
     let reaction = &parts.reactions[n];
     let sources = sources_read(alloc, reaction, &parts.links)?;
+    let marks = marks_of(alloc, &sources, parts.ports.len())?;
     let mut before = Vec::new(alloc);
     for (m, first) in parts.reactions.iter().enumerate() {
-        let is_before = comes_before(first, m, reaction, n, &sources);
+        let is_before = comes_before(first, m, reaction, n, &sources, &marks);
         push_if(&mut before, is_before, m as u32)?;
     }
     Ok(before)
 }
 
-/// Whether a reaction precedes another that reads these sources without delay.
-fn comes_before(first: &Reaction, m: usize, second: &Reaction, n: usize, sources: &[u32]) -> bool
-    ensures { result ≡ comes_before (rule_of first.now) m (rule_of second.now) n sources.now }
+/// Marks for so many ports: whether each is among these.
+fn marks_of(alloc: Global, ports: &[u32], count: usize) -> Result<Vec<bool>, OutOfMemory>
+    ensures { IfOk result (λ marks. AreMarks marks.items ports.now) }
 {
-    (first.reactor == second.reactor && m < n) || writes_any(first, sources)
+    let mut marks = none_placed(alloc, count)?;
+    for port in ports {
+        mark(&mut marks, *port as usize);
+    }
+    Ok(marks)
 }
 
-/// Whether a reaction writes one of these ports.
-fn writes_any(reaction: &Reaction, ports: &[u32]) -> bool
+/// Sets the mark of a number, if it has one.
+fn mark(marks: &mut Vec<bool>, n: usize)
+    ensures { marks.new.items ≡ slice_set marks.old.items n true }
+{
+    if n < marks.len() {
+        marks[n] = true;
+    }
+}
+
+/// Whether a reaction precedes another that reads these sources without delay, which have these marks.
+fn comes_before(
+    first: &Reaction,
+    m: usize,
+    second: &Reaction,
+    n: usize,
+    sources: &[u32],
+    marks: &[bool],
+) -> bool
+    requires { AreMarks marks.now sources.now }
+    ensures { result ≡ comes_before (rule_of first.now) m (rule_of second.now) n sources.now }
+{
+    (first.reactor == second.reactor && m < n) || writes_any(first, sources, marks)
+}
+
+/// Whether a reaction writes one of these ports, which have these marks.
+fn writes_any(reaction: &Reaction, ports: &[u32], marks: &[bool]) -> bool
+    requires { AreMarks marks.now ports.now }
     ensures { result ≡ list_any (λ p. names reaction.now.writes.items (Port p)) ports.now }
 {
-    for port in ports {
-        if names(&reaction.writes, Target::Port(*port)) {
+    any_is_one_of(&reaction.writes, ports, marks)
+}
+
+/// Whether some target is one of these ports, which have these marks.
+fn any_is_one_of(targets: &[Target], ports: &[u32], marks: &[bool]) -> bool
+    requires { AreMarks marks.now ports.now }
+    ensures { result ≡ list_any (λ t. list_any (λ p. is_target (Port p) t) ports.now) targets.now }
+{
+    for target in targets {
+        if is_one_of(*target, ports, marks) {
+            return true;
+        }
+    }
+    false
+}
+
+/// Whether a target is one of these ports, which have these marks.
+fn is_one_of(target: Target, ports: &[u32], marks: &[bool]) -> bool
+    requires { AreMarks marks.now ports.now }
+    ensures { result ≡ list_any (λ p. is_target (Port p) target) ports.now }
+{
+    match target {
+        Target::Port(port) => is_marked(port, ports, marks),
+        _ => false,
+    }
+}
+
+/// Whether a number is among these, which have these marks. Those past the marks are looked through.
+fn is_marked(number: u32, numbers: &[u32], marks: &[bool]) -> bool
+    requires { AreMarks marks.now numbers.now }
+    ensures { result ≡ stands_in numbers.now number }
+{
+    match marks.get(number as usize) {
+        Some(flag) => *flag,
+        None => has_number(numbers, number),
+    }
+}
+
+/// Whether a number is among these.
+fn has_number(numbers: &[u32], number: u32) -> bool
+    ensures { result ≡ stands_in numbers.now number }
+{
+    for one in numbers {
+        if *one == number {
             return true;
         }
     }

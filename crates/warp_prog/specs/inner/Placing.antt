@@ -1,5 +1,5 @@
 -- How the code lists what precedes a reaction, and places reactions by these lists: for the proofs of that alone.
-use Rattle.std.specs.Prelude.{ℕ, zero, suc, Bool, true, false, not, ◌&&◌, ◌||◌, ◌==◌, ◌+◌, nat_lt, List, [], ◌∷◌, ◌++◌, map, filter, Option, Some, None, is_none, get_or, slice_set, if◌then◌else◌}
+use Rattle.std.specs.Prelude.{◌≡◌, ◌<◌, length, ℕ, zero, suc, Bool, true, false, not, ◌&&◌, ◌||◌, ◌==◌, ◌+◌, nat_lt, List, [], ◌∷◌, ◌++◌, map, filter, Option, Some, None, is_none, get_or, slice_set, if◌then◌else◌}
 use Rattle.std.specs.Option.{option_map_or}
 use Rattle.std.specs.List.{list_any, list_all}
 use Rattle.std.specs.declared.vec.Vec.{Vec}
@@ -43,6 +43,10 @@ sources_read r ls = map (λ l. l.source) (filter (reads_by r) ls)
 abbrev pub comes_before : Rule → ℕ → Rule → ℕ → List ℕ → Bool
 comes_before first m second n sources =
     (first.reactor == second.reactor && nat_lt m n) || list_any (λ p. names first.writes (to.Port p)) sources
+
+-- marks for the first numbers: whether each is among these
+abbrev pub AreMarks : List Bool → List ℕ → Type 0
+AreMarks marks numbers = (n : ℕ) → n < length marks → has_flag marks n ≡ stands_in numbers n
 
 -- a number behind a list, where a test says so
 abbrev pub with_number : Bool → ℕ → List ℕ → List ℕ
