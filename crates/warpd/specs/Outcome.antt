@@ -293,11 +293,11 @@ failures_with n trace_fault.Output = n + 1
 failures_with n trace_fault.NoMemory = n
 
 -- Something was printed, of which nothing is said, and the run ends so: done; or one write has failed; or memory was wanting.
-abbrev pub PrintsSome : Seen → Seen → Outcome → Type 0
-PrintsSome before after outcome =
-    (after.left ≡ before.left) × (after.failed_reads ≡ before.failed_reads)
-    × (((outcome ≡ Done) × (after.failed_writes ≡ before.failed_writes))
-    ⊎ ((fault : TraceFault) × (outcome ≡ trace_outcome fault) × (after.failed_writes ≡ failures_with before.failed_writes fault)))
+pub record PrintsSome (before after : Seen) (outcome : Outcome) : Type 0 where
+  pub left : after.left ≡ before.left
+  pub reads : after.failed_reads ≡ before.failed_reads
+  pub ends : ((outcome ≡ Done) × (after.failed_writes ≡ before.failed_writes))
+      ⊎ ((fault : TraceFault) × (outcome ≡ trace_outcome fault) × (after.failed_writes ≡ failures_with before.failed_writes fault))
 
 -- Printing the steps ends so: all lines were read, and then something is printed; or reading came to no end, and nothing is. Of what is
 -- printed contracts say nothing.

@@ -1,16 +1,15 @@
 //! What `warpd trace --steps` does: it executes what each record brings, as it came, and prints what was executed.
-ghost use Rattle.std.specs.Prelude.{◌≡◌, MatchResult, OnErr};
+ghost use Rattle.std.specs.Prelude.{◌≡◌, ◌+◌, MatchResult};
 ghost use Rattle.warp_step.specs.Counter.{IsUnused};
-ghost use Rattle.warp_world.specs.declared.printer.TraceFault.TheVariants as trace_fault;
 ghost use Rattle.warpd.specs.Outcome.{failures_with};
 
 use std::alloc::Global;
 use std::marker::Brand;
 use std::sync::ledger::{Blank, Ledger};
-use warp_record::Record;
-use warp_replica::{Replica, Took};
+use warp_replica::Replica;
 use warp_run::Warp;
-use warp_world::{Labels, Printer, Recorder, StepNotes, TraceFault};
+use warp_tag::OutOfMemory;
+use warp_world::{Labels, Printer, Recorder, StepNotes, TraceFault, Unprinted};
 
 /// How many bytes are gathered before they are printed.
 const PIECE: usize = 65_536;
@@ -45,73 +44,61 @@ fn print_counted<O: Printer, L: Ledger>(
     ensures kept { O.kept out.new ≡ O.kept out.old }
 {
     let mut notes = StepNotes::<L>::new(alloc, labels, blank);
-    let Some(mut replica) = replica_for(alloc, recorder) else {
+    let Ok(mut replica) = replica_for(alloc, recorder) else {
         return Err(TraceFault::NoMemory);
     };
     let mut text = Vec::new(alloc);
     for place in 1..=recorder.len() {
-        if let Some(record) = recorder.entry(place) {
-            note(alloc, &mut replica, &record, &mut notes, &mut text)?;
-        }
-        print_full(&mut text, out)?;
+        let Ok(()) = note_at(alloc, recorder, place, &mut replica, &mut notes, &mut text) else {
+            return Err(TraceFault::NoMemory);
+        };
+        let Ok(()) = print_full(&mut text, out) else {
+            return Err(TraceFault::Output);
+        };
     }
-    print(&text, out)
+    match out.print(&text) {
+        Ok(()) => Ok(()),
+        Err(_) => Err(TraceFault::Output),
+    }
 }
 
-/// A replica of the recorder's program that took no record yet, if there was memory for it.
-fn replica_for(alloc: Global, recorder: &Recorder) -> Option<Replica<Warp>> {
-    let Ok(program) = recorder.program().copy(alloc) else {
-        return None;
-    };
-    Replica::new(alloc, program).ok()
+/// A replica of the recorder's program that took no record yet.
+fn replica_for(alloc: Global, recorder: &Recorder) -> Result<Replica<Warp>, OutOfMemory> {
+    let program = recorder.program().copy(alloc)?;
+    Replica::new(alloc, program)
 }
 
-/// Has the replica take a record, and appends what was executed for it.
-fn note<L: Ledger>(
+/// Has the replica take the record at this place of the recorder's log, and appends what was executed for it.
+fn note_at<L: Ledger>(
     alloc: Global,
+    recorder: &Recorder,
+    place: u32,
     replica: &mut Replica<Warp>,
-    record: &Record,
     notes: &mut StepNotes<L>,
     text: &mut Vec<u8>,
-) -> Result<(), TraceFault>
-    ensures { OnErr result (result ≡ Err trace_fault.NoMemory) }
-{
+) -> Result<(), OutOfMemory> {
+    let Some(record) = recorder.entry(place) else {
+        return Ok(());
+    };
     notes.begin(replica.timeline().last());
-    let Ok(Took::New(_)) = replica.take(alloc, record) else {
-        return Err(TraceFault::NoMemory);
+    let Ok(_) = replica.take(alloc, &record) else {
+        return Err(OutOfMemory);
     };
     let back = replica.timeline().last();
-    let Ok(()) = replica.settle(alloc, notes) else {
-        return Err(TraceFault::NoMemory);
-    };
-    match notes.take(back, text) {
-        Ok(()) => Ok(()),
-        Err(_) => Err(TraceFault::NoMemory),
-    }
+    replica.settle(alloc, notes)?;
+    notes.take(back, text)
 }
 
 /// Prints the text where enough is gathered.
-fn print_full<O: Printer>(text: &mut Vec<u8>, out: &mut O) -> Result<(), TraceFault>
+fn print_full<O: Printer>(text: &mut Vec<u8>, out: &mut O) -> Result<(), Unprinted>
     ensures failures { MatchResult result (λ _. O.failures out.new ≡ O.failures out.old)
-        (λ fault. O.failures out.new ≡ failures_with (O.failures out.old) fault) }
+        (λ _. O.failures out.new ≡ O.failures out.old + 1) }
     ensures kept { O.kept out.new ≡ O.kept out.old }
 {
     if text.len() < PIECE {
         return Ok(());
     }
-    print(text, out)?;
+    out.print(text)?;
     text.clear();
     Ok(())
-}
-
-/// Prints the text.
-fn print<O: Printer>(text: &[u8], out: &mut O) -> Result<(), TraceFault>
-    ensures failures { MatchResult result (λ _. O.failures out.new ≡ O.failures out.old)
-        (λ fault. O.failures out.new ≡ failures_with (O.failures out.old) fault) }
-    ensures kept { O.kept out.new ≡ O.kept out.old }
-{
-    match out.print(text) {
-        Ok(()) => Ok(()),
-        Err(_) => Err(TraceFault::Output),
-    }
 }
