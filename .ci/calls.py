@@ -8,7 +8,6 @@ definitions and the worked answers of FORMATS.md.
 A call that takes no memory (`is_quiet`) must make no request, and come to the same where each would be refused.
 """
 
-import json
 import re
 from dataclasses import dataclass, field
 from pathlib import Path
@@ -177,13 +176,6 @@ def made():
     return Step(["made", "made"], calls=2, otherwise=[[NO_MEMORY, "made"], ["made", NO_MEMORY]])
 
 
-def loading():
-    text = json.dumps(json.loads((EXAMPLES / "pair.json").read_text()))
-    told, copied = "2 origins, 2 reactions", "copied, the same true"
-    step = Step([told, copied, copied], calls=3, otherwise=[[REFUSED], [told, NO_MEMORY, copied], [told, copied, NO_MEMORY]])
-    return Calls("loading and copying a program", "load", text, [step, step])
-
-
 def worlds():
     schedule = EXAMPLES / "three_replicas.schedule"
     text = schedule.with_suffix(".answers").read_text()
@@ -202,6 +194,5 @@ def worlds():
 
 
 def cases():
-    yield loading()
     yield worlds()
     yield from replicas()

@@ -8,12 +8,20 @@
 //! for memory of that call, and no other.
 #![tactic(auto)]
 
+mod boards;
+mod lanes;
+mod lines;
 mod mark;
+mod programs;
+mod pulls;
 mod replicas;
+mod sessions;
+mod streams;
 mod worlds;
 
 use std::alloc::Global;
 use std::io::ErrorKind;
+use std::time::Clock;
 use std::{env, io};
 use warp_line::Plain;
 use warp_run::Warp;
@@ -25,25 +33,45 @@ fn main(rt: HostRuntime) -> io::Result<()> {
         return Err(ErrorKind::InvalidInput.into());
     };
     let input = io::read_to_string(rt.alloc(), rt.stdin())?;
-    perform(&rt, rt.alloc(), word.as_str(), input.as_str())
+    let Some((program, rest)) = input.as_str().split_once('\n') else {
+        return Err(ErrorKind::InvalidInput.into());
+    };
+    perform(&rt, rt.alloc(), word.as_str(), program, rest)
 }
 
 /// Makes the calls of this kind, with these lines.
-fn perform<P: Print>(rt: &P, alloc: Global, word: &str, input: &str) -> io::Result<()> {
-    let Some((program, rest)) = input.split_once('\n') else {
-        return Err(ErrorKind::InvalidInput.into());
-    };
-    if word == "replicas" {
-        return replicas::perform::<Warp, P>(rt, alloc, program, rest);
+fn perform<P: Print + Clock>(
+    rt: &P,
+    alloc: Global,
+    word: &str,
+    program: &str,
+    rest: &str,
+) -> io::Result<()> {
+    match word {
+        "replicas" => replicas::perform::<Warp, P>(rt, alloc, program, rest),
+        "twins" => replicas::perform::<Plain, P>(rt, alloc, program, rest),
+        "worlds" => worlds::perform::<Warp, P>(rt, alloc, program, rest),
+        "sessions" => sessions::all::<Warp, P>(rt, alloc, program, rest),
+        "session" => sessions::one::<Warp, P>(rt, alloc, program, rest),
+        "pulls" => pulls::all::<Warp, P>(rt, alloc, program, rest),
+        "lanes" => lanes::perform::<Warp, P>(rt, alloc, program, rest),
+        _ => perform_low(rt, alloc, word, program, rest),
     }
-    if word == "twins" {
-        return replicas::perform::<Plain, P>(rt, alloc, program, rest);
+}
+
+/// Makes the calls of this kind, which are over no timeline.
+fn perform_low<P: Print + Clock>(
+    rt: &P,
+    alloc: Global,
+    word: &str,
+    program: &str,
+    rest: &str,
+) -> io::Result<()> {
+    match word {
+        "load" => programs::load_twice(rt, alloc, program),
+        "twice" => programs::twice_twice(rt, alloc),
+        "boards" => boards::perform(rt, alloc),
+        "exhausted" => pulls::exhausted(rt, alloc, rest),
+        _ => Err(ErrorKind::InvalidInput.into()),
     }
-    if word == "worlds" {
-        return worlds::perform::<Warp, P>(rt, alloc, program, rest);
-    }
-    if word == "load" {
-        return worlds::load_twice(rt, alloc, program);
-    }
-    Err(ErrorKind::InvalidInput.into())
 }

@@ -5,12 +5,12 @@
 //! - `length` tells how long its log is, `is_settled` whether it is settled.
 ghost use Rattle.std.specs.Prelude.{◌≡◌, IsTrue};
 
+use crate::lines::{line_of, query_of, record_of};
 use crate::mark::{begin, end, program_of, say};
 use std::alloc::Global;
 use std::io::{self, ErrorKind};
 use std::mem;
 use warp_line::Timeline;
-use warp_record::{Line, Query, Record, read_line};
 use warp_replica::{Replica, Took};
 
 /// Makes the calls of the lines over two new replicas of this program.
@@ -77,30 +77,6 @@ fn make_call<T: Timeline, P: Print>(
         return println!(rt; "settled {}", one.is_settled());
     }
     Err(ErrorKind::InvalidInput.into())
-}
-
-/// The line that a text spells.
-fn line_of(text: &str) -> io::Result<Line> {
-    match read_line(text.as_bytes()) {
-        Some(line) => Ok(line),
-        None => Err(ErrorKind::InvalidInput.into()),
-    }
-}
-
-/// The record of a line that spells one.
-fn record_of(text: &str) -> io::Result<Record> {
-    match line_of(text)? {
-        Line::Put(record) => Ok(record),
-        _ => Err(ErrorKind::InvalidInput.into()),
-    }
-}
-
-/// The query of a line that is one.
-fn query_of(line: &Line) -> Option<Query> {
-    match *line {
-        Line::Ask(query) => Some(query),
-        _ => None,
-    }
 }
 
 /// Takes the record that a text spells.

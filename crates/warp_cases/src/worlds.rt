@@ -1,4 +1,4 @@
-//! Program files, and schedules with their worlds. Each call is made two times.
+//! Schedules with their worlds. Each call is made two times.
 ghost use Rattle.std.specs.Prelude.{◌≤◌, IfOk};
 ghost use Rattle.warp_world.specs.Moves.{most_replicas};
 
@@ -6,47 +6,10 @@ use crate::mark::{begin, end, program_of, say, say_bytes, say_made};
 use std::alloc::Global;
 use std::io::{self, ErrorKind};
 use warp_line::Timeline;
-use warp_prog::load;
 use warp_record::Query;
 use warp_replica::Replica;
 use warp_step::Program;
 use warp_world::{MAX_REPLICAS, Move, World, play, play_text, read_schedule};
-
-/// Loads the program of this text, and where that is one copies it.
-pub(crate) fn load_twice<P: Print>(rt: &P, alloc: Global, text: &str) -> io::Result<()> {
-    load_once(rt, alloc, text)?;
-    load_once(rt, alloc, text)
-}
-
-/// Loads the program of this text.
-fn load_once<P: Print>(rt: &P, alloc: Global, text: &str) -> io::Result<()> {
-    let _begin = begin(alloc)?;
-    let loaded = load(alloc, text.as_bytes());
-    let _end = end(alloc)?;
-    match loaded {
-        Ok(program) => {
-            println!(rt;
-                "{} origins, {} reactions",
-                program.origins(),
-                program.reactions().len()
-            )?;
-            copy_once(rt, alloc, &program)?;
-            copy_once(rt, alloc, &program)
-        }
-        Err(error) => println!(rt; "refused {}", error.number()),
-    }
-}
-
-/// Copies a program.
-fn copy_once<P: Print>(rt: &P, alloc: Global, program: &Program) -> io::Result<()> {
-    let _begin = begin(alloc)?;
-    let copy = program.copy(alloc);
-    let _end = end(alloc)?;
-    match copy {
-        Ok(copy) => println!(rt; "copied, the same {}", copy.is_same(program)),
-        Err(_) => rt.println("no memory"),
-    }
-}
 
 /// Reads the schedule, plays it over the program, and makes the text of it.
 pub(crate) fn perform<T: Timeline + Drop, P: Print>(

@@ -1,0 +1,143 @@
+"""Calls of `warp_cases` below and beside replicas: program files, boards and lanes."""
+
+import json
+
+from calls import EXAMPLES, NO_MEMORY, REFUSED, Calls, Step, before, made
+
+
+def quiet(line, *said):
+    """A call of one line that takes no memory."""
+    return Step(list(said), [line], is_quiet=True)
+
+
+def unlined(*said):
+    """The same, of a call that no line asks for."""
+    return Step(list(said), is_quiet=True)
+
+
+def text_of(name):
+    return json.dumps(json.loads((EXAMPLES / name).read_text()))
+
+
+def two_times(said, refused):
+    """A call that is made two times."""
+    return [[*refused, *said], [*said, *refused]]
+
+
+def loading():
+    """A program that is loaded and copied; its labels, and its account. In the place of a call that was refused stands no other."""
+    told, copied = "2 origins, 2 reactions", ["copied, the same true"]
+    account = ["reactors 2, reactions 2, origins 2, variables 1, stop 100", "var 0 g.k", "input 0 f.a origin 0",
+               "input 1 g.b origin 1", "output 0 g.z"]
+    load = Step([told, *copied, *copied], calls=3, otherwise=[
+        [REFUSED], *([told, *both] for both in two_times(copied, [NO_MEMORY]))])
+    label = Step([*account, *account], calls=3, otherwise=[[REFUSED], *two_times(account, [NO_MEMORY])])
+    return Calls("loading and copying a program, and its account", "load", text_of("pair.json"), [load, load, label, label])
+
+
+def refusing():
+    told, why = "refused 2", ['the file: "stop" is missing']
+    load = Step([told, *why, *why], calls=3, otherwise=[
+        [REFUSED], *([told, *both] for both in two_times(why, [NO_MEMORY]))])
+    label = Step([told], otherwise=[[REFUSED]])
+    return Calls("a file that is no program", "load", text_of("refused.json"), [load, load, label, label])
+
+
+def making_twice():
+    said = ["2 reactions"]
+    step = Step(said * 2, calls=2, otherwise=two_times(said, [NO_MEMORY]))
+    return Calls("the program that is built in", "twice", "twice", [step])
+
+
+def making(line):
+    step = made()
+    step.lines = [line, line]
+    return step
+
+
+def looked(count, frozen, rows):
+    return [f"{count} rows, frozen {frozen}", *rows, *["no row"] * (2 - len(rows))]
+
+
+def board():
+    """A board of two rows, of which three are appended."""
+    rows = ["2 1 3 -5", "5 0 3 3"]
+    full = looked(2, "false", rows)
+    frozen = looked(2, "true", rows)
+    return Calls("a board, its writer and its readers", "boards", "twice", [
+        made(), unlined("split"), unlined(*looked(0, "false", [])), unlined("appended"), unlined(*looked(1, "false", rows[:1])),
+        unlined("appended"), unlined(*full), unlined("full"), unlined(*full), unlined(), unlined(*frozen),
+        unlined("made", frozen[0]), unlined(*frozen),
+    ])
+
+
+def serving(line, answer):
+    """A line that a lane answers, two times: where it was refused, it is answered the next time."""
+    lines, again = [f"send {line}", "turn", "fetch"], answer.replace("taken", "known")
+    return Step(["sent", "served", answer, "sent", "served", again], lines * 2, 6, (1, 4),
+                [["sent", "served", REFUSED, "sent", "served", answer]])
+
+
+def sending(line, answer):
+    """The same, once, with nothing refused to the engine; the port takes no memory."""
+    return [quiet(f"send {line}", "sent"), before([("turn", "served")]), quiet("fetch", answer)]
+
+
+def drained(said, *otherwise):
+    """What the last call hands out, and how long the log is."""
+    return Step(list(said), otherwise=[list(text) for text in otherwise])
+
+
+ANNOUNCED = [("announce 0 10 0 1 0", "taken 1"), ("announce 1 10 0 0 0", "taken 2"), ("event 0 5 0 0 3", "taken 3")]
+
+
+def publishing():
+    """The three records of an announced output, one that comes late, and the board."""
+    row = ["5 0 0 3"]
+    steps = [making("lane"), *(serving(*each) for each in ANNOUNCED), before([("settle", "settled")])]
+    steps += [quiet("publish", "1 published"), quiet("look", *looked(1, "false", row)), *sending("event 0 1 0 0 1", "taken 4"),
+              quiet("publish", "frozen"), quiet("look", *looked(1, "true", row)), quiet("fetch", "no answer"),
+              quiet("turn", "empty"), drained(["length 4"])]
+    return Calls("a lane, its engine and its board", "lanes", "twice", steps)
+
+
+def full_board():
+    """Two rows, and three that are released: the third has no room."""
+    steps = [each for number, (line, answer) in enumerate([
+        ("announce 0 10 0 3 0", "taken 1"), ("announce 1 10 0 0 0", "taken 2"), ("event 0 5 0 0 3", "taken 3"),
+        ("event 0 6 0 0 3", "taken 4"), ("event 0 7 0 0 3", "taken 5")]) for each in sending(line, answer)]
+    look = looked(2, "false", ["5 0 0 3", "6 0 0 9"])
+    frozen = ["2 rows, frozen true", *look[1:]]
+    steps += [quiet("publish", "2 published"), quiet("look", *look), quiet("publish", "2 published"),
+              *sending("event 0 1 0 0 1", "taken 6"), quiet("publish", "frozen"), quiet("publish", "frozen"),
+              quiet("look", *frozen), drained(["length 6"])]
+    return Calls("a board with too little room", "lanes", "twice", steps)
+
+
+def full_lane():
+    """64 lines have places, and 64 answers."""
+    ask = "send var 0"
+    steps = [before([(ask, "sent")] * 64), quiet(ask, "came back"), before([("turn", "served")] * 64),
+             quiet(ask, "sent"), quiet("turn", "stalled"), quiet("fetch", "var 0 0"), before([("turn", "served")]),
+             Step(["waiting 64"], ["waiting"], 0), drained(["var 0 0"] * 64 + ["length 0"], [NO_MEMORY, "length 0"])]
+    return Calls("a full lane", "lanes", "twice", steps)
+
+
+def draining():
+    """A port that sent three lines and ended: nothing is applied before there is room for all answers."""
+    lines = ["event 0 5 0 0 3", "event 1 2 0 1 4", "var 0"]
+    steps = [*(quiet(f"send {line}", "sent") for line in lines), drained(
+        ["taken 1", "taken 2", "var 2 -5", "length 2"], [NO_MEMORY, "length 0"], [REFUSED, "taken 1", "var 1 -4", "length 1"],
+        ["taken 1", REFUSED, "var 1 3", "length 1"])]
+    return Calls("draining a lane", "lanes", "twice", steps)
+
+
+def cases():
+    yield loading()
+    yield refusing()
+    yield making_twice()
+    yield board()
+    yield publishing()
+    yield full_board()
+    yield full_lane()
+    yield draining()
