@@ -44,12 +44,27 @@ fn print_counted<O: Printer, L: Ledger>(
     ensures kept { O.kept out.new ≡ O.kept out.old }
 {
     let mut notes = StepNotes::<L>::new(alloc, labels, blank);
-    let Ok(mut replica) = replica_for(alloc, recorder) else {
-        return Err(TraceFault::NoMemory);
-    };
+    match replica_for(alloc, recorder) {
+        Ok(mut replica) => print_noted(alloc, recorder, &mut replica, &mut notes, out),
+        Err(_) => Err(TraceFault::NoMemory),
+    }
+}
+
+/// Has the replica take each record of the recorder, and prints what was executed for it.
+fn print_noted<O: Printer, L: Ledger>(
+    alloc: Global,
+    recorder: &Recorder,
+    replica: &mut Replica<Warp>,
+    notes: &mut StepNotes<L>,
+    out: &mut O,
+) -> Result<(), TraceFault>
+    ensures failures { MatchResult result (λ _. O.failures out.new ≡ O.failures out.old)
+        (λ fault. O.failures out.new ≡ failures_with (O.failures out.old) fault) }
+    ensures kept { O.kept out.new ≡ O.kept out.old }
+{
     let mut text = Vec::new(alloc);
     for place in 1..=recorder.len() {
-        let Ok(()) = note_at(alloc, recorder, place, &mut replica, &mut notes, &mut text) else {
+        let Ok(()) = note_at(alloc, recorder, place, replica, notes, &mut text) else {
             return Err(TraceFault::NoMemory);
         };
         let Ok(()) = print_full(&mut text, out) else {

@@ -1,6 +1,6 @@
 -- No write has failed so far.
 use Rattle.std.proofs.Common.{◌≡◌}
-use Rattle.warpd.proofs.stepping.print_counted.Given as goal
+use Rattle.warpd.proofs.stepping.print_noted.Given as goal
 
 abbrev pub invariant-loop-place : goal.invariant-loop-place
 invariant-loop-place g l = record {
