@@ -113,10 +113,14 @@ fn loaded_account(
     }
 }
 
-/// How the run ends where these bytes were refused; where and why goes to the remark, if there is memory for it.
+/// How the run ends where these bytes were refused; where and why goes to the remark, if there is memory for it. Want of
+/// memory is no fault of the bytes, and has no reason in them.
 fn explained(alloc: Global, bytes: &[u8], error: LoadError, remark: &mut String) -> Outcome
     ensures { result ≡ refused_outcome error }
 {
+    if matches!(error, LoadError::Memory) {
+        return refused(error);
+    }
     if let Ok(text) = explanation(alloc, bytes, error) {
         *remark = text;
     }
