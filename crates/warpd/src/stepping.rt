@@ -8,7 +8,7 @@ use std::marker::Brand;
 use std::sync::ledger::{Blank, Ledger};
 use warp_replica::Replica;
 use warp_run::Warp;
-use warp_tag::OutOfMemory;
+use warp_tag::{OutOfMemory, Tag};
 use warp_world::{Labels, Printer, Recorder, StepNotes, TraceFault, Unprinted};
 
 /// How many bytes are gathered before they are printed.
@@ -71,6 +71,11 @@ fn print_noted<O: Printer, L: Ledger>(
             return Err(TraceFault::Output);
         };
     }
+    // Without a record nothing was executed so far.
+    let stood = replica.timeline().last();
+    let Ok(()) = settle_noted(alloc, stood, replica, notes, &mut text) else {
+        return Err(TraceFault::NoMemory);
+    };
     match out.print(&text) {
         Ok(()) => Ok(()),
         Err(_) => Err(TraceFault::Output),
@@ -95,10 +100,23 @@ fn note_at<L: Ledger>(
     let Some(record) = recorder.entry(place) else {
         return Ok(());
     };
-    notes.begin(replica.timeline().last());
+    let stood = replica.timeline().last();
     let Ok(_) = replica.take(alloc, &record) else {
         return Err(OutOfMemory);
     };
+    settle_noted(alloc, stood, replica, notes, text)
+}
+
+/// Has the replica execute what is not done, and appends it, behind a line on the going back from the tag that was the
+/// last, where it did.
+fn settle_noted<L: Ledger>(
+    alloc: Global,
+    stood: Option<Tag>,
+    replica: &mut Replica<Warp>,
+    notes: &mut StepNotes<L>,
+    text: &mut Vec<u8>,
+) -> Result<(), OutOfMemory> {
+    notes.begin(stood);
     let back = replica.timeline().last();
     replica.settle(alloc, notes)?;
     notes.take(back, text)
