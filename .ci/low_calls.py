@@ -1,4 +1,4 @@
-"""Calls of `warp_cases` below and beside replicas: program files, boards and lanes."""
+"""Calls of `warp_cases` below and beside replicas: program files, steps, arenas, boards and lanes."""
 
 import json
 
@@ -53,6 +53,63 @@ def making(line):
     step = made()
     step.lines = [line, line]
     return step
+
+
+def behind(variables, pending):
+    return [*(f"variable {value}" for value in variables), f"{pending} pending, 0 lost"]
+
+
+def stepping():
+    """The rows of `pulse`: its timer is pending at 2, 5 and 8, and its link delivers after 4."""
+    start = behind((10, 0), 2)
+    rows = [((0, 0), None, (100, 0), 1), ((2, 0), (0, 101), (101, 0), 2), ((5, 0), (0, 102), (102, 0), 3),
+            ((6, 0), (1, 101), (102, 101), 2), ((8, 0), (0, 103), (103, 101), 1), ((9, 0), (1, 203), (103, 203), 0)]
+    copying = Step([*start, *start], ["copy", "copy"], 2, otherwise=two_times(start, [NO_MEMORY]))
+    steps = [quiet("next", "at {} {}".format(*tag), *(["output {} {}".format(*out)] if out else []), *behind(values, pending))
+             for tag, out, values, pending in rows]
+    return Calls("steps of a program with timers and a delayed link", "steps", text_of("pulse.json"),
+                 [making("state"), making("scratch"), copying, *steps, Step(["nothing is pending"], ["next"], calls=0)])
+
+
+def giving():
+    """Steps with events, whose tags come in order."""
+    rows = [("event 1 2 0 1 4", "at 2 0", -4), ("event 0 5 0 0 3", "at 5 0", -5)]
+    steps = [quiet(line, at, f"output 0 {value}", *behind((value,), 0)) for line, at, value in rows]
+    return Calls("steps with events given", "steps", "twice", steps)
+
+
+def growing(names):
+    """Room for one name more, where memory is taken for it: what is there stays as it is."""
+    return Step(["made", *names, "made"], ["reserve", "walk", "reserve"], 3, (0,), [[NO_MEMORY, *names, "made"]])
+
+
+def arena():
+    """Entries by tag, then by origin; of several payloads of a name the greatest; room is made for four at first."""
+    start = Step(["made"], ["start"], otherwise=[[NO_MEMORY]])
+    early = ["0 2 0 there 0 1", "1 2 0 withdrawn"]
+    late = "0 5 0 there 0 3"
+    return Calls("an arena of three names", "arenas", "twice", [
+        start, growing([]), quiet("event 0 5 0 0 3", "1 names"), quiet("reserve", "made"), quiet("withdraw 1 2 0", "2 names"),
+        quiet("reserve", "made"), quiet("event 0 2 0 0 1", "3 names"), quiet("event 0 2 0 0 -4", "3 names"),
+        quiet("find 0 2 0", early[0]), quiet("walk", *early, late), quiet("free 2 0", "freed 2"), quiet("find 1 2 0", "none"),
+        quiet("walk", late), quiet("reserve", "made"), quiet("event 1 7 0 1 9", "2 names"), quiet("walk", late, "1 7 0 there 1 9"),
+    ])
+
+
+# Where room is made for more names, it is for twice as many as there are, and for four at least.
+GROWS = (0, 4, 8, 16, 32, 64)
+
+
+def large_arena():
+    steps, names = [], {}
+    for number in range(70):
+        lines = [f"{origin} {time} 0 there 0 1" for time, origin in sorted(names)]
+        steps += [growing(lines)] if number in GROWS else [quiet("reserve", "made")]
+        time, origin = number * 37 % 70, number % 3
+        names[time, origin] = True
+        steps.append(before([(f"event {origin} {time} 0 0 1", f"{number + 1} names")]))
+    lines = [f"{origin} {time} 0 there 0 1" for time, origin in sorted(names)]
+    return Calls("an arena of 70 names", "arenas", "twice", [*steps, quiet("walk", *lines)])
 
 
 def looked(count, frozen, rows):
@@ -136,6 +193,10 @@ def cases():
     yield loading()
     yield refusing()
     yield making_twice()
+    yield stepping()
+    yield giving()
+    yield arena()
+    yield large_arena()
     yield board()
     yield publishing()
     yield full_board()

@@ -8,6 +8,7 @@
 //! for memory of that call, and no other.
 #![tactic(auto)]
 
+mod arenas;
 mod boards;
 mod lanes;
 mod lines;
@@ -16,6 +17,7 @@ mod programs;
 mod pulls;
 mod replicas;
 mod sessions;
+mod steps;
 mod streams;
 mod worlds;
 
@@ -70,6 +72,8 @@ fn perform_low<P: Print + Clock>(
     match word {
         "load" => programs::load_twice(rt, alloc, program),
         "twice" => programs::twice_twice(rt, alloc),
+        "steps" => steps::perform(rt, alloc, program, rest),
+        "arenas" => arenas::perform(rt, alloc, rest),
         "boards" => boards::perform(rt, alloc),
         "exhausted" => pulls::exhausted(rt, alloc, rest),
         _ => Err(ErrorKind::InvalidInput.into()),

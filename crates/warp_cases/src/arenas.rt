@@ -1,0 +1,180 @@
+//! An arena for names of three origins. Each line is a call:
+//!
+//! - `start` makes another arena; `reserve` makes room for one name more;
+//! - `event ORIGIN TIME MICRO INPUT VALUE` and `withdraw ORIGIN TIME MICRO` take a name in, where room was made for it,
+//!   and note what is said of it;
+//! - `find ORIGIN TIME MICRO` tells what is known of a name, `walk` of all, in order; `free TIME MICRO` frees what is
+//!   not after a tag.
+ghost use Rattle.std.specs.Prelude.{◌≡◌, ◌<◌, IsSome};
+ghost use Rattle.warp_arena.specs.Places.{entry_of};
+
+use crate::lines::{number_of, record_of, tag_of};
+use crate::mark::{begin, end, say_made};
+use std::alloc::Global;
+use std::io::{self, ErrorKind};
+use warp_arena::{Arena, Entry, NodeId};
+use warp_record::Record;
+use warp_tag::Tag;
+
+/// How many origins the arena has.
+const ORIGINS: u32 = 3;
+
+/// Makes the calls of the lines.
+pub(crate) fn perform<P: Print>(rt: &P, alloc: Global, lines: &str) -> io::Result<()> {
+    let mut arena = Arena::start(alloc, ORIGINS)?;
+    for line in lines.lines() {
+        make_call(rt, alloc, &mut arena, line)?;
+    }
+    Ok(())
+}
+
+/// Makes the call of a line.
+fn make_call<P: Print>(rt: &P, alloc: Global, arena: &mut Arena, line: &str) -> io::Result<()>
+    requires { arena.old.origins ≡ 3 }
+    ensures { arena.new.origins ≡ 3 }
+{
+    let (word, rest) = line.split_once(' ').unwrap_or((line, ""));
+    if word == "start" {
+        return start(rt, alloc);
+    }
+    if word == "reserve" {
+        return reserve(rt, alloc, arena);
+    }
+    if word == "free" {
+        return free(rt, alloc, arena, rest);
+    }
+    if word == "find" {
+        return find(rt, alloc, arena, rest);
+    }
+    if word == "walk" {
+        return walk(rt, alloc, arena);
+    }
+    take(rt, alloc, arena, line)
+}
+
+/// Makes another arena.
+fn start<P: Print>(rt: &P, alloc: Global) -> io::Result<()> {
+    let _begin = begin(alloc)?;
+    let made = Arena::start(alloc, ORIGINS);
+    let _end = end(alloc)?;
+    say_made(rt, made.is_ok())
+}
+
+/// Makes room for one name more.
+fn reserve<P: Print>(rt: &P, alloc: Global, arena: &mut Arena) -> io::Result<()>
+    ensures { arena.new.origins ≡ arena.old.origins }
+{
+    if arena.is_full() {
+        return rt.println("full");
+    }
+    let _begin = begin(alloc)?;
+    let reserved = arena.reserve_one(alloc);
+    let _end = end(alloc)?;
+    say_made(rt, reserved.is_ok())
+}
+
+/// Takes in the name of a record, and notes what the record says of it.
+fn take<P: Print>(rt: &P, alloc: Global, arena: &mut Arena, text: &str) -> io::Result<()>
+    requires { arena.old.origins ≡ 3 }
+    ensures { arena.new.origins ≡ 3 }
+{
+    let record = record_of(text)?;
+    match record {
+        Record::Event {
+            origin,
+            tag,
+            input,
+            value,
+        } => take_name(rt, alloc, arena, origin, tag, Some((input, value))),
+        Record::Withdraw { origin, tag } => take_name(rt, alloc, arena, origin, tag, None),
+        Record::Announce { .. } => Err(ErrorKind::InvalidInput.into()),
+    }
+}
+
+/// Takes in a name, and notes this payload of it, or where there is none that it is withdrawn.
+fn take_name<P: Print>(
+    rt: &P,
+    alloc: Global,
+    arena: &mut Arena,
+    origin: u32,
+    tag: Tag,
+    payload: Option<(u32, i64)>,
+) -> io::Result<()>
+    requires { arena.old.origins ≡ 3 }
+    ensures { arena.new.origins ≡ 3 }
+{
+    if origin >= ORIGINS || arena.is_full() {
+        return Err(ErrorKind::InvalidInput.into());
+    }
+    // Where room was made before, this changes nothing.
+    arena.reserve_one(alloc)?;
+    let _begin = begin(alloc)?;
+    let node = arena.enter(origin, tag);
+    note(arena, node, payload);
+    let _end = end(alloc)?;
+    println!(rt; "{} names", arena.len())
+}
+
+/// Notes this payload of the handle's name, or that it is withdrawn.
+fn note(arena: &mut Arena, node: NodeId, payload: Option<(u32, i64)>)
+    requires { IsSome (entry_of node arena.old.places) }
+    ensures { arena.new.origins ≡ arena.old.origins }
+{
+    match payload {
+        Some((input, value)) => arena.set_event(node, input, value),
+        None => arena.set_withdrawn(node),
+    }
+}
+
+/// Frees what is not after a tag.
+fn free<P: Print>(rt: &P, alloc: Global, arena: &mut Arena, text: &str) -> io::Result<()>
+    ensures { arena.new.origins ≡ arena.old.origins }
+{
+    let tag = tag_of(text)?;
+    let _begin = begin(alloc)?;
+    let count = arena.free_through(tag);
+    let _end = end(alloc)?;
+    println!(rt; "freed {count}")
+}
+
+/// Tells what is known of a name.
+fn find<P: Print>(rt: &P, alloc: Global, arena: &Arena, text: &str) -> io::Result<()> {
+    let (origin, tag) = text.split_once(' ').unwrap_or((text, ""));
+    let (origin, tag) = (number_of(origin)?, tag_of(tag)?);
+    let _begin = begin(alloc)?;
+    let found = arena.find(origin, tag);
+    let _end = end(alloc)?;
+    match found {
+        Some(node) => say_entry(rt, &arena.entry(node)),
+        None => rt.println("none"),
+    }
+}
+
+/// Tells what is known of all names, in order.
+fn walk<P: Print>(rt: &P, alloc: Global, arena: &Arena) -> io::Result<()> {
+    let _begin = begin(alloc)?;
+    let mut at = arena.first();
+    let _end = end(alloc)?;
+    for _ in 0..arena.len() {
+        let Some(node) = at else {
+            return rt.println("too few");
+        };
+        say_entry(rt, &arena.entry(node))?;
+        at = arena.next(node);
+    }
+    Ok(())
+}
+
+/// Tells what is known of a name.
+fn say_entry<P: Print>(rt: &P, entry: &Entry) -> io::Result<()> {
+    let (origin, time, micro) = (entry.origin, entry.tag.time(), entry.tag.micro());
+    let mark = if entry.withdrawn {
+        "withdrawn"
+    } else {
+        "there"
+    };
+    match entry.event {
+        Some((input, value)) => println!(rt; "{origin} {time} {micro} {mark} {input} {value}"),
+        None => println!(rt; "{origin} {time} {micro} {mark}"),
+    }
+}
