@@ -1,4 +1,4 @@
-"""Calls of `warp_cases` below and beside replicas: program files, steps, arenas, boards and lanes."""
+"""Calls of `warp_cases` below and beside replicas: program files, steps, timelines, arenas, boards and lanes."""
 
 import json
 
@@ -76,6 +76,32 @@ def giving():
     rows = [("event 1 2 0 1 4", "at 2 0", -4), ("event 0 5 0 0 3", "at 5 0", -5)]
     steps = [quiet(line, at, f"output 0 {value}", *behind((value,), 0)) for line, at, value in rows]
     return Calls("steps with events given", "steps", "twice", steps)
+
+
+def telling(total):
+    """The first variable and how many outputs there are, which stands where all is done."""
+    return Step([f"total {total}, 40 outputs"], ["total"], 0)
+
+
+def settling(total):
+    """Where it stopped, it is not settled, and it settles the next time."""
+    whole = ["settled", f"total {total}, 40 outputs"]
+    return Step(whole * 2, ["settle", "total"] * 2, 2, otherwise=[[NO_MEMORY, "not settled", *whole]])
+
+
+def timeline(word):
+    """Forty events, one that comes late, and what is let go of. Only room, a start and settling take memory."""
+    room, early, late = ("prepare", "made"), 1099511627775, 1099511627519
+    steps = [
+        Step(["made"], ["start"], otherwise=[[NO_MEMORY]]),
+        Step(["made", "not settled", "made"], ["prepare", "total", "prepare"], 2, (0,), [[NO_MEMORY, "not settled", "made"]]),
+        quiet("event 0 1 0 0 1", "put"),
+        before([each for time in range(2, 41) for each in (room, (f"event 0 {time} 0 0 1", "put"))]), settling(early),
+        before([room]), quiet("withdraw 0 41 0", "put"), telling(early), quiet("event 0 40 0 0 0", "put"), telling(early),
+        before([room]), quiet("event 1 32 0 1 1", "put"), settling(late),
+        quiet("collect 20 0", "collected"), telling(late), quiet("collect 41 0", "collected"), telling(late),
+    ]
+    return Calls(f"a timeline: {word}", word, "twice", steps)
 
 
 def growing(names):
@@ -195,6 +221,8 @@ def cases():
     yield making_twice()
     yield stepping()
     yield giving()
+    yield timeline("timelines")
+    yield timeline("plain")
     yield arena()
     yield large_arena()
     yield board()

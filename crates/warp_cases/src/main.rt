@@ -19,6 +19,7 @@ mod replicas;
 mod sessions;
 mod steps;
 mod streams;
+mod timelines;
 mod worlds;
 
 use std::alloc::Global;
@@ -52,6 +53,8 @@ fn perform<P: Print + Clock>(
     match word {
         "replicas" => replicas::perform::<Warp, P>(rt, alloc, program, rest),
         "twins" => replicas::perform::<Plain, P>(rt, alloc, program, rest),
+        "timelines" => timelines::perform::<Warp, P>(rt, alloc, program, rest),
+        "plain" => timelines::perform::<Plain, P>(rt, alloc, program, rest),
         "worlds" => worlds::perform::<Warp, P>(rt, alloc, program, rest),
         "sessions" => sessions::all::<Warp, P>(rt, alloc, program, rest),
         "session" => sessions::one::<Warp, P>(rt, alloc, program, rest),

@@ -1,0 +1,260 @@
+//! A timeline by itself. Each line is a call:
+//!
+//! - `start` makes another one; `prepare` makes room for one name more;
+//! - `event ORIGIN TIME MICRO INPUT VALUE` and `withdraw ORIGIN TIME MICRO` put a record, for which room was made before;
+//! - `settle`, and where it is settled `collect TIME MICRO`, and `total`, which tells the first variable and how many
+//!   outputs there are.
+ghost use Rattle.std.specs.Prelude.{◌≡◌, ◌+◌, ◌<◌, ℕ, None, false, length};
+ghost use Rattle.warp_line.specs.Timeline.{Standing, NowStands};
+ghost use Rattle.warp_replica.specs.Floor.{comes_behind};
+ghost use Rattle.warp_replica.specs.Gives.{tag_of};
+ghost use Rattle.warp_step.specs.Counter.{IsUnused};
+ghost use Rattle.warp_table.specs.Check.{refusal_of};
+ghost use Rattle.warp_table.specs.Table.{with_record};
+ghost use Rattle.warp_tag.specs.Limits.{most_names};
+ghost use Rattle.warp_cases.specs.Timelines.{StandsFew};
+
+use crate::lines::{record_of, tag_of};
+use crate::mark::{begin, end, program_of, say_made};
+use std::alloc::Global;
+use std::io::{self, ErrorKind};
+use std::marker::Brand;
+use std::sync::ledger::{Blank, Ledger};
+use warp_line::Timeline;
+use warp_record::Record;
+use warp_replica::Idle;
+use warp_step::Program;
+use warp_table::Table;
+
+/// The most lines.
+const MOST: u32 = 1_000;
+
+/// Makes the calls of the lines over a new timeline of this program.
+pub(crate) fn perform<T: Timeline + Drop, P: Print>(
+    rt: &P,
+    alloc: Global,
+    program: &str,
+    lines: &str,
+) -> io::Result<()> {
+    let program = program_of(alloc, program)?;
+    let mut timeline = T::start(alloc, &program)?;
+    make_calls(rt, alloc, &program, &mut timeline, lines)
+}
+
+/// Makes the calls of the lines.
+fn make_calls<T: Timeline + Drop, P: Print>(
+    rt: &P,
+    alloc: Global,
+    program: &Program,
+    timeline: &mut T,
+    lines: &str,
+) -> io::Result<()>
+    requires { StandsFew T.stands_for timeline.old program.now 0 }
+{
+    let mut calls = 0;
+    for line in lines.lines() {
+        if calls >= MOST {
+            return Err(ErrorKind::InvalidInput.into());
+        }
+        make_call(rt, alloc, program, timeline, calls, line)?;
+        calls += 1;
+    }
+    Ok(())
+}
+
+/// Makes the call of a line, behind so many others.
+#[tactic(auto, using(crate::proofs::TimelineLemmas::still, crate::proofs::TimelineLemmas::kept, crate::proofs::TimelineLemmas::room, crate::proofs::TimelineLemmas::named, crate::proofs::TimelineLemmas::both))]
+fn make_call<T: Timeline + Drop, P: Print>(
+    rt: &P,
+    alloc: Global,
+    program: &Program,
+    timeline: &mut T,
+    calls: u32,
+    line: &str,
+) -> io::Result<()>
+    requires few { StandsFew T.stands_for timeline.old program.now calls }
+    requires calls { calls < 1000 }
+    ensures { StandsFew T.stands_for timeline.new program.now (calls + 1) }
+{
+    if line == "start" {
+        return start::<T, P>(rt, alloc, program);
+    }
+    if line == "prepare" {
+        return prepare(rt, alloc, timeline);
+    }
+    if line == "settle" {
+        return settle(rt, alloc, program, timeline);
+    }
+    if line == "total" {
+        return total(rt, timeline);
+    }
+    match line.strip_prefix("collect ") {
+        Some(text) => collect(rt, alloc, timeline, text),
+        None => take(rt, alloc, program, timeline, line),
+    }
+}
+
+/// Makes another timeline.
+fn start<T: Timeline + Drop, P: Print>(rt: &P, alloc: Global, program: &Program) -> io::Result<()> {
+    let _begin = begin(alloc)?;
+    let made = T::start(alloc, program);
+    let _end = end(alloc)?;
+    say_made(rt, made.is_ok())
+}
+
+/// Makes room for one name more.
+fn prepare<T: Timeline, P: Print>(rt: &P, alloc: Global, timeline: &mut T) -> io::Result<()>
+    requires { (m : Standing) × T.stands_for timeline.old m × (length m.table < most_names) }
+    ensures { (m : Standing) → T.stands_for timeline.old m → T.stands_for timeline.new m }
+{
+    let _begin = begin(alloc)?;
+    let prepared = timeline.prepare(alloc);
+    let _end = end(alloc)?;
+    say_made(rt, prepared.is_ok())
+}
+
+/// Puts the record of a line, where the program has no reason against it and it is not behind.
+#[tactic(auto, using(crate::proofs::TimelineLemmas::still, crate::proofs::TimelineLemmas::kept, crate::proofs::TimelineLemmas::named))]
+fn take<T: Timeline, P: Print>(
+    rt: &P,
+    alloc: Global,
+    program: &Program,
+    timeline: &mut T,
+    text: &str,
+) -> io::Result<()>
+    requires { (m : Standing) × T.stands_for timeline.old m × (length m.table < most_names) × (m.program ≡ program.now) }
+    ensures { (calls : ℕ) → StandsFew T.stands_for timeline.old program.now calls →
+        StandsFew T.stands_for timeline.new program.now (calls + 1) }
+{
+    let record = record_of(text)?;
+    if Table::check(program, &record).is_err() || comes_behind(timeline, &record) {
+        return rt.println("not put");
+    }
+    // Where room was made before, this asks for none.
+    timeline.prepare(alloc)?;
+    let _begin = begin(alloc)?;
+    enter(program, timeline, &record);
+    let _end = end(alloc)?;
+    rt.println("put")
+}
+
+/// `put` of a record that this program, which is the timeline's, has no reason against.
+fn enter<T: Timeline>(program: &Program, timeline: &mut T, record: &Record)
+    requires prepared { T.is_prepared timeline.old }
+    requires ahead { comes_behind (T.floor timeline.old) «record».now ≡ false }
+    requires fits { refusal_of program.now «record».now ≡ None }
+    requires stands { (m : Standing) × T.stands_for timeline.old m × (m.program ≡ program.now) }
+    ensures { (calls : ℕ) → StandsFew T.stands_for timeline.old program.now calls →
+        StandsFew T.stands_for timeline.new program.now (calls + 1) }
+{
+    put(timeline, record);
+}
+
+/// Whether a record is of a name behind what the timeline let go of.
+fn comes_behind<T: Timeline>(timeline: &T, record: &Record) -> bool
+    ensures { result ≡ comes_behind (T.floor timeline.now) «record».now }
+{
+    match *record {
+        Record::Event { tag, .. } => timeline.behind(tag),
+        Record::Withdraw { tag, .. } => timeline.behind(tag),
+        Record::Announce { .. } => false,
+    }
+}
+
+/// Puts a record that the program has no reason against, and that is not behind, where there is room for it.
+fn put<T: Timeline>(timeline: &mut T, record: &Record)
+    requires prepared { T.is_prepared timeline.old }
+    requires ahead { comes_behind (T.floor timeline.old) «record».now ≡ false }
+    requires allowed { (m : Standing) × T.stands_for timeline.old m × (refusal_of m.program «record».now ≡ None) }
+    ensures { (m : Standing) → T.stands_for timeline.old m → refusal_of m.program «record».now ≡ None →
+        NowStands T.stands_for T.SLACK T.drops (tag_of «record».now) timeline.new m (with_record m.table «record».now) }
+{
+    match *record {
+        Record::Event {
+            origin,
+            tag,
+            input,
+            value,
+        } => timeline.put(origin, tag, input, value),
+        Record::Withdraw { origin, tag } => timeline.withdraw(origin, tag),
+        // What it says counts for no event.
+        Record::Announce { .. } => {}
+    }
+}
+
+/// Settles.
+fn settle<T: Timeline, P: Print>(
+    rt: &P,
+    alloc: Global,
+    program: &Program,
+    timeline: &mut T,
+) -> io::Result<()>
+    requires { (m : Standing) × T.stands_for timeline.old m × (m.program ≡ program.now) }
+    ensures { (calls : ℕ) → StandsFew T.stands_for timeline.old program.now calls →
+        StandsFew T.stands_for timeline.new program.now calls }
+{
+    let _begin = begin(alloc)?;
+    let is_settled = settle_once(alloc, program, timeline);
+    let _end = end(alloc)?;
+    if is_settled {
+        rt.println("settled")
+    } else {
+        rt.println("no memory")
+    }
+}
+
+/// Settles; whether there was memory for it.
+fn settle_once<T: Timeline>(alloc: Global, program: &Program, timeline: &mut T) -> bool
+    requires { (m : Standing) × T.stands_for timeline.old m × (m.program ≡ program.now) }
+    ensures { (calls : ℕ) → StandsFew T.stands_for timeline.old program.now calls →
+        StandsFew T.stands_for timeline.new program.now calls }
+{
+    settle_in::<T, Brand>(alloc, program, timeline, Blank::new(1))
+}
+
+/// The same. Its ticks are counted in this ledger.
+fn settle_in<T: Timeline, L: Ledger>(
+    alloc: Global,
+    program: &Program,
+    timeline: &mut T,
+    blank: Blank,
+) -> bool
+    requires blank { IsUnused blank L.name L.parts }
+    requires stands { (m : Standing) × T.stands_for timeline.old m × (m.program ≡ program.now) }
+    ensures { (calls : ℕ) → StandsFew T.stands_for timeline.old program.now calls →
+        StandsFew T.stands_for timeline.new program.now calls }
+{
+    let mut idle = Idle::<L>::new(blank);
+    timeline.settle(alloc, program, &mut idle).is_ok()
+}
+
+/// Collects what is before a tag, where the timeline is settled.
+fn collect<T: Timeline, P: Print>(
+    rt: &P,
+    alloc: Global,
+    timeline: &mut T,
+    text: &str,
+) -> io::Result<()>
+    ensures { (m : Standing) → T.stands_for timeline.old m → T.stands_for timeline.new m }
+{
+    let tag = tag_of(text)?;
+    if !timeline.is_settled() {
+        return rt.println("not settled");
+    }
+    let _begin = begin(alloc)?;
+    timeline.collect(tag);
+    let _end = end(alloc)?;
+    rt.println("collected")
+}
+
+/// Tells the first variable, and how many outputs there are, where the timeline is settled.
+fn total<T: Timeline, P: Print>(rt: &P, timeline: &T) -> io::Result<()> {
+    if !timeline.is_settled() {
+        return rt.println("not settled");
+    }
+    let count = timeline.outputs().len();
+    match timeline.state().vars().first() {
+        Some(value) => println!(rt; "total {value}, {count} outputs"),
+        None => println!(rt; "{count} outputs"),
+    }
+}
