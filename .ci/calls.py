@@ -157,6 +157,27 @@ def without(word):
     return Calls(f"{word}: answers and collecting", word, "twice", [before(first), *quiet(calls), *quiet(calls)])
 
 
+# Its action comes one microstep behind what schedules it.
+ECHO = (
+    '{"version":1,"stop":100,"origins":1,"reactors":[{"name":"e","vars":[["n",0]],"inputs":["a"],"outputs":["y"],"actions":[["c",0]],'
+    '"reactions":[{"on":["a"],"writes":["c"],"body":[["schedule","c",0,"a"]]},'
+    '{"on":["c"],"writes":["y"],"body":[["set","n",["+","n","c"]],["put","y","n"]]}]}],"inputs":[[0,"e.a"]],"outputs":["e.y"]}'
+)
+
+
+def raising(word):
+    """What was lost past the last microstep is there in the raised replica; where raising was refused, the old one is as before."""
+    questions = ["ask lost", "ask outputs", "ask output 0", "ask log 1"]
+    old = ["lost 1 1", "outputs 1 0", "none 1", "log 1 event 0 5 15 0 3"]
+    new = ["lost 1 0", "outputs 1 1", "output 1 5 16 0 3", "log 1 event 0 5 15 0 3"]
+    size = 1 + len(questions)
+    step = Step(["raised", *new] * 2, ["raise", *questions] * 2, 2 * size, (0, size),
+                [[REFUSED, *old, "raised", *new], ["raised", *new, REFUSED, *new]])
+    tail = [("take event 0 5 16 0 1", "taken 2"), ("ask lost", "lost 2 0"), ("ask var 0", "var 2 4")]
+    first = [("take event 0 5 15 0 3", "taken 1"), ("take event 0 5 16 0 1", "refused 3"), *zip(questions, old)]
+    return Calls(f"{word}: raising", word, ECHO, [before(first), step, before(tail)])
+
+
 def replicas():
     for word in ("replicas", "twins"):
         yield taking(word, "take")
@@ -169,6 +190,7 @@ def replicas():
         yield asking(word)
         yield without(word)
         yield merging(word)
+        yield raising(word)
 
 
 def made():

@@ -119,6 +119,8 @@ def arena():
         quiet("reserve", "made"), quiet("event 0 2 0 0 1", "3 names"), quiet("event 0 2 0 0 -4", "3 names"),
         quiet("find 0 2 0", early[0]), quiet("walk", *early, late), quiet("free 2 0", "freed 2"), quiet("find 1 2 0", "none"),
         quiet("walk", late), quiet("reserve", "made"), quiet("event 1 7 0 1 9", "2 names"), quiet("walk", late, "1 7 0 there 1 9"),
+        quiet("reserve", "made"), quiet("insert event 2 9 0 0 4", "3 names"), quiet("insert withdraw 2 9 0", "3 names"),
+        quiet("walk", late, "1 7 0 there 1 9", "2 9 0 withdrawn 0 4"),
     ])
 
 

@@ -59,7 +59,7 @@ class Ended(ConnectionError):
 
 
 class Tag(NamedTuple):
-    """A time, 0 to 1,000,001, and a microstep, 0 to 15."""
+    """A time, 0 to 10,000,001, and a microstep, 0 to 255; of a program of version 1, 0 to 1,000,001 and 0 to 15."""
 
     time: int
     micro: int = 0

@@ -130,7 +130,8 @@ pub(crate) fn own_hint(hints: &[u32], nodes: &[Node], origin: u32, tag: Tag) -> 
 /// Where this name is far from the end, the first hint that is after it; else `NO_NODE`.
 pub(crate) fn tag_hint(hints: &[u32], nodes: &[Node], origin: u32, tag: Tag) -> u32
     requires { All (λ h. h < length nodes.now) hints.now }
-    ensures { result ≢ NO_NODE → Contains hints.now result × IsTrue (name_before origin tag (entry_at nodes.now result)) }
+    ensures { result ≢ NO_NODE → Contains hints.now result
+        × IsTrue (name_before origin tag (entry_at nodes.now result)) }
 {
     if !is_far(hints, nodes, origin, tag) {
         return NO_NODE;

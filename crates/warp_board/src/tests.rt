@@ -25,6 +25,8 @@ fn spells_and_reads_rows(rt: HostRuntime) -> Result<(), Fail> {
     let rows = [
         (out(2, 1, 3, -5), (131_331, 18_446_744_073_709_551_611)),
         (out(5, 0, 0, 3), (327_680, 3)),
+        (out(5, 255, 63, 3), (393_023, 3)),
+        (out(10_000_001, 255, 0, 3), (655_360_130_816, 3)),
     ];
     for (row, words) in rows {
         let row = row.ok_or("no tag")?;
@@ -34,8 +36,8 @@ fn spells_and_reads_rows(rt: HostRuntime) -> Result<(), Fail> {
     assert_eq!(rt; spell_row(first), (131_331, 18_446_744_073_709_551_611));
     let second = out(5, 0, 0, 3).ok_or("no tag")?;
     assert_eq!(rt; spell_row(second), (327_680, 3));
-    // Port 64, microstep 16, and a time past the last.
-    for word in [327_744, 331_776, 65_536_131_072] {
+    // Port 64, and a time past the last.
+    for word in [327_744, 655_360_131_072] {
         assert_eq!(rt; read_row(word, 3), None, "at {word}");
     }
     Ok(())

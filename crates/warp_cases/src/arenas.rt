@@ -2,9 +2,11 @@
 //!
 //! - `start` makes another arena; `reserve` makes room for one name more;
 //! - `event ORIGIN TIME MICRO INPUT VALUE` and `withdraw ORIGIN TIME MICRO` take a name in, where room was made for it,
-//!   and note what is said of it;
+//!   and note what is said of it; with `insert` before it, by a look and an insertion in the place of one call;
 //! - `find ORIGIN TIME MICRO` tells what is known of a name, `walk` of all, in order; `free TIME MICRO` frees what is
-//!   not after a tag.
+//!   not after a tag;
+//! - `links` tells whether each name's links lead to the one before it and to the next one of its origin, and how many
+//!   names there are.
 ghost use Rattle.std.specs.Prelude.{◌≡◌, ◌<◌, IsSome};
 ghost use Rattle.warp_arena.specs.Places.{entry_of};
 
@@ -49,7 +51,13 @@ fn make_call<P: Print>(rt: &P, alloc: Global, arena: &mut Arena, line: &str) -> 
     if word == "walk" {
         return walk(rt, alloc, arena);
     }
-    take(rt, alloc, arena, line)
+    if word == "links" {
+        return say_links(rt, arena);
+    }
+    if word == "insert" {
+        return take(rt, alloc, arena, rest, false);
+    }
+    take(rt, alloc, arena, line, true)
 }
 
 /// Makes another arena.
@@ -74,7 +82,13 @@ fn reserve<P: Print>(rt: &P, alloc: Global, arena: &mut Arena) -> io::Result<()>
 }
 
 /// Takes in the name of a record, and notes what the record says of it.
-fn take<P: Print>(rt: &P, alloc: Global, arena: &mut Arena, text: &str) -> io::Result<()>
+fn take<P: Print>(
+    rt: &P,
+    alloc: Global,
+    arena: &mut Arena,
+    text: &str,
+    by_one_call: bool,
+) -> io::Result<()>
     requires { arena.old.origins ≡ 3 }
     ensures { arena.new.origins ≡ 3 }
 {
@@ -85,8 +99,13 @@ fn take<P: Print>(rt: &P, alloc: Global, arena: &mut Arena, text: &str) -> io::R
             tag,
             input,
             value,
-        } => take_name(rt, alloc, arena, origin, tag, Some((input, value))),
-        Record::Withdraw { origin, tag } => take_name(rt, alloc, arena, origin, tag, None),
+        } => {
+            let payload = Some((input, value));
+            take_name(rt, alloc, arena, origin, tag, payload, by_one_call)
+        }
+        Record::Withdraw { origin, tag } => {
+            take_name(rt, alloc, arena, origin, tag, None, by_one_call)
+        }
         Record::Announce { .. } => Err(ErrorKind::InvalidInput.into()),
     }
 }
@@ -99,6 +118,7 @@ fn take_name<P: Print>(
     origin: u32,
     tag: Tag,
     payload: Option<(u32, i64)>,
+    by_one_call: bool,
 ) -> io::Result<()>
     requires { arena.old.origins ≡ 3 }
     ensures { arena.new.origins ≡ 3 }
@@ -109,10 +129,26 @@ fn take_name<P: Print>(
     // Where room was made before, this changes nothing.
     arena.reserve_one(alloc)?;
     let _begin = begin(alloc)?;
-    let node = arena.enter(origin, tag);
+    let node = named(arena, origin, tag, by_one_call);
     note(arena, node, payload);
     let _end = end(alloc)?;
     println!(rt; "{} names", arena.len())
+}
+
+/// The handle of a name, which comes in where it is new: by one call, or by a look and an insertion.
+fn named(arena: &mut Arena, origin: u32, tag: Tag, by_one_call: bool) -> NodeId
+    requires origin { origin < arena.old.origins }
+    requires reserved { 0 < arena.old.free }
+    ensures origins { arena.new.origins ≡ arena.old.origins }
+    ensures used { IsSome (entry_of result arena.new.places) }
+{
+    if by_one_call {
+        return arena.enter(origin, tag);
+    }
+    match arena.find(origin, tag) {
+        Some(node) => node,
+        None => arena.insert(origin, tag),
+    }
 }
 
 /// Notes this payload of the handle's name, or that it is withdrawn.
@@ -163,6 +199,39 @@ fn walk<P: Print>(rt: &P, alloc: Global, arena: &Arena) -> io::Result<()> {
         at = arena.next(node);
     }
     Ok(())
+}
+
+/// Tells whether each name's links lead to the one before it and to the next one of its origin.
+fn say_links<P: Print>(rt: &P, arena: &Arena) -> io::Result<()> {
+    if are_linked(arena) {
+        let (count, is_empty, is_full) = (arena.len(), arena.is_empty(), arena.is_full());
+        println!(rt; "{count} linked, empty {is_empty}, full {is_full}")
+    } else {
+        rt.println("a link leads elsewhere")
+    }
+}
+
+/// Whether each `prev` leads back, each `next_of_origin` on to the next one of its origin, and `next` to the end.
+fn are_linked(arena: &Arena) -> bool {
+    let mut nexts = [None; 3];
+    let mut before = None;
+    let mut at = arena.first();
+    for _ in 0..arena.len() {
+        let Some(node) = at else {
+            return false;
+        };
+        let next = &mut nexts[arena.entry(node).origin as usize % 3];
+        if arena.prev(node) != before || next.is_some_and(|own| own != Some(node)) {
+            return false;
+        }
+        *next = Some(arena.next_of_origin(node));
+        before = at;
+        at = arena.next(node);
+    }
+    at.is_none()
+        && nexts
+            .iter()
+            .all(|next| next.is_none_or(|own| own.is_none()))
 }
 
 /// Tells what is known of a name.

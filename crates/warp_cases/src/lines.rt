@@ -1,11 +1,11 @@
-//! What a line of standard input spells.
+//! What a line of standard input spells, in the wider form.
 use std::io::{self, ErrorKind};
 use warp_record::{Line, Query, Record, read_line, read_u32};
-use warp_tag::Tag;
+use warp_tag::{Form, Tag};
 
 /// The line that a text spells.
 pub(crate) fn line_of(text: &str) -> io::Result<Line> {
-    match read_line(text.as_bytes()) {
+    match read_line(Form::Two, text.as_bytes()) {
         Some(line) => Ok(line),
         None => Err(ErrorKind::InvalidInput.into()),
     }
@@ -27,9 +27,9 @@ pub(crate) fn query_of(line: &Line) -> Option<Query> {
     }
 }
 
-/// The number up to 1,000,000 that a text spells.
+/// The number up to 10,000,001 that a text spells.
 pub(crate) fn number_of(text: &str) -> io::Result<u32> {
-    match read_u32(text.as_bytes(), 1_000_000) {
+    match read_u32(text.as_bytes(), 10_000_001) {
         Some(number) => Ok(number),
         None => Err(ErrorKind::InvalidInput.into()),
     }

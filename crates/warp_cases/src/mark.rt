@@ -1,4 +1,5 @@
 //! Marks round a call, for whoever refuses memory from outside; the program that calls are over, and what is said.
+ghost use Rattle.warp_tag.specs.Limits.{widest};
 ghost use Rattle.warp_record.specs.Reply.{IsReply};
 
 use std::alloc::{AllocError, Global};
@@ -38,7 +39,7 @@ pub(crate) fn program_of(alloc: Global, line: &str) -> io::Result<Program> {
 
 /// Prints a reply as its line.
 pub(crate) fn say<P: Print>(rt: &P, alloc: Global, reply: &Reply) -> io::Result<()>
-    requires { IsReply reply.now }
+    requires { IsReply widest reply.now }
 {
     let mut text = Vec::with_capacity(alloc, REPLY_ROOM)?;
     write_reply(&mut text, reply);

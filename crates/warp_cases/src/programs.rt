@@ -1,9 +1,9 @@
-//! Program files: their loading, copies of the program, its account and its labels, and why a file is refused. Each call
-//! is made two times.
+//! Program files: their loading, copies of the program, its account and its labels, and why a file is refused. Each
+//! call is made two times.
 use crate::mark::{begin, end};
 use std::alloc::Global;
 use std::io;
-use warp_prog::{Labels, LoadError, explanation, file_labels, load, program_account};
+use warp_prog::{Labels, LoadError, explanation, load, load_labelled, program_account};
 use warp_step::Program;
 
 /// Loads the program of this text, two times, and makes the calls over each; then the labels of the text.
@@ -68,23 +68,15 @@ fn explain_once<P: Print>(rt: &P, alloc: Global, text: &str, error: LoadError) -
     }
 }
 
-/// Reads the labels of this text, and where it is a program tells two times what is in it.
+/// Loads the program of this text with its labels, and where it is one tells two times what is in it.
 fn label_once<P: Print>(rt: &P, alloc: Global, text: &str) -> io::Result<()> {
     let _begin = begin(alloc)?;
-    let labels = file_labels(alloc, text.as_bytes());
+    let labelled = load_labelled(alloc, text.as_bytes());
     let _end = end(alloc)?;
-    match labels {
-        Ok(labels) => tell_twice(rt, alloc, text, &labels),
-        Err(error) => println!(rt; "refused {}", error.number()),
-    }
-}
-
-/// Tells two times what is in the program of this text.
-fn tell_twice<P: Print>(rt: &P, alloc: Global, text: &str, labels: &Labels) -> io::Result<()> {
-    match load(alloc, text.as_bytes()) {
-        Ok(program) => {
-            tell_once(rt, alloc, &program, labels)?;
-            tell_once(rt, alloc, &program, labels)
+    match labelled {
+        Ok(labelled) => {
+            tell_once(rt, alloc, &labelled.program, &labelled.labels)?;
+            tell_once(rt, alloc, &labelled.program, &labelled.labels)
         }
         Err(error) => println!(rt; "refused {}", error.number()),
     }

@@ -18,6 +18,7 @@ use warp_line::Timeline;
 use warp_record::{Line, Refusal, Reply};
 use warp_replica::{Local, Replica};
 use warp_session::{Failed, PullEnd, Sink, Source, Stream, pull};
+use warp_tag::Form;
 
 /// Pulls: in large pieces; a byte at a time; with a writer that takes nothing; with a fault of each read and of each
 /// write; and with an end before each byte.
@@ -166,16 +167,24 @@ fn say_end<P: Print>(rt: &P, ended: PullEnd) -> io::Result<()> {
 struct WithoutMemory;
 
 impl Desk for WithoutMemory {
+    ghost use Rattle.warp_tag.specs.Limits.{widest};
+    ghost use Rattle.warp_tag.specs.declared.form.Form.TheVariants.{One};
     ghost use Rattle.warp_record.specs.Reply.{IsReply};
 
     ghost State = { Unit {0} };
 
     ghost state = { λ _. tt };
 
-    ghost gives = { λ _ _ reply _. IsReply reply };
+    ghost gives = { λ _ _ reply _. IsReply widest reply };
+
+    ghost form_of = { λ _. One };
 
     fn ask(&mut self, _line: Line) -> Reply {
         Reply::Refused(Refusal::NoMemory)
+    }
+
+    fn form(&self) -> Form {
+        Form::One
     }
 }
 

@@ -4,7 +4,7 @@ ghost use Rattle.warp_step.specs.Counter.{IsUnused};
 
 use crate::mark::{begin, end, program_of, say_bytes};
 use crate::streams::{
-    BYTES, Manner, NOTHING, PieceReader, PieceWriter, WHOLE, failing_read, failing_write,
+    BYTES, Manner, NOTHING, PieceReader, PieceWriter, WHOLE, failing_read, failing_write, manner_of,
 };
 use std::alloc::Global;
 use std::io::{self, ErrorKind};
@@ -14,6 +14,20 @@ use warp_exchange::Desk;
 use warp_line::Timeline;
 use warp_replica::{Local, Replica};
 use warp_session::{SessionEnd, Stream, session};
+
+/// One session in the manner of the first line, over the others: how many bytes are read and written at a time, and
+/// after how many good ones a read and a write fail, or `-` where none does.
+pub(crate) fn in_manner<T: Timeline + Drop, P: Print>(
+    rt: &P,
+    alloc: Global,
+    program: &str,
+    lines: &str,
+) -> io::Result<()> {
+    let (manner, lines) = lines.split_once('\n').unwrap_or((lines, ""));
+    let manner = manner_of(manner)?;
+    hold::<T, P>(rt, alloc, program, lines.as_bytes(), manner)?;
+    Ok(())
+}
 
 /// One session over all lines, in large pieces.
 pub(crate) fn one<T: Timeline + Drop, P: Print>(

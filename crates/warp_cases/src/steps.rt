@@ -1,8 +1,10 @@
 //! Steps of a program. Each line is a call:
 //!
 //! - `state`, `scratch` and `copy` make another state, another scratch, or a copy of the state;
-//! - `next` steps at the least tag of what is pending, `event ORIGIN TIME MICRO INPUT VALUE` steps at this tag with this
-//!   value given; each tells the outputs, and the variables behind it.
+//! - `pending` tells what is pending, `same` whether the state and its copy are the one of its parts, and whether it is
+//!   one with another part;
+//! - `next` steps at the least tag of what is pending, `event ORIGIN TIME MICRO INPUT VALUE` steps at this tag with
+//!   this value given; each tells the outputs, and the variables behind it.
 ghost use Rattle.std.specs.Prelude.{◌≡◌, List, IsTrue, not, vec_len};
 ghost use Rattle.std.specs.List.{list_all, list_any};
 ghost use Rattle.warp_tag.specs.Moment.{is_before, is_same};
@@ -87,6 +89,12 @@ fn make_call<P: Print, M: Meter>(
     }
     if line == "copy" {
         return copy(rt, alloc, state);
+    }
+    if line == "pending" {
+        return say_pending(rt, state.pending());
+    }
+    if line == "same" {
+        return say_same(rt, alloc, state);
     }
     if line == "next" {
         return step_next(rt, alloc, program, state, scratch, meter);
@@ -189,12 +197,11 @@ fn step_at<P: Print, M: Meter>(
     ensures state { IsStateOf program.now state.new }
     ensures scratch { IsRoomOf program.now scratch.new }
 {
-    // A valid program has the last microstep of all tags.
-    program.valid();
     let is_in_time = tag.time() <= program.stop();
+    let has_microstep = tag.micro() <= program.top();
     let is_next = none_before(state.pending(), tag);
     let is_some = !given.is_empty() || one_at(state.pending(), tag);
-    if !is_in_time || !is_next || !is_some {
+    if !is_in_time || !has_microstep || !is_next || !is_some {
         return rt.println("no step");
     }
     let mut out = Vec::with_capacity(alloc, program.outputs().len())?;
@@ -234,4 +241,35 @@ fn say_state<P: Print>(rt: &P, state: &State) -> io::Result<()> {
         println!(rt; "variable {value}")?;
     }
     println!(rt; "{} pending, {} lost", state.pending().len(), state.lost())
+}
+
+/// Tells what is pending.
+fn say_pending<P: Print>(rt: &P, pending: &[Waiting]) -> io::Result<()> {
+    for waiting in pending {
+        println!(rt;
+            "at {} {}: {:?}, {}",
+            waiting.tag.time(),
+            waiting.tag.micro(),
+            waiting.target,
+            waiting.value
+        )?;
+    }
+    Ok(())
+}
+
+/// Tells whether a state and its copy are the one of its parts, and whether it is one with another part.
+fn say_same<P: Print>(rt: &P, alloc: Global, state: &State) -> io::Result<()> {
+    let copy = state.copy(alloc)?;
+    let (vars, pending, lost) = (state.vars(), state.pending(), state.lost());
+    let is_same = state.is_same_as(vars, pending, lost);
+    let copied = copy.is_same_as(vars, pending, lost);
+    let is_other = is_another(state, vars, pending, lost);
+    println!(rt; "the same {is_same}, copied {copied}, another {is_other}")
+}
+
+/// Whether a state is one without variables, with another entry, or with another count of the lost.
+fn is_another(state: &State, vars: &[i64], pending: &[Waiting], lost: u64) -> bool {
+    state.is_same_as(&[], pending, lost)
+        || state.is_same_as(vars, &[Waiting::default()], lost)
+        || state.is_same_as(vars, pending, lost ^ 1)
 }

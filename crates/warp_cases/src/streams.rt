@@ -1,6 +1,7 @@
 //! Readers and writers over memory: they cut their bytes into pieces, and can fail once, or take nothing.
 ghost use Rattle.std.specs.Prelude.{◌≡◌, ◌↔◌, ◌<◌, IsTrue, Some, option_and_then};
 
+use crate::lines::number_of;
 use std::alloc::{AllocError, Global};
 use std::io::{self, ErrorKind, Read, Write};
 
@@ -137,4 +138,26 @@ pub(crate) fn failing_write(sound: usize) -> Manner {
         writes: Some(sound as u64),
         ..BYTES
     }
+}
+
+/// The manner of a text: how many bytes are read and written at a time, and after how many good ones a read and a write
+/// fail.
+pub(crate) fn manner_of(text: &str) -> io::Result<Manner> {
+    let (read, rest) = text.split_once(' ').unwrap_or((text, ""));
+    let (write, rest) = rest.split_once(' ').unwrap_or((rest, ""));
+    let (reads, writes) = rest.split_once(' ').unwrap_or((rest, ""));
+    Ok(Manner {
+        read: number_of(read)? as usize,
+        write: number_of(write)? as usize,
+        reads: sound_of(reads)?,
+        writes: sound_of(writes)?,
+    })
+}
+
+/// After how many good calls one fails: a number, or `-` where none does.
+pub(crate) fn sound_of(text: &str) -> io::Result<Option<u64>> {
+    if text == "-" {
+        return Ok(None);
+    }
+    Ok(Some(u64::from(number_of(text)?)))
 }

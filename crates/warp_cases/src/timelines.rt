@@ -1,7 +1,8 @@
 //! A timeline by itself. Each line is a call:
 //!
 //! - `start` makes another one; `prepare` makes room for one name more;
-//! - `event ORIGIN TIME MICRO INPUT VALUE` and `withdraw ORIGIN TIME MICRO` put a record, for which room was made before;
+//! - `event ORIGIN TIME MICRO INPUT VALUE` and `withdraw ORIGIN TIME MICRO` put a record, for which room was made
+//!   before;
 //! - `settle`, and where it is settled `collect TIME MICRO`, and `total`, which tells the first variable and how many
 //!   outputs there are.
 ghost use Rattle.std.specs.Prelude.{◌≡◌, ◌+◌, ◌<◌, ℕ, None, false, length};

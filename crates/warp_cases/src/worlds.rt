@@ -9,7 +9,48 @@ use warp_line::Timeline;
 use warp_record::Query;
 use warp_replica::Replica;
 use warp_step::Program;
+use warp_tag::Form;
 use warp_world::{MAX_REPLICAS, Move, World, play, play_text, read_schedule};
+
+/// Reads the schedule, plays it over the program, and tells what each replica is then, and once all are settled.
+pub(crate) fn perform_once<T: Timeline + Drop, P: Print>(
+    rt: &P,
+    alloc: Global,
+    program: &str,
+    schedule: &str,
+) -> io::Result<()> {
+    let program = program_of(alloc, program)?;
+    read_once(rt, alloc, program.form(), schedule.as_bytes())?;
+    let (count, moves) = moves_of(alloc, program.form(), schedule.as_bytes())?;
+    let mut world = play::<T>(alloc, &program, count, &moves)?;
+    say_replicas(rt, &world)?;
+    world.settle(alloc)?;
+    say_replicas(rt, &world)
+}
+
+/// Tells of each replica of a world its log's length, how many origins its program has, whether it is settled, and
+/// whether its log has a first and a second place; and that behind the last there is none.
+fn say_replicas<T: Timeline, P: Print>(rt: &P, world: &World<T>) -> io::Result<()> {
+    for number in 0..=world.len() {
+        match world.replica(number) {
+            Some(replica) => say_replica(rt, replica)?,
+            None => rt.println("no replica")?,
+        }
+    }
+    Ok(())
+}
+
+/// Tells what a replica is.
+fn say_replica<T: Timeline, P: Print>(rt: &P, replica: &Replica<T>) -> io::Result<()> {
+    println!(rt;
+        "length {}, origins {}, settled {}, first {}, second {}",
+        replica.len(),
+        replica.program().origins(),
+        replica.is_settled(),
+        replica.entry(1).is_some(),
+        replica.entry(2).is_some()
+    )
+}
 
 /// Reads the schedule, plays it over the program, and makes the text of it.
 pub(crate) fn perform<T: Timeline + Drop, P: Print>(
@@ -20,8 +61,8 @@ pub(crate) fn perform<T: Timeline + Drop, P: Print>(
 ) -> io::Result<()> {
     let program = program_of(alloc, program)?;
     let schedule = schedule.as_bytes();
-    read_once(rt, alloc, schedule)?;
-    read_once(rt, alloc, schedule)?;
+    read_once(rt, alloc, program.form(), schedule)?;
+    read_once(rt, alloc, program.form(), schedule)?;
     play_once::<T, P>(rt, alloc, &program, schedule)?;
     play_once::<T, P>(rt, alloc, &program, schedule)?;
     settle_twice::<T, P>(rt, alloc, &program, schedule)?;
@@ -30,9 +71,14 @@ pub(crate) fn perform<T: Timeline + Drop, P: Print>(
 }
 
 /// Reads the schedule.
-fn read_once<P: Print>(rt: &P, alloc: Global, schedule: &[u8]) -> io::Result<()> {
+pub(crate) fn read_once<P: Print>(
+    rt: &P,
+    alloc: Global,
+    form: Form,
+    schedule: &[u8],
+) -> io::Result<()> {
     let _begin = begin(alloc)?;
-    let read = read_schedule(alloc, schedule);
+    let read = read_schedule(alloc, form, schedule);
     let _end = end(alloc)?;
     match read {
         Ok((count, moves)) => println!(rt; "{count} replicas, {} moves", moves.len()),
@@ -47,7 +93,7 @@ fn play_once<T: Timeline + Drop, P: Print>(
     program: &Program,
     schedule: &[u8],
 ) -> io::Result<()> {
-    let (count, moves) = moves_of(alloc, schedule)?;
+    let (count, moves) = moves_of(alloc, program.form(), schedule)?;
     let _begin = begin(alloc)?;
     let played = play::<T>(alloc, program, count, &moves);
     let _end = end(alloc)?;
@@ -61,17 +107,17 @@ fn settle_twice<T: Timeline + Drop, P: Print>(
     program: &Program,
     schedule: &[u8],
 ) -> io::Result<()> {
-    let (count, moves) = moves_of(alloc, schedule)?;
+    let (count, moves) = moves_of(alloc, program.form(), schedule)?;
     let mut world = play::<T>(alloc, program, count, &moves)?;
     settle_once(rt, alloc, &mut world)?;
     settle_once(rt, alloc, &mut world)
 }
 
-/// How many replicas a schedule names, and its moves.
-fn moves_of(alloc: Global, schedule: &[u8]) -> io::Result<(usize, Vec<Move>)>
+/// How many replicas a schedule of this form names, and its moves.
+fn moves_of(alloc: Global, form: Form, schedule: &[u8]) -> io::Result<(usize, Vec<Move>)>
     ensures { IfOk result (λ read. (1 ≤ read.0) × (read.0 ≤ most_replicas)) }
 {
-    let Ok((count, moves)) = read_schedule(alloc, schedule) else {
+    let Ok((count, moves)) = read_schedule(alloc, form, schedule) else {
         return Err(ErrorKind::InvalidInput.into());
     };
     if count == 0 || count > MAX_REPLICAS as usize {

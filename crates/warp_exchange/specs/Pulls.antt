@@ -9,31 +9,31 @@ use Rattle.warp_exchange.specs.declared.puller.Pulled.{Pulled}
 use Rattle.warp_exchange.specs.declared.puller.Pulled.TheVariants.{Got, Held, Level, Strange}
 
 -- the outcome, and which place is asked for next
-pub record Step : Type 0 where
+pub record Turned : Type 0 where
   pub pulled : Pulled
   pub next : ℕ
 
 -- what the desk's own reply to the record leads to: the next place where the record is there now
-abbrev pub after_put : ℕ → Reply → Step
+abbrev pub after_put : ℕ → Reply → Turned
 after_put next (reply.Taken place) = record { pulled = Got; next = next + 1 }
 after_put next (reply.Known place) = record { pulled = Got; next = next + 1 }
 after_put next (reply.Refused refusal) = record { pulled = Held refusal; next = next }
 after_put next other = record { pulled = Strange; next = next }
 
 -- the same place is asked for again
-abbrev pub stays : ℕ → Pulled → Step
+abbrev pub stays : ℕ → Pulled → Turned
 stays next pulled = record { pulled = pulled; next = next }
 
 -- A reply to the question for the place `next` may lead to this, with these states of the desk: a record from a log that
 -- has that place is put to the desk, and nothing else is. Want of memory and a busy server hold it; `none` at a log that ends
 -- just before that place says that all is there; anything else is strange.
-abbrev pub Pulls : {S : Type 0} → (S → Line → Reply → S → Type 0) → S → ℕ → Option Reply → Step → S → Type 0
-Pulls gives s next (Some (reply.Log log said)) step s' =
+abbrev pub Pulls : {S : Type 0} → (S → Line → Reply → S → Type 0) → S → ℕ → Option Reply → Turned → S → Type 0
+Pulls gives s next (Some (reply.Log log said)) turned s' =
     MatchBool (nat_lt log next)
-    ((step ≡ stays next Strange) × (s' ≡ s))
-    ((answer : Reply) × gives s (Put said) answer s' × (step ≡ after_put next answer))
-Pulls gives s next (Some (reply.Refused NoMemory)) step s' = (step ≡ stays next (Held NoMemory)) × (s' ≡ s)
-Pulls gives s next (Some (reply.Refused Busy)) step s' = (step ≡ stays next (Held Busy)) × (s' ≡ s)
-Pulls gives s next (Some (reply.Nothing log)) step s' =
-    (step ≡ stays next (if log + 1 == next then Level else Strange)) × (s' ≡ s)
-Pulls gives s next other step s' = (step ≡ stays next Strange) × (s' ≡ s)
+    ((turned ≡ stays next Strange) × (s' ≡ s))
+    ((answer : Reply) × gives s (Put said) answer s' × (turned ≡ after_put next answer))
+Pulls gives s next (Some (reply.Refused NoMemory)) turned s' = (turned ≡ stays next (Held NoMemory)) × (s' ≡ s)
+Pulls gives s next (Some (reply.Refused Busy)) turned s' = (turned ≡ stays next (Held Busy)) × (s' ≡ s)
+Pulls gives s next (Some (reply.Nothing log)) turned s' =
+    (turned ≡ stays next (if log + 1 == next then Level else Strange)) × (s' ≡ s)
+Pulls gives s next other turned s' = (turned ≡ stays next Strange) × (s' ≡ s)

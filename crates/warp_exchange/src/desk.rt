@@ -1,8 +1,12 @@
 //! The desk: who answers lines.
 use warp_record::{Line, Reply};
+use warp_tag::Form;
 
 /// Answers lines, one at a time.
 pub trait Desk {
+    ghost use Rattle.std.specs.Prelude.{◌≡◌};
+    ghost use Rattle.warp_tag.specs.Limits.{widest};
+    ghost use Rattle.warp_tag.specs.declared.form.Form.{Form};
     ghost use Rattle.warp_record.specs.declared.line.Line.{Line};
     ghost use Rattle.warp_record.specs.declared.reply.Reply.{Reply};
     ghost use Rattle.warp_record.specs.Reply.{IsReply};
@@ -16,8 +20,15 @@ pub trait Desk {
     /// In this state the line may get this reply, and leave that state.
     ghost gives: { State → Line → Reply → State → Type 0 };
 
+    /// The form of its program, in this state.
+    ghost form_of: { State → Form };
+
+    /// The form of its program: of the lines that it takes.
+    fn form(&self) -> Form
+        ensures { result ≡ form_of (state self.now) };
+
     /// Answers a line.
     fn ask(&mut self, line: Line) -> Reply
         ensures gives { gives (state self.old) «line» result (state self.new) }
-        ensures reply { IsReply result };
+        ensures reply { IsReply widest result };
 }

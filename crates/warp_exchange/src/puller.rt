@@ -1,6 +1,6 @@
 //! Pulling the log of another replica, place by place.
 ghost use Rattle.std.specs.Prelude.{◌≡◌, ◌⊎◌, ◌↔◌, ◌≤◌, ◌+◌, IfSome, IsTrue};
-ghost use Rattle.warp_tag.specs.Limits.{most_records};
+ghost use Rattle.warp_tag.specs.Limits.{most_records, widest};
 ghost use Rattle.warp_record.specs.declared.line.Query.{Query};
 ghost use Rattle.warp_record.specs.declared.line.Line.{Line};
 ghost use Rattle.warp_record.specs.declared.reply.Reply.{Reply};
@@ -70,7 +70,7 @@ impl Puller {
     /// Does what the other replica's reply leads to; `None` is no reply that reads. The desk is asked at most one
     /// line, to take the record that came.
     pub fn on_reply<D: Desk>(&mut self, reply: Option<Reply>, desk: &mut D) -> Pulled
-        requires { IfSome reply IsReply }
+        requires { IfSome reply (IsReply widest) }
         ensures { Pulls D.gives (D.state desk.old) self.old reply (record { pulled = result; next = self.new })
             (D.state desk.new) }
     {

@@ -2,7 +2,7 @@
 use Rattle.std.specs.Prelude.{ℕ, ◌≤◌, List, refl}
 use Rattle.std.specs.Coded.{Coded, code_by, coded×, coded_ℕ}
 use denote.RawPtr.{Ptr, coded_ptr}
-use Rattle.warp_tag.specs.Limits.{most_records}
+use Rattle.warp_tag.specs.Limits.{most_records, widest}
 use Rattle.warp_record.specs.declared.line.Line.{Line}
 use Rattle.warp_record.specs.Reply.{IsReply}
 use Rattle.warp_replica.specs.Length.{SaysLength}
@@ -39,7 +39,7 @@ lane_id_code = coded× ring_id_code ring_id_code
 
 -- an answer that a lane may carry: a reply in range, and the length that it says, which a log may have
 abbrev pub IsAnswer : Answer → Type 0
-IsAnswer answer = IsReply answer.reply × SaysLength answer.len answer.reply × (answer.len ≤ most_records)
+IsAnswer answer = IsReply widest answer.reply × SaysLength answer.len answer.reply × (answer.len ≤ most_records)
 
 -- the lane of a port, the lines that it sent, and the answers that it fetched, each in order
 pub record PortState : Type 0 where

@@ -46,8 +46,7 @@ settled_stands p m settled h =
 few_before : (P : Program) (E : List Event) (trace : List Row) (u : Moment) (n : ℕ) → IsTrue (is_valid P) → IsTrue (list_all (event_fits P) E) → Run P E trace → rows_before u trace ≤ n + most_names
 few_before P E trace u n valid fits run =
     let limits = (validity P valid).limits in
-    let top = limits.top in
-    let all : length trace ≤ most_names = few_rows P E trace limits.stop (omega arith) fits run in
+    let all : length trace ≤ most_names = few_rows P E trace limits.stop limits.top fits run in
     let some = count_by-le-length (λ (row : Row). is_before row.tag u) trace in
     omega arith
 
@@ -60,8 +59,7 @@ all_few : (p : Plain) (m : Standing) → StandsFor p m → length m.done ≤ mos
 all_few p m h = elim (cases_Bool p.settled) [
   | inl settled ↦
       let limits = (validity m.program h.program).limits in
-      let top = limits.top in
-      few_rows m.program (live m.table) m.done limits.stop (omega arith) h.events (run_of p m settled h).done
+      few_rows m.program (live m.table) m.done limits.stop limits.top h.events (run_of p m settled h).done
   | inr not_yet ↦
       let none : m.done ≡ [] = MatchBool-at_false _ _ not_yet h.rows in
       let lengths : length m.done ≡ 0 = ap (λ (rows : List Row). length rows) none in

@@ -3,6 +3,7 @@ use Rattle.std.proofs.Common.{◌≡◌, ◌+◌, ℤ, Bool, true, ◌&&◌, ◌
 use Rattle.std.specs.List.{list_all}
 use Rattle.std.proofs.lemmas.Bool.{and_from, and_parts, cond_both}
 use Rattle.warp_tag.specs.Limits.{longest_period}
+use Rattle.warp_tag.specs.declared.form.Form.{Form}
 use Rattle.warp_body.specs.Term.{VariableAt, ValueAt}
 use Rattle.warp_body.specs.Effect.{schedules_of, schedules_of_one}
 use Rattle.warp_body.specs.declared.place.Target.TheVariants as to
@@ -29,9 +30,9 @@ pub record Allows (P : Program) (b : Before) (r : ReactorPart) (n : ReactionPart
 abbrev pub is_right : ReactorPart → ReactionPart → Use → Bool
 is_right r n u = is_known r u && is_declared r n u
 
--- a delay in range
-abbrev pub is_period : ℤ → Bool
-is_period d = nat_le (unsigned_abs d) longest_period
+-- a delay in the range of a form
+abbrev pub is_period : Form → ℤ → Bool
+is_period form d = nat_le (unsigned_abs d) (longest_period form)
 
 module _ (P : Program) (b : Before) (r : ReactorPart) (n : ReactionPart) (rule : Rule) (allows : Allows P b r n rule) where
   pub term-may : (e : NamedTerm) → list_all (is_right r n) (term_uses e) ≡ true → term_may P rule (numbered_term b r e) ≡ true
@@ -55,7 +56,7 @@ module _ (P : Program) (b : Before) (r : ReactorPart) (n : ReactionPart) (rule :
       and_from _ _ (and_from _ _ (term-may c first.0) (term-may e rest.0)) (term-may f rest.1)
 
   mutual
-    pub statement-may : (s : NamedStatement) → list_all (is_right r n) (statement_uses s) ≡ true → list_all is_period (statement_delays s) ≡ true →
+    pub statement-may : (s : NamedStatement) → list_all (is_right r n) (statement_uses s) ≡ true → list_all (is_period P.form) (statement_delays s) ≡ true →
         statement_may P rule (numbered_statement b r s) ≡ true
     statement-may (SetNamed name e) h d =
         let parts = and_parts (is_right r n (Sets name)) (list_all (is_right r n) (term_uses e)) h in
@@ -68,19 +69,19 @@ module _ (P : Program) (b : Before) (r : ReactorPart) (n : ReactionPart) (rule :
     statement-may (ScheduleNamed name delay e) h d =
         let parts = and_parts (is_right r n (Schedules name)) (list_all (is_right r n) (term_uses e)) h in
         let right = and_parts (is_known r (Schedules name)) (is_declared r n (Schedules name)) parts.0 in
-        and_from _ _ (and_from _ _ (allows.schedule name right.0 right.1) (and_parts (is_period delay) true d).0) (term-may e parts.1)
+        and_from _ _ (and_from _ _ (allows.schedule name right.0 right.1) (and_parts (is_period P.form delay) true d).0) (term-may e parts.1)
     statement-may (ChooseNamed e first second) h d =
         let test = all-parts (is_right r n) (term_uses e) (body_uses first ++ body_uses second) h in
         let lists = all-parts (is_right r n) (body_uses first) (body_uses second) test.1 in
-        let delays = all-parts is_period (body_delays first) (body_delays second) d in
+        let delays = all-parts (is_period P.form) (body_delays first) (body_delays second) d in
         and_from _ _ (and_from _ _ (term-may e test.0) (body-may first lists.0 delays.0)) (body-may second lists.1 delays.1)
 
-    pub body-may : (body : NamedBody) → list_all (is_right r n) (body_uses body) ≡ true → list_all is_period (body_delays body) ≡ true →
+    pub body-may : (body : NamedBody) → list_all (is_right r n) (body_uses body) ≡ true → list_all (is_period P.form) (body_delays body) ≡ true →
         body_may P rule (numbered_body b r body) ≡ true
     body-may NamedDone h d = refl
     body-may (NamedThen s ss) h d =
         let uses = all-parts (is_right r n) (statement_uses s) (body_uses ss) h in
-        let delays = all-parts is_period (statement_delays s) (body_delays ss) d in
+        let delays = all-parts (is_period P.form) (statement_delays s) (body_delays ss) d in
         and_from _ _ (statement-may s uses.0 delays.0) (body-may ss uses.1 delays.1)
 
 -- it schedules as often as is written

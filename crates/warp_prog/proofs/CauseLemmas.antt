@@ -6,7 +6,7 @@ use Rattle.std.proofs.lemmas.Bool.Decides.{Decides-int_eq}
 use Rattle.std.proofs.lemmas.List.{length-map}
 use Rattle.warp_tag.specs.Limits.{longest_stop, most_origins, most_variables, most_ports, most_actions, most_timers, most_reactions}
 use Rattle.warp_prog.specs.File.{File}
-use Rattle.warp_prog.specs.Limits.{first_version, last_version, is_outside, total, exceeds_limits}
+use Rattle.warp_prog.specs.Limits.{first_version, last_version, file_form, is_outside, total, exceeds_limits}
 use Rattle.warp_prog.specs.Numbered.{is_first_version, numbered, unordered, its_reactions, nothing_before}
 use Rattle.warp_prog.specs.Load.{IsFirst, lacks_order}
 use Rattle.warp_prog.specs.Undeclared.{is_undeclared}
@@ -55,9 +55,9 @@ first_version-is f h = first-number f.version h
 
 pub last_version-is : (f : File) → exceeds_limits f ≡ false → is_first_version f ≡ false → f.version ≡ pos last_version
 last_version-is f h e =
-    let numbers = or_parts (is_outside (pos first_version) (pos last_version) f.version || is_outside (pos 0) (pos longest_stop) f.stop)
-    (is_outside (pos 1) (pos most_origins) f.origins) (limits_kept f h).0 in
-    second-number f.version (or_parts (is_outside (pos first_version) (pos last_version) f.version) (is_outside (pos 0) (pos longest_stop) f.stop) numbers.0).0 e
+    let numbers = or_parts (is_outside (pos first_version) (pos last_version) f.version || is_outside (pos 0) (pos (longest_stop (file_form f))) f.stop)
+    (is_outside (pos 1) (pos (most_origins (file_form f))) f.origins) (limits_kept f h).0 in
+    second-number f.version (or_parts (is_outside (pos first_version) (pos last_version) f.version) (is_outside (pos 0) (pos (longest_stop (file_form f))) f.stop) numbers.0).0 e
 
 -- its fault of order is its first, and a use that is not declared where its reactions have an order
 none-of : (j : ℕ) (a b c d e : Bool) → a ≡ false → b ≡ false → c ≡ false → (j == 6 && d) ≡ false → (j == 7 && e) ≡ false →

@@ -1,9 +1,10 @@
 -- The program of a file without fault is valid.
-use Rattle.std.proofs.Common.{◌≡◌, ℕ, ◌+◌, Bool, true, false, not, ◌&&◌, ◌||◌, List, length, map, ap, sym, subst, ◌∙◌, refl, inl, inr, unsigned_abs, bytes_eq, nat_le, nat_lt, length-append, le-leb, ltb-false}
+use Rattle.std.proofs.Common.{◌≡◌, ℕ, ◌+◌, Bool, true, false, not, ◌&&◌, ◌||◌, List, length, map, ap, sym, subst, ◌∙◌, inl, inr, unsigned_abs, bytes_eq, nat_le, nat_lt, length-append, le-leb, ltb-false}
 use Rattle.std.specs.List.{list_any, list_all}
 use Rattle.std.proofs.lemmas.Bool.{cases_Bool, cond-true, cond-false, and_from, and_parts, or_parts, not-true, not-false, not_from_false}
 use Rattle.std.proofs.lemmas.List.{length-map}
 use Rattle.warp_tag.specs.Limits.{longest_stop, longest_period, most_origins, most_reactors, most_variables, most_ports, most_actions, most_timers, most_reactions, most_links, most_inputs, most_outputs}
+use Rattle.warp_tag.specs.declared.form.Form.{Form}
 use Rattle.warp_step.specs.Program.{Program}
 use Rattle.warp_step.specs.Valid.{has, rule_fits, link_fits, input_fits, fed, is_distinct, is_within_limits, have_reactors, is_valid}
 use Rattle.warp_step.specs.Order.{is_admissible, file_order, leads_later}
@@ -12,7 +13,7 @@ use Rattle.warp_step.specs.declared.parts.Port.{Port}
 use Rattle.warp_step.specs.declared.parts.Action.{Action}
 use Rattle.warp_step.specs.declared.parts.Timer.{Timer}
 use Rattle.warp_prog.specs.File.{Word, File, ReactorPart, ReactionPart}
-use Rattle.warp_prog.specs.Limits.{period_exceeds, origin_exceeds, are_more_than, total, body_exceeds, reactor_exceeds, link_exceeds}
+use Rattle.warp_prog.specs.Limits.{file_form, period_exceeds, origin_exceeds, are_more_than, total, body_exceeds, reactor_exceeds, link_exceeds}
 use Rattle.warp_prog.specs.Names.{reaction_unknown, link_unknown, is_input, is_output}
 use Rattle.warp_prog.specs.Undeclared.{reaction_undeclared}
 use Rattle.warp_prog.specs.Twice.{repeats, all_names, reactor_names, same_port, targets}
@@ -50,6 +51,10 @@ all-fail : {X : Type 0} (bad : X → Bool) (xs : List X) → list_any bad xs ≡
 all-fail bad xs h = all-since bad (λ x. not (bad x)) (λ x e. not_from_false (bad x) e) xs h
 
 module _ (f : File) (h : IsFaultless f) where
+  -- its form
+  abbrev form : Form
+  form = file_form f
+
   within : is_within_limits (numbered f) ≡ true
   within =
       let parts = or_parts _ _ h.limits in
@@ -64,10 +69,10 @@ module _ (f : File) (h : IsFaultless f) where
       let t3 = or_parts _ _ t4.0 in
       let t2 = or_parts _ _ t3.0 in
       let t1 = or_parts _ _ t2.0 in
-      let stop = in-range 0 longest_stop f.stop n1.1 in
-      let origins = in-range 1 most_origins f.origins n2.1 in
+      let stop = in-range 0 (longest_stop form) f.stop n1.1 in
+      let origins = in-range 1 (most_origins form) f.origins n2.1 in
       and_from _ _ (and_from _ _ (and_from _ _
-      (and_from _ _ (and_from _ _ (and_from _ _ stop.1 refl) origins.0) origins.1)
+      (and_from _ _ (and_from _ _ stop.1 origins.0) origins.1)
       (and_from _ _ (and_from _ _ (few most_reactors f.reactors c1.0)
       (few-each its_variables (λ r. length r.variables) (λ b r. length-map r.variables _) most_variables f.reactors t1.0))
       (few-each its_ports (λ r. length r.inputs + length r.outputs) (λ b r. simp (length-append, length-map)) most_ports f.reactors t1.1)))
@@ -77,17 +82,17 @@ module _ (f : File) (h : IsFaultless f) where
       (and_from _ _ (and_from _ _ (few-mapped (numbered_link f.reactors) most_links f.links c1.1) (few-mapped (numbered_input f.reactors) most_inputs f.inputs c2.1))
       (few-mapped (source_number f.reactors) most_outputs f.outputs c3.1))
 
-  reactors-right : list_all (λ r. not (reactor_exceeds r)) f.reactors ≡ true
+  reactors-right : list_all (λ r. not (reactor_exceeds form r)) f.reactors ≡ true
   reactors-right =
       let parts = or_parts _ _ (or_parts _ _ h.limits).1 in
-      all-fail reactor_exceeds f.reactors (or_parts _ _ parts.0).0
+      all-fail (reactor_exceeds form) f.reactors (or_parts _ _ parts.0).0
 
-  actions-right : (r : ReactorPart) → not (reactor_exceeds r) ≡ true →
-      (list_any (λ (a : ActionPart). period_exceeds a.delay) r.actions ≡ false)
-      × (list_any (λ (t : TimerPart). period_exceeds t.offset || period_exceeds t.period) r.timers ≡ false)
-      × (list_any (λ (n : ReactionPart). body_exceeds n.body) r.reactions ≡ false)
+  actions-right : (r : ReactorPart) → not (reactor_exceeds form r) ≡ true →
+      (list_any (λ (a : ActionPart). period_exceeds form a.delay) r.actions ≡ false)
+      × (list_any (λ (t : TimerPart). period_exceeds form t.offset || period_exceeds form t.period) r.timers ≡ false)
+      × (list_any (λ (n : ReactionPart). body_exceeds form n.body) r.reactions ≡ false)
   actions-right r e =
-      let parts = or_parts _ _ (not-true (reactor_exceeds r) e) in
+      let parts = or_parts _ _ (not-true (reactor_exceeds form r) e) in
       let first = or_parts _ _ parts.0 in
       (first.0, first.1, parts.1)
 
@@ -109,27 +114,27 @@ module _ (f : File) (h : IsFaultless f) where
       (λ x e. reactor-there P b r rs s) r.outputs (all-true r.outputs)))
       f.reactors nothing_before (stand_all f) (all-true f.reactors) in
       let actions =
-      all-each P its_actions (λ (a : Action). nat_lt a.reactor P.reactors && nat_le a.delay longest_period) (λ r. not (reactor_exceeds r))
+      all-each P its_actions (λ (a : Action). nat_lt a.reactor P.reactors && nat_le a.delay (longest_period form)) (λ r. not (reactor_exceeds form r))
       (λ b r rs s e. all-map (λ (a : ActionPart). record { reactor = b.reactors; delay = unsigned_abs a.delay })
-      (λ (a : Action). nat_lt a.reactor P.reactors && nat_le a.delay longest_period) (λ (a : ActionPart). not (period_exceeds a.delay))
-      (λ a e. and_from _ _ (reactor-there P b r rs s) (in-range 0 longest_period a.delay (not-true (period_exceeds a.delay) e)).1)
-      r.actions (all-fail (λ (a : ActionPart). period_exceeds a.delay) r.actions (actions-right r e).0))
+      (λ (a : Action). nat_lt a.reactor P.reactors && nat_le a.delay (longest_period form)) (λ (a : ActionPart). not (period_exceeds form a.delay))
+      (λ a e. and_from _ _ (reactor-there P b r rs s) (in-range 0 (longest_period form) a.delay (not-true (period_exceeds form a.delay) e)).1)
+      r.actions (all-fail (λ (a : ActionPart). period_exceeds form a.delay) r.actions (actions-right r e).0))
       f.reactors nothing_before (stand_all f) reactors-right in
       let timers =
-      all-each P its_timers (λ (t : Timer). nat_lt t.reactor P.reactors && nat_le t.offset longest_period && nat_le t.period longest_period) (λ r. not (reactor_exceeds r))
+      all-each P its_timers (λ (t : Timer). nat_lt t.reactor P.reactors && nat_le t.offset (longest_period form) && nat_le t.period (longest_period form)) (λ r. not (reactor_exceeds form r))
       (λ b r rs s e. all-map (λ (t : TimerPart). record { reactor = b.reactors; offset = unsigned_abs t.offset; period = unsigned_abs t.period })
-      (λ (t : Timer). nat_lt t.reactor P.reactors && nat_le t.offset longest_period && nat_le t.period longest_period)
-      (λ (t : TimerPart). not (period_exceeds t.offset || period_exceeds t.period))
-      (λ t e. (let ps = or_parts (period_exceeds t.offset) (period_exceeds t.period) (not-true (period_exceeds t.offset || period_exceeds t.period) e) in
-      and_from _ _ (and_from _ _ (reactor-there P b r rs s) (in-range 0 longest_period t.offset ps.0).1) (in-range 0 longest_period t.period ps.1).1))
-      r.timers (all-fail (λ (t : TimerPart). period_exceeds t.offset || period_exceeds t.period) r.timers (actions-right r e).1))
+      (λ (t : Timer). nat_lt t.reactor P.reactors && nat_le t.offset (longest_period form) && nat_le t.period (longest_period form))
+      (λ (t : TimerPart). not (period_exceeds form t.offset || period_exceeds form t.period))
+      (λ t e. (let ps = or_parts (period_exceeds form t.offset) (period_exceeds form t.period) (not-true (period_exceeds form t.offset || period_exceeds form t.period) e) in
+      and_from _ _ (and_from _ _ (reactor-there P b r rs s) (in-range 0 (longest_period form) t.offset ps.0).1) (in-range 0 (longest_period form) t.period ps.1).1))
+      r.timers (all-fail (λ (t : TimerPart). period_exceeds form t.offset || period_exceeds form t.period) r.timers (actions-right r e).1))
       f.reactors nothing_before (stand_all f) reactors-right in
       and_from _ _ (and_from _ _ (and_from _ _ variables ports) actions) timers
 
   -- what is right of a reactor whose reactions fit
   abbrev is_sound : ReactorPart → Bool
   is_sound r =
-      not (reactor_exceeds r) && not (repeats bytes_eq (all_names r)) && not (list_any (reaction_unknown r) r.reactions)
+      not (reactor_exceeds form r) && not (repeats bytes_eq (all_names r)) && not (list_any (reaction_unknown r) r.reactions)
       && not (list_any (reaction_undeclared r) r.reactions)
 
   rules : list_all (rule_fits (numbered f)) (numbered f).reactions ≡ true
@@ -142,30 +147,30 @@ module _ (f : File) (h : IsFaultless f) where
       let declared = all-fail (λ r. list_any (reaction_undeclared r) r.reactions) f.reactors h.declared in
       all-each P its_reactions (rule_fits P) is_sound
       (λ b r rs s e.
-      (let e3 = and_parts (not (reactor_exceeds r) && not (repeats bytes_eq (all_names r)) && not (list_any (reaction_unknown r) r.reactions))
+      (let e3 = and_parts (not (reactor_exceeds form r) && not (repeats bytes_eq (all_names r)) && not (list_any (reaction_unknown r) r.reactions))
       (not (list_any (reaction_undeclared r) r.reactions)) e in
-      let e2 = and_parts (not (reactor_exceeds r) && not (repeats bytes_eq (all_names r))) (not (list_any (reaction_unknown r) r.reactions)) e3.0 in
-      let e1 = and_parts (not (reactor_exceeds r)) (not (repeats bytes_eq (all_names r))) e2.0 in
-      all-map (numbered_reaction b r) (rule_fits P) (λ n. (not (body_exceeds n.body) && not (reaction_unknown r n)) && not (reaction_undeclared r n))
+      let e2 = and_parts (not (reactor_exceeds form r) && not (repeats bytes_eq (all_names r))) (not (list_any (reaction_unknown r) r.reactions)) e3.0 in
+      let e1 = and_parts (not (reactor_exceeds form r)) (not (repeats bytes_eq (all_names r))) e2.0 in
+      all-map (numbered_reaction b r) (rule_fits P) (λ n. (not (body_exceeds form n.body) && not (reaction_unknown r n)) && not (reaction_undeclared r n))
       (λ n ok.
-      (let o2 = and_parts (not (body_exceeds n.body) && not (reaction_unknown r n)) (not (reaction_undeclared r n)) ok in
-      let o1 = and_parts (not (body_exceeds n.body)) (not (reaction_unknown r n)) o2.0 in
+      (let o2 = and_parts (not (body_exceeds form n.body) && not (reaction_unknown r n)) (not (reaction_undeclared r n)) ok in
+      let o1 = and_parts (not (body_exceeds form n.body)) (not (reaction_unknown r n)) o2.0 in
       reaction-fits P b r rs s (not-true (repeats bytes_eq (all_names r)) e1.1) n (record {
-        within = not-true (body_exceeds n.body) o1.0;
+        within = not-true (body_exceeds form n.body) o1.0;
         known = not-true (reaction_unknown r n) o1.1;
         declared = not-true (reaction_undeclared r n) o2.1;
       })))
       r.reactions
-      (all-both (λ n. not (body_exceeds n.body) && not (reaction_unknown r n)) (λ n. not (reaction_undeclared r n)) r.reactions
-      (all-both (λ n. not (body_exceeds n.body)) (λ n. not (reaction_unknown r n)) r.reactions
-      (all-fail (λ (n : ReactionPart). body_exceeds n.body) r.reactions (actions-right r e1.0).2)
+      (all-both (λ n. not (body_exceeds form n.body) && not (reaction_unknown r n)) (λ n. not (reaction_undeclared r n)) r.reactions
+      (all-both (λ n. not (body_exceeds form n.body)) (λ n. not (reaction_unknown r n)) r.reactions
+      (all-fail (λ (n : ReactionPart). body_exceeds form n.body) r.reactions (actions-right r e1.0).2)
       (all-fail (reaction_unknown r) r.reactions (not-true (list_any (reaction_unknown r) r.reactions) e2.1)))
       (all-fail (reaction_undeclared r) r.reactions (not-true (list_any (reaction_undeclared r) r.reactions) e3.1)))))
       f.reactors nothing_before (stand_all f)
-      (all-both (λ r. not (reactor_exceeds r) && not (repeats bytes_eq (all_names r)) && not (list_any (reaction_unknown r) r.reactions))
+      (all-both (λ r. not (reactor_exceeds form r) && not (repeats bytes_eq (all_names r)) && not (list_any (reaction_unknown r) r.reactions))
       (λ r. not (list_any (reaction_undeclared r) r.reactions)) f.reactors
-      (all-both (λ r. not (reactor_exceeds r) && not (repeats bytes_eq (all_names r))) (λ r. not (list_any (reaction_unknown r) r.reactions)) f.reactors
-      (all-both (λ r. not (reactor_exceeds r)) (λ r. not (repeats bytes_eq (all_names r))) f.reactors reactors-right once) names)
+      (all-both (λ r. not (reactor_exceeds form r) && not (repeats bytes_eq (all_names r))) (λ r. not (list_any (reaction_unknown r) r.reactions)) f.reactors
+      (all-both (λ r. not (reactor_exceeds form r)) (λ r. not (repeats bytes_eq (all_names r))) f.reactors reactors-right once) names)
       declared)
 
   links : (list_all (link_fits (numbered f)) (numbered f).links && list_all (input_fits (numbered f)) (numbered f).inputs && is_distinct (fed (numbered f))) ≡ true
@@ -180,14 +185,14 @@ module _ (f : File) (h : IsFaultless f) where
       let t1 = or_parts _ _ t2.0 in
       let known = all-pass (λ (l : LinkPart). is_output f.reactors l.source && is_input f.reactors l.target) f.links u1.1 in
       let inputs = all-pass (λ (i : InputPart). is_input f.reactors i.port) f.inputs u2.1 in
-      let ok : LinkPart → Bool = λ (l : LinkPart). not (link_exceeds l) && (is_output f.reactors l.source && is_input f.reactors l.target) in
+      let ok : LinkPart → Bool = λ (l : LinkPart). not (link_exceeds form l) && (is_output f.reactors l.source && is_input f.reactors l.target) in
       let lead = all-map (numbered_link f.reactors) (link_fits (numbered f)) ok
       (λ l e.
-      (let e1 = and_parts (not (link_exceeds l)) (is_output f.reactors l.source && is_input f.reactors l.target) e in
-      link-fits f t1.0 l (not-true (link_exceeds l) e1.0) e1.1))
+      (let e1 = and_parts (not (link_exceeds form l)) (is_output f.reactors l.source && is_input f.reactors l.target) e in
+      link-fits f t1.0 l (not-true (link_exceeds form l) e1.0) e1.1))
       f.links
-      (all-both (λ (l : LinkPart). not (link_exceeds l)) (λ (l : LinkPart). is_output f.reactors l.source && is_input f.reactors l.target) f.links
-      (all-fail (λ (l : LinkPart). link_exceeds l) f.links delays) known) in
+      (all-both (λ (l : LinkPart). not (link_exceeds form l)) (λ (l : LinkPart). is_output f.reactors l.source && is_input f.reactors l.target) f.links
+      (all-fail (λ (l : LinkPart). link_exceeds form l) f.links delays) known) in
       let given = all-map (numbered_input f.reactors) (input_fits (numbered f)) (λ (i : InputPart). not (origin_exceeds f.origins i.origin) && is_input f.reactors i.port)
       (λ i e.
       (let e1 = and_parts (not (origin_exceeds f.origins i.origin)) (is_input f.reactors i.port) e in

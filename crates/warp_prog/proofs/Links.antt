@@ -10,7 +10,7 @@ use Rattle.warp_step.specs.Order.{leads_later}
 use Rattle.warp_step.specs.declared.parts.Port.{Port}
 use Rattle.warp_prog.specs.File.{Word, File, ReactorPart}
 use Rattle.warp_prog.specs.Backward.{place, is_backward}
-use Rattle.warp_prog.specs.Limits.{delay_exceeds, link_exceeds, origin_exceeds}
+use Rattle.warp_prog.specs.Limits.{file_form, delay_exceeds, link_exceeds, origin_exceeds}
 use Rattle.warp_prog.specs.Names.{is_input, is_output}
 use Rattle.warp_prog.specs.Twice.{repeats, same_port, targets}
 use Rattle.warp_prog.specs.Uses.{is_among}
@@ -78,12 +78,12 @@ module _ (f : File) (d : repeats bytes_eq (map (λ (r : ReactorPart). r.name) f.
       (subst (λ n. has (in_each its_named nothing_before f.reactors) n (λ e. same_port q e.at) ≡ true) e (by-name number its kind finds q k))
 
   -- a link
-  leads : (l : LinkPart) (delay : Option ℤ) → delay_exceeds delay ≡ false →
+  leads : (l : LinkPart) (delay : Option ℤ) → delay_exceeds (file_form f) delay ≡ false →
       leads_on (numbered f) (numbered_link f.reactors l) (option_map unsigned_abs delay) ≡ true
-  leads l (Some n) limit = (in-range 0 longest_period n limit).1
+  leads l (Some n) limit = (in-range 0 (longest_period (file_form f)) n limit).1
   leads l None limit = refl
 
-  pub link-fits : (l : LinkPart) → link_exceeds l ≡ false →
+  pub link-fits : (l : LinkPart) → link_exceeds (file_form f) l ≡ false →
       (is_output f.reactors l.source && is_input f.reactors l.target) ≡ true → link_fits (numbered f) (numbered_link f.reactors l) ≡ true
   link-fits l limit known =
       let ports = and_parts (is_output f.reactors l.source) (is_input f.reactors l.target) known in

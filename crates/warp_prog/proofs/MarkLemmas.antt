@@ -1,5 +1,5 @@
 -- Marks on numbers, and the ports that a reaction writes, looked for from either side.
-use Rattle.std.proofs.Common.{◌≡◌, ℕ, ◌<◌, Bool, true, false, ◌||◌, ◌==◌, List, [], ◌∷◌, ◌++◌, length, get_or, set, replicate, ap, ap₂, sym, ◌∙◌, refl, inl, inr, arith}
+use Rattle.std.proofs.Common.{◌≡◌, ℕ, ◌<◌, Bool, true, false, ◌||◌, ◌==◌, List, [], ◌∷◌, ◌++◌, length, get_or, set, replicate, ap, sym, ◌∙◌, refl, inl, inr, arith}
 use Rattle.std.specs.List.{list_any}
 use Rattle.std.proofs.lemmas.Bool.{cases_eq, eq-eqb, ne_eqb}
 use Rattle.std.proofs.lemmas.List.{length-set, length-replicate, get_or-replicate, get_or-set_same, get_or-set_other}
@@ -8,7 +8,7 @@ use Rattle.warp_body.specs.declared.place.Target.{Target}
 use Rattle.warp_body.specs.declared.place.Target.TheVariants as to
 use Rattle.warp_step.specs.Named.{names}
 use Rattle.warp_prog.specs.Order.{stands_in}
-use Rattle.warp_prog.specs.inner.Placing.{AreMarks, has_flag}
+use Rattle.warp_prog.specs.inner.Placing.{AreMarks}
 use Rattle.warp_prog.proofs.MemberLemmas.{stands-push}
 
 -- nothing is marked at first

@@ -3,8 +3,9 @@ use Rattle.std.proofs.Common.{◌≡◌, ◌+◌, ◌<◌, ◌≤◌, ◌^◌, t
 use Rattle.std.specs.List.{list_all, list_any}
 use Rattle.std.proofs.lemmas.Bool.{or_parts, ltb-false, ltb-true, lt-ltb, leb-true}
 use Rattle.warp_tag.specs.Limits.{longest_stop, most_origins, most_reactors, most_variables, most_ports, most_actions, most_timers, most_reactions, most_links, most_inputs, most_outputs}
+use Rattle.warp_tag.proofs.Forms.{origins_widen}
 use Rattle.warp_prog.specs.File.{File}
-use Rattle.warp_prog.specs.Limits.{first_version, last_version, total, is_outside, are_more_than, numbers_exceed, lists_exceed, totals_exceed, parts_exceed, exceeds_limits, reactor_exceeds, link_exceeds, origin_exceeds}
+use Rattle.warp_prog.specs.Limits.{first_version, last_version, file_form, total, is_outside, are_more_than, numbers_exceed, lists_exceed, totals_exceed, parts_exceed, exceeds_limits, reactor_exceeds, link_exceeds, origin_exceeds}
 use Rattle.warp_prog.specs.Numbered.{nothing_before}
 use Rattle.warp_prog.specs.declared.file.InputPart.{InputPart}
 use Rattle.warp_prog.specs.inner.Room.{HaveRoom}
@@ -53,15 +54,16 @@ have_room f h =
 -- so do the numbers of origins
 pub origins_fit : (f : File) → exceeds_limits f ≡ false → unsigned_abs f.origins < 2 ^ 32
 origins_fit f h =
-    let origins = or_parts (is_outside (pos first_version) (pos last_version) f.version || is_outside (pos 0) (pos longest_stop) f.stop) (is_outside (pos 1) (pos most_origins) f.origins) (limits_kept f h).0 in
-    let e = leb-true (unsigned_abs f.origins) most_origins (in-range 1 most_origins f.origins origins.1).1 in
+    let origins = or_parts (is_outside (pos first_version) (pos last_version) f.version || is_outside (pos 0) (pos (longest_stop (file_form f))) f.stop) (is_outside (pos 1) (pos (most_origins (file_form f))) f.origins) (limits_kept f h).0 in
+    let e = leb-true (unsigned_abs f.origins) (most_origins (file_form f)) (in-range 1 (most_origins (file_form f)) f.origins origins.1).1 in
+    let w = origins_widen (file_form f) in
     omega arith
 
 -- and the numbers that program inputs have for theirs
 pub each_origin_fits : (f : File) → exceeds_limits f ≡ false → list_all (λ (i : InputPart). nat_lt (unsigned_abs i.origin) (2 ^ 32)) f.inputs ≡ true
 each_origin_fits f h =
     let exceeds = λ (i : InputPart). origin_exceeds f.origins i.origin in
-    let inputs = or_parts (list_any reactor_exceeds f.reactors || list_any link_exceeds f.links) (list_any exceeds f.inputs) (limits_kept f h).3 in
+    let inputs = or_parts (list_any (reactor_exceeds (file_form f)) f.reactors || list_any (link_exceeds (file_form f)) f.links) (list_any exceeds f.inputs) (limits_kept f h).3 in
     all-since exceeds (λ (i : InputPart). nat_lt (unsigned_abs i.origin) (2 ^ 32))
     (λ i e.
     let below = ltb-true (unsigned_abs i.origin) (unsigned_abs f.origins) (is-origin f.origins i.origin e) in

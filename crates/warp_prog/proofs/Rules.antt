@@ -3,6 +3,7 @@ use Rattle.std.proofs.Common.{◌≡◌, Bool, true, false, ◌||◌, List, ◌�
 use Rattle.std.proofs.lemmas.Bool.{and_from, or_parts, or_cases, or_left, or_right, cond-true, cond-false, ltb-false, le-leb}
 use Rattle.std.proofs.lemmas.List.Folds.{list_any-append}
 use Rattle.warp_tag.specs.Limits.{longest_period, most_wishes}
+use Rattle.warp_tag.specs.declared.form.Form.{Form}
 use Rattle.warp_body.specs.Presence.{is_target}
 use Rattle.warp_body.specs.declared.place.Target.{Target}
 use Rattle.warp_body.specs.declared.place.Target.TheVariants as to
@@ -22,9 +23,9 @@ use Rattle.warp_prog.proofs.Ranges.{all-pass, all-both, all-since, in-range}
 use Rattle.warp_prog.proofs.Bodies.{Allows, is_period, body-may, schedules-body}
 use Rattle.warp_prog.proofs.Distinct.{no-output}
 
--- a reaction that is within the limits, whose names are known and whose uses are declared
-pub record IsSound (r : ReactorPart) (n : ReactionPart) : Type 0 where
-  pub within : body_exceeds n.body ≡ false
+-- a reaction that is within the limits of a form, whose names are known and whose uses are declared
+pub record IsSound (form : Form) (r : ReactorPart) (n : ReactionPart) : Type 0 where
+  pub within : body_exceeds form n.body ≡ false
   pub known : reaction_unknown r n ≡ false
   pub declared : reaction_undeclared r n ≡ false
 
@@ -50,7 +51,7 @@ module _ (P : Program) (b : Before) (r : ReactorPart) (rs : List ReactorPart) (s
         (once-among (writable b r) name n.writes w);
   }
 
-  pub reaction-fits : (n : ReactionPart) → IsSound r n → rule_fits P (numbered_reaction b r n) ≡ true
+  pub reaction-fits : (n : ReactionPart) → IsSound P.form r n → rule_fits P (numbered_reaction b r n) ≡ true
   reaction-fits n sound =
       let body = or_parts _ _ sound.known in
       let writes = or_parts _ _ body.0 in
@@ -63,7 +64,7 @@ module _ (P : Program) (b : Before) (r : ReactorPart) (rs : List ReactorPart) (s
       let written = once-every (is_writable P b.reactors) (writable b r) ok (λ name e. is_written P b r rs s name e) n.writes (all-pass ok n.writes writes.1) in
       let uses = all-both (is_known r) (is_declared r n) (body_uses n.body) (all-pass (is_known r) (body_uses n.body) body.1)
       (all-pass (is_declared r n) (body_uses n.body) sound.declared) in
-      let periods = all-since period_exceeds is_period (λ x e. (in-range 0 longest_period x e).1) (body_delays n.body) delays.1 in
+      let periods = all-since (period_exceeds P.form) (is_period P.form) (λ x e. (in-range 0 (longest_period P.form) x e).1) (body_delays n.body) delays.1 in
       let may = body-may P b r n (numbered_reaction b r n) (allows n) n.body uses periods in
       let few = subst (λ k. nat_le k most_wishes ≡ true) (sym (schedules-body b r n.body)) (le-leb (length (body_delays n.body)) most_wishes (ltb-false most_wishes (length (body_delays n.body)) wishes.1)) in
       and_from _ _ (and_from _ _ (and_from _ _ (and_from _ _ (and_from _ _ (reactor-there P b r rs s) triggers) reads) written) may) few

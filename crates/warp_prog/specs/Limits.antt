@@ -1,9 +1,12 @@
 -- A file that goes past a limit: a number outside its range, too many things, or a body that is too deep or schedules
--- too often.
-use Rattle.std.specs.Prelude.{ℕ, ℤ, pos, ◌+◌, max, nat_lt, Bool, false, ◌||◌, List, [], ◌∷◌, ◌++◌, length, Option, Some, None}
+-- too often. The version decides how wide the ranges are.
+use Rattle.std.specs.Prelude.{ℕ, ℤ, pos, ◌+◌, max, nat_lt, Bool, false, ◌||◌, List, [], ◌∷◌, ◌++◌, length, Option, Some, None, if◌then◌else◌}
 use Rattle.std.specs.List.{list_any}
 use Rattle.std.specs.Int.Signed.{le_z, lt_z}
+use Rattle.std.specs.Ordering.{int_eq}
 use Rattle.warp_tag.specs.Limits.{longest_stop, longest_period, most_origins, most_reactors, most_variables, most_ports, most_reactions, most_actions, most_timers, most_links, most_inputs, most_outputs, most_wishes}
+use Rattle.warp_tag.specs.declared.form.Form.{Form}
+use Rattle.warp_tag.specs.declared.form.Form.TheVariants.{One, Two}
 use Rattle.warp_prog.specs.File.{File, ReactorPart, ReactionPart, NamedTerm, Literal, Named, PresentNamed, OneNamed, TwoNamed, ChoiceNamed, NamedStatement, SetNamed, PutNamed, ScheduleNamed, ChooseNamed, NamedBody, NamedDone, NamedThen}
 use Rattle.warp_prog.specs.declared.file.ActionPart.{ActionPart}
 use Rattle.warp_prog.specs.declared.file.TimerPart.{TimerPart}
@@ -17,6 +20,14 @@ first_version = 1
 abbrev pub last_version : ℕ
 last_version = 2
 
+-- the form of a version: that of the first is the first, that of any other the second; one that is not known is refused itself
+abbrev pub form_of_version : ℤ → Form
+form_of_version version = if int_eq version (pos first_version) then One else Two
+
+-- the form of a file, by its version
+abbrev pub file_form : File → Form
+file_form f = form_of_version f.version
+
 -- how deep an expression may be, and a list of statements
 abbrev pub deepest : ℕ
 deepest = 24
@@ -26,8 +37,8 @@ abbrev pub is_outside : ℤ → ℤ → ℤ → Bool
 is_outside low high n = lt_z n low || lt_z high n
 
 -- a delay, an offset or a period outside its range
-abbrev pub period_exceeds : ℤ → Bool
-period_exceeds n = is_outside (pos 0) (pos longest_period) n
+abbrev pub period_exceeds : Form → ℤ → Bool
+period_exceeds form n = is_outside (pos 0) (pos (longest_period form)) n
 
 -- more things than this
 abbrev pub are_more_than : {A : Type 0} → ℕ → List A → Bool
@@ -91,28 +102,29 @@ abbrev pub is_too_deep : NamedTerm → Bool
 is_too_deep e = nat_lt deepest (term_depth e)
 
 -- a body that is too deep or schedules too often, or in which an expression is too deep or a delay is outside its range
-abbrev pub body_exceeds : NamedBody → Bool
-body_exceeds b =
+abbrev pub body_exceeds : Form → NamedBody → Bool
+body_exceeds form b =
     list_any is_too_deep (body_terms b)
     || nat_lt deepest (body_depth b)
-    || list_any period_exceeds (body_delays b)
+    || list_any (period_exceeds form) (body_delays b)
     || are_more_than most_wishes (body_delays b)
 
 -- an action whose delay is outside its range
-abbrev pub action_exceeds : ActionPart → Bool
-action_exceeds a = period_exceeds a.delay
+abbrev pub action_exceeds : Form → ActionPart → Bool
+action_exceeds form a = period_exceeds form a.delay
 
 -- a timer whose offset or period is
-abbrev pub timer_exceeds : TimerPart → Bool
-timer_exceeds t = period_exceeds t.offset || period_exceeds t.period
+abbrev pub timer_exceeds : Form → TimerPart → Bool
+timer_exceeds form t = period_exceeds form t.offset || period_exceeds form t.period
 
 -- a reaction whose body goes past a limit
-abbrev pub reaction_exceeds : ReactionPart → Bool
-reaction_exceeds n = body_exceeds n.body
+abbrev pub reaction_exceeds : Form → ReactionPart → Bool
+reaction_exceeds form n = body_exceeds form n.body
 
 -- a reactor in which one of these stands
-abbrev pub reactor_exceeds : ReactorPart → Bool
-reactor_exceeds r = list_any action_exceeds r.actions || list_any timer_exceeds r.timers || list_any reaction_exceeds r.reactions
+abbrev pub reactor_exceeds : Form → ReactorPart → Bool
+reactor_exceeds form r =
+    list_any (action_exceeds form) r.actions || list_any (timer_exceeds form) r.timers || list_any (reaction_exceeds form) r.reactions
 
 -- more of a kind in all reactors together than there may be
 abbrev pub totals_exceed : List ReactorPart → Bool
@@ -135,17 +147,17 @@ lists_exceed f =
 abbrev pub numbers_exceed : File → Bool
 numbers_exceed f =
     is_outside (pos first_version) (pos last_version) f.version
-    || is_outside (pos 0) (pos longest_stop) f.stop
-    || is_outside (pos 1) (pos most_origins) f.origins
+    || is_outside (pos 0) (pos (longest_stop (file_form f))) f.stop
+    || is_outside (pos 1) (pos (most_origins (file_form f))) f.origins
 
 -- a delay that is there and outside its range
-abbrev pub delay_exceeds : Option ℤ → Bool
-delay_exceeds None = false
-delay_exceeds (Some delay) = period_exceeds delay
+abbrev pub delay_exceeds : Form → Option ℤ → Bool
+delay_exceeds form None = false
+delay_exceeds form (Some delay) = period_exceeds form delay
 
 -- a link with such a delay
-abbrev pub link_exceeds : LinkPart → Bool
-link_exceeds l = delay_exceeds l.delay
+abbrev pub link_exceeds : Form → LinkPart → Bool
+link_exceeds form l = delay_exceeds form l.delay
 
 -- a number that is none of so many origins
 abbrev pub origin_exceeds : ℤ → ℤ → Bool
@@ -154,8 +166,8 @@ origin_exceeds origins n = lt_z n (pos 0) || le_z origins n
 -- a reactor, a link or a program input that goes past a limit
 abbrev pub parts_exceed : File → Bool
 parts_exceed f =
-    list_any reactor_exceeds f.reactors
-    || list_any link_exceeds f.links
+    list_any (reactor_exceeds (file_form f)) f.reactors
+    || list_any (link_exceeds (file_form f)) f.links
     || list_any (λ (i : InputPart). origin_exceeds f.origins i.origin) f.inputs
 
 -- a file that goes past a limit

@@ -3,7 +3,6 @@
 use Rattle.std.specs.Prelude.{ℕ, pos, Bool, ◌+◌, unsigned_abs, true, false, List, [], ◌∷◌, ◌++◌, length, map, option_map, bytes_eq, if◌then◌else◌}
 use Rattle.std.specs.List.{position_or_len}
 use Rattle.std.specs.Ordering.{int_eq}
-use Rattle.warp_tag.specs.Limits.{last_microstep}
 use Rattle.warp_body.specs.Term.{Term, Constant, VariableAt, ValueAt, PresentAt, OfOne, OfTwo, Choice}
 use Rattle.warp_body.specs.Effect.{Statement, SetVariable, PutOutput, ScheduleAction, Choose, Body, Done, Then}
 use Rattle.warp_body.specs.declared.place.Target.{Target}
@@ -18,7 +17,7 @@ use Rattle.warp_step.specs.declared.parts.Timer.{Timer}
 use Rattle.warp_step.specs.declared.parts.Link.{Link}
 use Rattle.warp_step.specs.declared.parts.ProgramInput.{ProgramInput}
 use Rattle.warp_prog.specs.File.{Word, File, ReactorPart, ReactionPart, NamedTerm, Literal, Named, PresentNamed, OneNamed, TwoNamed, ChoiceNamed, NamedStatement, SetNamed, PutNamed, ScheduleNamed, ChooseNamed, NamedBody, NamedDone, NamedThen}
-use Rattle.warp_prog.specs.Limits.{first_version}
+use Rattle.warp_prog.specs.Limits.{first_version, file_form}
 use Rattle.warp_prog.specs.Order.{loader_order}
 use Rattle.warp_prog.specs.Uses.{is_among, variable_names, action_names, timer_names}
 use Rattle.warp_prog.specs.declared.file.PortName.{PortName}
@@ -172,8 +171,8 @@ numbered_input rs i = record { origin = unsigned_abs i.origin; port = target_num
 -- the program of a file, without an order of its reactions
 abbrev pub unordered : File → Program
 unordered f = record {
+  form = file_form f;
   stop = unsigned_abs f.stop;
-  top = last_microstep;
   origins = unsigned_abs f.origins;
   reactors = length f.reactors;
   variables = in_each its_variables nothing_before f.reactors;

@@ -31,7 +31,8 @@ use crate::limits::FIRST_VERSION;
 use crate::misread::Misread;
 use crate::shape::file;
 pub use account::program_account;
-pub use labels::{Labels, file_labels};
+pub use labels::Labels;
+pub(crate) use labels::labels_of;
 use serde_json::{Error, Value};
 use std::alloc::{AllocError, Global};
 

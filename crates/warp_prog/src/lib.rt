@@ -27,6 +27,6 @@ mod undeclared;
 mod uses;
 
 pub use error::LoadError;
-pub use explain::{Labels, explanation, file_labels, program_account};
+pub use explain::{Labels, explanation, program_account};
 pub use law::loader_order;
-pub use loading::load;
+pub use loading::{LabelledProgram, load, load_labelled};

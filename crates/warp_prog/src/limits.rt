@@ -1,8 +1,10 @@
-//! Files that go past a limit.
-ghost use Rattle.std.specs.Prelude.{◌≡◌, ◌≤◌, ◌-◌, ℕ, map, nat_lt, SomeIff};
+//! Files that go past a limit. The version of a file decides how wide the ranges are.
+ghost use Rattle.std.specs.Prelude.{◌≡◌, ◌≤◌, ◌-◌, ℕ, pos, map, nat_lt, SomeIff};
 ghost use Rattle.std.specs.List.{list_any};
+ghost use Rattle.warp_tag.specs.Limits.{longest_period, longest_stop, most_origins};
 ghost use Rattle.warp_tag.specs.Limits.{most_variables, most_ports, most_actions, most_timers, most_reactions};
-ghost use Rattle.warp_prog.specs.Limits.{is_outside, period_exceeds, origin_exceeds, numbers_exceed, lists_exceed};
+ghost use Rattle.warp_prog.specs.Limits.{form_of_version, is_outside, period_exceeds, origin_exceeds};
+ghost use Rattle.warp_prog.specs.Limits.{numbers_exceed, lists_exceed};
 ghost use Rattle.warp_prog.specs.Limits.{total, totals_exceed, action_exceeds, timer_exceeds, link_exceeds};
 ghost use Rattle.warp_prog.specs.Limits.{reaction_exceeds, reactor_exceeds, parts_exceed, exceeds_limits};
 ghost use Rattle.warp_prog.specs.View.{file_tree, reactor_tree, reaction_tree};
@@ -13,16 +15,11 @@ pub(crate) mod body;
 
 use crate::file::{ActionPart, InputPart, LinkPart, ProgramFile, Reaction, Reactor, TimerPart};
 use crate::limits::body::body_exceeds;
+use warp_tag::Form;
 
 pub(crate) const FIRST_VERSION: i64 = 1;
 
 pub(crate) const LAST_VERSION: i64 = 2;
-
-pub(crate) const LONGEST_STOP: i64 = 1_000_000;
-
-pub(crate) const LONGEST_PERIOD: i64 = 1_000_000;
-
-pub(crate) const MOST_ORIGINS: i64 = 32;
 
 pub(crate) const MOST_REACTORS: usize = 64;
 
@@ -52,6 +49,38 @@ enum Kind {
     Reactions,
 }
 
+/// The form of a version: that of the first is the first, that of any other the second.
+pub(crate) fn form_of_version(version: i64) -> Form
+    ensures { result ≡ form_of_version version }
+{
+    if version == FIRST_VERSION {
+        Form::One
+    } else {
+        Form::Two
+    }
+}
+
+/// The last time that a program of this form can have as its stop.
+pub(crate) fn longest_stop(form: Form) -> i64
+    ensures { result ≡ pos (longest_stop form) }
+{
+    form.longest_stop() as i64
+}
+
+/// The longest delay, offset or period that a program of this form can name.
+pub(crate) fn longest_period(form: Form) -> i64
+    ensures { result ≡ pos (longest_period form) }
+{
+    form.longest_period() as i64
+}
+
+/// The most origins of a program of this form.
+pub(crate) fn most_origins(form: Form) -> i64
+    ensures { result ≡ pos (most_origins form) }
+{
+    form.most_origins() as i64
+}
+
 /// Whether a file goes past a limit: a number outside its range, too many things, or a body past its own limits.
 pub(crate) fn exceeds_limits(file: &ProgramFile) -> bool
     ensures { result ≡ exceeds_limits (file_tree file.now) }
@@ -65,9 +94,10 @@ pub(crate) fn exceeds_limits(file: &ProgramFile) -> bool
 fn numbers_exceed(file: &ProgramFile) -> bool
     ensures { result ≡ numbers_exceed (file_tree file.now) }
 {
+    let form = form_of_version(file.version);
     is_outside(file.version, FIRST_VERSION, LAST_VERSION)
-        || is_outside(file.stop, 0, LONGEST_STOP)
-        || is_outside(file.origins, 1, MOST_ORIGINS)
+        || is_outside(file.stop, 0, longest_stop(form))
+        || is_outside(file.origins, 1, most_origins(form))
 }
 
 fn lists_exceed(file: &ProgramFile) -> bool
@@ -126,76 +156,81 @@ fn room_after(reactor: &Reactor, kind: &Kind, room: usize) -> Option<usize>
 fn parts_exceed(file: &ProgramFile) -> bool
     ensures { result ≡ parts_exceed (file_tree file.now) }
 {
-    any_reactor(&file.reactors) || any_link(&file.links) || any_input(&file.inputs, file.origins)
+    let form = form_of_version(file.version);
+    any_reactor(&file.reactors, form)
+        || any_link(&file.links, form)
+        || any_input(&file.inputs, file.origins)
 }
 
-fn any_reactor(reactors: &[Reactor]) -> bool
-    ensures { result ≡ list_any reactor_exceeds (map reactor_tree reactors.now) }
+fn any_reactor(reactors: &[Reactor], form: Form) -> bool
+    ensures { result ≡ list_any (reactor_exceeds form) (map reactor_tree reactors.now) }
 {
     for reactor in reactors {
-        if reactor_exceeds(reactor) {
+        if reactor_exceeds(reactor, form) {
             return true;
         }
     }
     false
 }
 
-fn reactor_exceeds(reactor: &Reactor) -> bool
-    ensures { result ≡ reactor_exceeds (reactor_tree reactor.now) }
+fn reactor_exceeds(reactor: &Reactor, form: Form) -> bool
+    ensures { result ≡ reactor_exceeds form (reactor_tree reactor.now) }
 {
-    any_action(&reactor.actions) || any_timer(&reactor.timers) || any_reaction(&reactor.reactions)
+    any_action(&reactor.actions, form)
+        || any_timer(&reactor.timers, form)
+        || any_reaction(&reactor.reactions, form)
 }
 
-fn any_action(actions: &[ActionPart]) -> bool
-    ensures { result ≡ list_any action_exceeds actions.now }
+fn any_action(actions: &[ActionPart], form: Form) -> bool
+    ensures { result ≡ list_any (action_exceeds form) actions.now }
 {
     for action in actions {
-        if period_exceeds(action.delay) {
+        if period_exceeds(action.delay, form) {
             return true;
         }
     }
     false
 }
 
-fn any_timer(timers: &[TimerPart]) -> bool
-    ensures { result ≡ list_any timer_exceeds timers.now }
+fn any_timer(timers: &[TimerPart], form: Form) -> bool
+    ensures { result ≡ list_any (timer_exceeds form) timers.now }
 {
     for timer in timers {
-        if period_exceeds(timer.offset) || period_exceeds(timer.period) {
+        if period_exceeds(timer.offset, form) || period_exceeds(timer.period, form) {
             return true;
         }
     }
     false
 }
 
-fn any_reaction(reactions: &[Reaction]) -> bool
-    ensures { result ≡ list_any reaction_exceeds (map reaction_tree reactions.now) }
+fn any_reaction(reactions: &[Reaction], form: Form) -> bool
+    ensures { result ≡ list_any (reaction_exceeds form) (map reaction_tree reactions.now) }
 {
     for reaction in reactions {
-        if body_exceeds(&reaction.body) {
+        if body_exceeds(&reaction.body, form) {
             return true;
         }
     }
     false
 }
 
-fn any_link(links: &[LinkPart]) -> bool
-    ensures { result ≡ list_any link_exceeds links.now }
+fn any_link(links: &[LinkPart], form: Form) -> bool
+    ensures { result ≡ list_any (link_exceeds form) links.now }
 {
     for link in links {
-        if link_exceeds(link) {
+        if link_exceeds(link, form) {
             return true;
         }
     }
     false
 }
 
-fn link_exceeds(link: &LinkPart) -> bool
-    ensures { result ≡ link_exceeds link.now }
+fn link_exceeds(link: &LinkPart, form: Form) -> bool
+    ensures { result ≡ link_exceeds form link.now }
 {
     match link.delay {
         None => false,
-        Some(delay) => period_exceeds(delay),
+        Some(delay) => period_exceeds(delay, form),
     }
 }
 
@@ -211,10 +246,10 @@ fn any_input(inputs: &[InputPart], origins: i64) -> bool
 }
 
 /// Whether a delay, an offset or a period is outside its range.
-fn period_exceeds(number: i64) -> bool
-    ensures { result ≡ period_exceeds number }
+fn period_exceeds(number: i64, form: Form) -> bool
+    ensures { result ≡ period_exceeds form number }
 {
-    is_outside(number, 0, LONGEST_PERIOD)
+    is_outside(number, 0, longest_period(form))
 }
 
 /// Whether a number is not one of `low` to `high`.

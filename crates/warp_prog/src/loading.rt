@@ -1,6 +1,7 @@
 //! Loading a program file.
-ghost use Rattle.std.specs.Prelude.{◌≡◌, ◌<◌, ◌^◌, true, false, IfOk, IfErr, OnOk, length};
+ghost use Rattle.std.specs.Prelude.{◌≡◌, ◌<◌, ◌^◌, true, false, Ok, IfOk, IfErr, OnOk, length};
 ghost use Rattle.warp_step.specs.View.{program_of};
+ghost use Rattle.warp_prog.specs.Explain.{IsLabelled};
 ghost use Rattle.warp_prog.specs.Load.{IsFaultless, IsLoaded, IsRefused, lacks_order};
 ghost use Rattle.warp_prog.specs.Numbered.{is_first_version, numbered};
 ghost use Rattle.warp_prog.specs.View.{file_tree};
@@ -8,6 +9,7 @@ ghost use Rattle.warp_prog.specs.inner.Cause.{IsCause, IsNamed};
 
 use crate::backward::leads_back;
 use crate::error::LoadError;
+use crate::explain::{Labels, labels_of};
 use crate::file::ProgramFile;
 use crate::limits::{FIRST_VERSION, exceeds_limits};
 use crate::names::names_unknown;
@@ -16,8 +18,17 @@ use crate::order::{file_order, loader_order};
 use crate::reading::reading;
 use crate::twice::names_twice;
 use crate::undeclared::is_undeclared;
-use std::alloc::Global;
+use std::alloc::{AllocError, Global};
 use warp_step::{Parts, Program};
+
+/// A program, and the names of its parts.
+#[derive(Drop)]
+pub struct LabelledProgram {
+    /// The program.
+    pub program: Program,
+    /// The names that its file has for the program's things.
+    pub labels: Labels,
+}
 
 /// Loads the program that the bytes of a file spell.
 ///
@@ -33,6 +44,36 @@ pub fn load(alloc: Global, bytes: &[u8]) -> Result<Program, LoadError>
     let file = reading(alloc, bytes)?;
     let parts = parts_of(alloc, &file)?;
     Ok(Program::new(parts))
+}
+
+/// Loads the program that the bytes of a file spell, with the names of its parts: the file is read once for both.
+///
+/// # Errors
+///
+/// Those of `load`, of the same bytes.
+pub fn load_labelled(alloc: Global, bytes: &[u8]) -> Result<LabelledProgram, LoadError>
+    ensures program { IfOk result (λ l. IsLoaded bytes.now l.program) }
+    ensures labels { IfOk result (λ l. IsLabelled bytes.now l.labels) }
+    ensures err { IfErr result (IsRefused bytes.now) }
+{
+    let file = reading(alloc, bytes)?;
+    let parts = parts_of(alloc, &file)?;
+    with_labels(Program::new(parts), labels_of(alloc, &file))
+}
+
+/// A program with these labels, if there was memory for them.
+fn with_labels(
+    program: Program,
+    labels: Result<Labels, AllocError>,
+) -> Result<LabelledProgram, LoadError>
+    ensures program { IfOk result (λ l. l.program ≡ program) }
+    ensures labels { IfOk result (λ l. labels ≡ Ok l.labels) }
+    ensures err { IfErr result (λ error. error ≡ LoadError.Memory) }
+{
+    match labels {
+        Ok(labels) => Ok(LabelledProgram { program, labels }),
+        Err(_) => Err(LoadError::Memory),
+    }
 }
 
 /// The parts of the program that a file spells, or its first fault beyond its shape.

@@ -6,7 +6,7 @@ ghost use Rattle.std.specs.Prelude.{◌≡◌, false, ◌<◌, ◌^◌, ◌++◌
 ghost use Rattle.std.specs.List.{list_all};
 ghost use Rattle.warp_step.specs.Program.{rule_of};
 ghost use Rattle.warp_step.specs.View.{program_of};
-ghost use Rattle.warp_prog.specs.Limits.{exceeds_limits};
+ghost use Rattle.warp_prog.specs.Limits.{exceeds_limits, file_form};
 ghost use Rattle.warp_prog.specs.Numbered.{nothing_before, its_variables, its_ports, its_actions, its_timers};
 ghost use Rattle.warp_prog.specs.Numbered.{its_reactions, in_each, unordered, numbered_link, numbered_input};
 ghost use Rattle.warp_prog.specs.Numbered.{source_number};
@@ -20,12 +20,13 @@ pub(crate) mod reaction;
 mod reactor;
 
 use crate::file::{InputPart, LinkPart, PortName, ProgramFile, Reactor};
+use crate::limits::form_of_version;
 use crate::numbered::place::{nothing_before, past, source_number, target_number};
 use crate::numbered::reactor::{add_actions, add_ports, add_reactions, add_timers, add_variables};
 use crate::scope::Before;
 use std::alloc::Global;
 use warp_step::{Action, Link, Parts, Port, ProgramInput, Reaction, Timer, Variable};
-use warp_tag::OutOfMemory;
+use warp_tag::{Form, OutOfMemory};
 
 /// What stands in reactors, of each kind in file order.
 #[derive(Drop)]
@@ -49,6 +50,7 @@ pub(crate) fn numbered(alloc: Global, file: &ProgramFile) -> Result<Parts, OutOf
     let outputs = numbered_outputs(alloc, reactors, &file.outputs)?;
     let order = Vec::new(alloc);
     Ok(Parts {
+        form: form_of(file),
         stop: stop_of(file),
         origins: origins_of(file),
         reactors: reactors.len() as u32,
@@ -62,6 +64,12 @@ pub(crate) fn numbered(alloc: Global, file: &ProgramFile) -> Result<Parts, OutOf
         inputs,
         outputs,
     })
+}
+
+fn form_of(file: &ProgramFile) -> Form
+    ensures { result ≡ file_form (file_tree file.now) }
+{
+    form_of_version(file.version)
 }
 
 fn stop_of(file: &ProgramFile) -> u64

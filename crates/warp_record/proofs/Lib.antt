@@ -6,6 +6,7 @@ pub mod PlainWords
 pub mod QueryTexts
 pub mod RecordTexts
 pub mod ReplyLemmas
+pub mod Wider
 pub mod WordCuts
 pub mod WordFronts
 pub mod WordReadings

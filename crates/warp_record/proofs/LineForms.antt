@@ -3,8 +3,10 @@ use Rattle.std.proofs.Common.{◌≡◌, ℕ, ◌<◌, ◌≤◌, Bool, true, fa
 use Rattle.std.specs.Fmt.{signed_decimal}
 use Rattle.std.proofs.lemmas.Bool.{true≢false}
 use Rattle.std.proofs.lemmas.Fmt.{decimal_injective}
-use Rattle.warp_tag.specs.Limits.{last_number, most_inputs, most_origins, most_records}
-use Rattle.warp_tag.specs.Moment.{Moment, IsInRange}
+use Rattle.warp_tag.specs.Limits.{widest, last_number, most_inputs, most_origins, most_records}
+use Rattle.warp_tag.specs.Moment.{Moment, IsTagOf}
+use Rattle.warp_tag.specs.declared.form.Form.{Form}
+use Rattle.warp_tag.proofs.Forms.{origins_widen}
 use Rattle.warp_record.specs.declared.line.Line.{Line}
 use Rattle.warp_record.specs.declared.line.Line.TheVariants as line
 use Rattle.warp_record.specs.declared.line.Look.TheVariants as look
@@ -14,6 +16,7 @@ use Rattle.warp_record.specs.declared.record.Record.TheVariants.{Event, Withdraw
 use Rattle.warp_record.specs.Line.{IsLine, line_words}
 use Rattle.warp_record.specs.Record.{IsRecord, record_words}
 use Rattle.warp_record.proofs.RecordTexts.{event_words, announcement_words}
+use Rattle.warp_record.proofs.Wider.{line_widens}
 use Rattle.warp_record.proofs.WordReadings.{number_at, line_said, line_back}
 use Rattle.warp_record.proofs.WordTexts.{is_one}
 
@@ -51,7 +54,7 @@ no_line_keyword word words said isnt are =
     ∙ sym (ap (λ (ws : List (List ℕ)). is_one (get_or ws 0 []) (line_keywords (length ws))) are) ∙ isnt)
 
 -- the second of two words is a number
-second_word : (said : Line) → IsLine said → eqb (length (line_words said)) 2 ≡ true
+second_word : (said : Line) → IsLine widest said → eqb (length (line_words said)) 2 ≡ true
     → (n : ℕ) × (n ≤ last_number) × (get_or (line_words said) 1 [] ≡ decimal n)
 second_word (line.Ask (query.Var n)) fits two = (n, fits, refl)
 second_word (line.Ask (query.Output n)) fits two = (n, fits, refl)
@@ -68,10 +71,10 @@ second_word (line.Ask query.Lost) fits two = absurd (true≢false (sym two))
 second_word line.Collect fits two = absurd (true≢false (sym two))
 second_word (line.Look look.Board) fits two = absurd (true≢false (sym two))
 
-pub line_number : (word text : List ℕ) (said : Line) → IsLine said → word ∷ text ∷ [] ≡ line_words said
+pub line_number : (f : Form) (word text : List ℕ) (said : Line) → IsLine f said → word ∷ text ∷ [] ≡ line_words said
     → (n : ℕ) × (n ≤ last_number) × (text ≡ decimal n)
-line_number word text said fits are =
-    let told = second_word said fits (sym (ap (λ (ws : List (List ℕ)). eqb (length ws) 2) are)) in
+line_number f word text said fits are =
+    let told = second_word said (line_widens f said fits) (sym (ap (λ (ws : List (List ℕ)). eqb (length ws) 2) are)) in
     (told.0, told.1, ap (λ (ws : List (List ℕ)). get_or ws 1 []) are ∙ told.2)
 
 -- a line of more words, or none, is a record's
@@ -91,14 +94,16 @@ record_if_many words line.Collect one two are = absurd (one (ap length are))
 record_if_many words (line.Look look.Board) one two are = absurd (one (ap length are))
 
 -- a line that begins with `breach` names an origin
-pub no_breach : (number : ℕ) (said : Line) → number ≤ last_number → most_origins ≤ number → IsLine said
+pub no_breach : (f : Form) (number : ℕ) (said : Line) → number ≤ last_number → most_origins f ≤ number → IsLine f said
     → codes "breach" ∷ decimal number ∷ [] ≡ line_words said → ⊥
-no_breach number said small large fits are =
+no_breach f number said small large fits are =
     let words = codes "breach" ∷ decimal number ∷ [] in
-    let is : said ≡ line.Ask (query.Breach (number_at words 1)) = sym (line_back said fits) ∙ ap line_said (sym are) in
-    let range : number_at words 1 < most_origins = subst IsLine is fits in
+    let back = line_back said (line_widens f said fits) in
+    let is : said ≡ line.Ask (query.Breach (number_at words 1)) = sym back ∙ ap line_said (sym are) in
+    let range : number_at words 1 < most_origins f = subst (IsLine f) is fits in
+    let origins = origins_widen f in
     let same = ap (λ (ws : List (List ℕ)). get_or ws 1 []) (are ∙ ap line_words is) in
-    let one = decimal_injective number (number_at words 1) (omega (arith, small)) (omega (arith, range)) same in
+    let one = decimal_injective number (number_at words 1) (omega (arith, small)) (omega (arith, range, origins)) same in
     omega (arith, large, range, one)
 
 -- ---- records
@@ -121,18 +126,19 @@ no_record_keyword word words r isnt are =
     ∙ sym (ap (λ (ws : List (List ℕ)). is_one (get_or ws 0 []) (codes "event" ∷ codes "announce" ∷ codes "withdraw" ∷ [])) are) ∙ isnt)
 
 -- the words behind a record's first: an origin and a tag
-name_of : (r : Record) → IsRecord r → (origin : ℕ) × (tag : Moment) × (origin < most_origins) × IsInRange tag
+name_of : (f : Form) (r : Record) → IsRecord f r → (origin : ℕ) × (tag : Moment) × (origin < most_origins f) × IsTagOf f tag
     × (get_or (record_words r) 1 [] ≡ decimal origin) × (get_or (record_words r) 2 [] ≡ decimal tag.time)
     × (get_or (record_words r) 3 [] ≡ decimal tag.microstep)
-name_of (Event origin tag input value) fits = (origin, tag, fits.origin_fits, fits.tag_fits, refl, refl, refl)
-name_of (Withdraw origin tag) fits = (origin, tag, fits.origin_fits, fits.tag_fits, refl, refl, refl)
-name_of (Announce origin tag events withdrawn) fits = (origin, tag, fits.origin_fits, fits.tag_fits, refl, refl, refl)
+name_of f (Event origin tag input value) fits = (origin, tag, fits.origin_fits, fits.tag_fits, refl, refl, refl)
+name_of f (Withdraw origin tag) fits = (origin, tag, fits.origin_fits, fits.tag_fits, refl, refl, refl)
+name_of f (Announce origin tag events withdrawn) fits = (origin, tag, fits.origin_fits, fits.tag_fits, refl, refl, refl)
 
-pub name_words : (word a b c : List ℕ) (words : List (List ℕ)) (r : Record) → IsRecord r → word ∷ a ∷ b ∷ c ∷ words ≡ record_words r
-    → (origin : ℕ) × (tag : Moment) × (origin < most_origins) × IsInRange tag × (a ≡ decimal origin) × (b ≡ decimal tag.time)
+pub name_words : (f : Form) (word a b c : List ℕ) (words : List (List ℕ)) (r : Record) → IsRecord f r
+    → word ∷ a ∷ b ∷ c ∷ words ≡ record_words r
+    → (origin : ℕ) × (tag : Moment) × (origin < most_origins f) × IsTagOf f tag × (a ≡ decimal origin) × (b ≡ decimal tag.time)
     × (c ≡ decimal tag.microstep)
-name_words word a b c words r fits are =
-    let told = name_of r fits in (
+name_words f word a b c words r fits are =
+    let told = name_of f r fits in (
       told.0,
       told.1,
       told.2,
@@ -152,18 +158,18 @@ withdrawal_words a b c words (Announce origin tag events withdrawn) are =
     absurd (omega (arith, ap (λ (ws : List (List ℕ)). get_or (get_or ws 0 []) 0 0) are))
 
 -- behind the tag of an event stand an input and a value
-pub event_operands : (a b c : List ℕ) (words : List (List ℕ)) (r : Record) → IsRecord r
+pub event_operands : (f : Form) (a b c : List ℕ) (words : List (List ℕ)) (r : Record) → IsRecord f r
     → codes "event" ∷ a ∷ b ∷ c ∷ words ≡ record_words r
     → (input : ℕ) × (value : ℤ) × (input < most_inputs) × FitsSigned w64 value × (words ≡ decimal input ∷ signed_decimal value ∷ [])
-event_operands a b c words r fits are =
-    let told = event_words (a ∷ b ∷ c ∷ words) r fits are in
+event_operands f a b c words r fits are =
+    let told = event_words f (a ∷ b ∷ c ∷ words) r fits are in
     (told.2, told.3, told.4.input_fits, told.4.value_fits, ap (λ (ws : List (List ℕ)). drop 3 ws) told.5)
 
 -- behind the tag of an announcement stand two counts
-pub announcement_operands : (a b c : List ℕ) (words : List (List ℕ)) (r : Record) → IsRecord r
+pub announcement_operands : (f : Form) (a b c : List ℕ) (words : List (List ℕ)) (r : Record) → IsRecord f r
     → codes "announce" ∷ a ∷ b ∷ c ∷ words ≡ record_words r
     → (events : ℕ) × (withdrawn : ℕ) × (events ≤ most_records) × (withdrawn ≤ most_records)
     × (words ≡ decimal events ∷ decimal withdrawn ∷ [])
-announcement_operands a b c words r fits are =
-    let told = announcement_words (a ∷ b ∷ c ∷ words) r fits are in
+announcement_operands f a b c words r fits are =
+    let told = announcement_words f (a ∷ b ∷ c ∷ words) r fits are in
     (told.2, told.3, told.4.events_fit, told.4.withdrawn_fit, ap (λ (ws : List (List ℕ)). drop 3 ws) told.5)

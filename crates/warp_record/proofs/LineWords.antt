@@ -1,6 +1,7 @@
 -- A text that spells a line or a reply has its words, and these are few.
 use Rattle.std.proofs.Common.{◌≡◌, ℕ, ◌<◌, ◌≤◌, List, length, Option, Some, None, IfNone, arith}
 use Rattle.std.specs.List.{slice_split}
+use Rattle.warp_tag.specs.declared.form.Form.{Form}
 use Rattle.warp_record.specs.declared.line.Line.{Line}
 use Rattle.warp_record.specs.declared.line.Line.TheVariants as line
 use Rattle.warp_record.specs.declared.line.Look.TheVariants as look
@@ -14,6 +15,7 @@ use Rattle.warp_record.specs.Number.{is_space}
 use Rattle.warp_record.specs.Record.{record_words}
 use Rattle.warp_record.specs.Reply.{IsReply, reply_words, reply_spelling}
 use Rattle.warp_record.proofs.PlainWords.{words_of_text, plain_line, plain_reply}
+use Rattle.warp_record.proofs.Wider.{line_widens, reply_widens}
 
 -- how many words a record has
 pub words_of_record : («record» : Record) → (0 < length (record_words «record»)) × (length (record_words «record») ≤ 6)
@@ -37,11 +39,11 @@ few_words (line.Look look.Board) = (omega arith, omega arith)
 few_words (line.Look (look.Row n)) = (omega arith, omega arith)
 
 -- the words of a text that spells a line
-pub words_of_line : (bytes : List ℕ) (said : Line) → IsLine said → bytes ≡ spelling said
+pub words_of_line : (f : Form) (bytes : List ℕ) (said : Line) → IsLine f said → bytes ≡ spelling said
     → (slice_split is_space bytes ≡ line_words said) × (length (slice_split is_space bytes) ≤ 6)
-words_of_line bytes said fits is =
+words_of_line f bytes said fits is =
     let few = few_words said in
-    let same = words_of_text bytes (line_words said) few.0 (plain_line said fits) is in
+    let same = words_of_text bytes (line_words said) few.0 (plain_line said (line_widens f said fits)) is in
     (same, rw same few.1)
 
 -- how many words a reply has
@@ -64,11 +66,11 @@ some_words (Row out) = (omega arith, omega arith)
 some_words NoRow = (omega arith, omega arith)
 
 -- the words of a text that spells a reply
-pub words_of_reply : (bytes : List ℕ) (reply : Reply) → IsReply reply → bytes ≡ reply_spelling reply
+pub words_of_reply : (f : Form) (bytes : List ℕ) (reply : Reply) → IsReply f reply → bytes ≡ reply_spelling reply
     → (slice_split is_space bytes ≡ reply_words reply) × (length (slice_split is_space bytes) ≤ 8)
-words_of_reply bytes reply fits is =
+words_of_reply f bytes reply fits is =
     let some = some_words reply in
-    let same = words_of_text bytes (reply_words reply) some.0 (plain_reply reply fits) is in
+    let same = words_of_text bytes (reply_words reply) some.0 (plain_reply reply (reply_widens f reply fits)) is in
     (same, rw same some.1)
 
 -- what follows from what a clause says of a `None`

@@ -9,7 +9,7 @@ use Rattle.std.proofs.lemmas.List.Elements.{All-append, All-cons}
 use Rattle.std.proofs.lemmas.List.Sums.{AllPass-from_list_all, list_all-from_AllPass}
 use Rattle.std.proofs.lemmas.Str.Parse.{digit_at}
 use Rattle.warp_tag.specs.Moment.{Moment, IsInRange}
-use Rattle.warp_tag.specs.Limits.{most_records, greatest_count}
+use Rattle.warp_tag.specs.Limits.{widest, most_records, greatest_count}
 use Rattle.warp_tag.specs.declared.out.Out.{Out}
 use Rattle.warp_record.specs.declared.line.Line.{Line}
 use Rattle.warp_record.specs.declared.line.Line.TheVariants as line
@@ -102,7 +102,7 @@ tagged tag words fits rest =
     (plain_number tag.microstep words (omega (arith, fits.microstep)) rest)
 
 -- the words of a record are plain
-pub plain_record : («record» : Record) → IsRecord «record» → are_plain (record_words «record») ≡ true
+pub plain_record : («record» : Record) → IsRecord widest «record» → are_plain (record_words «record») ≡ true
 plain_record (Event origin tag input value) fits =
     plain_number origin (tag_words tag ++ decimal input ∷ signed_decimal value ∷ []) (omega (arith, fits.origin_fits))
     (tagged tag (decimal input ∷ signed_decimal value ∷ []) fits.tag_fits
@@ -116,7 +116,7 @@ plain_record (Announce origin tag events withdrawn) fits =
     (plain_number withdrawn [] (omega (arith, fits.withdrawn_fit)) refl)))
 
 -- the words of a line are plain
-pub plain_line : (said : Line) → IsLine said → are_plain (line_words said) ≡ true
+pub plain_line : (said : Line) → IsLine widest said → are_plain (line_words said) ≡ true
 plain_line (line.Put «record») fits = plain_record «record» fits
 plain_line (line.Ask (query.Var n)) fits = plain_number n [] (omega (arith, fits)) refl
 plain_line (line.Ask query.Outputs) fits = refl
@@ -131,7 +131,7 @@ plain_line (line.Look look.Board) fits = refl
 plain_line (line.Look (look.Row n)) fits = plain_number n [] (omega (arith, fits)) refl
 
 -- the words of an output are plain
-plain_out : (out : Out) → IsOut out → are_plain (out_words out) ≡ true
+plain_out : (out : Out) → IsOut widest out → are_plain (out_words out) ≡ true
 plain_out out fits =
     tagged out.tag (decimal out.port ∷ signed_decimal out.value ∷ []) fits.tag_fits
     (plain_number out.port (signed_decimal out.value ∷ []) (omega (arith, fits.port_fits)) (last out.value fits.value_fits))
@@ -161,7 +161,7 @@ refusal_number-le Busy = omega arith
 refusal_number-le NoBoard = omega arith
 
 -- the words of a reply are plain
-pub plain_reply : (reply : Reply) → IsReply reply → are_plain (reply_words reply) ≡ true
+pub plain_reply : (reply : Reply) → IsReply widest reply → are_plain (reply_words reply) ≡ true
 plain_reply (Taken place) fits = plain_number place [] (omega (arith, fits.1)) refl
 plain_reply (Known place) fits = plain_number place [] (omega (arith, fits.1)) refl
 plain_reply (Refused refusal) fits = plain_number (refusal_number refusal) [] (omega (arith, refusal_number-le refusal)) refl

@@ -3,6 +3,7 @@ use Rattle.std.proofs.Common.{◌≡◌, ℕ, ℤ, Bool, true, false, ◌||◌, 
 use Rattle.std.specs.Fmt.{signed_decimal}
 use Rattle.std.specs.List.{slice_split, join_with_byte}
 use Rattle.warp_tag.specs.Moment.{Moment}
+use Rattle.warp_tag.specs.declared.form.Form.{Form}
 use Rattle.warp_record.specs.declared.line.Line.{Line}
 use Rattle.warp_record.specs.declared.line.Line.TheVariants as line
 use Rattle.warp_record.specs.declared.line.Look.{Look}
@@ -26,20 +27,20 @@ pub text_of_first : (bytes first word : List ℕ) (words : List (List ℕ)) → 
 text_of_first bytes first word words are = joined_words bytes ∙ ap (join_with_byte 32) are
 
 -- the words of an event
-pub event_words : (words : List (List ℕ)) (said : Record) → IsRecord said → codes "event" ∷ words ≡ record_words said
-    → (origin : ℕ) × (tag : Moment) × (input : ℕ) × (value : ℤ) × IsEvent origin tag input value
+pub event_words : (f : Form) (words : List (List ℕ)) (said : Record) → IsRecord f said → codes "event" ∷ words ≡ record_words said
+    → (origin : ℕ) × (tag : Moment) × (input : ℕ) × (value : ℤ) × IsEvent f origin tag input value
     × (words ≡ decimal origin ∷ tag_words tag ++ decimal input ∷ signed_decimal value ∷ [])
-event_words words (Event origin tag input value) fits are = (origin, tag, input, value, fits, cc)
-event_words words (Withdraw origin tag) fits are = absurd (omega (arith, ap first_byte are))
-event_words words (Announce origin tag events withdrawn) fits are = absurd (omega (arith, ap first_byte are))
+event_words f words (Event origin tag input value) fits are = (origin, tag, input, value, fits, cc)
+event_words f words (Withdraw origin tag) fits are = absurd (omega (arith, ap first_byte are))
+event_words f words (Announce origin tag events withdrawn) fits are = absurd (omega (arith, ap first_byte are))
 
 -- the words of an announcement
-pub announcement_words : (words : List (List ℕ)) (said : Record) → IsRecord said → codes "announce" ∷ words ≡ record_words said
-    → (origin : ℕ) × (tag : Moment) × (events : ℕ) × (withdrawn : ℕ) × IsAnnouncement origin tag events withdrawn
+pub announcement_words : (f : Form) (words : List (List ℕ)) (said : Record) → IsRecord f said → codes "announce" ∷ words ≡ record_words said
+    → (origin : ℕ) × (tag : Moment) × (events : ℕ) × (withdrawn : ℕ) × IsAnnouncement f origin tag events withdrawn
     × (words ≡ decimal origin ∷ tag_words tag ++ decimal events ∷ decimal withdrawn ∷ [])
-announcement_words words (Event origin tag input value) fits are = absurd (omega (arith, ap first_byte are))
-announcement_words words (Withdraw origin tag) fits are = absurd (omega (arith, ap first_byte are))
-announcement_words words (Announce origin tag events withdrawn) fits are = (origin, tag, events, withdrawn, fits, cc)
+announcement_words f words (Event origin tag input value) fits are = absurd (omega (arith, ap first_byte are))
+announcement_words f words (Withdraw origin tag) fits are = absurd (omega (arith, ap first_byte are))
+announcement_words f words (Announce origin tag events withdrawn) fits are = (origin, tag, events, withdrawn, fits, cc)
 
 -- the first byte of a record's first word
 abbrev pub begins_record : List (List ℕ) → Bool
@@ -49,20 +50,20 @@ no_record_line : (words others : List (List ℕ)) → begins_record words ≡ tr
 no_record_line words others one none are = true≢false (sym one ∙ ap begins_record are ∙ none)
 
 -- a line that begins with such a byte is a record's
-pub record_of_line : (words : List (List ℕ)) (said : Line) → begins_record words ≡ true → IsLine said → words ≡ line_words said
-    → (r : Record) × IsRecord r × (words ≡ record_words r)
-record_of_line words (line.Put r) one fits are = (r, fits, are)
-record_of_line words (line.Ask (query.Var n)) one fits are = absurd (no_record_line words _ one refl are)
-record_of_line words (line.Ask query.Outputs) one fits are = absurd (no_record_line words _ one refl are)
-record_of_line words (line.Ask (query.Output n)) one fits are = absurd (no_record_line words _ one refl are)
-record_of_line words (line.Ask query.Horizon) one fits are = absurd (no_record_line words _ one refl are)
-record_of_line words (line.Ask query.Released) one fits are = absurd (no_record_line words _ one refl are)
-record_of_line words (line.Ask query.Lost) one fits are = absurd (no_record_line words _ one refl are)
-record_of_line words (line.Ask (query.Breach n)) one fits are = absurd (no_record_line words _ one refl are)
-record_of_line words (line.Ask (query.Log n)) one fits are = absurd (no_record_line words _ one refl are)
-record_of_line words line.Collect one fits are = absurd (no_record_line words _ one refl are)
-record_of_line words (line.Look look.Board) one fits are = absurd (no_record_line words _ one refl are)
-record_of_line words (line.Look (look.Row n)) one fits are = absurd (no_record_line words _ one refl are)
+pub record_of_line : (f : Form) (words : List (List ℕ)) (said : Line) → begins_record words ≡ true → IsLine f said → words ≡ line_words said
+    → (r : Record) × IsRecord f r × (words ≡ record_words r)
+record_of_line f words (line.Put r) one fits are = (r, fits, are)
+record_of_line f words (line.Ask (query.Var n)) one fits are = absurd (no_record_line words _ one refl are)
+record_of_line f words (line.Ask query.Outputs) one fits are = absurd (no_record_line words _ one refl are)
+record_of_line f words (line.Ask (query.Output n)) one fits are = absurd (no_record_line words _ one refl are)
+record_of_line f words (line.Ask query.Horizon) one fits are = absurd (no_record_line words _ one refl are)
+record_of_line f words (line.Ask query.Released) one fits are = absurd (no_record_line words _ one refl are)
+record_of_line f words (line.Ask query.Lost) one fits are = absurd (no_record_line words _ one refl are)
+record_of_line f words (line.Ask (query.Breach n)) one fits are = absurd (no_record_line words _ one refl are)
+record_of_line f words (line.Ask (query.Log n)) one fits are = absurd (no_record_line words _ one refl are)
+record_of_line f words line.Collect one fits are = absurd (no_record_line words _ one refl are)
+record_of_line f words (line.Look look.Board) one fits are = absurd (no_record_line words _ one refl are)
+record_of_line f words (line.Look (look.Row n)) one fits are = absurd (no_record_line words _ one refl are)
 
 -- words that begin with the first word of no record are no record's
 pub no_record : (words : List (List ℕ)) (r : Record) → words ≡ record_words r

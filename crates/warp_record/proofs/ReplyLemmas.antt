@@ -6,7 +6,8 @@ use Rattle.std.proofs.lemmas.Bool.{true≢false, ne_eqb}
 use Rattle.std.proofs.lemmas.Bool.Decides.{same_from_decides}
 use Rattle.std.proofs.lemmas.Fmt.{decimal_injective}
 use Rattle.warp_tag.specs.Limits.{greatest_count, most_records, most_rows}
-use Rattle.warp_tag.specs.Moment.{Moment, IsInRange}
+use Rattle.warp_tag.specs.Moment.{Moment, IsTagOf}
+use Rattle.warp_tag.specs.declared.form.Form.{Form}
 use Rattle.warp_tag.specs.declared.out.Out.{Out}
 use Rattle.warp_record.specs.declared.record.Record.{Record}
 use Rattle.warp_record.specs.declared.record.Record.TheVariants.{Event, Withdraw, Announce}
@@ -17,6 +18,7 @@ use Rattle.warp_record.specs.Record.{IsRecord, record_words, tag_words}
 use Rattle.warp_record.specs.Reply.{IsOut, IsReply, IsPlace, flag_word, out_words, refusal_number, reply_words}
 use Rattle.warp_record.proofs.PlainWords.{refusal_number-le}
 use Rattle.warp_record.proofs.WordReadings.{number_at, tag_at, signed_value, refusal_of, flag_at, out_at, record_said, reply_said, reply_back}
+use Rattle.warp_record.proofs.Wider.{reply_widens}
 use Rattle.warp_record.proofs.WordTexts.{is_one}
 
 -- the text of a number that a reply can name first is that of no other
@@ -24,79 +26,81 @@ pub same_number : (m n : ℕ) → m ≤ most_records → n ≤ most_records → 
 same_number m n m_fits n_fits same = decimal_injective m n (omega arith) (omega arith) same
 
 -- the reply is the one that its words say
-reply_is : (words : List (List ℕ)) (reply : Reply) → IsReply reply → words ≡ reply_words reply → reply ≡ reply_said words
-reply_is words reply fits are = sym (reply_back reply fits) ∙ ap reply_said (sym are)
+reply_is : (f : Form) (words : List (List ℕ)) (reply : Reply) → IsReply f reply → words ≡ reply_words reply → reply ≡ reply_said words
+reply_is f words reply fits are = sym (reply_back reply (reply_widens f reply fits)) ∙ ap reply_said (sym are)
 
 -- ---- replies that begin with a keyword
 
-pub taken_words : (text : List ℕ) (reply : Reply) → IsReply reply → codes "taken" ∷ text ∷ [] ≡ reply_words reply
+pub taken_words : (f : Form) (text : List ℕ) (reply : Reply) → IsReply f reply → codes "taken" ∷ text ∷ [] ≡ reply_words reply
     → (place : ℕ) × IsPlace place × (text ≡ decimal place)
-taken_words text reply fits are =
-    let is : reply ≡ Taken (number_at (codes "taken" ∷ text ∷ []) 1) = reply_is _ reply fits are in
-    (_, subst IsReply is fits, ap (λ (ws : List (List ℕ)). get_or ws 1 []) (are ∙ ap reply_words is))
+taken_words f text reply fits are =
+    let is : reply ≡ Taken (number_at (codes "taken" ∷ text ∷ []) 1) = reply_is f _ reply fits are in
+    (_, subst (IsReply f) is fits, ap (λ (ws : List (List ℕ)). get_or ws 1 []) (are ∙ ap reply_words is))
 
-pub known_words : (text : List ℕ) (reply : Reply) → IsReply reply → codes "known" ∷ text ∷ [] ≡ reply_words reply
+pub known_words : (f : Form) (text : List ℕ) (reply : Reply) → IsReply f reply → codes "known" ∷ text ∷ [] ≡ reply_words reply
     → (place : ℕ) × IsPlace place × (text ≡ decimal place)
-known_words text reply fits are =
-    let is : reply ≡ Known (number_at (codes "known" ∷ text ∷ []) 1) = reply_is _ reply fits are in
-    (_, subst IsReply is fits, ap (λ (ws : List (List ℕ)). get_or ws 1 []) (are ∙ ap reply_words is))
+known_words f text reply fits are =
+    let is : reply ≡ Known (number_at (codes "known" ∷ text ∷ []) 1) = reply_is f _ reply fits are in
+    (_, subst (IsReply f) is fits, ap (λ (ws : List (List ℕ)). get_or ws 1 []) (are ∙ ap reply_words is))
 
-pub refused_words : (text : List ℕ) (reply : Reply) → IsReply reply → codes "refused" ∷ text ∷ [] ≡ reply_words reply
+pub refused_words : (f : Form) (text : List ℕ) (reply : Reply) → IsReply f reply → codes "refused" ∷ text ∷ [] ≡ reply_words reply
     → (refusal : Refusal) × (refusal_number refusal ≤ most_records) × (text ≡ decimal (refusal_number refusal))
-refused_words text reply fits are =
-    let is : reply ≡ Refused (refusal_of (number_at (codes "refused" ∷ text ∷ []) 1)) = reply_is _ reply fits are in (
+refused_words f text reply fits are =
+    let is : reply ≡ Refused (refusal_of (number_at (codes "refused" ∷ text ∷ []) 1)) = reply_is f _ reply fits are in (
       _,
       omega (arith, refusal_number-le (refusal_of (number_at (codes "refused" ∷ text ∷ []) 1))),
       ap (λ (ws : List (List ℕ)). get_or ws 1 []) (are ∙ ap reply_words is),
     )
 
-pub var_words : (text value : List ℕ) (reply : Reply) → IsReply reply → codes "var" ∷ text ∷ value ∷ [] ≡ reply_words reply
+pub var_words : (f : Form) (text value : List ℕ) (reply : Reply) → IsReply f reply → codes "var" ∷ text ∷ value ∷ [] ≡ reply_words reply
     → (log : ℕ) × (z : ℤ) × (log ≤ most_records) × FitsSigned w64 z × (text ≡ decimal log) × (value ≡ signed_decimal z)
-var_words text value reply fits are =
-    let is : reply ≡ Var (number_at (codes "var" ∷ text ∷ value ∷ []) 1) (signed_value value) = reply_is _ reply fits are in
-    let range = subst IsReply is fits in
+var_words f text value reply fits are =
+    let is : reply ≡ Var (number_at (codes "var" ∷ text ∷ value ∷ []) 1) (signed_value value) = reply_is f _ reply fits are in
+    let range = subst (IsReply f) is fits in
     let same = are ∙ ap reply_words is in
     (_, _, range.0, range.1, ap (λ (ws : List (List ℕ)). get_or ws 1 []) same, ap (λ (ws : List (List ℕ)). get_or ws 2 []) same)
 
-pub breach_words : (text flag : List ℕ) (reply : Reply) → IsReply reply → codes "breach" ∷ text ∷ flag ∷ [] ≡ reply_words reply
+pub breach_words : (f : Form) (text flag : List ℕ) (reply : Reply) → IsReply f reply → codes "breach" ∷ text ∷ flag ∷ [] ≡ reply_words reply
     → (log : ℕ) × (broken : Bool) × (log ≤ most_records) × (text ≡ decimal log) × (flag ≡ flag_word broken)
-breach_words text flag reply fits are =
-    let is : reply ≡ Breach (number_at (codes "breach" ∷ text ∷ flag ∷ []) 1) (flag_at (codes "breach" ∷ text ∷ flag ∷ []) 2) = reply_is _ reply fits are in
+breach_words f text flag reply fits are =
+    let words = codes "breach" ∷ text ∷ flag ∷ [] in
+    let is : reply ≡ Breach (number_at words 1) (flag_at words 2) = reply_is f words reply fits are in
     let same = are ∙ ap reply_words is in
-    (_, _, subst IsReply is fits, ap (λ (ws : List (List ℕ)). get_or ws 1 []) same, ap (λ (ws : List (List ℕ)). get_or ws 2 []) same)
+    (_, _, subst (IsReply f) is fits, ap (λ (ws : List (List ℕ)). get_or ws 1 []) same, ap (λ (ws : List (List ℕ)). get_or ws 2 []) same)
 
-pub board_words : (text flag : List ℕ) (reply : Reply) → IsReply reply → codes "board" ∷ text ∷ flag ∷ [] ≡ reply_words reply
+pub board_words : (f : Form) (text flag : List ℕ) (reply : Reply) → IsReply f reply → codes "board" ∷ text ∷ flag ∷ [] ≡ reply_words reply
     → (count : ℕ) × (frozen : Bool) × (count ≤ most_rows) × (text ≡ decimal count) × (flag ≡ flag_word frozen)
-board_words text flag reply fits are =
-    let is : reply ≡ Board (number_at (codes "board" ∷ text ∷ flag ∷ []) 1) (flag_at (codes "board" ∷ text ∷ flag ∷ []) 2) = reply_is _ reply fits are in
+board_words f text flag reply fits are =
+    let words = codes "board" ∷ text ∷ flag ∷ [] in
+    let is : reply ≡ Board (number_at words 1) (flag_at words 2) = reply_is f words reply fits are in
     let same = are ∙ ap reply_words is in
-    (_, _, subst IsReply is fits, ap (λ (ws : List (List ℕ)). get_or ws 1 []) same, ap (λ (ws : List (List ℕ)). get_or ws 2 []) same)
+    (_, _, subst (IsReply f) is fits, ap (λ (ws : List (List ℕ)). get_or ws 1 []) same, ap (λ (ws : List (List ℕ)). get_or ws 2 []) same)
 
-pub horizon_words : (words : List (List ℕ)) (reply : Reply) → IsReply reply → codes "horizon" ∷ words ≡ reply_words reply
-    → (log : ℕ) × (tag : Moment) × (log ≤ most_records) × IsInRange tag × (words ≡ decimal log ∷ tag_words tag)
-horizon_words words reply fits are =
-    let is : reply ≡ Horizon (number_at (codes "horizon" ∷ words) 1) (tag_at (codes "horizon" ∷ words) 2) = reply_is _ reply fits are in
-    let range = subst IsReply is fits in
+pub horizon_words : (f : Form) (words : List (List ℕ)) (reply : Reply) → IsReply f reply → codes "horizon" ∷ words ≡ reply_words reply
+    → (log : ℕ) × (tag : Moment) × (log ≤ most_records) × IsTagOf f tag × (words ≡ decimal log ∷ tag_words tag)
+horizon_words f words reply fits are =
+    let is : reply ≡ Horizon (number_at (codes "horizon" ∷ words) 1) (tag_at (codes "horizon" ∷ words) 2) = reply_is f _ reply fits are in
+    let range = subst (IsReply f) is fits in
     (_, _, range.0, range.1, ap (λ (ws : List (List ℕ)). drop 1 ws) (are ∙ ap reply_words is))
 
-pub row_words : (words : List (List ℕ)) (reply : Reply) → IsReply reply → codes "row" ∷ words ≡ reply_words reply
-    → (out : Out) × IsOut out × (words ≡ out_words out)
-row_words words reply fits are =
-    let is : reply ≡ Row (out_at (codes "row" ∷ words) 1) = reply_is _ reply fits are in
-    (_, subst IsReply is fits, ap (λ (ws : List (List ℕ)). drop 1 ws) (are ∙ ap reply_words is))
+pub row_words : (f : Form) (words : List (List ℕ)) (reply : Reply) → IsReply f reply → codes "row" ∷ words ≡ reply_words reply
+    → (out : Out) × IsOut f out × (words ≡ out_words out)
+row_words f words reply fits are =
+    let is : reply ≡ Row (out_at (codes "row" ∷ words) 1) = reply_is f _ reply fits are in
+    (_, subst (IsReply f) is fits, ap (λ (ws : List (List ℕ)). drop 1 ws) (are ∙ ap reply_words is))
 
-pub output_words : (words : List (List ℕ)) (reply : Reply) → IsReply reply → codes "output" ∷ words ≡ reply_words reply
-    → (log : ℕ) × (out : Out) × (log ≤ most_records) × IsOut out × (words ≡ decimal log ∷ out_words out)
-output_words words reply fits are =
-    let is : reply ≡ Output (number_at (codes "output" ∷ words) 1) (out_at (codes "output" ∷ words) 2) = reply_is _ reply fits are in
-    let range = subst IsReply is fits in
+pub output_words : (f : Form) (words : List (List ℕ)) (reply : Reply) → IsReply f reply → codes "output" ∷ words ≡ reply_words reply
+    → (log : ℕ) × (out : Out) × (log ≤ most_records) × IsOut f out × (words ≡ decimal log ∷ out_words out)
+output_words f words reply fits are =
+    let is : reply ≡ Output (number_at (codes "output" ∷ words) 1) (out_at (codes "output" ∷ words) 2) = reply_is f _ reply fits are in
+    let range = subst (IsReply f) is fits in
     (_, _, range.0, range.1, ap (λ (ws : List (List ℕ)). drop 1 ws) (are ∙ ap reply_words is))
 
-pub log_words : (words : List (List ℕ)) (reply : Reply) → IsReply reply → codes "log" ∷ words ≡ reply_words reply
-    → (log : ℕ) × (said : Record) × (log ≤ most_records) × IsRecord said × (words ≡ decimal log ∷ record_words said)
-log_words words reply fits are =
-    let is : reply ≡ Log (number_at (codes "log" ∷ words) 1) (record_said (drop 2 (codes "log" ∷ words))) = reply_is _ reply fits are in
-    let range = subst IsReply is fits in
+pub log_words : (f : Form) (words : List (List ℕ)) (reply : Reply) → IsReply f reply → codes "log" ∷ words ≡ reply_words reply
+    → (log : ℕ) × (said : Record) × (log ≤ most_records) × IsRecord f said × (words ≡ decimal log ∷ record_words said)
+log_words f words reply fits are =
+    let is : reply ≡ Log (number_at (codes "log" ∷ words) 1) (record_said (drop 2 (codes "log" ∷ words))) = reply_is f _ reply fits are in
+    let range = subst (IsReply f) is fits in
     (_, _, range.0, range.1, ap (λ (ws : List (List ℕ)). drop 1 ws) (are ∙ ap reply_words is))
 
 -- ---- keywords that begin replies
@@ -148,31 +152,31 @@ no_long_keyword word words reply more isnt are =
 -- ---- the words behind the first
 
 -- the second of two or three words is a number
-second_word : (reply : Reply) → IsReply reply → (eqb (length (reply_words reply)) 2 ≡ true)
+second_word : (f : Form) (reply : Reply) → IsReply f reply → (eqb (length (reply_words reply)) 2 ≡ true)
     → (n : ℕ) × (n ≤ most_records) × (get_or (reply_words reply) 1 [] ≡ decimal n)
-second_word (Taken place) fits two = (place, fits.1, refl)
-second_word (Known place) fits two = (place, fits.1, refl)
-second_word (Refused refusal) fits two = (refusal_number refusal, omega (arith, refusal_number-le refusal), refl)
-second_word (Nothing log) fits two = (log, fits, refl)
-second_word (Collected log) fits two = (log, fits, refl)
-second_word (Var log value) fits two = absurd (true≢false (sym two))
-second_word (Outputs log count) fits two = absurd (true≢false (sym two))
-second_word (Output log out) fits two = absurd (true≢false (sym two))
-second_word (Horizon log tag) fits two = absurd (true≢false (sym two))
-second_word (Released log count) fits two = absurd (true≢false (sym two))
-second_word (Lost log count) fits two = absurd (true≢false (sym two))
-second_word (Breach log broken) fits two = absurd (true≢false (sym two))
-second_word (Log log (Event origin tag input value)) fits two = absurd (true≢false (sym two))
-second_word (Log log (Withdraw origin tag)) fits two = absurd (true≢false (sym two))
-second_word (Log log (Announce origin tag events withdrawn)) fits two = absurd (true≢false (sym two))
-second_word (Board count frozen) fits two = absurd (true≢false (sym two))
-second_word (Row out) fits two = absurd (true≢false (sym two))
-second_word NoRow fits two = absurd (true≢false (sym two))
+second_word f (Taken place) fits two = (place, fits.1, refl)
+second_word f (Known place) fits two = (place, fits.1, refl)
+second_word f (Refused refusal) fits two = (refusal_number refusal, omega (arith, refusal_number-le refusal), refl)
+second_word f (Nothing log) fits two = (log, fits, refl)
+second_word f (Collected log) fits two = (log, fits, refl)
+second_word f (Var log value) fits two = absurd (true≢false (sym two))
+second_word f (Outputs log count) fits two = absurd (true≢false (sym two))
+second_word f (Output log out) fits two = absurd (true≢false (sym two))
+second_word f (Horizon log tag) fits two = absurd (true≢false (sym two))
+second_word f (Released log count) fits two = absurd (true≢false (sym two))
+second_word f (Lost log count) fits two = absurd (true≢false (sym two))
+second_word f (Breach log broken) fits two = absurd (true≢false (sym two))
+second_word f (Log log (Event origin tag input value)) fits two = absurd (true≢false (sym two))
+second_word f (Log log (Withdraw origin tag)) fits two = absurd (true≢false (sym two))
+second_word f (Log log (Announce origin tag events withdrawn)) fits two = absurd (true≢false (sym two))
+second_word f (Board count frozen) fits two = absurd (true≢false (sym two))
+second_word f (Row out) fits two = absurd (true≢false (sym two))
+second_word f NoRow fits two = absurd (true≢false (sym two))
 
-pub short_number : (word text : List ℕ) (reply : Reply) → IsReply reply → word ∷ text ∷ [] ≡ reply_words reply
+pub short_number : (f : Form) (word text : List ℕ) (reply : Reply) → IsReply f reply → word ∷ text ∷ [] ≡ reply_words reply
     → (n : ℕ) × (n ≤ most_records) × (text ≡ decimal n)
-short_number word text reply fits are =
-    let told = second_word reply fits (sym (ap (λ (ws : List (List ℕ)). eqb (length ws) 2) are)) in
+short_number f word text reply fits are =
+    let told = second_word f reply fits (sym (ap (λ (ws : List (List ℕ)). eqb (length ws) 2) are)) in
     (told.0, told.1, ap (λ (ws : List (List ℕ)). get_or ws 1 []) are ∙ told.2)
 
 -- three words whose first is none of three keywords
@@ -181,34 +185,34 @@ is_counted words =
     eqb (length words) 3 && not (is_one (get_or words 0 []) (codes "var" ∷ codes "breach" ∷ codes "board" ∷ []))
 
 -- the others of them are the length of a log and a count
-counted_words : (reply : Reply) → IsReply reply → is_counted (reply_words reply) ≡ true
+counted_words : (f : Form) (reply : Reply) → IsReply f reply → is_counted (reply_words reply) ≡ true
     → (log : ℕ) × (count : ℕ) × (log ≤ most_records) × (count ≤ greatest_count)
     × (get_or (reply_words reply) 1 [] ≡ decimal log) × (get_or (reply_words reply) 2 [] ≡ decimal count)
-counted_words (Outputs log count) fits is = (log, count, fits.0, fits.1, refl, refl)
-counted_words (Released log count) fits is = (log, count, fits.0, fits.1, refl, refl)
-counted_words (Lost log count) fits is = (log, count, fits.0, fits.1, refl, refl)
-counted_words (Taken place) fits is = absurd (true≢false (sym is))
-counted_words (Known place) fits is = absurd (true≢false (sym is))
-counted_words (Refused refusal) fits is = absurd (true≢false (sym is))
-counted_words (Nothing log) fits is = absurd (true≢false (sym is))
-counted_words (Collected log) fits is = absurd (true≢false (sym is))
-counted_words (Var log value) fits is = absurd (true≢false (sym is))
-counted_words (Output log out) fits is = absurd (true≢false (sym is))
-counted_words (Horizon log tag) fits is = absurd (true≢false (sym is))
-counted_words (Breach log broken) fits is = absurd (true≢false (sym is))
-counted_words (Log log (Event origin tag input value)) fits is = absurd (true≢false (sym is))
-counted_words (Log log (Withdraw origin tag)) fits is = absurd (true≢false (sym is))
-counted_words (Log log (Announce origin tag events withdrawn)) fits is = absurd (true≢false (sym is))
-counted_words (Board count frozen) fits is = absurd (true≢false (sym is))
-counted_words (Row out) fits is = absurd (true≢false (sym is))
-counted_words NoRow fits is = absurd (true≢false (sym is))
+counted_words f (Outputs log count) fits is = (log, count, fits.0, fits.1, refl, refl)
+counted_words f (Released log count) fits is = (log, count, fits.0, fits.1, refl, refl)
+counted_words f (Lost log count) fits is = (log, count, fits.0, fits.1, refl, refl)
+counted_words f (Taken place) fits is = absurd (true≢false (sym is))
+counted_words f (Known place) fits is = absurd (true≢false (sym is))
+counted_words f (Refused refusal) fits is = absurd (true≢false (sym is))
+counted_words f (Nothing log) fits is = absurd (true≢false (sym is))
+counted_words f (Collected log) fits is = absurd (true≢false (sym is))
+counted_words f (Var log value) fits is = absurd (true≢false (sym is))
+counted_words f (Output log out) fits is = absurd (true≢false (sym is))
+counted_words f (Horizon log tag) fits is = absurd (true≢false (sym is))
+counted_words f (Breach log broken) fits is = absurd (true≢false (sym is))
+counted_words f (Log log (Event origin tag input value)) fits is = absurd (true≢false (sym is))
+counted_words f (Log log (Withdraw origin tag)) fits is = absurd (true≢false (sym is))
+counted_words f (Log log (Announce origin tag events withdrawn)) fits is = absurd (true≢false (sym is))
+counted_words f (Board count frozen) fits is = absurd (true≢false (sym is))
+counted_words f (Row out) fits is = absurd (true≢false (sym is))
+counted_words f NoRow fits is = absurd (true≢false (sym is))
 
-pub middle_count : (word text more : List ℕ) (reply : Reply) → IsReply reply → bytes_eq word (codes "var") ≡ false
+pub middle_count : (f : Form) (word text more : List ℕ) (reply : Reply) → IsReply f reply → bytes_eq word (codes "var") ≡ false
     → bytes_eq word (codes "breach") ≡ false → bytes_eq word (codes "board") ≡ false → word ∷ text ∷ more ∷ [] ≡ reply_words reply
     → (log : ℕ) × (count : ℕ) × (log ≤ most_records) × (count ≤ greatest_count) × (text ≡ decimal log) × (more ≡ decimal count)
-middle_count word text more reply fits var breach board are =
+middle_count f word text more reply fits var breach board are =
     let counted : is_counted (word ∷ text ∷ more ∷ []) ≡ true = rw (var, breach, board) refl in
-    let told = counted_words reply fits (sym (ap is_counted are) ∙ counted) in (
+    let told = counted_words f reply fits (sym (ap is_counted are) ∙ counted) in (
       told.0,
       told.1,
       told.2,

@@ -6,6 +6,7 @@ use Rattle.std.specs.Str.Parse.{digits_value}
 use Rattle.std.proofs.lemmas.Bool.{ne_eqb}
 use Rattle.std.proofs.lemmas.Fmt.{decimal_is_IsNumeral}
 use Rattle.std.proofs.lemmas.Str.Parse.{digit_at}
+use Rattle.warp_tag.specs.Limits.{widest}
 use Rattle.warp_tag.specs.Moment.{Moment, IsInRange}
 use Rattle.warp_tag.specs.declared.out.Out.{Out}
 use Rattle.warp_record.specs.declared.line.Line.{Line}
@@ -77,7 +78,7 @@ record_said words =
     else Announce (number_at words 1) (tag_at words 2) (number_at words 4) (number_at words 5))
 
 -- a record is what its words say
-pub record_back : («record» : Record) → IsRecord «record» → record_said (record_words «record») ≡ «record»
+pub record_back : («record» : Record) → IsRecord widest «record» → record_said (record_words «record») ≡ «record»
 record_back (Event origin tag input z) fits =
     rw (
       value origin (omega (arith, fits.origin_fits)),
@@ -111,7 +112,7 @@ line_said words =
     else (if is_first words (codes "row") then line.Look (look.Row (number_at words 1))
     else line.Put (record_said words)))))))))))
 
-pub line_back : (said : Line) → IsLine said → line_said (line_words said) ≡ said
+pub line_back : (said : Line) → IsLine widest said → line_said (line_words said) ≡ said
 line_back (line.Put (Event origin tag input z)) fits = ap (λ (r : Record). line.Put r) (record_back (Event origin tag input z) fits)
 line_back (line.Put (Withdraw origin tag)) fits = ap (λ (r : Record). line.Put r) (record_back (Withdraw origin tag) fits)
 line_back (line.Put (Announce origin tag events withdrawn)) fits =
@@ -129,10 +130,10 @@ line_back (line.Look look.Board) fits = refl
 line_back (line.Look (look.Row n)) fits = rw (value n (omega (arith, fits))) refl
 
 -- two lines in range with one spelling are one line
-pub same_line : (a b : Line) → IsLine a → IsLine b → spelling a ≡ spelling b → a ≡ b
+pub same_line : (a b : Line) → IsLine widest a → IsLine widest b → spelling a ≡ spelling b → a ≡ b
 same_line a b fits_a fits_b same =
-    let words_a = (words_of_line (spelling a) a fits_a refl).0 in
-    let words_b = (words_of_line (spelling a) b fits_b same).0 in
+    let words_a = (words_of_line widest (spelling a) a fits_a refl).0 in
+    let words_b = (words_of_line widest (spelling a) b fits_b same).0 in
     sym (line_back a fits_a) ∙ ap line_said (sym words_a ∙ words_b) ∙ line_back b fits_b
 
 -- ---- replies
@@ -185,7 +186,7 @@ reply_said words =
     else (if is_first words (codes "board") then Board (number_at words 1) (flag_at words 2)
     else Row (out_at words 1))))))))))))))
 
-pub reply_back : (reply : Reply) → IsReply reply → reply_said (reply_words reply) ≡ reply
+pub reply_back : (reply : Reply) → IsReply widest reply → reply_said (reply_words reply) ≡ reply
 reply_back (Taken place) fits = rw (value place (omega (arith, fits.1))) refl
 reply_back (Known place) fits = rw (value place (omega (arith, fits.1))) refl
 reply_back (Refused refusal) fits =
@@ -218,8 +219,8 @@ reply_back (Row out) fits =
 reply_back NoRow fits = refl
 
 -- two replies in range with one spelling are one reply
-pub same_reply : (a b : Reply) → IsReply a → IsReply b → reply_spelling a ≡ reply_spelling b → a ≡ b
+pub same_reply : (a b : Reply) → IsReply widest a → IsReply widest b → reply_spelling a ≡ reply_spelling b → a ≡ b
 same_reply a b fits_a fits_b same =
-    let words_a = (words_of_reply (reply_spelling a) a fits_a refl).0 in
-    let words_b = (words_of_reply (reply_spelling a) b fits_b same).0 in
+    let words_a = (words_of_reply widest (reply_spelling a) a fits_a refl).0 in
+    let words_b = (words_of_reply widest (reply_spelling a) b fits_b same).0 in
     sym (reply_back a fits_a) ∙ ap reply_said (sym words_a ∙ words_b) ∙ reply_back b fits_b

@@ -1,7 +1,8 @@
--- The lines that come in, their ranges, and the one spelling of each.
+-- The lines that come in, their ranges by form, and the one spelling of each.
 use Rattle.std.specs.Prelude.{ℕ, ◌<◌, ◌≤◌, List, [], ◌∷◌, codes, decimal}
 use Rattle.std.specs.List.{join_with_byte}
 use Rattle.warp_tag.specs.Limits.{last_number, most_origins}
+use Rattle.warp_tag.specs.declared.form.Form.{Form}
 use Rattle.warp_record.specs.Record.{IsRecord, record_words}
 use Rattle.warp_record.specs.declared.line.Query.{Query}
 use Rattle.warp_record.specs.declared.line.Query.TheVariants.{Var, Outputs, Output, Horizon, Released, Lost, Breach, Log}
@@ -10,28 +11,28 @@ use Rattle.warp_record.specs.declared.line.Look.TheVariants.{Board, Row}
 use Rattle.warp_record.specs.declared.line.Line.{Line}
 use Rattle.warp_record.specs.declared.line.Line.TheVariants as line
 
--- the ranges of a query
-abbrev pub IsQuery : Query → Type 0
-IsQuery (Var number) = number ≤ last_number
-IsQuery Outputs = Unit {0}
-IsQuery (Output number) = number ≤ last_number
-IsQuery Horizon = Unit {0}
-IsQuery Released = Unit {0}
-IsQuery Lost = Unit {0}
-IsQuery (Breach origin) = origin < most_origins
-IsQuery (Log place) = place ≤ last_number
+-- the ranges of a query in a form
+abbrev pub IsQuery : Form → Query → Type 0
+IsQuery f (Var number) = number ≤ last_number
+IsQuery f Outputs = Unit {0}
+IsQuery f (Output number) = number ≤ last_number
+IsQuery f Horizon = Unit {0}
+IsQuery f Released = Unit {0}
+IsQuery f Lost = Unit {0}
+IsQuery f (Breach origin) = origin < most_origins f
+IsQuery f (Log place) = place ≤ last_number
 
 -- the ranges of a look at the board
 abbrev pub IsLook : Look → Type 0
 IsLook Board = Unit {0}
 IsLook (Row number) = number ≤ last_number
 
--- the ranges of a line
-abbrev pub IsLine : Line → Type 0
-IsLine (line.Put said) = IsRecord said
-IsLine (line.Ask query) = IsQuery query
-IsLine line.Collect = Unit {0}
-IsLine (line.Look look) = IsLook look
+-- the ranges of a line in a form
+abbrev pub IsLine : Form → Line → Type 0
+IsLine f (line.Put said) = IsRecord f said
+IsLine f (line.Ask query) = IsQuery f query
+IsLine f line.Collect = Unit {0}
+IsLine f (line.Look look) = IsLook look
 
 -- the words of a query
 abbrev pub query_words : Query → List (List ℕ)

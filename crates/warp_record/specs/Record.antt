@@ -1,37 +1,38 @@
--- Records: what an origin has to say, its range, and the one spelling of each.
+-- Records: what an origin has to say, its range by form, and the one spelling of each.
 use Rattle.std.specs.Prelude.{ℕ, ℤ, ◌<◌, ◌≤◌, List, [], ◌∷◌, ◌++◌, codes, decimal, FitsSigned}
 use Rattle.std.specs.Int.{w64}
 use Rattle.std.specs.Fmt.{signed_decimal}
 use Rattle.std.specs.List.{join_with_byte}
-use Rattle.warp_tag.specs.Moment.{Moment, IsInRange}
 use Rattle.warp_tag.specs.Limits.{most_origins, most_inputs, most_records}
+use Rattle.warp_tag.specs.Moment.{Moment, IsTagOf}
+use Rattle.warp_tag.specs.declared.form.Form.{Form}
 use Rattle.warp_record.specs.declared.record.Record.{Record}
 use Rattle.warp_record.specs.declared.record.Record.TheVariants.{Event, Withdraw, Announce}
 
--- the ranges of an event
-pub record IsEvent (origin : ℕ) (tag : Moment) (input : ℕ) (value : ℤ) : Type 0 where
-  pub origin_fits : origin < most_origins
-  pub tag_fits : IsInRange tag
+-- the ranges of an event in a form
+pub record IsEvent (f : Form) (origin : ℕ) (tag : Moment) (input : ℕ) (value : ℤ) : Type 0 where
+  pub origin_fits : origin < most_origins f
+  pub tag_fits : IsTagOf f tag
   pub input_fits : input < most_inputs
   pub value_fits : FitsSigned w64 value
 
--- the ranges of a withdrawal
-pub record IsWithdrawal (origin : ℕ) (tag : Moment) : Type 0 where
-  pub origin_fits : origin < most_origins
-  pub tag_fits : IsInRange tag
+-- the ranges of a withdrawal in a form
+pub record IsWithdrawal (f : Form) (origin : ℕ) (tag : Moment) : Type 0 where
+  pub origin_fits : origin < most_origins f
+  pub tag_fits : IsTagOf f tag
 
--- the ranges of an announcement
-pub record IsAnnouncement (origin : ℕ) (tag : Moment) (events withdrawn : ℕ) : Type 0 where
-  pub origin_fits : origin < most_origins
-  pub tag_fits : IsInRange tag
+-- the ranges of an announcement in a form
+pub record IsAnnouncement (f : Form) (origin : ℕ) (tag : Moment) (events withdrawn : ℕ) : Type 0 where
+  pub origin_fits : origin < most_origins f
+  pub tag_fits : IsTagOf f tag
   pub events_fit : events ≤ most_records
   pub withdrawn_fit : withdrawn ≤ most_records
 
--- the ranges of a record
-abbrev pub IsRecord : Record → Type 0
-IsRecord (Event origin tag input value) = IsEvent origin tag input value
-IsRecord (Withdraw origin tag) = IsWithdrawal origin tag
-IsRecord (Announce origin tag events withdrawn) = IsAnnouncement origin tag events withdrawn
+-- the ranges of a record in a form
+abbrev pub IsRecord : Form → Record → Type 0
+IsRecord f (Event origin tag input value) = IsEvent f origin tag input value
+IsRecord f (Withdraw origin tag) = IsWithdrawal f origin tag
+IsRecord f (Announce origin tag events withdrawn) = IsAnnouncement f origin tag events withdrawn
 
 -- the words of a tag
 abbrev pub tag_words : Moment → List (List ℕ)

@@ -1,10 +1,11 @@
--- The replies, their ranges, and the one spelling of each.
+-- The replies, their ranges by form, and the one spelling of each.
 use Rattle.std.specs.Prelude.{ℕ, Bool, true, false, ◌<◌, ◌≤◌, List, [], ◌∷◌, ◌++◌, codes, decimal, FitsSigned}
 use Rattle.std.specs.Int.{w64}
 use Rattle.std.specs.Fmt.{signed_decimal}
 use Rattle.std.specs.List.{join_with_byte}
-use Rattle.warp_tag.specs.Moment.{IsInRange}
 use Rattle.warp_tag.specs.Limits.{most_records, most_outputs, most_rows, greatest_count}
+use Rattle.warp_tag.specs.Moment.{IsTagOf}
+use Rattle.warp_tag.specs.declared.form.Form.{Form}
 use Rattle.warp_tag.specs.declared.out.Out.{Out}
 use Rattle.warp_record.specs.Record.{IsRecord, record_words, tag_words}
 use Rattle.warp_record.specs.declared.reply.Refusal.{Refusal}
@@ -34,30 +35,30 @@ IsPlace place = (1 ≤ place) × (place ≤ most_records)
 abbrev pub IsLength : ℕ → Type 0
 IsLength log = log ≤ most_records
 
--- the ranges of an output
-pub record IsOut (out : Out) : Type 0 where
-  pub tag_fits : IsInRange out.tag
+-- the ranges of an output in a form
+pub record IsOut (f : Form) (out : Out) : Type 0 where
+  pub tag_fits : IsTagOf f out.tag
   pub port_fits : out.port < most_outputs
   pub value_fits : FitsSigned w64 out.value
 
--- the ranges of a reply
-abbrev pub IsReply : Reply → Type 0
-IsReply (Taken place) = IsPlace place
-IsReply (Known place) = IsPlace place
-IsReply (Refused refusal) = Unit {0}
-IsReply (Var log value) = IsLength log × FitsSigned w64 value
-IsReply (Outputs log count) = IsLength log × (count ≤ greatest_count)
-IsReply (Output log out) = IsLength log × IsOut out
-IsReply (Nothing log) = IsLength log
-IsReply (Horizon log tag) = IsLength log × IsInRange tag
-IsReply (Released log count) = IsLength log × (count ≤ greatest_count)
-IsReply (Lost log count) = IsLength log × (count ≤ greatest_count)
-IsReply (Breach log broken) = IsLength log
-IsReply (Log log said) = IsLength log × IsRecord said
-IsReply (Collected log) = IsLength log
-IsReply (Board count frozen) = count ≤ most_rows
-IsReply (Row out) = IsOut out
-IsReply NoRow = Unit {0}
+-- the ranges of a reply in a form
+abbrev pub IsReply : Form → Reply → Type 0
+IsReply f (Taken place) = IsPlace place
+IsReply f (Known place) = IsPlace place
+IsReply f (Refused refusal) = Unit {0}
+IsReply f (Var log value) = IsLength log × FitsSigned w64 value
+IsReply f (Outputs log count) = IsLength log × (count ≤ greatest_count)
+IsReply f (Output log out) = IsLength log × IsOut f out
+IsReply f (Nothing log) = IsLength log
+IsReply f (Horizon log tag) = IsLength log × IsTagOf f tag
+IsReply f (Released log count) = IsLength log × (count ≤ greatest_count)
+IsReply f (Lost log count) = IsLength log × (count ≤ greatest_count)
+IsReply f (Breach log broken) = IsLength log
+IsReply f (Log log said) = IsLength log × IsRecord f said
+IsReply f (Collected log) = IsLength log
+IsReply f (Board count frozen) = count ≤ most_rows
+IsReply f (Row out) = IsOut f out
+IsReply f NoRow = Unit {0}
 
 -- the words of an output
 abbrev pub out_words : Out → List (List ℕ)

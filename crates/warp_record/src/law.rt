@@ -1,30 +1,43 @@
-//! Laws of spellings: each line, record and reply has one, and none is the front of another.
+//! Laws of spellings: each line, record and reply has one, none is the front of another, and the wider form has all of
+//! the other's.
 ghost use Rattle.std.specs.Prelude.{◌≡◌, ℕ, List, [], ◌∷◌, ◌++◌};
+ghost use Rattle.warp_tag.specs.Limits.{widest};
 ghost use Rattle.warp_tag.specs.Lists.{StartsWith};
+ghost use Rattle.warp_tag.specs.declared.form.Form.{Form};
 ghost use Rattle.warp_record.specs.declared.line.Line.{Line};
+ghost use Rattle.warp_record.specs.declared.record.Record.{Record};
 ghost use Rattle.warp_record.specs.declared.reply.Reply.{Reply};
 ghost use Rattle.warp_record.specs.Line.{IsLine, spelling};
 ghost use Rattle.warp_record.specs.Lines.{IsOneLine};
+ghost use Rattle.warp_record.specs.Record.{IsRecord};
 ghost use Rattle.warp_record.specs.Reply.{IsReply, reply_spelling};
 
-/// Two lines in range with one spelling are one line. A record in range is one of them.
+/// Two lines in range in any form with one spelling are one line. A record in range is one of them.
 pub fn one_spelling()
-    ensures { (a b : Line) → IsLine a → IsLine b → spelling a ≡ spelling b → a ≡ b }
+    ensures { (a b : Line) → IsLine widest a → IsLine widest b → spelling a ≡ spelling b → a ≡ b }
 {}
 
-/// Two replies in range with one spelling are one reply.
+/// Two replies in range in any form with one spelling are one reply.
 pub fn one_reply_spelling()
-    ensures { (a b : Reply) → IsReply a → IsReply b → reply_spelling a ≡ reply_spelling b → a ≡ b }
+    ensures { (a b : Reply) → IsReply widest a → IsReply widest b → reply_spelling a ≡ reply_spelling b → a ≡ b }
 {}
 
 /// No spelling has a line feed in it.
 pub fn no_line_feed()
-    ensures lines { (line : Line) → IsLine line → IsOneLine (spelling line) }
-    ensures replies { (reply : Reply) → IsReply reply → IsOneLine (reply_spelling reply) }
+    ensures lines { (line : Line) → IsLine widest line → IsOneLine (spelling line) }
+    ensures replies { (reply : Reply) → IsReply widest reply → IsOneLine (reply_spelling reply) }
 {}
 
 /// No spelling with its line feed begins another with its line feed: bytes in which a line feed stands at their end
 /// alone begin no other such bytes.
 pub fn no_front()
     ensures { (a b : List ℕ) → IsOneLine a → IsOneLine b → StartsWith (b ++ 10 ∷ []) (a ++ 10 ∷ []) → a ≡ b }
+{}
+
+/// Whatever is in range in a form is in range in the widest. With the one spelling that says: each line, record and
+/// reply of the first form is the same one of the second.
+pub fn wider_line()
+    ensures lines { (f : Form) (line : Line) → IsLine f line → IsLine widest line }
+    ensures records { (f : Form) (said : Record) → IsRecord f said → IsRecord widest said }
+    ensures replies { (f : Form) (reply : Reply) → IsReply f reply → IsReply widest reply }
 {}

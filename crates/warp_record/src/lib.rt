@@ -1,6 +1,7 @@
 //! Records, lines and replies: their types, their one spelling, and cutting a stream of bytes into lines.
 //!
-//! A line that comes in and a reply that goes out each have one spelling in bytes. Nothing here takes memory.
+//! A line that comes in and a reply that goes out each have one spelling in bytes, in each form. How wide their numbers
+//! may be is the form's. Nothing here takes memory.
 #![tactic(auto)]
 
 mod count;
@@ -18,10 +19,10 @@ mod words;
 
 pub use count::{Count, MAX_COUNT};
 pub use feed::{Fed, Feed, MAX_LINE};
-pub use law::{no_front, no_line_feed, one_reply_spelling, one_spelling};
+pub use law::{no_front, no_line_feed, one_reply_spelling, one_spelling, wider_line};
 pub use line::{Line, Look, Query, read_line};
 pub use number::read_u32;
-pub use record::{LAST_INPUT, LAST_ORIGIN, Record, read_record, write_record};
+pub use record::{LAST_INPUT, Record, read_record, write_record};
 pub use reply::{Refusal, Reply, read_reply, write_reply};
 pub use room::REPLY_ROOM;
 pub use words::{MOST_WORDS, is_keyword, split_words};

@@ -2,6 +2,7 @@
 ghost use Rattle.std.specs.Prelude.{◌≡◌, ℕ, ◌≤◌, [], ◌∷◌, IfSome, IfNone, codes, decimal, map};
 ghost use Rattle.std.specs.List.{slice_split};
 ghost use Rattle.warp_tag.specs.Limits.{last_number, most_origins};
+ghost use Rattle.warp_tag.specs.declared.form.Form.{Form};
 ghost use Rattle.warp_record.specs.declared.line.Line.{Line};
 ghost use Rattle.warp_record.specs.declared.record.Record.{Record};
 ghost use Rattle.warp_record.specs.Number.{is_space};
@@ -10,11 +11,12 @@ ghost use Rattle.warp_record.specs.Line.{IsLine, line_words, spelling};
 
 use crate::number::read_u32;
 use crate::query_text::{behind_output, behind_var, cut_last_index, read_word};
-use crate::record::{LAST_ORIGIN, Record};
+use crate::record::{Record, last_origin};
 use crate::record_text::{
     behind_announce, behind_event, behind_withdraw, read_announcement, read_event, read_withdrawal,
 };
 use crate::words::{is_keyword, split_words};
+use warp_tag::Form;
 
 /// The first word of a query for a variable.
 pub(crate) const VAR: &[u8] = b"var";
@@ -55,7 +57,7 @@ pub enum Query {
     Released,
     /// `lost`: how much was lost, past the last microstep or the most pending entries.
     Lost,
-    /// `breach O`: whether the origin, 0 to `LAST_ORIGIN`, broke an announcement of its own.
+    /// `breach O`: whether the origin, 0 to 31 in form One and 0 to 63 in form Two, broke an announcement of its own.
     Breach(u32),
     /// `log I`: the record at this place of the log, from 1.
     Log(u32),
@@ -100,10 +102,10 @@ fn read_index(word: &[u8]) -> Option<u32>
     read_u32(word, u32::MAX)
 }
 
-/// The line in range whose only word this is; `None` where there is none.
+/// The line in range in any form whose only word this is; `None` where there is none.
 fn line_of_word(word: &[u8]) -> Option<Line>
-    ensures found { IfSome result (λ line. IsLine line × (word.now ∷ [] ≡ line_words line)) }
-    ensures none { IfNone result ((line : Line) → IsLine line → word.now ∷ [] ≡ line_words line → ⊥) }
+    ensures found { (f : Form) → IfSome result (λ line. IsLine f line × (word.now ∷ [] ≡ line_words line)) }
+    ensures none { (f : Form) → IfNone result ((line : Line) → IsLine f line → word.now ∷ [] ≡ line_words line → ⊥) }
 {
     if is_keyword(word, OUTPUTS) {
         Some(Line::Ask(Query::Outputs))
@@ -122,27 +124,27 @@ fn line_of_word(word: &[u8]) -> Option<Line>
     }
 }
 
-/// The query for this origin's breach, where there is such an origin.
-fn breach_of(origin: u32) -> Option<Line>
+/// The query for this origin's breach, where the form has such an origin.
+fn breach_of(form: Form, origin: u32) -> Option<Line>
     ensures found { IfSome result
-        (λ line. IsLine line × (codes "breach" ∷ decimal origin ∷ [] ≡ line_words line)) }
-    ensures none { IfNone result (most_origins ≤ origin) }
+        (λ line. IsLine form line × (codes "breach" ∷ decimal origin ∷ [] ≡ line_words line)) }
+    ensures none { IfNone result (most_origins form ≤ origin) }
 {
-    if origin > LAST_ORIGIN {
+    if origin > last_origin(form) {
         return None;
     }
     Some(Line::Ask(Query::Breach(origin)))
 }
 
-/// The line in range whose words are this one and this number; `None` where there is none.
-fn line_of_number(word: &[u8], number: u32) -> Option<Line>
+/// The line in range in this form whose words are this one and this number; `None` where there is none.
+fn line_of_number(form: Form, word: &[u8], number: u32) -> Option<Line>
     ensures found { IfSome result
-        (λ line. IsLine line × (word.now ∷ decimal number ∷ [] ≡ line_words line)) }
+        (λ line. IsLine form line × (word.now ∷ decimal number ∷ [] ≡ line_words line)) }
     ensures none { IfNone result
-        ((line : Line) → IsLine line → word.now ∷ decimal number ∷ [] ≡ line_words line → ⊥) }
+        ((line : Line) → IsLine form line → word.now ∷ decimal number ∷ [] ≡ line_words line → ⊥) }
 {
     if is_keyword(word, BREACH) {
-        breach_of(number)
+        breach_of(form, number)
     } else if is_keyword(word, LOG) {
         Some(Line::Ask(Query::Log(number)))
     } else if is_keyword(word, ROW) {
@@ -156,34 +158,35 @@ fn line_of_number(word: &[u8], number: u32) -> Option<Line>
     }
 }
 
-/// The line in range that is no record with these words; `None` where there is none.
-fn line_of(words: &[&[u8]]) -> Option<Line>
-    ensures found { IfSome result (λ line. IsLine line × (map (λ word. word.now) words.now ≡ line_words line)) }
-    ensures none { IfNone result ((line : Line) → IsLine line → map (λ word. word.now) words.now ≡ line_words line →
+/// The line in range in this form that is no record with these words; `None` where there is none.
+fn line_of(form: Form, words: &[&[u8]]) -> Option<Line>
+    ensures found { IfSome result (λ line. IsLine form line × (map (λ word. word.now) words.now ≡ line_words line)) }
+    ensures none { IfNone result ((line : Line) → IsLine form line →
+        map (λ word. word.now) words.now ≡ line_words line →
         (said : Record) × (map (λ word. word.now) words.now ≡ record_words said)) }
 {
     match words {
         [word] => line_of_word(word),
-        [word, number] => line_of_number(word, read_index(number)?),
+        [word, number] => line_of_number(form, word, read_index(number)?),
         _ => None,
     }
 }
 
-/// The line in range that is no record with this spelling; `None` where there is none.
-fn read_other(bytes: &[u8]) -> Option<Line>
-    ensures found { IfSome result (λ line. IsLine line × (bytes.now ≡ spelling line)) }
-    ensures none { IfNone result ((line : Line) → IsLine line → bytes.now ≡ spelling line →
+/// The line in range in this form that is no record with this spelling; `None` where there is none.
+fn read_other(form: Form, bytes: &[u8]) -> Option<Line>
+    ensures found { IfSome result (λ line. IsLine form line × (bytes.now ≡ spelling line)) }
+    ensures none { IfNone result ((line : Line) → IsLine form line → bytes.now ≡ spelling line →
         (said : Record) × (slice_split is_space bytes.now ≡ record_words said)) }
 {
     let words = split_words(bytes)?;
-    line_of(&words)
+    line_of(form, &words)
 }
 
-/// The line in range that is no record with this spelling, those that clients send most first.
+/// The line in range in this form that is no record with this spelling, those that clients send most first.
 #[inline(always)]
-fn read_asked(bytes: &[u8]) -> Option<Line>
-    ensures found { IfSome result (λ line. IsLine line × (bytes.now ≡ spelling line)) }
-    ensures none { IfNone result ((line : Line) → IsLine line → bytes.now ≡ spelling line →
+fn read_asked(form: Form, bytes: &[u8]) -> Option<Line>
+    ensures found { IfSome result (λ line. IsLine form line × (bytes.now ≡ spelling line)) }
+    ensures none { IfNone result ((line : Line) → IsLine form line → bytes.now ≡ spelling line →
         (said : Record) × (slice_split is_space bytes.now ≡ record_words said)) }
 {
     if let Some(text) = behind_var(bytes) {
@@ -195,23 +198,23 @@ fn read_asked(bytes: &[u8]) -> Option<Line>
     if let Some(line) = read_word(bytes) {
         return Some(line);
     }
-    read_other(bytes)
+    read_other(form, bytes)
 }
 
-/// The line in range with this spelling; `None` where there is none.
+/// The line in range in this form with this spelling; `None` where there is none.
 #[inline(always)]
-pub fn read_line(bytes: &[u8]) -> Option<Line>
-    ensures found { IfSome result (λ line. IsLine line × (bytes.now ≡ spelling line)) }
-    ensures none { IfNone result ((line : Line) → IsLine line → bytes.now ≡ spelling line → ⊥) }
+pub fn read_line(form: Form, bytes: &[u8]) -> Option<Line>
+    ensures found { IfSome result (λ line. IsLine form line × (bytes.now ≡ spelling line)) }
+    ensures none { IfNone result ((line : Line) → IsLine form line → bytes.now ≡ spelling line → ⊥) }
 {
     if let Some(text) = behind_event(bytes) {
-        return Some(Line::Put(read_event(text)?));
+        return Some(Line::Put(read_event(form, text)?));
     }
     if let Some(text) = behind_withdraw(bytes) {
-        return Some(Line::Put(read_withdrawal(text)?));
+        return Some(Line::Put(read_withdrawal(form, text)?));
     }
     if let Some(text) = behind_announce(bytes) {
-        return Some(Line::Put(read_announcement(text)?));
+        return Some(Line::Put(read_announcement(form, text)?));
     }
-    read_asked(bytes)
+    read_asked(form, bytes)
 }

@@ -2,6 +2,7 @@
 ghost use Rattle.std.specs.Prelude.{◌≡◌, ℕ, ◌≤◌, [], ◌∷◌, List, IfSome, IfNone, codes, decimal};
 ghost use Rattle.std.specs.List.{slice_split};
 ghost use Rattle.warp_tag.specs.Limits.{last_number};
+ghost use Rattle.warp_tag.specs.declared.form.Form.{Form};
 ghost use Rattle.warp_record.specs.Line.{IsLine, spelling};
 ghost use Rattle.warp_record.specs.Number.{is_space};
 ghost use Rattle.warp_record.specs.inner.Behind.{words_behind};
@@ -51,10 +52,10 @@ pub(crate) fn cut_last_index(text: &[u8]) -> Option<u32>
     if is_at_end(rest) { Some(number) } else { None }
 }
 
-/// The line of one word that clients send most, where it is one of these.
+/// The line of one word that clients send most, where it is one of these: in range in any form.
 #[inline(always)]
 pub(crate) fn read_word(bytes: &[u8]) -> Option<Line>
-    ensures { IfSome result (λ line. IsLine line × (bytes.now ≡ spelling line)) }
+    ensures { (f : Form) → IfSome result (λ line. IsLine f line × (bytes.now ≡ spelling line)) }
 {
     match bytes {
         b"outputs" => Some(Line::Ask(Query::Outputs)),

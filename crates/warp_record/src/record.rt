@@ -4,8 +4,8 @@ ghost use Rattle.std.specs.Prelude.{vec_len, vec_capacity};
 ghost use Rattle.std.specs.Fmt.{signed_decimal};
 ghost use Rattle.std.specs.Int.{w64};
 ghost use Rattle.std.specs.List.{join_with_byte};
-ghost use Rattle.warp_tag.specs.Limits.{most_inputs, most_records};
-ghost use Rattle.warp_tag.specs.Moment.{Moment, IsInRange};
+ghost use Rattle.warp_tag.specs.Limits.{most_inputs, most_origins, most_records};
+ghost use Rattle.warp_tag.specs.Moment.{Moment, IsTagOf};
 ghost use Rattle.warp_record.specs.declared.record.Record.{Record};
 ghost use Rattle.warp_record.specs.Record.{IsRecord, record_words, record_spelling, tag_words};
 
@@ -13,10 +13,7 @@ use crate::count::{Count, MAX_COUNT};
 use crate::number::{append, append_number, append_u32, read_int, read_number, read_u32};
 use crate::room::{RECORD_ROOM, REPLY_ROOM};
 use crate::words::is_keyword;
-use warp_tag::{LAST_MICROSTEP, MAX_TIME, Tag};
-
-/// The last origin that a line can name.
-pub const LAST_ORIGIN: u32 = 31;
+use warp_tag::{Form, Tag};
 
 /// The last program input that a line can name.
 pub const LAST_INPUT: u32 = 63;
@@ -35,7 +32,7 @@ pub(crate) const ANNOUNCE: &[u8] = b"announce";
 pub enum Record {
     /// An event `event O T M I V`: at its tag a program input has a value.
     Event {
-        /// Who says so, 0 to `LAST_ORIGIN`.
+        /// Who says so: 0 to 31 in form One, 0 to 63 in form Two.
         origin: u32,
         /// When.
         tag: Tag,
@@ -46,7 +43,7 @@ pub enum Record {
     },
     /// A withdrawal `withdraw O T M`: no event of this name counts, whether it came before or comes later.
     Withdraw {
-        /// Who says so, 0 to `LAST_ORIGIN`.
+        /// Who says so: 0 to 31 in form One, 0 to 63 in form Two.
         origin: u32,
         /// Of which tag.
         tag: Tag,
@@ -54,7 +51,7 @@ pub enum Record {
     /// An announcement `announce O T M E W`: before the tag the origin has so many names with an event and so many
     /// with a withdrawal, and will add none.
     Announce {
-        /// Who says so, 0 to `LAST_ORIGIN`.
+        /// Who says so: 0 to 31 in form One, 0 to 63 in form Two.
         origin: u32,
         /// Before which tag.
         tag: Tag,
@@ -65,15 +62,23 @@ pub enum Record {
     },
 }
 
-/// The tag whose words these are.
-pub(crate) fn read_tag(time: &[u8], micro: &[u8]) -> Option<Tag>
-    ensures found { IfSome result
-        (λ tag. IsInRange tag × (time.now ≡ decimal tag.time) × (micro.now ≡ decimal tag.microstep)) }
-    ensures none { IfNone result
-        ((tag : Moment) → IsInRange tag → time.now ≡ decimal tag.time → micro.now ≡ decimal tag.microstep → ⊥) }
+/// The last origin that a line of this form can name.
+#[inline(always)]
+pub(crate) fn last_origin(form: Form) -> u32
+    ensures { result + 1 ≡ most_origins form }
 {
-    let time = read_number(time, MAX_TIME)?;
-    let micro = read_u32(micro, LAST_MICROSTEP)?;
+    form.most_origins() - 1
+}
+
+/// The tag in range in this form whose words these are.
+pub(crate) fn read_tag(form: Form, time: &[u8], micro: &[u8]) -> Option<Tag>
+    ensures found { IfSome result
+        (λ tag. IsTagOf form tag × (time.now ≡ decimal tag.time) × (micro.now ≡ decimal tag.microstep)) }
+    ensures none { IfNone result
+        ((tag : Moment) → IsTagOf form tag → time.now ≡ decimal tag.time → micro.now ≡ decimal tag.microstep → ⊥) }
+{
+    let time = read_number(time, form.last_time())?;
+    let micro = read_u32(micro, form.last_microstep())?;
     Tag::new(time, micro)
 }
 
@@ -115,17 +120,18 @@ fn read_counts(words: &[&[u8]]) -> Option<(Count, Count)>
     Some((events, withdrawn))
 }
 
-/// The record in range whose words these are; `None` where there is none.
-pub fn read_record(words: &[&[u8]]) -> Option<Record>
-    ensures found { IfSome result (λ said. IsRecord said × (map (λ word. word.now) words.now ≡ record_words said)) }
+/// The record in range in this form whose words these are; `None` where there is none.
+pub fn read_record(form: Form, words: &[&[u8]]) -> Option<Record>
+    ensures found { IfSome result
+        (λ said. IsRecord form said × (map (λ word. word.now) words.now ≡ record_words said)) }
     ensures none { IfNone result
-        ((said : Record) → IsRecord said → map (λ word. word.now) words.now ≡ record_words said → ⊥) }
+        ((said : Record) → IsRecord form said → map (λ word. word.now) words.now ≡ record_words said → ⊥) }
 {
     let [word, origin, time, micro, operands @ ..] = words else {
         return None;
     };
-    let origin = read_u32(origin, LAST_ORIGIN)?;
-    let tag = read_tag(time, micro)?;
+    let origin = read_u32(origin, last_origin(form))?;
+    let tag = read_tag(form, time, micro)?;
     if is_keyword(word, EVENT) {
         let (input, value) = read_value(operands)?;
         Some(Record::Event {

@@ -1,7 +1,7 @@
 //! Records, each read off its text in one pass over the bytes.
 ghost use Rattle.std.specs.Prelude.{◌≡◌, ℕ, ◌<◌, ◌≤◌, [], ◌∷◌, List, IfSome, IfNone, codes, decimal};
 ghost use Rattle.std.specs.List.{slice_split};
-ghost use Rattle.warp_tag.specs.Limits.{most_origins, last_time, last_microstep};
+ghost use Rattle.warp_tag.specs.Limits.{last_microstep, last_time, most_origins};
 ghost use Rattle.warp_record.specs.declared.record.Record.{Record};
 ghost use Rattle.warp_record.specs.Number.{is_space};
 ghost use Rattle.warp_record.specs.Record.{IsRecord, record_words};
@@ -9,8 +9,8 @@ ghost use Rattle.warp_record.specs.inner.Behind.{words_behind};
 
 use crate::count::{Count, MAX_COUNT};
 use crate::cut::{are_four, cut_last_int, cut_number, cut_u32, is_at_end};
-use crate::record::{LAST_INPUT, LAST_ORIGIN, Record};
-use warp_tag::{LAST_MICROSTEP, MAX_TIME, Tag};
+use crate::record::{LAST_INPUT, Record, last_origin};
+use warp_tag::{Form, Tag};
 
 /// What is left behind the word `event` and the space that follows it.
 #[inline(always)]
@@ -64,29 +64,45 @@ pub(crate) fn behind_announce(bytes: &[u8]) -> Option<&[u8]>
 
 /// The origin, the time and the microstep that are the next words, and what is left behind them.
 #[inline(always)]
-fn cut_name(text: &[u8]) -> Option<(u32, u64, u32, &[u8])>
-    ensures found { IfSome result (λ name. (name.0 < most_origins) × (name.1 ≤ last_time) × (name.2 ≤ last_microstep)
+fn cut_name(form: Form, text: &[u8]) -> Option<(u32, u64, u32, &[u8])>
+    ensures found { IfSome result (λ name.
+        (name.0 < most_origins form) × (name.1 ≤ last_time form) × (name.2 ≤ last_microstep form)
         × (words_behind text.now ≡ decimal name.0 ∷ decimal name.1 ∷ decimal name.2 ∷ words_behind name.3.now)) }
     ensures none { IfNone result
-        ((origin time microstep : ℕ) (words : List (List ℕ)) → origin < most_origins → time ≤ last_time →
-        microstep ≤ last_microstep →
+        ((origin time microstep : ℕ) (words : List (List ℕ)) → origin < most_origins form → time ≤ last_time form →
+        microstep ≤ last_microstep form →
         words_behind text.now ≡ decimal origin ∷ decimal time ∷ decimal microstep ∷ words → ⊥) }
 {
-    let (origin, text) = cut_u32(text, LAST_ORIGIN)?;
-    let (time, text) = cut_number(text, MAX_TIME)?;
-    let (micro, text) = cut_u32(text, LAST_MICROSTEP)?;
+    let (origin, text) = cut_u32(text, last_origin(form))?;
+    let (time, text) = cut_number(text, form.last_time())?;
+    let (micro, text) = cut_u32(text, form.last_microstep())?;
     Some((origin, time, micro, text))
 }
 
-/// The event in range whose words behind the first are these.
+/// The event in range in this form whose words behind the first are these.
 #[inline(always)]
-pub(crate) fn read_event(text: &[u8]) -> Option<Record>
+pub(crate) fn read_event(form: Form, text: &[u8]) -> Option<Record>
     ensures found { IfSome result
-        (λ said. IsRecord said × (codes "event" ∷ words_behind text.now ≡ record_words said)) }
+        (λ said. IsRecord form said × (codes "event" ∷ words_behind text.now ≡ record_words said)) }
     ensures none { IfNone result
-        ((said : Record) → IsRecord said → codes "event" ∷ words_behind text.now ≡ record_words said → ⊥) }
+        ((said : Record) → IsRecord form said → codes "event" ∷ words_behind text.now ≡ record_words said → ⊥) }
 {
-    let (origin, time, micro, text) = cut_name(text)?;
+    // Written once for each form, whose limits are constants then.
+    match form {
+        Form::One => event_of(Form::One, text),
+        Form::Two => event_of(Form::Two, text),
+    }
+}
+
+/// The event in range in this form whose words behind the first are these.
+#[inline(always)]
+fn event_of(form: Form, text: &[u8]) -> Option<Record>
+    ensures found { IfSome result
+        (λ said. IsRecord form said × (codes "event" ∷ words_behind text.now ≡ record_words said)) }
+    ensures none { IfNone result
+        ((said : Record) → IsRecord form said → codes "event" ∷ words_behind text.now ≡ record_words said → ⊥) }
+{
+    let (origin, time, micro, text) = cut_name(form, text)?;
     let tag = Tag::new(time, micro)?;
     let (input, text) = cut_u32(text, LAST_INPUT)?;
     let value = cut_last_int(text)?;
@@ -98,14 +114,14 @@ pub(crate) fn read_event(text: &[u8]) -> Option<Record>
     })
 }
 
-/// The withdrawal in range whose words behind the first are these.
-pub(crate) fn read_withdrawal(text: &[u8]) -> Option<Record>
+/// The withdrawal in range in this form whose words behind the first are these.
+pub(crate) fn read_withdrawal(form: Form, text: &[u8]) -> Option<Record>
     ensures found { IfSome result
-        (λ said. IsRecord said × (codes "withdraw" ∷ words_behind text.now ≡ record_words said)) }
+        (λ said. IsRecord form said × (codes "withdraw" ∷ words_behind text.now ≡ record_words said)) }
     ensures none { IfNone result
-        ((said : Record) → IsRecord said → codes "withdraw" ∷ words_behind text.now ≡ record_words said → ⊥) }
+        ((said : Record) → IsRecord form said → codes "withdraw" ∷ words_behind text.now ≡ record_words said → ⊥) }
 {
-    let (origin, time, micro, text) = cut_name(text)?;
+    let (origin, time, micro, text) = cut_name(form, text)?;
     let tag = Tag::new(time, micro)?;
     if is_at_end(text) {
         Some(Record::Withdraw { origin, tag })
@@ -114,14 +130,14 @@ pub(crate) fn read_withdrawal(text: &[u8]) -> Option<Record>
     }
 }
 
-/// The announcement in range whose words behind the first are these.
-pub(crate) fn read_announcement(text: &[u8]) -> Option<Record>
+/// The announcement in range in this form whose words behind the first are these.
+pub(crate) fn read_announcement(form: Form, text: &[u8]) -> Option<Record>
     ensures found { IfSome result
-        (λ said. IsRecord said × (codes "announce" ∷ words_behind text.now ≡ record_words said)) }
+        (λ said. IsRecord form said × (codes "announce" ∷ words_behind text.now ≡ record_words said)) }
     ensures none { IfNone result
-        ((said : Record) → IsRecord said → codes "announce" ∷ words_behind text.now ≡ record_words said → ⊥) }
+        ((said : Record) → IsRecord form said → codes "announce" ∷ words_behind text.now ≡ record_words said → ⊥) }
 {
-    let (origin, time, micro, text) = cut_name(text)?;
+    let (origin, time, micro, text) = cut_name(form, text)?;
     let tag = Tag::new(time, micro)?;
     let (events, text) = cut_u32(text, MAX_COUNT)?;
     let (withdrawn, text) = cut_u32(text, MAX_COUNT)?;

@@ -4,7 +4,8 @@ ghost use Rattle.std.specs.Prelude.{decimal, length, vec_len, vec_capacity};
 ghost use Rattle.std.specs.Fmt.{signed_decimal};
 ghost use Rattle.std.specs.List.{join_with_byte};
 ghost use Rattle.warp_tag.specs.Limits.{greatest_count, most_records};
-ghost use Rattle.warp_tag.specs.Moment.{Moment, IsInRange};
+ghost use Rattle.warp_tag.specs.Moment.{Moment, IsTagOf};
+ghost use Rattle.warp_tag.specs.declared.form.Form.{Form};
 ghost use Rattle.warp_tag.specs.declared.out.Out.{Out};
 ghost use Rattle.warp_record.specs.declared.record.Record.{Record};
 ghost use Rattle.warp_record.specs.declared.reply.Refusal.{Refusal};
@@ -23,7 +24,7 @@ use crate::record::{Record, append_record, append_tag, read_record, read_tag};
 use crate::room::REPLY_ROOM;
 use crate::words::{is_keyword, split_words};
 use itoa::write_digits;
-use warp_tag::{Out, Tag};
+use warp_tag::{Form, Out, Tag};
 
 // The first words of replies that begin no line. That of `none` stands alone or before a length.
 const TAKEN: &[u8] = b"taken";
@@ -221,38 +222,40 @@ fn read_flag(word: &[u8]) -> Option<bool>
     }
 }
 
-/// The output that the words spell.
-fn read_output(words: &[&[u8]]) -> Option<Out>
-    ensures found { IfSome result (λ output. IsOut output × (map (λ word. word.now) words.now ≡ out_words output)) }
-    ensures none { IfNone result ((output : Out) → IsOut output →
+/// The output in range in this form that the words spell.
+fn read_output(form: Form, words: &[&[u8]]) -> Option<Out>
+    ensures found { IfSome result
+        (λ output. IsOut form output × (map (λ word. word.now) words.now ≡ out_words output)) }
+    ensures none { IfNone result ((output : Out) → IsOut form output →
         map (λ word. word.now) words.now ≡ out_words output → ⊥) }
 {
     let [time, micro, port, value] = words else {
         return None;
     };
-    let tag = read_tag(time, micro)?;
+    let tag = read_tag(form, time, micro)?;
     let port = read_u32(port, LAST_PORT)?;
     let value = read_int(value)?;
     Some(Out { tag, port, value })
 }
 
-/// The refusal that this word tells behind `refused`; `None` where there is none.
+/// The refusal that this word tells behind `refused`, in range in any form; `None` where there is none.
 fn read_refused(number: &[u8]) -> Option<Reply>
-    ensures found { IfSome result
-        (λ reply. IsReply reply × (codes "refused" ∷ number.now ∷ [] ≡ reply_words reply)) }
-    ensures none { IfNone result
-        ((reply : Reply) → IsReply reply → codes "refused" ∷ number.now ∷ [] ≡ reply_words reply → ⊥) }
+    ensures found { (f : Form) → IfSome result
+        (λ reply. IsReply f reply × (codes "refused" ∷ number.now ∷ [] ≡ reply_words reply)) }
+    ensures none { (f : Form) → IfNone result
+        ((reply : Reply) → IsReply f reply → codes "refused" ∷ number.now ∷ [] ≡ reply_words reply → ⊥) }
 {
     let number = read_u32(number, MAX_COUNT)?;
     let refusal = Refusal::from_number(number)?;
     Some(Reply::Refused(refusal))
 }
 
-/// The reply in range whose words are these two; `None` where there is none.
+/// The reply in range in any form whose words are these two; `None` where there is none.
 fn read_short(word: &[u8], number: &[u8]) -> Option<Reply>
-    ensures found { IfSome result (λ reply. IsReply reply × (word.now ∷ number.now ∷ [] ≡ reply_words reply)) }
-    ensures none { IfNone result
-        ((reply : Reply) → IsReply reply → word.now ∷ number.now ∷ [] ≡ reply_words reply → ⊥) }
+    ensures found { (f : Form) → IfSome result
+        (λ reply. IsReply f reply × (word.now ∷ number.now ∷ [] ≡ reply_words reply)) }
+    ensures none { (f : Form) → IfNone result
+        ((reply : Reply) → IsReply f reply → word.now ∷ number.now ∷ [] ≡ reply_words reply → ⊥) }
 {
     if is_keyword(word, REFUSED) {
         return read_refused(number);
@@ -283,9 +286,9 @@ fn read_short(word: &[u8], number: &[u8]) -> Option<Reply>
 
 /// The value that these words tell behind `var`; `None` where there is none.
 fn read_var(number: &[u8], value: &[u8]) -> Option<Reply>
-    ensures found { IfSome result
-        (λ reply. IsReply reply × (codes "var" ∷ number.now ∷ value.now ∷ [] ≡ reply_words reply)) }
-    ensures none { IfNone result ((reply : Reply) → IsReply reply →
+    ensures found { (f : Form) → IfSome result
+        (λ reply. IsReply f reply × (codes "var" ∷ number.now ∷ value.now ∷ [] ≡ reply_words reply)) }
+    ensures none { (f : Form) → IfNone result ((reply : Reply) → IsReply f reply →
         codes "var" ∷ number.now ∷ value.now ∷ [] ≡ reply_words reply → ⊥) }
 {
     let log = read_u32(number, MAX_COUNT)?;
@@ -295,9 +298,9 @@ fn read_var(number: &[u8], value: &[u8]) -> Option<Reply>
 
 /// What these words tell behind `breach`; `None` where there is nothing.
 fn read_breach(number: &[u8], flag: &[u8]) -> Option<Reply>
-    ensures found { IfSome result
-        (λ reply. IsReply reply × (codes "breach" ∷ number.now ∷ flag.now ∷ [] ≡ reply_words reply)) }
-    ensures none { IfNone result ((reply : Reply) → IsReply reply →
+    ensures found { (f : Form) → IfSome result
+        (λ reply. IsReply f reply × (codes "breach" ∷ number.now ∷ flag.now ∷ [] ≡ reply_words reply)) }
+    ensures none { (f : Form) → IfNone result ((reply : Reply) → IsReply f reply →
         codes "breach" ∷ number.now ∷ flag.now ∷ [] ≡ reply_words reply → ⊥) }
 {
     let log = read_u32(number, MAX_COUNT)?;
@@ -307,9 +310,9 @@ fn read_breach(number: &[u8], flag: &[u8]) -> Option<Reply>
 
 /// What these words tell behind `board`; `None` where there is nothing.
 fn read_board(number: &[u8], flag: &[u8]) -> Option<Reply>
-    ensures found { IfSome result
-        (λ reply. IsReply reply × (codes "board" ∷ number.now ∷ flag.now ∷ [] ≡ reply_words reply)) }
-    ensures none { IfNone result ((reply : Reply) → IsReply reply →
+    ensures found { (f : Form) → IfSome result
+        (λ reply. IsReply f reply × (codes "board" ∷ number.now ∷ flag.now ∷ [] ≡ reply_words reply)) }
+    ensures none { (f : Form) → IfNone result ((reply : Reply) → IsReply f reply →
         codes "board" ∷ number.now ∷ flag.now ∷ [] ≡ reply_words reply → ⊥) }
 {
     let count = read_u32(number, MAX_ROWS)?;
@@ -317,11 +320,12 @@ fn read_board(number: &[u8], flag: &[u8]) -> Option<Reply>
     Some(Reply::Board { count, frozen })
 }
 
-/// The reply in range whose words are this one, the length of a log and a count; `None` where there is none.
+/// The reply in range in any form whose words are this one, the length of a log and a count; `None` where there is
+/// none.
 fn reply_of_count(word: &[u8], log: u32, count: u64) -> Option<Reply>
     requires { log ≤ most_records }
-    ensures found { IfSome result
-        (λ reply. IsReply reply × (word.now ∷ decimal log ∷ decimal count ∷ [] ≡ reply_words reply)) }
+    ensures found { (f : Form) → IfSome result
+        (λ reply. IsReply f reply × (word.now ∷ decimal log ∷ decimal count ∷ [] ≡ reply_words reply)) }
     ensures none { IfNone result
         ((word.now ≢ codes "outputs") × (word.now ≢ codes "released") × (word.now ≢ codes "lost")) }
 {
@@ -336,12 +340,12 @@ fn reply_of_count(word: &[u8], log: u32, count: u64) -> Option<Reply>
     }
 }
 
-/// The reply in range whose words are these three; `None` where there is none.
+/// The reply in range in any form whose words are these three; `None` where there is none.
 fn read_middle(word: &[u8], number: &[u8], field: &[u8]) -> Option<Reply>
-    ensures found { IfSome result
-        (λ reply. IsReply reply × (word.now ∷ number.now ∷ field.now ∷ [] ≡ reply_words reply)) }
-    ensures none { IfNone result
-        ((reply : Reply) → IsReply reply → word.now ∷ number.now ∷ field.now ∷ [] ≡ reply_words reply → ⊥) }
+    ensures found { (f : Form) → IfSome result
+        (λ reply. IsReply f reply × (word.now ∷ number.now ∷ field.now ∷ [] ≡ reply_words reply)) }
+    ensures none { (f : Form) → IfNone result
+        ((reply : Reply) → IsReply f reply → word.now ∷ number.now ∷ field.now ∷ [] ≡ reply_words reply → ⊥) }
 {
     if is_keyword(word, VAR) {
         return read_var(number, field);
@@ -358,88 +362,90 @@ fn read_middle(word: &[u8], number: &[u8], field: &[u8]) -> Option<Reply>
 }
 
 /// The horizon that these words tell behind `horizon`; `None` where there is none.
-fn read_horizon(words: &[&[u8]]) -> Option<Reply>
+fn read_horizon(form: Form, words: &[&[u8]]) -> Option<Reply>
     ensures found { IfSome result
-        (λ reply. IsReply reply × (codes "horizon" ∷ map (λ word. word.now) words.now ≡ reply_words reply)) }
-    ensures none { IfNone result ((reply : Reply) → IsReply reply →
+        (λ reply. IsReply form reply × (codes "horizon" ∷ map (λ word. word.now) words.now ≡ reply_words reply)) }
+    ensures none { IfNone result ((reply : Reply) → IsReply form reply →
         codes "horizon" ∷ map (λ word. word.now) words.now ≡ reply_words reply → ⊥) }
 {
     let [number, time, micro] = words else {
         return None;
     };
     let log = read_u32(number, MAX_COUNT)?;
-    let tag = read_tag(time, micro)?;
+    let tag = read_tag(form, time, micro)?;
     Some(Reply::Horizon { log, tag })
 }
 
 /// The row that these words tell behind `row`; `None` where there is none.
-fn read_row(words: &[&[u8]]) -> Option<Reply>
+fn read_row(form: Form, words: &[&[u8]]) -> Option<Reply>
     ensures found { IfSome result
-        (λ reply. IsReply reply × (codes "row" ∷ map (λ word. word.now) words.now ≡ reply_words reply)) }
-    ensures none { IfNone result ((reply : Reply) → IsReply reply →
+        (λ reply. IsReply form reply × (codes "row" ∷ map (λ word. word.now) words.now ≡ reply_words reply)) }
+    ensures none { IfNone result ((reply : Reply) → IsReply form reply →
         codes "row" ∷ map (λ word. word.now) words.now ≡ reply_words reply → ⊥) }
 {
-    let output = read_output(words)?;
+    let output = read_output(form, words)?;
     Some(Reply::Row(output))
 }
 
 /// The output that these words tell behind `output`; `None` where there is none.
-fn read_told_output(words: &[&[u8]]) -> Option<Reply>
+fn read_told_output(form: Form, words: &[&[u8]]) -> Option<Reply>
     ensures found { IfSome result
-        (λ reply. IsReply reply × (codes "output" ∷ map (λ word. word.now) words.now ≡ reply_words reply)) }
-    ensures none { IfNone result ((reply : Reply) → IsReply reply →
+        (λ reply. IsReply form reply × (codes "output" ∷ map (λ word. word.now) words.now ≡ reply_words reply)) }
+    ensures none { IfNone result ((reply : Reply) → IsReply form reply →
         codes "output" ∷ map (λ word. word.now) words.now ≡ reply_words reply → ⊥) }
 {
     let [number, output @ ..] = words else {
         return None;
     };
     let log = read_u32(number, MAX_COUNT)?;
-    let output = read_output(output)?;
+    let output = read_output(form, output)?;
     Some(Reply::Output { log, output })
 }
 
 /// The record that these words tell behind `log`; `None` where there is none.
-fn read_told_record(words: &[&[u8]]) -> Option<Reply>
+fn read_told_record(form: Form, words: &[&[u8]]) -> Option<Reply>
     ensures found { IfSome result
-        (λ reply. IsReply reply × (codes "log" ∷ map (λ word. word.now) words.now ≡ reply_words reply)) }
-    ensures none { IfNone result ((reply : Reply) → IsReply reply →
+        (λ reply. IsReply form reply × (codes "log" ∷ map (λ word. word.now) words.now ≡ reply_words reply)) }
+    ensures none { IfNone result ((reply : Reply) → IsReply form reply →
         codes "log" ∷ map (λ word. word.now) words.now ≡ reply_words reply → ⊥) }
 {
     let [number, record @ ..] = words else {
         return None;
     };
     let log = read_u32(number, MAX_COUNT)?;
-    let record = read_record(record)?;
+    let record = read_record(form, record)?;
     Some(Reply::Log { log, record })
 }
 
-/// The reply in range whose words are this one and these, which are three or more; `None` where there is none.
-fn read_long(word: &[u8], fields: &[&[u8]]) -> Option<Reply>
+/// The reply in range in this form whose words are this one and these, which are three or more; `None` where there is
+/// none.
+fn read_long(form: Form, word: &[u8], fields: &[&[u8]]) -> Option<Reply>
     requires { 2 < length fields.now }
     ensures found { IfSome result
-        (λ reply. IsReply reply × (word.now ∷ map (λ word. word.now) fields.now ≡ reply_words reply)) }
-    ensures none { IfNone result ((reply : Reply) → IsReply reply →
+        (λ reply. IsReply form reply × (word.now ∷ map (λ word. word.now) fields.now ≡ reply_words reply)) }
+    ensures none { IfNone result ((reply : Reply) → IsReply form reply →
         word.now ∷ map (λ word. word.now) fields.now ≡ reply_words reply → ⊥) }
 {
     if is_keyword(word, ROW) {
-        return read_row(fields);
+        return read_row(form, fields);
     }
     if is_keyword(word, HORIZON) {
-        return read_horizon(fields);
+        return read_horizon(form, fields);
     }
     if is_keyword(word, OUTPUT) {
-        return read_told_output(fields);
+        return read_told_output(form, fields);
     }
     if is_keyword(word, LOG) {
-        return read_told_record(fields);
+        return read_told_record(form, fields);
     }
     None
 }
 
 /// The reply whose only word this is; `None` where there is none.
 fn read_alone(word: &[u8]) -> Option<Reply>
-    ensures found { IfSome result (λ reply. IsReply reply × (word.now ∷ [] ≡ reply_words reply)) }
-    ensures none { IfNone result ((reply : Reply) → IsReply reply → word.now ∷ [] ≡ reply_words reply → ⊥) }
+    ensures found { (f : Form) → IfSome result (λ reply. IsReply f reply × (word.now ∷ [] ≡ reply_words reply)) }
+    ensures none { (f : Form) → IfNone result
+        ((reply : Reply) → IsReply f reply → word.now ∷ [] ≡ reply_words reply → ⊥) }
 {
     if is_keyword(word, NONE) {
         Some(Reply::NoRow)
@@ -448,28 +454,29 @@ fn read_alone(word: &[u8]) -> Option<Reply>
     }
 }
 
-/// The reply in range with these words; `None` where there is none.
-fn read_words(words: &[&[u8]]) -> Option<Reply>
-    ensures found { IfSome result (λ reply. IsReply reply × (map (λ word. word.now) words.now ≡ reply_words reply)) }
-    ensures none { IfNone result ((reply : Reply) → IsReply reply →
+/// The reply in range in this form with these words; `None` where there is none.
+fn read_words(form: Form, words: &[&[u8]]) -> Option<Reply>
+    ensures found { IfSome result
+        (λ reply. IsReply form reply × (map (λ word. word.now) words.now ≡ reply_words reply)) }
+    ensures none { IfNone result ((reply : Reply) → IsReply form reply →
         map (λ word. word.now) words.now ≡ reply_words reply → ⊥) }
 {
     match words {
         [word] => read_alone(word),
         [word, number] => read_short(word, number),
         [word, number, field] => read_middle(word, number, field),
-        [word, fields @ ..] => read_long(word, fields),
+        [word, fields @ ..] => read_long(form, word, fields),
         [] => None,
     }
 }
 
-/// The reply in range with this spelling; `None` where there is none.
-pub fn read_reply(bytes: &[u8]) -> Option<Reply>
-    ensures found { IfSome result (λ reply. IsReply reply × (bytes.now ≡ reply_spelling reply)) }
-    ensures none { IfNone result ((reply : Reply) → IsReply reply → bytes.now ≡ reply_spelling reply → ⊥) }
+/// The reply in range in this form with this spelling; `None` where there is none.
+pub fn read_reply(form: Form, bytes: &[u8]) -> Option<Reply>
+    ensures found { IfSome result (λ reply. IsReply form reply × (bytes.now ≡ reply_spelling reply)) }
+    ensures none { IfNone result ((reply : Reply) → IsReply form reply → bytes.now ≡ reply_spelling reply → ⊥) }
 {
     let words = split_words(bytes)?;
-    read_words(&words)
+    read_words(form, &words)
 }
 
 /// The room for the reply that tells a place, and how many bytes are copied for it.

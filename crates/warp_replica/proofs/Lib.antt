@@ -12,3 +12,5 @@ pub mod Chains
 pub mod MergeChains
 pub mod AnewTables
 pub mod AnewNames
+pub mod Raised
+pub mod RaisedRecords

@@ -43,7 +43,7 @@ next_new mine theirs i said at lacks = elim (cases_Bool (set_of mine said)) [
 ]
 
 -- no record before it is the same
-others_before : (theirs : List Record) (i : ℕ) (said : Record) → EachOnce theirs → slice_get theirs i ≡ Some said → All (λ r. r ≢ said) (take i theirs)
+pub others_before : (theirs : List Record) (i : ℕ) (said : Record) → EachOnce theirs → slice_get theirs i ≡ Some said → All (λ r. r ≢ said) (take i theirs)
 others_before theirs i said once at = λ k d below same.
     let within = slice_get_within theirs i said at in
     let before : k < i = omega (arith, length-take i theirs) in
@@ -85,7 +85,7 @@ at_end (said ∷ rest) i none = elim (cases_Bool (nat_lt i (length (said ∷ res
 ]
 
 -- a record that stands at a place is in the log
-at_contained : (records : List Record) (place : ℕ) (said : Record) → IsAt records place said → Contains records said
+pub at_contained : (records : List Record) (place : ℕ) (said : Record) → IsAt records place said → Contains records said
 at_contained records place said at =
     (place - 1, slice_get_within records (place - 1) said at.1, get_or_from_slice_get records (place - 1) said said at.1)
 

@@ -7,7 +7,7 @@ use Rattle.warp_record.specs.declared.reply.Refusal.{Refusal}
 use Rattle.warp_record.specs.declared.reply.Refusal.TheVariants.{NoMemory, Busy}
 use Rattle.warp_record.specs.declared.reply.Reply.{Reply}
 use Rattle.warp_record.specs.declared.reply.Reply.TheVariants as reply
-use Rattle.warp_exchange.specs.Pulls.{Pulls, Step}
+use Rattle.warp_exchange.specs.Pulls.{Pulls, Turned}
 use Rattle.warp_step.specs.Program.{Program}
 use Rattle.warp_replica.specs.Desk.{LocalState, LocalGives}
 use Rattle.warp_replica.specs.Gives.{Takes}
@@ -42,15 +42,15 @@ put s s' log new answer h = (
 )
 
 -- a log has the place that was asked for, or is too short for it
-from_log : (s s' : LocalState) (log : ℕ) (new : Record) (step stays : Step) (after : Reply → Step) (short : Bool)
-    → MatchBool short ((step ≡ stays) × (s' ≡ s)) ((answer : Reply) × LocalGives s (Put new) answer s' × (step ≡ after answer))
+from_log : (s s' : LocalState) (log : ℕ) (new : Record) (turned stays : Turned) (after : Reply → Turned) (short : Bool)
+    → MatchBool short ((turned ≡ stays) × (s' ≡ s)) ((answer : Reply) × LocalGives s (Put new) answer s' × (turned ≡ after answer))
     → HasPulled s (Some (reply.Log log new)) s'
-from_log s s' log new step stays after true h = same_state s s' (Some (reply.Log log new)) h.1
-from_log s s' log new step stays after false h = put s s' log new h.0 h.1
+from_log s s' log new turned stays after true h = same_state s s' (Some (reply.Log log new)) h.1
+from_log s s' log new turned stays after false h = put s s' log new h.0 h.1
 
-pub pulled_record : (s s' : LocalState) (place : ℕ) (said : Option Reply) (step : Step) → Pulls LocalGives s place said step s' → HasPulled s said s'
-pulled_record s s' place (Some (reply.Log log new)) step h = from_log s s' log new step _ _ (nat_lt log place) h
-pulled_record s s' place (Some (reply.Refused NoMemory)) step h = same_state s s' (Some (reply.Refused NoMemory)) h.1
-pulled_record s s' place (Some (reply.Refused Busy)) step h = same_state s s' (Some (reply.Refused Busy)) h.1
-pulled_record s s' place (Some (reply.Nothing log)) step h = same_state s s' (Some (reply.Nothing log)) h.1
-pulled_record s s' place other step h = same_state s s' other h.1
+pub pulled_record : (s s' : LocalState) (place : ℕ) (said : Option Reply) (turned : Turned) → Pulls LocalGives s place said turned s' → HasPulled s said s'
+pulled_record s s' place (Some (reply.Log log new)) turned h = from_log s s' log new turned _ _ (nat_lt log place) h
+pulled_record s s' place (Some (reply.Refused NoMemory)) turned h = same_state s s' (Some (reply.Refused NoMemory)) h.1
+pulled_record s s' place (Some (reply.Refused Busy)) turned h = same_state s s' (Some (reply.Refused Busy)) h.1
+pulled_record s s' place (Some (reply.Nothing log)) turned h = same_state s s' (Some (reply.Nothing log)) h.1
+pulled_record s s' place other turned h = same_state s s' other h.1

@@ -1,12 +1,14 @@
 //! Laws: what a query gives follows from the set of the records, whatever the order and repeats of taking.
-ghost use Rattle.std.specs.Prelude.{◌≡◌, ◌≢◌, ◌≤◌, ◌<◌, ◌⊎◌, ◌++◌, ◌∷◌, [], ℕ, List, length, Option, Some, Result, Err};
+ghost use Rattle.std.specs.Prelude.{◌≡◌, ◌≢◌, ◌≤◌, ◌<◌, ◌⊎◌, ◌++◌, ◌∷◌, [], ℕ, List, length, Option, Some, None};
+ghost use Rattle.std.specs.Prelude.{Result, Err};
 ghost use Rattle.warp_tag.specs.Limits.{most_records};
-ghost use Rattle.warp_step.specs.Program.{Program};
+ghost use Rattle.warp_step.specs.Program.{Program, raised};
 ghost use Rattle.warp_record.specs.declared.line.Query.{Query};
 ghost use Rattle.warp_record.specs.declared.record.Record.{Record};
 ghost use Rattle.warp_record.specs.declared.reply.Refusal.{Refusal};
 ghost use Rattle.warp_record.specs.declared.reply.Reply.{Reply};
-ghost use Rattle.warp_exchange.specs.Pulls.{Pulls, Step};
+ghost use Rattle.warp_exchange.specs.Pulls.{Pulls, Turned};
+ghost use Rattle.warp_table.specs.Check.{refusal_of};
 ghost use Rattle.warp_table.specs.Log.{EachOnce};
 ghost use Rattle.warp_table.specs.Records.{Records, set_of, union};
 ghost use Rattle.warp_replica.specs.Answers.{Answers, AreAnswers};
@@ -75,8 +77,20 @@ pub fn one_taking()
 /// What a puller does with a replica as its desk: the replica's log grows by the record that was replied, or not at
 /// all.
 pub fn pulled_record()
-    ensures { (s s' : LocalState) (place : ℕ) (said : Option Reply) (step : Step) →
-        Pulls LocalGives s place said step s' →
+    ensures { (s s' : LocalState) (place : ℕ) (said : Option Reply) (turned : Turned) →
+        Pulls LocalGives s place said turned s' →
         (s'.program ≡ s.program) × ((s'.records ≡ s.records)
         ⊎ ((log : ℕ) × (new : Record) × (said ≡ Some (Reply.Log log new)) × (s'.records ≡ s.records ++ new ∷ []))) }
+{}
+
+/// A program raised to version 2 has no reason against a record that the program had none against. And where the old
+/// program lost nothing over a log, the raised one gives the same reply to every query over it, and no other.
+pub fn raised_replies()
+    ensures allowed { (P : Program) (said : Record) → refusal_of P said ≡ None → refusal_of (raised P) said ≡ None }
+    ensures same { (P : Program) (records : List Record) (log : ℕ) (query : Query) (reply : Reply) →
+        GivesQuery P records Query.Lost (Reply.Lost log 0) → GivesQuery P records query reply →
+        GivesQuery (raised P) records query reply }
+    ensures only { (P : Program) (records : List Record) (log : ℕ) (query : Query) (reply other : Reply) →
+        GivesQuery P records Query.Lost (Reply.Lost log 0) → GivesQuery P records query reply →
+        GivesQuery (raised P) records query other → other ≡ reply }
 {}

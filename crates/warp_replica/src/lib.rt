@@ -3,8 +3,8 @@
 //! `Replica` takes records, settles its timeline and answers queries; contracts see its program, the list of its
 //! records and the timeline. `Local` is a replica without peers as a desk, which answers lines. What a query gives
 //! follows from the set of the records (`one_answer`, `same_replies`). While no origin breaks an announcement, what was
-//! released stays (`released_stays`, `released_agree`). What settling costs after records came is bounded
-//! (`rework_after_takes`).
+//! released stays (`released_stays`, `released_agree`). A replica raised to version 2 answers as before where nothing
+//! was lost (`raised_replies`). What settling costs after records came is bounded (`rework_after_takes`).
 #![tactic(auto)]
 
 mod anew;
@@ -12,6 +12,7 @@ mod asking;
 mod idle;
 mod law;
 mod local;
+mod raise;
 mod release_law;
 mod replica;
 mod rework_law;
@@ -19,7 +20,8 @@ mod took;
 
 pub use idle::Idle;
 pub use law::{
-    merging_joins, merging_laws, one_answer, one_reply, one_taking, pulled_record, same_replies,
+    merging_joins, merging_laws, one_answer, one_reply, one_taking, pulled_record, raised_replies,
+    same_replies,
 };
 pub use local::Local;
 pub use release_law::{

@@ -1,7 +1,7 @@
 //! A replica: a program, the table of the records that it took, and the timeline that runs them.
 ghost use Rattle.std.specs.Prelude.{◌≡◌, ◌↔◌, ℕ, ◌+◌, ◌-◌, ◌<◌, ◌≤◌, [], ◌∷◌, ◌++◌, false, None, Ok, length, List};
 ghost use Rattle.std.specs.Prelude.{All, Contains, IsTrue, IfSome, IfNone, IsOk, IfOk, IfErr, OnOk, OnErr};
-ghost use Rattle.warp_tag.specs.Limits.{most_origins, most_outputs, most_records};
+ghost use Rattle.warp_tag.specs.Limits.{most_origins, most_outputs, most_records, widest};
 ghost use Rattle.warp_record.specs.declared.line.Query.{Query};
 ghost use Rattle.warp_record.specs.declared.record.Record.{Record};
 ghost use Rattle.warp_record.specs.declared.reply.Reply.{Reply};
@@ -143,7 +143,7 @@ impl<T: Timeline> Replica<T> {
         ensures calm { comes_behind (T.floor self.old.timeline) «record».now ≡ false →
             live (table_of self.new.records) ≡ live (table_of self.old.records) →
             T.settled self.new.timeline ≡ T.settled self.old.timeline }
-        ensures reply { IsReply (told result) }
+        ensures reply { IsReply widest (told result) }
     {
         Table::check(&self.program, record)?;
         if self.table.is_full() {
@@ -201,7 +201,7 @@ impl<T: Timeline> Replica<T> {
             ((done : List Row) → Stands T.stands_for self.old done → Stands T.stands_for self.new done) }
         ensures settled_at_err { OnErr result (T.settled self.new.timeline ≡ T.settled self.old.timeline) }
         ensures floor_at_err { OnErr result (T.floor self.new.timeline ≡ T.floor self.old.timeline) }
-        ensures reply { IfOk result (λ took. IsReply (told (Ok took))) }
+        ensures reply { IfOk result (λ took. IsReply widest (told (Ok took))) }
     {
         // The table keeps a place for each origin up to the record's.
         record_in_range(&self.program, record);
@@ -223,7 +223,7 @@ impl<T: Timeline> Replica<T> {
     fn add_behind(&mut self, alloc: Global, record: &Record) -> Result<Took, OutOfMemory>
         requires allowed { refusal_of self.old.program «record».now ≡ None }
         requires room { length self.old.records < most_records }
-        requires origin { origin_of «record».now < most_origins }
+        requires origin { origin_of «record».now < most_origins widest }
         ensures takes { IfOk result
             (λ took. Takes self.old.program self.old.records «record».now (Ok took) self.new.records) }
         ensures program { self.new.program ≡ self.old.program }
@@ -231,7 +231,7 @@ impl<T: Timeline> Replica<T> {
             ((done : List Row) × Stands T.stands_for self.new done)) }
         ensures known { IfOk result (λ took. came_in (Ok took) ≡ false → self.new ≡ self.old) }
         ensures err { OnErr result (self.new ≡ self.old) }
-        ensures reply { IfOk result (λ took. IsReply (told (Ok took))) }
+        ensures reply { IfOk result (λ took. IsReply widest (told (Ok took))) }
     {
         if let Some(place) = self.table.position(record) {
             return Ok(Took::Known(place));
@@ -277,7 +277,7 @@ impl<T: Timeline> Replica<T> {
     pub fn answer(&self, query: Query) -> Reply
         requires { IsTrue (T.settled self.now.timeline) }
         ensures gives { GivesQuery self.now.program self.now.records query result }
-        ensures reply { IsReply result }
+        ensures reply { IsReply widest result }
     {
         // The most frequent query pays nothing for the others.
         if let Query::Var(number) = query {
@@ -291,7 +291,7 @@ impl<T: Timeline> Replica<T> {
     fn tell(&self, query: Query) -> Reply
         requires { IsTrue (T.settled self.now.timeline) }
         ensures gives { GivesQuery self.now.program self.now.records query result }
-        ensures reply { IsReply result }
+        ensures reply { IsReply widest result }
     {
         match query {
             Query::Var(number) => self.variable(number),
@@ -310,7 +310,7 @@ impl<T: Timeline> Replica<T> {
     fn variable(&self, number: u32) -> Reply
         requires { IsTrue (T.settled self.now.timeline) }
         ensures gives { GivesQuery self.now.program self.now.records (Query.Var number) result }
-        ensures reply { IsReply result }
+        ensures reply { IsReply widest result }
     {
         // Each program is valid, and so has an origin and a horizon.
         self.program.valid();
@@ -325,7 +325,7 @@ impl<T: Timeline> Replica<T> {
     fn outputs(&self) -> Reply
         requires { IsTrue (T.settled self.now.timeline) }
         ensures gives { GivesQuery self.now.program self.now.records Query.Outputs result }
-        ensures reply { IsReply result }
+        ensures reply { IsReply widest result }
     {
         // Each program is valid, and so has an origin and a horizon.
         self.program.valid();
@@ -339,7 +339,7 @@ impl<T: Timeline> Replica<T> {
     fn output(&self, number: u32) -> Reply
         requires { IsTrue (T.settled self.now.timeline) }
         ensures gives { GivesQuery self.now.program self.now.records (Query.Output number) result }
-        ensures reply { IsReply result }
+        ensures reply { IsReply widest result }
     {
         // Each program is valid, and so has few outputs.
         self.program.valid();
@@ -360,7 +360,7 @@ impl<T: Timeline> Replica<T> {
     fn horizon(&self) -> Reply
         requires { IsTrue (T.settled self.now.timeline) }
         ensures gives { GivesQuery self.now.program self.now.records Query.Horizon result }
-        ensures reply { IsReply result }
+        ensures reply { IsReply widest result }
     {
         Reply::Horizon {
             log: self.table.len(),
@@ -372,7 +372,7 @@ impl<T: Timeline> Replica<T> {
     fn released_count(&self) -> Reply
         requires { IsTrue (T.settled self.now.timeline) }
         ensures gives { GivesQuery self.now.program self.now.records Query.Released result }
-        ensures reply { IsReply result }
+        ensures reply { IsReply widest result }
     {
         Reply::Released {
             log: self.table.len(),
@@ -400,7 +400,7 @@ impl<T: Timeline> Replica<T> {
     fn breach(&self, origin: u32) -> Reply
         requires { IsTrue (T.settled self.now.timeline) }
         ensures gives { GivesQuery self.now.program self.now.records (Query.Breach origin) result }
-        ensures reply { IsReply result }
+        ensures reply { IsReply widest result }
     {
         // Each program is valid, and so has an origin and a horizon.
         self.program.valid();
@@ -418,7 +418,7 @@ impl<T: Timeline> Replica<T> {
     fn lost(&self) -> Reply
         requires { IsTrue (T.settled self.now.timeline) }
         ensures gives { GivesQuery self.now.program self.now.records Query.Lost result }
-        ensures reply { IsReply result }
+        ensures reply { IsReply widest result }
     {
         // Each program is valid, and so has an origin and a horizon.
         self.program.valid();
@@ -431,7 +431,7 @@ impl<T: Timeline> Replica<T> {
     /// Tells the record at a place of the log, if there is one.
     fn record(&self, place: u32) -> Reply
         ensures gives { GivesQuery self.now.program self.now.records (Query.Log place) result }
-        ensures reply { IsReply result }
+        ensures reply { IsReply widest result }
     {
         // Each program is valid, and so has an origin and a horizon.
         self.program.valid();
@@ -450,7 +450,7 @@ impl<T: Timeline> Replica<T> {
     pub fn collect(&mut self) -> Reply
         requires { IsTrue (T.settled self.old.timeline) }
         ensures reply { result ≡ Reply.Collected (length self.old.records) }
-        ensures range { IsReply result }
+        ensures range { IsReply widest result }
         ensures program { self.new.program ≡ self.old.program }
         ensures records { self.new.records ≡ self.old.records }
         ensures stands { (done : List Row) → Stands T.stands_for self.old done → Stands T.stands_for self.new done }
@@ -507,7 +507,7 @@ impl<T: Timeline> Replica<T> {
 /// That an output is in range where its number is. It does nothing.
 fn output_in_range(output: &Out)
     requires { output.now.port < most_outputs }
-    ensures { IsOut output.now }
+    ensures { IsOut widest output.now }
 {
     // A look at its tag and its value shows it.
     let Out { tag, value, .. } = *output;
@@ -518,7 +518,7 @@ fn output_in_range(output: &Out)
 /// That a record against which the program has no reason is in range. It does nothing.
 fn record_in_range(program: &Program, record: &Record)
     requires { refusal_of program.now «record».now ≡ None }
-    ensures { IsRecord «record».now }
+    ensures { IsRecord widest «record».now }
 {
     // Each program is valid, and so has few origins and inputs; a look at the tag and the numbers shows the rest.
     program.valid();

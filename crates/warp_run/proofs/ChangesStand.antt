@@ -1,5 +1,5 @@
 -- What a `Warp` stands for after a change of one name.
-use Rattle.std.proofs.Common.{◌≡◌, inl, inr, ℕ, ◌≤◌, true, false, IsTrue, IsSomeAnd, List, [], ◌∷◌, length, take, drop, ap, sym, subst, ◌∙◌, refl, arith, Some, unwrap_or}
+use Rattle.std.proofs.Common.{◌≡◌, inl, inr, ℕ, true, false, IsTrue, IsSomeAnd, List, [], ◌∷◌, length, take, drop, ap, sym, subst, ◌∙◌, refl, arith, Some, unwrap_or}
 use Rattle.std.specs.List.{list_all}
 use Rattle.std.specs.Prelude.{vec_capacity}
 use Rattle.std.specs.Option.{option_map}

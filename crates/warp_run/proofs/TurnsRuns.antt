@@ -49,8 +49,7 @@ begin_within P E rows h = begin_length P E rows (exists P E).0 h (exists P E).1
 pub begin_names : (P : Program) (E : List Event) → IsTrue (is_valid P) → IsTrue (list_all (event_fits P) E) → AreFew P E
 begin_names P E valid fits rows h =
     let limits = (validity P valid).limits in
-    let top = limits.top in
-    let all : length (trace_of P E) ≤ most_names = few_rows P E (exists P E).0 limits.stop (omega arith) fits (exists P E).1 in
+    let all : length (trace_of P E) ≤ most_names = few_rows P E (exists P E).0 limits.stop limits.top fits (exists P E).1 in
     let within = begin_within P E rows h in
     omega arith
 

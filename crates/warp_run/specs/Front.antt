@@ -5,7 +5,7 @@ use Rattle.std.specs.List.{AllByRecursion}
 use Rattle.warp_tag.specs.Limits.{most_names}
 use Rattle.warp_tag.specs.Moment.{Moment}
 use Rattle.warp_tag.specs.Table.{Event}
-use Rattle.warp_step.specs.Program.{Program}
+use Rattle.warp_step.specs.Program.{Program, top_of}
 use Rattle.warp_step.specs.Snapshot.{start_state}
 use Rattle.warp_step.specs.Step.{AreInputs}
 use Rattle.warp_step.specs.Scratch.{IsRoomOf}
@@ -58,7 +58,7 @@ pub record IsAt (P : Program) (E : List Event) (x : Front) (done : List Row) : T
 -- what is given at a tag that the program executes: each input is one of the program's, none is given twice
 pub record CanGive (P : Program) (tag : Moment) (X : List Given) : Type 0 where
   pub time : tag.time ≤ P.stop
-  pub microstep : tag.microstep ≤ P.top
+  pub microstep : tag.microstep ≤ top_of P
   pub inputs : AreInputs P X
 
 -- no rows that begin the run are more than there may be names

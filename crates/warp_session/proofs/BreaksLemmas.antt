@@ -6,6 +6,7 @@ use Rattle.std.specs.Io.KnownBytes.{Consumes, IsAtEnd}
 use Rattle.std.proofs.KnownBytes.{Consumes-trans}
 use Rattle.std.proofs.lemmas.List.{take_all, take_rest}
 use Rattle.std.proofs.lemmas.List.Elements.{All-append}
+use Rattle.warp_tag.specs.declared.form.Form.{Form}
 use Rattle.warp_record.specs.declared.line.Line.{Line}
 use Rattle.warp_record.specs.declared.reply.Reply.{Reply}
 use Rattle.warp_record.specs.declared.feed.Fed.{Fed}
@@ -24,13 +25,13 @@ pub broke_off : {S T E : Type 0} (Q : E → Type 0) (Does : T → At S → At S 
 broke_off Q Does Breaks old new (Ok x) err breaks failed = absurd err
 broke_off Q Does Breaks old new (Err e) err breaks failed = record { does = tt; breaks = breaks; failures = failed }
 
--- a session is over any desk
-module _ {S : Type 0} (gives : S → Line → Reply → S → Type 0) where
+-- a session is over any desk, and reads lines of one form
+module _ {S : Type 0} (f : Form) (gives : S → Line → Reply → S → Type 0) where
   -- ---- pieces that were answered
 
   -- the reply to a piece came behind what was gathered, as a write failed
-  pub Broken-gathered : (piece : Piece) (said : Reply) (a b : At S) → GivesPiece gives a.state piece said b.state
-      → WritesFront a.written b.written (a.held.gathered ++ reply_line said) → Broken gives (piece ∷ []) a b
+  pub Broken-gathered : (piece : Piece) (said : Reply) (a b : At S) → GivesPiece f gives a.state piece said b.state
+      → WritesFront a.written b.written (a.held.gathered ++ reply_line said) → Broken f gives (piece ∷ []) a b
   Broken-gathered piece said a b given out = record {
     text = reply_line said;
     given = (said ∷ [], (b.state, given, refl), sym (append-nil (reply_line said)));
@@ -38,27 +39,27 @@ module _ {S : Type 0} (gives : S → Line → Reply → S → Type 0) where
   }
 
   -- pieces that were answered, and then some in whose midst a write failed
-  Broken-after : (ps qs : List Piece) (a b c : At S) → Replied gives ps a b → Broken gives qs b c → Broken gives (ps ++ qs) a c
+  Broken-after : (ps qs : List Piece) (a b c : At S) → Replied f gives ps a b → Broken f gives qs b c → Broken f gives (ps ++ qs) a c
   Broken-after ps qs a b c first second = record {
     text = first.text ++ second.text;
-    given = GivesText-append gives a.state b.state c.state ps qs first.text second.text first.given second.given;
+    given = GivesText-append f gives a.state b.state c.state ps qs first.text second.text first.given second.given;
     out = front_behind a.written b.written c.written first.sent (b.held.gathered ++ second.text) (a.held.gathered ++ (first.text ++ second.text)) first.out
         (sym (append_assoc first.sent b.held.gathered second.text) ∙ ap (λ (l : List ℕ). l ++ second.text) first.rest
         ∙ append_assoc a.held.gathered first.text second.text) second.out;
   }
 
   -- a write failed as all that was gathered was to go out
-  Broken-flush : (ps : List Piece) (a b c : At S) → Replied gives ps a b → c.state ≡ b.state → WritesFront b.written c.written b.held.gathered
-      → Broken gives ps a c
+  Broken-flush : (ps : List Piece) (a b c : At S) → Replied f gives ps a b → c.state ≡ b.state → WritesFront b.written c.written b.held.gathered
+      → Broken f gives ps a c
   Broken-flush ps a b c was same out = record {
     text = was.text;
-    given = subst (GivesText gives a.state ps was.text) (sym same) was.given;
+    given = subst (GivesText f gives a.state ps was.text) (sym same) was.given;
     out = front_behind a.written b.written c.written was.sent b.held.gathered (a.held.gathered ++ was.text) was.out was.rest out;
   }
 
   -- it does not depend on what the feed kept before
   Broken-from : (ps : List Piece) (a b : At S) (kept : Option (List ℕ))
-      → Broken gives ps (record a { held = record { kept = kept; gathered = a.held.gathered } }) b → Broken gives ps a b
+      → Broken f gives ps (record a { held = record { kept = kept; gathered = a.held.gathered } }) b → Broken f gives ps a b
   Broken-from ps a b kept was = record { text = was.text; given = was.given; out = was.out }
 
   -- ---- bytes
@@ -66,7 +67,7 @@ module _ {S : Type 0} (gives : S → Line → Reply → S → Type 0) where
   -- a write failed at the answer to the line that a line feed among the bytes ended
   pub BreaksBytes-line : (a b : At S) (piece : List ℕ) (given : Piece) → first_end piece < length piece
       → ((line : List ℕ) → a.held.kept ≡ kept_of line → given ≡ ended (line ++ before_first is_end piece))
-      → Broken gives (given ∷ []) a b → BreaksBytes gives piece a b
+      → Broken f gives (given ∷ []) a b → BreaksBytes f gives piece a b
   BreaksBytes-line a b piece given some is_line broken start seen was more =
       let before : List ℕ = before_first is_end piece in
       let line : List ℕ = was.line ++ before in
@@ -88,14 +89,14 @@ module _ {S : Type 0} (gives : S → Line → Reply → S → Type 0) where
       )
 
   -- no line was answered
-  BreaksBytes-none : (a b : At S) (piece : List ℕ) → Broken gives [] a b → BreaksBytes gives piece a b
+  BreaksBytes-none : (a b : At S) (piece : List ℕ) → Broken f gives [] a b → BreaksBytes f gives piece a b
   BreaksBytes-none a b piece broken start seen was more =
       let all : (seen ++ piece) ++ more ≡ was.lines ++ (was.line ++ (piece ++ more)) =
       ap (λ (l : List ℕ). (l ++ piece) ++ more) was.cut ∙ simp append_assoc in (
         lines_of was.lines,
         lines_of (was.line ++ (piece ++ more)),
         ap lines_of all ∙ was.cut_off (was.line ++ (piece ++ more)),
-        subst (λ (l : List Piece). Broken gives l start b) (append-nil (lines_of was.lines))
+        subst (λ (l : List Piece). Broken f gives l start b) (append-nil (lines_of was.lines))
             (Broken-after (lines_of was.lines) [] start a b was.answers broken),
       )
 
@@ -103,29 +104,29 @@ module _ {S : Type 0} (gives : S → Line → Reply → S → Type 0) where
   pub BreaksBytes-pushed : (a b : At S) (kept : Option (List ℕ)) (piece : List ℕ) (fed : Option Fed)
       → IsSome fed ↔ (first_end piece < length piece)
       → IfSome fed (λ given. (line : List ℕ) → a.held.kept ≡ kept_of line → piece_of given ≡ ended (line ++ before_first is_end piece))
-      → Broken gives (pieces_fed fed) (record a { held = record { kept = kept; gathered = a.held.gathered } }) b
-      → BreaksBytes gives piece a b
+      → Broken f gives (pieces_fed fed) (record a { held = record { kept = kept; gathered = a.held.gathered } }) b
+      → BreaksBytes f gives piece a b
   BreaksBytes-pushed a b kept piece (Some given) some is_line broken =
       BreaksBytes-line a b piece (piece_of given) (some.0 refl) is_line (Broken-from (piece_of given ∷ []) a b kept broken)
   BreaksBytes-pushed a b kept piece None some is_line broken = BreaksBytes-none a b piece (Broken-from [] a b kept broken)
 
   -- a front of the bytes was taken, and a write failed in the midst of the rest
-  pub BreaksBytes-rest : (bytes : List ℕ) (front : ℕ) (a b c : At S) → TakesBytes gives (take front bytes) a b
-      → BreaksBytes gives (take (length bytes - front) (drop front bytes)) b c → BreaksBytes gives bytes a c
+  pub BreaksBytes-rest : (bytes : List ℕ) (front : ℕ) (a b c : At S) → TakesBytes f gives (take front bytes) a b
+      → BreaksBytes f gives (take (length bytes - front) (drop front bytes)) b c → BreaksBytes f gives bytes a c
   BreaksBytes-rest bytes front a b c first second start seen was more =
       let rest : List ℕ = take (length bytes - front) (drop front bytes) in
       let all : (seen ++ take front bytes) ++ rest ≡ seen ++ bytes =
       append_assoc seen (take front bytes) rest
       ∙ ap (λ (l : List ℕ). seen ++ (take front bytes ++ l)) (take_rest bytes front)
       ∙ ap (λ (l : List ℕ). seen ++ l) (take-append-drop front bytes) in
-      subst (λ (l : List ℕ). BreaksOff gives (lines_of (l ++ more)) start c) all
+      subst (λ (l : List ℕ). BreaksOff f gives (lines_of (l ++ more)) start c) all
       (second start (seen ++ take front bytes) (first start seen was) more)
 
   -- all bytes were taken, and a write failed as what was gathered was to go out
-  pub BreaksBytes-flush : (bytes : List ℕ) (front : ℕ) (a b c : At S) → length bytes ≤ front → TakesBytes gives (take front bytes) a b
-      → c.state ≡ b.state → WritesFront b.written c.written b.held.gathered → BreaksBytes gives bytes a c
+  pub BreaksBytes-flush : (bytes : List ℕ) (front : ℕ) (a b c : At S) → length bytes ≤ front → TakesBytes f gives (take front bytes) a b
+      → c.state ≡ b.state → WritesFront b.written c.written b.held.gathered → BreaksBytes f gives bytes a c
   BreaksBytes-flush bytes front a b c over takes same out start seen was more =
-      let t : Taken gives (seen ++ bytes) start b = subst (λ (l : List ℕ). Taken gives (seen ++ l) start b) (take_all front bytes over) (takes start seen was) in (
+      let t : Taken f gives (seen ++ bytes) start b = subst (λ (l : List ℕ). Taken f gives (seen ++ l) start b) (take_all front bytes over) (takes start seen was) in (
         lines_of t.lines,
         lines_of (t.line ++ more),
         ap (λ (l : List ℕ). lines_of (l ++ more)) t.cut ∙ ap lines_of (append_assoc t.lines t.line more) ∙ t.cut_off (t.line ++ more),
@@ -135,7 +136,7 @@ module _ {S : Type 0} (gives : S → Line → Reply → S → Type 0) where
   -- ---- the end
 
   -- all that was taken are whole lines and the last one
-  all_pieces : (a start : At S) (seen : List ℕ) (fed : Option Fed) (was : Taken gives seen start a)
+  all_pieces : (a start : At S) (seen : List ℕ) (fed : Option Fed) (was : Taken f gives seen start a)
       → ((line : List ℕ) → a.held.kept ≡ kept_of line → option_map piece_of fed ≡ unended line)
       → lines_of seen ≡ lines_of was.lines ++ pieces_fed fed
   all_pieces a start seen fed was is_line =
@@ -146,7 +147,7 @@ module _ {S : Type 0} (gives : S → Line → Reply → S → Type 0) where
   -- a write failed at the answer to the last line
   pub BreaksAtEnd-last : (a b : At S) (kept : Option (List ℕ)) (fed : Option Fed)
       → ((line : List ℕ) → a.held.kept ≡ kept_of line → option_map piece_of fed ≡ unended line)
-      → Broken gives (pieces_fed fed) (record a { held = record { kept = kept; gathered = a.held.gathered } }) b → BreaksAtEnd gives a b
+      → Broken f gives (pieces_fed fed) (record a { held = record { kept = kept; gathered = a.held.gathered } }) b → BreaksAtEnd f gives a b
   BreaksAtEnd-last a b kept fed is_line broken start seen was = (
     lines_of was.lines ++ pieces_fed fed,
     [],
@@ -157,49 +158,49 @@ module _ {S : Type 0} (gives : S → Line → Reply → S → Type 0) where
   -- or as what was gathered was to go out behind it
   pub BreaksAtEnd-flush : (a b c : At S) (kept : Option (List ℕ)) (fed : Option Fed)
       → ((line : List ℕ) → a.held.kept ≡ kept_of line → option_map piece_of fed ≡ unended line)
-      → Replied gives (pieces_fed fed) (record a { held = record { kept = kept; gathered = a.held.gathered } }) b
-      → c.state ≡ b.state → WritesFront b.written c.written b.held.gathered → BreaksAtEnd gives a c
+      → Replied f gives (pieces_fed fed) (record a { held = record { kept = kept; gathered = a.held.gathered } }) b
+      → c.state ≡ b.state → WritesFront b.written c.written b.held.gathered → BreaksAtEnd f gives a c
   BreaksAtEnd-flush a b c kept fed is_line answers same out start seen was = (
     lines_of was.lines ++ pieces_fed fed,
     [],
     all_pieces a start seen fed was is_line ∙ sym (append-nil (lines_of was.lines ++ pieces_fed fed)),
     Broken-flush (lines_of was.lines ++ pieces_fed fed) start b c
-        (Replied-append gives (lines_of was.lines) (pieces_fed fed) start a b was.answers (Replied-from gives (pieces_fed fed) a b kept answers)) same out,
+        (Replied-append f gives (lines_of was.lines) (pieces_fed fed) start a b was.answers (Replied-from f gives (pieces_fed fed) a b kept answers)) same out,
   )
 
   -- ---- whole sessions
 
   -- where nothing was gathered before, a front of the text of some first lines is out
-  broken_off : (input : List ℕ) (a c : At S) → a.held.gathered ≡ [] → BreaksOff gives (lines_of input) a c
-      → TranscribesFront gives a.state (Some input) a.written c.written c.state
+  broken_off : (input : List ℕ) (a c : At S) → a.held.gathered ≡ [] → BreaksOff f gives (lines_of input) a c
+      → TranscribesFront f gives a.state (Some input) a.written c.written c.state
   broken_off input a c none b =
       (b.0, b.1, b.2, (b.3.text, b.3.given, subst (WritesFront a.written c.written) (ap (λ (l : List ℕ). l ++ b.3.text) none) b.3.out))
 
   -- a write failed in the midst of the bytes that were read last
-  pub front_of_bytes : (left mid left-after : Option (List ℕ)) (seen piece : List ℕ) (a b c : At S) → a.held.gathered ≡ [] → Taken gives seen a b
-      → BreaksBytes gives piece b c → Consumes left mid seen → Consumes mid left-after piece
-      → TranscribesFront gives a.state left a.written c.written c.state
+  pub front_of_bytes : (left mid left-after : Option (List ℕ)) (seen piece : List ℕ) (a b c : At S) → a.held.gathered ≡ [] → Taken f gives seen a b
+      → BreaksBytes f gives piece b c → Consumes left mid seen → Consumes mid left-after piece
+      → TranscribesFront f gives a.state left a.written c.written c.state
   front_of_bytes left mid left-after seen piece a b c none taken breaks before last =
       front_of_read left left-after (Consumes-trans left mid left-after seen piece before last)
     where
-      front_of_read : (told told-after : Option (List ℕ)) → Consumes told told-after (seen ++ piece) → TranscribesFront gives a.state told a.written c.written c.state
+      front_of_read : (told told-after : Option (List ℕ)) → Consumes told told-after (seen ++ piece) → TranscribesFront f gives a.state told a.written c.written c.state
       front_of_read None told-after reads = tt
       front_of_read (Some input) None reads = absurd reads
       front_of_read (Some input) (Some rest) reads =
-          broken_off input a c none (subst (λ (l : List ℕ). BreaksOff gives (lines_of l) a c) (sym reads) (breaks a seen taken rest))
+          broken_off input a c none (subst (λ (l : List ℕ). BreaksOff f gives (lines_of l) a c) (sym reads) (breaks a seen taken rest))
 
   -- or at the end
-  front_at_end : (left left-after : Option (List ℕ)) (seen : List ℕ) (a b c : At S) → a.held.gathered ≡ [] → Taken gives seen a b
-      → BreaksAtEnd gives b c → Consumes left left-after seen → IsAtEnd left-after → TranscribesFront gives a.state left a.written c.written c.state
+  front_at_end : (left left-after : Option (List ℕ)) (seen : List ℕ) (a b c : At S) → a.held.gathered ≡ [] → Taken f gives seen a b
+      → BreaksAtEnd f gives b c → Consumes left left-after seen → IsAtEnd left-after → TranscribesFront f gives a.state left a.written c.written c.state
   front_at_end None left-after seen a b c none taken breaks reads over = tt
   front_at_end (Some input) None seen a b c none taken breaks reads over = absurd reads
   front_at_end (Some input) (Some rest) seen a b c none taken breaks reads over =
       let all : input ≡ seen = reads ∙ ap (λ (l : List ℕ). seen ++ l) over ∙ append-nil seen in
-      broken_off input a c none (subst (λ (l : List ℕ). BreaksOff gives (lines_of l) a c) (sym all) (breaks a seen taken))
+      broken_off input a c none (subst (λ (l : List ℕ). BreaksOff f gives (lines_of l) a c) (sym all) (breaks a seen taken))
 
-  pub front_of_all : (left mid left-after : Option (List ℕ)) (seen buffer : List ℕ) (count : ℕ) (a b c : At S) → a.held.gathered ≡ [] → Taken gives seen a b
-      → BreaksAtEnd gives b c → Consumes left mid seen → Consumes mid left-after (take count buffer) × (count ≡ 0 → 0 < length buffer → IsAtEnd left-after)
-      → count ≡ 0 → 0 < length buffer → TranscribesFront gives a.state left a.written c.written c.state
+  pub front_of_all : (left mid left-after : Option (List ℕ)) (seen buffer : List ℕ) (count : ℕ) (a b c : At S) → a.held.gathered ≡ [] → Taken f gives seen a b
+      → BreaksAtEnd f gives b c → Consumes left mid seen → Consumes mid left-after (take count buffer) × (count ≡ 0 → 0 < length buffer → IsAtEnd left-after)
+      → count ≡ 0 → 0 < length buffer → TranscribesFront f gives a.state left a.written c.written c.state
   front_of_all left mid left-after seen buffer count a b c none taken breaks before last over some =
       let reads = Consumes-trans left mid left-after seen (take count buffer) before last.0 in
       let is : seen ++ take count buffer ≡ seen = ap (λ (n : ℕ). seen ++ take n buffer) over ∙ append-nil seen in

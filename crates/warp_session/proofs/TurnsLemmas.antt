@@ -9,6 +9,7 @@ use Rattle.std.proofs.lemmas.List.Concat.{flat_map-append}
 use Rattle.std.proofs.lemmas.List.Elements.{All-nil, All-append}
 use Rattle.std.proofs.lemmas.List.Sums.{passes_at_first, prefix_len-le-length}
 use Rattle.std.proofs.lemmas.Bool.{eqb-true}
+use Rattle.warp_tag.specs.declared.form.Form.{Form}
 use Rattle.warp_record.specs.declared.line.Line.{Line}
 use Rattle.warp_record.specs.declared.reply.Reply.{Reply}
 use Rattle.warp_record.specs.declared.feed.Fed.{Fed}
@@ -43,20 +44,20 @@ up_to_end piece some =
     let is_lf : get_or piece (first_end piece) 0 ≡ 10 = eqb-true (get_or piece (first_end piece) 0) 10 (passes_at_first is_end piece 0 some) in
     take_more piece (first_end piece) 0 some ∙ ap (λ (byte : ℕ). before_first is_end piece ++ byte ∷ []) is_lf
 
--- a session is over any desk
-module _ {S : Type 0} (gives : S → Line → Reply → S → Type 0) where
+-- a session is over any desk, and reads lines of one form
+module _ {S : Type 0} (f : Form) (gives : S → Line → Reply → S → Type 0) where
   -- ---- answers
 
   GivesAll-append : (s mid s' : S) (ps qs : List Piece) (rs ss : List Reply)
-      → GivesAll gives s ps rs mid → GivesAll gives mid qs ss s' → GivesAll gives s (ps ++ qs) (rs ++ ss) s'
-  GivesAll-append s mid s' [] qs [] ss first second = subst (λ (t : S). GivesAll gives t qs ss s') first second
+      → GivesAll f gives s ps rs mid → GivesAll f gives mid qs ss s' → GivesAll f gives s (ps ++ qs) (rs ++ ss) s'
+  GivesAll-append s mid s' [] qs [] ss first second = subst (λ (t : S). GivesAll f gives t qs ss s') first second
   GivesAll-append s mid s' [] qs (r ∷ rs) ss first second = absurd first
   GivesAll-append s mid s' (p ∷ ps) qs [] ss first second = absurd first
   GivesAll-append s mid s' (p ∷ ps) qs (r ∷ rs) ss first second =
       (first.0, first.1, GivesAll-append first.0 mid s' ps qs rs ss first.2 second)
 
   pub GivesText-append : (s mid s' : S) (ps qs : List Piece) (text more : List ℕ)
-      → GivesText gives s ps text mid → GivesText gives mid qs more s' → GivesText gives s (ps ++ qs) (text ++ more) s'
+      → GivesText f gives s ps text mid → GivesText f gives mid qs more s' → GivesText f gives s (ps ++ qs) (text ++ more) s'
   GivesText-append s mid s' ps qs text more first second = (
     first.0 ++ second.0,
     GivesAll-append s mid s' ps qs first.0 second.0 first.1 second.1,
@@ -65,7 +66,7 @@ module _ {S : Type 0} (gives : S → Line → Reply → S → Type 0) where
   )
 
   -- pieces that were answered, and then more of them
-  pub Replied-append : (ps qs : List Piece) (a b c : At S) → Replied gives ps a b → Replied gives qs b c → Replied gives (ps ++ qs) a c
+  pub Replied-append : (ps qs : List Piece) (a b c : At S) → Replied f gives ps a b → Replied f gives qs b c → Replied f gives (ps ++ qs) a c
   Replied-append ps qs a b c first second = record {
     text = first.text ++ second.text;
     sent = first.sent ++ second.sent;
@@ -80,13 +81,13 @@ module _ {S : Type 0} (gives : S → Line → Reply → S → Type 0) where
 
   -- where a session is before the answers does not depend on what the feed kept
   pub Replied-from : (ps : List Piece) (a b : At S) (kept : Option (List ℕ))
-      → Replied gives ps (record a { held = record { kept = kept; gathered = a.held.gathered } }) b → Replied gives ps a b
+      → Replied f gives ps (record a { held = record { kept = kept; gathered = a.held.gathered } }) b → Replied f gives ps a b
   Replied-from ps a b kept was = record { text = was.text; sent = was.sent; given = was.given; out = was.out; rest = was.rest }
 
   -- the reply to a piece came behind what was gathered, of which a front went out
-  pub Replied-gathered : (piece : Piece) (said : Reply) (a b : At S) → GivesPiece gives a.state piece said b.state
+  pub Replied-gathered : (piece : Piece) (said : Reply) (a b : At S) → GivesPiece f gives a.state piece said b.state
       → (sent : List ℕ) × Appends a.written b.written sent × (sent ++ b.held.gathered ≡ a.held.gathered ++ reply_line said)
-      → Replied gives (piece ∷ []) a b
+      → Replied f gives (piece ∷ []) a b
   Replied-gathered piece said a b gives was = record {
     text = reply_line said;
     sent = was.0;
@@ -96,19 +97,19 @@ module _ {S : Type 0} (gives : S → Line → Reply → S → Type 0) where
   }
 
   -- all that was gathered went out
-  Replied-flushed : (ps : List Piece) (a b c : At S) → Replied gives ps a b → c.state ≡ b.state → c.held.gathered ≡ []
-      → Appends b.written c.written b.held.gathered → Replied gives ps a c
+  Replied-flushed : (ps : List Piece) (a b c : At S) → Replied f gives ps a b → c.state ≡ b.state → c.held.gathered ≡ []
+      → Appends b.written c.written b.held.gathered → Replied f gives ps a c
   Replied-flushed ps a b c was same empty out = record {
     text = was.text;
     sent = was.sent ++ b.held.gathered;
-    given = subst (GivesText gives a.state ps was.text) (sym same) was.given;
+    given = subst (GivesText f gives a.state ps was.text) (sym same) was.given;
     out = Appends-trans a.written b.written c.written was.sent b.held.gathered was.out out;
     rest = ap (λ (l : List ℕ). (was.sent ++ b.held.gathered) ++ l) empty ∙ append-nil (was.sent ++ b.held.gathered) ∙ was.rest;
   }
 
   -- where nothing was gathered before and after, the replies' text went out
-  Replied-out : (ps : List Piece) (a b : At S) → a.held.gathered ≡ [] → b.held.gathered ≡ [] → Replied gives ps a b
-      → (text : List ℕ) × GivesText gives a.state ps text b.state × Appends a.written b.written text
+  Replied-out : (ps : List Piece) (a b : At S) → a.held.gathered ≡ [] → b.held.gathered ≡ [] → Replied f gives ps a b
+      → (text : List ℕ) × GivesText f gives a.state ps text b.state × Appends a.written b.written text
   Replied-out ps a b none empty was = (
     was.text,
     was.given,
@@ -118,7 +119,7 @@ module _ {S : Type 0} (gives : S → Line → Reply → S → Type 0) where
   )
 
   -- no piece was answered
-  pub Replied-nil : (a : At S) → Replied gives [] a a
+  pub Replied-nil : (a : At S) → Replied f gives [] a a
   Replied-nil a = record {
     text = [];
     sent = [];
@@ -130,7 +131,7 @@ module _ {S : Type 0} (gives : S → Line → Reply → S → Type 0) where
   -- ---- bytes that were taken
 
   -- none yet
-  pub Taken-nil : (a : At S) → a.held.kept ≡ kept_of [] → Taken gives [] a a
+  pub Taken-nil : (a : At S) → a.held.kept ≡ kept_of [] → Taken f gives [] a a
   Taken-nil a fresh = record {
     lines = [];
     line = [];
@@ -143,21 +144,21 @@ module _ {S : Type 0} (gives : S → Line → Reply → S → Type 0) where
   }
 
   -- bytes, and then more of them
-  TakesBytes-append : (xs ys : List ℕ) (a b c : At S) → TakesBytes gives xs a b → TakesBytes gives ys b c → TakesBytes gives (xs ++ ys) a c
+  TakesBytes-append : (xs ys : List ℕ) (a b c : At S) → TakesBytes f gives xs a b → TakesBytes f gives ys b c → TakesBytes f gives (xs ++ ys) a c
   TakesBytes-append xs ys a b c first second start seen was =
-      subst (λ (l : List ℕ). Taken gives l start c) (append_assoc seen xs ys) (second start (seen ++ xs) (first start seen was))
+      subst (λ (l : List ℕ). Taken f gives l start c) (append_assoc seen xs ys) (second start (seen ++ xs) (first start seen was))
 
   -- a front of the bytes, and then some of the rest
-  pub TakesBytes-more : (bytes : List ℕ) (front n : ℕ) (a b c : At S) → TakesBytes gives (take front bytes) a b
-      → TakesBytes gives (take n (take (length bytes - front) (drop front bytes))) b c → TakesBytes gives (take (front + n) bytes) a c
+  pub TakesBytes-more : (bytes : List ℕ) (front n : ℕ) (a b c : At S) → TakesBytes f gives (take front bytes) a b
+      → TakesBytes f gives (take n (take (length bytes - front) (drop front bytes))) b c → TakesBytes f gives (take (front + n) bytes) a c
   TakesBytes-more bytes front n a b c first second =
-      subst (λ (l : List ℕ). TakesBytes gives l a c) (more_of_rest bytes front n)
+      subst (λ (l : List ℕ). TakesBytes f gives l a c) (more_of_rest bytes front n)
       (TakesBytes-append (take front bytes) (take n (take (length bytes - front) (drop front bytes))) a b c first second)
 
   -- a line feed ended the unfinished line, which was answered
   pub TakesBytes-line : (a b : At S) (piece : List ℕ) (given : Piece) → first_end piece < length piece
       → ((line : List ℕ) → a.held.kept ≡ kept_of line → given ≡ ended (line ++ before_first is_end piece))
-      → b.held.kept ≡ kept_of [] → Replied gives (given ∷ []) a b → TakesBytes gives (take (first_end piece + 1) piece) a b
+      → b.held.kept ≡ kept_of [] → Replied f gives (given ∷ []) a b → TakesBytes f gives (take (first_end piece + 1) piece) a b
   TakesBytes-line a b piece given some is_line fresh answers start seen was =
       let before : List ℕ = before_first is_end piece in
       let line : List ℕ = was.line ++ before in
@@ -174,14 +175,14 @@ module _ {S : Type 0} (gives : S → Line → Reply → S → Type 0) where
         cut_off = AreCutOff-append was.lines (line ++ 10 ∷ []) was.cut_off (AreCutOff-line line one);
         one_line = All-nil (λ (byte : ℕ). is_end byte ≡ false);
         kept = fresh;
-        answers = subst (λ (l : List Piece). Replied gives l start b) (sym last)
+        answers = subst (λ (l : List Piece). Replied f gives l start b) (sym last)
             (Replied-append (lines_of was.lines) (given ∷ []) start a b was.answers answers);
       }
 
   -- bytes without a line feed went on with the line
   TakesBytes-rest : (a b : At S) (piece : List ℕ) → first_end piece ≡ length piece
       → ((line : List ℕ) → a.held.kept ≡ kept_of line → b.held.kept ≡ kept_of (line ++ piece))
-      → Replied gives [] a b → TakesBytes gives piece a b
+      → Replied f gives [] a b → TakesBytes f gives piece a b
   TakesBytes-rest a b piece none keeps answers start seen was = record {
     lines = was.lines;
     line = was.line ++ piece;
@@ -190,7 +191,7 @@ module _ {S : Type 0} (gives : S → Line → Reply → S → Type 0) where
     cut_off = was.cut_off;
     one_line = one_line_more was.line piece was.one_line none;
     kept = keeps was.line was.kept;
-    answers = subst (λ (l : List Piece). Replied gives l start b) (append-nil (lines_of was.lines))
+    answers = subst (λ (l : List Piece). Replied f gives l start b) (append-nil (lines_of was.lines))
         (Replied-append (lines_of was.lines) [] start a b was.answers answers);
   }
 
@@ -200,26 +201,26 @@ module _ {S : Type 0} (gives : S → Line → Reply → S → Type 0) where
       → IfSome fed (λ given. (line : List ℕ) → a.held.kept ≡ kept_of line → piece_of given ≡ ended (line ++ before_first is_end piece))
       → OnSome fed (kept ≡ kept_of [])
       → IfNone fed ((line : List ℕ) → a.held.kept ≡ kept_of line → kept ≡ kept_of (line ++ piece))
-      → b.held.kept ≡ kept → Replied gives (pieces_fed fed) (record a { held = record { kept = kept; gathered = a.held.gathered } }) b
-      → TakesBytes gives (take n piece) a b
+      → b.held.kept ≡ kept → Replied f gives (pieces_fed fed) (record a { held = record { kept = kept; gathered = a.held.gathered } }) b
+      → TakesBytes f gives (take n piece) a b
   TakesBytes-pushed a b kept piece n (Some given) count some is_line fresh keeps same answers =
       let here : first_end piece < length piece = some.0 refl in
       let all : n ≡ first_end piece + 1 = omega arith in
-      subst (λ (m : ℕ). TakesBytes gives (take m piece) a b) (sym all)
+      subst (λ (m : ℕ). TakesBytes f gives (take m piece) a b) (sym all)
       (TakesBytes-line a b piece (piece_of given) here is_line (same ∙ fresh) (Replied-from (piece_of given ∷ []) a b kept answers))
   TakesBytes-pushed a b kept piece n None count some is_line fresh keeps same answers =
       let within : first_end piece ≤ length piece = prefix_len-le-length (λ (byte : ℕ). not (is_end byte)) piece in
       let past : first_end piece < length piece → ⊥ = λ here. true≢false (sym (some.1 here)) in
       let all : first_end piece ≡ length piece = omega arith in
       let whole : take n piece ≡ piece = take_all n piece (omega arith) in
-      subst (λ (l : List ℕ). TakesBytes gives l a b) (sym whole)
+      subst (λ (l : List ℕ). TakesBytes f gives l a b) (sym whole)
       (TakesBytes-rest a b piece all (λ line is. same ∙ keeps line is) (Replied-from [] a b kept answers))
 
   -- all bytes, and then all that was gathered went out
-  pub TakesBytes-flushed : (bytes : List ℕ) (front : ℕ) (a b c : At S) → length bytes ≤ front → TakesBytes gives (take front bytes) a b
-      → c.state ≡ b.state → c.held.gathered ≡ [] → c.held.kept ≡ b.held.kept → Appends b.written c.written b.held.gathered → TakesBytes gives bytes a c
+  pub TakesBytes-flushed : (bytes : List ℕ) (front : ℕ) (a b c : At S) → length bytes ≤ front → TakesBytes f gives (take front bytes) a b
+      → c.state ≡ b.state → c.held.gathered ≡ [] → c.held.kept ≡ b.held.kept → Appends b.written c.written b.held.gathered → TakesBytes f gives bytes a c
   TakesBytes-flushed bytes front a b c over takes same empty kept out start seen was =
-      let t : Taken gives (seen ++ bytes) start b = subst (λ (l : List ℕ). Taken gives (seen ++ l) start b) (take_all front bytes over) (takes start seen was) in
+      let t : Taken f gives (seen ++ bytes) start b = subst (λ (l : List ℕ). Taken f gives (seen ++ l) start b) (take_all front bytes over) (takes start seen was) in
       record {
         lines = t.lines;
         line = t.line;
@@ -234,33 +235,33 @@ module _ {S : Type 0} (gives : S → Line → Reply → S → Type 0) where
   -- the last line was answered, if there was one, and all that was gathered went out
   pub Ends-last : (a b c : At S) (kept : Option (List ℕ)) (fed : Option Fed)
       → ((line : List ℕ) → a.held.kept ≡ kept_of line → option_map piece_of fed ≡ unended line)
-      → Replied gives (pieces_fed fed) (record a { held = record { kept = kept; gathered = a.held.gathered } }) b
-      → c.state ≡ b.state → c.held.gathered ≡ [] → Appends b.written c.written b.held.gathered → Ends gives a c
+      → Replied f gives (pieces_fed fed) (record a { held = record { kept = kept; gathered = a.held.gathered } }) b
+      → c.state ≡ b.state → c.held.gathered ≡ [] → Appends b.written c.written b.held.gathered → Ends f gives a c
   Ends-last a b c kept fed is_line answers same empty out start seen was =
       let is : lines_of seen ≡ lines_of was.lines ++ pieces_fed fed =
       ap lines_of was.cut ∙ was.cut_off was.line
       ∙ ap (λ (l : List Piece). lines_of was.lines ++ l) (lines_of-unended was.line was.one_line)
       ∙ ap (λ (o : Option Piece). lines_of was.lines ++ option_to_list o) (sym (is_line was.line was.kept)) in
-      let all : Replied gives (lines_of seen) start b =
-      subst (λ (l : List Piece). Replied gives l start b) (sym is)
+      let all : Replied f gives (lines_of seen) start b =
+      subst (λ (l : List Piece). Replied f gives l start b) (sym is)
       (Replied-append (lines_of was.lines) (pieces_fed fed) start a b was.answers (Replied-from (pieces_fed fed) a b kept answers)) in
       (Replied-flushed (lines_of seen) start b c all same empty out, empty)
 
   -- ---- whole sessions
 
-  transcribed_whole : (left left-after : Option (List ℕ)) (seen : List ℕ) (a b c : At S) → a.held.gathered ≡ [] → Taken gives seen a b → Ends gives b c
-      → Consumes left left-after seen → IsAtEnd left-after → Transcribes gives a.state left a.written c.written c.state
+  transcribed_whole : (left left-after : Option (List ℕ)) (seen : List ℕ) (a b c : At S) → a.held.gathered ≡ [] → Taken f gives seen a b → Ends f gives b c
+      → Consumes left left-after seen → IsAtEnd left-after → Transcribes f gives a.state left a.written c.written c.state
   transcribed_whole None left-after seen a b c none taken ends reads over = tt
   transcribed_whole (Some input) None seen a b c none taken ends reads over = absurd reads
   transcribed_whole (Some input) (Some rest) seen a b c none taken ends reads over =
       let all : input ≡ seen = reads ∙ ap (λ (l : List ℕ). seen ++ l) over ∙ append-nil seen in
       let done = ends a seen taken in
-      Replied-out (lines_of input) a c none done.1 (subst (λ (l : List ℕ). Replied gives (lines_of l) a c) (sym all) done.0)
+      Replied-out (lines_of input) a c none done.1 (subst (λ (l : List ℕ). Replied f gives (lines_of l) a c) (sym all) done.0)
 
   -- all that a source gave was taken, and then it gave nothing: the transcript is out
-  pub transcribed : (left mid left-after : Option (List ℕ)) (seen buffer : List ℕ) (count : ℕ) (a b c : At S) → a.held.gathered ≡ [] → Taken gives seen a b
-      → Ends gives b c → Consumes left mid seen → Consumes mid left-after (take count buffer) × (count ≡ 0 → 0 < length buffer → IsAtEnd left-after)
-      → count ≡ 0 → 0 < length buffer → Transcribes gives a.state left a.written c.written c.state
+  pub transcribed : (left mid left-after : Option (List ℕ)) (seen buffer : List ℕ) (count : ℕ) (a b c : At S) → a.held.gathered ≡ [] → Taken f gives seen a b
+      → Ends f gives b c → Consumes left mid seen → Consumes mid left-after (take count buffer) × (count ≡ 0 → 0 < length buffer → IsAtEnd left-after)
+      → count ≡ 0 → 0 < length buffer → Transcribes f gives a.state left a.written c.written c.state
   transcribed left mid left-after seen buffer count a b c none taken ends before last over some =
       let reads = Consumes-trans left mid left-after seen (take count buffer) before last.0 in
       let is : seen ++ take count buffer ≡ seen = ap (λ (n : ℕ). seen ++ take n buffer) over ∙ append-nil seen in

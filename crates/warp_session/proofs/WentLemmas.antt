@@ -7,6 +7,8 @@ use Rattle.std.proofs.lemmas.List.{drop_all, take-append-drop}
 use Rattle.std.proofs.lemmas.List.Concat.{flat_map-append}
 use Rattle.std.proofs.lemmas.List.Elements.{All-nil, All-append}
 use Rattle.std.proofs.lemmas.List.Sums.{prefix_len-le-length}
+use Rattle.warp_tag.specs.Limits.{widest}
+use Rattle.warp_tag.specs.declared.form.Form.{Form}
 use Rattle.warp_record.specs.declared.feed.Fed.{Fed}
 use Rattle.warp_record.specs.declared.line.Line.{Line}
 use Rattle.warp_record.specs.declared.reply.Reply.{Reply}
@@ -14,6 +16,7 @@ use Rattle.warp_record.specs.Lines.{Piece, is_end, IsOneLine, ended, lines_of, f
 use Rattle.warp_record.specs.Lines.Piece.{Whole}
 use Rattle.warp_record.specs.Reply.{IsReply, reply_spelling}
 use Rattle.warp_record.proofs.LineCuts.{lines_of-ended, one_line_before, one_line_more}
+use Rattle.warp_record.proofs.Wider.{reply_widens}
 use Rattle.warp_session.specs.declared.pulling.PullEnd.{PullEnd}
 use Rattle.warp_session.specs.declared.pulling.PullEnd.TheVariants as end
 use Rattle.warp_session.specs.Pull.{Heard, SpellsReply, AreSpelled, IsBegun, IsLeftOver, HasHeard, HasAsked, PullsTo, question, questions}
@@ -152,34 +155,40 @@ begun_waiting false place = inl (refl, refl)
 -- ---- what was heard
 
 -- what a line was read as
-pub spells_whole : (bytes : List ℕ) (reply : Option Reply) → IfSome reply (λ r. IsReply r × (bytes ≡ reply_spelling r))
-    → IfNone reply ((r : Reply) → IsReply r → bytes ≡ reply_spelling r → ⊥) → SpellsReply (Whole bytes) reply
-spells_whole bytes (Some reply) some none = some
-spells_whole bytes None some none = none
+pub spells_whole : (f : Form) (bytes : List ℕ) (reply : Option Reply) → IfSome reply (λ r. IsReply f r × (bytes ≡ reply_spelling r))
+    → IfNone reply ((r : Reply) → IsReply f r → bytes ≡ reply_spelling r → ⊥) → SpellsReply f (Whole bytes) reply
+spells_whole f bytes (Some reply) some none = some
+spells_whole f bytes None some none = none
+
+-- what was read in a form is in range
+pub read_in_range : (f : Form) (bytes : List ℕ) (reply : Option Reply) → IfSome reply (λ r. IsReply f r × (bytes ≡ reply_spelling r))
+    → IfSome reply (IsReply widest)
+read_in_range f bytes (Some reply) read = reply_widens f reply read.0
+read_in_range f bytes None read = tt
 
 -- one more line, and what was heard of it
-AreSpelled-more : (cut : List Piece) (heard : List Heard) (line : Piece) (one : Heard)
-    → AreSpelled cut heard → SpellsReply line one.reply → AreSpelled (cut ++ line ∷ []) (heard ++ one ∷ [])
-AreSpelled-more [] [] line one before spells = (spells, tt)
-AreSpelled-more [] (h ∷ heard) line one before spells = absurd before
-AreSpelled-more (p ∷ cut) [] line one before spells = absurd before
-AreSpelled-more (p ∷ cut) (h ∷ heard) line one before spells = (before.0, AreSpelled-more cut heard line one before.1 spells)
+AreSpelled-more : (f : Form) (cut : List Piece) (heard : List Heard) (line : Piece) (one : Heard)
+    → AreSpelled f cut heard → SpellsReply f line one.reply → AreSpelled f (cut ++ line ∷ []) (heard ++ one ∷ [])
+AreSpelled-more f [] [] line one before spells = (spells, tt)
+AreSpelled-more f [] (h ∷ heard) line one before spells = absurd before
+AreSpelled-more f (p ∷ cut) [] line one before spells = absurd before
+AreSpelled-more f (p ∷ cut) (h ∷ heard) line one before spells = (before.0, AreSpelled-more f cut heard line one before.1 spells)
 
 questions-more : (heard : List Heard) (one : Heard) → questions (heard ++ one ∷ []) ≡ questions heard ++ question one.place
 questions-more heard one =
     flat_map-append (λ (h : Heard). question h.place) heard (one ∷ [])
     ∙ ap (λ (t : List ℕ). questions heard ++ t) (append-nil (question one.place))
 
-module _ (l l' w w' : Option (List ℕ)) where
+module _ (f : Form) (l l' w w' : Option (List ℕ)) where
   -- what was heard so far, of these lines, while this stands of the next question
   pub record Talked (heard : List Heard) (front : List ℕ) (i : InboxState) : Type 0 where
     pub cut : List Piece
-    pub spelled : AreSpelled cut heard
+    pub spelled : AreSpelled f cut heard
     pub went : Went l l' w w' cut (questions heard ++ front) i
 
   -- no line was cut off, and so it waits
   pub Talked-none : (cut : List Piece) (heard : List Heard) (fed : Option Fed) (waits : Bool) (place place' : ℕ) (i : InboxState)
-      → AreSpelled cut heard → Went l l' w w' (cut ++ pieces_fed fed) (questions heard ++ question place) i
+      → AreSpelled f cut heard → Went l l' w w' (cut ++ pieces_fed fed) (questions heard ++ question place) i
       → fed ≡ None → waits ≡ is_none fed → place' ≡ place → Talked heard (pending waits place') i
   Talked-none cut heard (Some given) waits place place' i spelled went is flag same = absurd cc
   Talked-none cut heard None waits place place' i spelled went is flag same =
@@ -187,7 +196,7 @@ module _ (l l' w w' : Option (List ℕ)) where
       sym (ap (λ (b : Bool). pending b place') flag ∙ ap question same) in
       record {
         cut = cut ++ [];
-        spelled = subst (λ (c : List Piece). AreSpelled c heard) (sym (append-nil cut)) spelled;
+        spelled = subst (λ (c : List Piece). AreSpelled f c heard) (sym (append-nil cut)) spelled;
         went = record {
           seen = went.seen;
           read = went.read;
@@ -198,15 +207,16 @@ module _ (l l' w w' : Option (List ℕ)) where
 
   -- the line that was cut off was heard, and nothing was asked since
   pub Talked-some : (cut : List Piece) (heard : List Heard) (fed : Option Fed) (given : Fed) (one : Heard) (waits : Bool) (place : ℕ) (i i' : InboxState)
-      → AreSpelled cut heard → Went l l' w w' (cut ++ pieces_fed fed) (questions heard ++ question one.place) i
-      → fed ≡ Some given → SpellsReply (piece_of given) one.reply → waits ≡ is_none fed → i' ≡ i → Talked (heard ++ one ∷ []) (pending waits place) i'
+      → AreSpelled f cut heard → Went l l' w w' (cut ++ pieces_fed fed) (questions heard ++ question one.place) i
+      → fed ≡ Some given → SpellsReply f (piece_of given) one.reply → waits ≡ is_none fed → i' ≡ i → Talked (heard ++ one ∷ []) (pending waits place) i'
   Talked-some cut heard None given one waits place i i' spelled went is spells flag same = absurd cc
   Talked-some cut heard (Some fed) given one waits place i i' spelled went is spells flag same =
       let whole : fed ≡ given = cc in
       let none : pending waits place ≡ [] = ap (λ (b : Bool). pending b place) flag in
       record {
         cut = cut ++ piece_of fed ∷ [];
-        spelled = AreSpelled-more cut heard (piece_of fed) one spelled (subst (λ (f : Fed). SpellsReply (piece_of f) one.reply) (sym whole) spells);
+        spelled = AreSpelled-more f cut heard (piece_of fed) one spelled
+            (subst (λ (line : Fed). SpellsReply f (piece_of line) one.reply) (sym whole) spells);
         went = record {
           seen = went.seen;
           read = went.read;
@@ -231,14 +241,14 @@ module _ (l l' w w' : Option (List ℕ)) where
 
   -- the replies are what the lines spell, where pulling ends
   pub has_heard : (heard : List Heard) (front : List ℕ) (i : InboxState) (ended : PullEnd)
-      → Talked heard front i → (ended ≡ end.End → (i.came ≡ []) × IsAtEnd l') → HasHeard ended heard l l'
+      → Talked heard front i → (ended ≡ end.End → (i.came ≡ []) × IsAtEnd l') → HasHeard f ended heard l l'
   has_heard heard front i ended was over =
       let cuts = was.went.cuts in (
         cuts.lines,
         cuts.line ++ i.came,
         subst (Consumes l l') cuts.parts was.went.read,
         cuts.whole,
-        subst (λ (c : List Piece). AreSpelled c heard) (sym cuts.are) was.spelled,
+        subst (λ (c : List Piece). AreSpelled f c heard) (sym cuts.are) was.spelled,
         left_over ended cuts.line i.came cuts.one_line over,
       )
 
@@ -247,10 +257,10 @@ module _ (l l' w w' : Option (List ℕ)) where
       → Talked heard front i → IsBegun ended (question next) begun front → HasAsked ended heard next begun w w'
   has_asked heard front i ended next begun was is = (front, is, was.went.out)
 
-module _ (l0 l l' w0 w w' : Option (List ℕ)) where
+module _ (f : Form) (l0 l l' w0 w w' : Option (List ℕ)) where
   -- a turn was cut off
   pub Talked-moved : (heard : List Heard) (front text : List ℕ) (i i' : InboxState)
-      → Talked l0 l w0 w heard front i → Moves l l' w w' text i i' → Talked l0 l' w0 w' heard (front ++ text) i'
+      → Talked f l0 l w0 w heard front i → Moves l l' w w' text i i' → Talked f l0 l' w0 w' heard (front ++ text) i'
   Talked-moved heard front text i i' was moves =
       let now = Went-moved l0 l l' w0 w w' was.cut (questions heard ++ front) text i i' was.went moves in
       record {
@@ -265,18 +275,18 @@ module _ (l0 l l' w0 w w' : Option (List ℕ)) where
       }
 
 -- nothing was heard yet
-pub Talked-nil : (left written : Option (List ℕ)) (waits : Bool) (place : ℕ) (i : InboxState) → i ≡ empty_inbox → waits ≡ false
-    → Talked left left written written [] (pending waits place) i
-Talked-nil left written waits place i new flag = record {
+pub Talked-nil : (f : Form) (left written : Option (List ℕ)) (waits : Bool) (place : ℕ) (i : InboxState) → i ≡ empty_inbox → waits ≡ false
+    → Talked f left left written written [] (pending waits place) i
+Talked-nil f left written waits place i new flag = record {
   cut = [];
   spelled = tt;
   went = subst (λ (b : Bool). Went left left written written [] (pending b place) i) (sym flag) (Went-nil left written i new);
 }
 
 -- where nothing was read or written
-pub pulls_nothing : {S : Type 0} (gives : S → Line → Reply → S → Type 0) (s : S) (quiet : ℕ) (left written : Option (List ℕ))
-    (reads : Option ℕ) → PullsTo gives s quiet end.NoMemory s left left written written reads reads
-pulls_nothing gives s quiet left written reads = (
+pub pulls_nothing : {S : Type 0} (f : Form) (gives : S → Line → Reply → S → Type 0) (s : S) (quiet : ℕ) (left written : Option (List ℕ))
+    (reads : Option ℕ) → PullsTo f gives s quiet end.NoMemory s left left written written reads reads
+pulls_nothing f gives s quiet left written reads = (
   [],
   1,
   0,

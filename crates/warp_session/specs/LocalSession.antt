@@ -10,13 +10,13 @@ use Rattle.warp_session.specs.Session.{Session, TranscribesFront, TranscribesLin
 -- whatever log it leaves
 abbrev pub TranscribesAll : Program → Option (List ℕ) → Option (List ℕ) → Option (List ℕ) → Type 0
 TranscribesAll P left written written-after = IfSome left (λ input.
-    (text : List ℕ) × (log : List Record) × Session (Gives P) [] input text log × Appends written written-after text)
+    (text : List ℕ) × (log : List Record) × Session P.form (Gives P) [] input text log × Appends written written-after text)
 
 -- the same, where a read failed or too many came to no end, of the whole lines that the source lost, and of the line behind them nothing
 abbrev pub TranscribesSoFar : Program → Option (List ℕ) → Option (List ℕ) → Option (List ℕ) → Option (List ℕ) → Type 0
 TranscribesSoFar P left left-after written written-after =
-    (log : List Record) × TranscribesLines (Gives P) [] left left-after written written-after log
+    (log : List Record) × TranscribesLines P.form (Gives P) [] left left-after written written-after log
 
 -- the same, where a write failed, of a front of the replies to some first lines
 abbrev pub TranscribesSome : Program → Option (List ℕ) → Option (List ℕ) → Option (List ℕ) → Type 0
-TranscribesSome P left written written-after = (log : List Record) × TranscribesFront (Gives P) [] left written written-after log
+TranscribesSome P left written written-after = (log : List Record) × TranscribesFront P.form (Gives P) [] left written written-after log

@@ -2,7 +2,9 @@
 use Rattle.std.specs.Prelude.{◌≡◌, ◌⊎◌, ◌≤◌, true, List, [], ◌∷◌, ◌++◌, length, slice_get, Option, Some, None, refl}
 use Rattle.std.specs.Coded.{Coded, code_by, coded×}
 use Rattle.warp_tag.specs.Lists.{StartsWith}
+use Rattle.warp_tag.specs.declared.form.Form.{Form}
 use Rattle.warp_tag.specs.declared.out.Out.{Out}
+use Rattle.warp_step.specs.Codes.{form_code}
 use Rattle.warp_record.specs.declared.line.Line.{Line}
 use Rattle.warp_record.specs.declared.line.Line.TheVariants as line
 use Rattle.warp_record.specs.declared.line.Look.{Look}
@@ -16,16 +18,17 @@ use Rattle.warp_lanes.specs.declared.answer.Answer.{Answer}
 use Rattle.warp_lanes.specs.contracts.port.Port as port
 use Rattle.warp_lanes.specs.Lanes.{PortState, IsAnswer, places}
 
--- what the port sent and fetched, and what the reader knows of the board
+-- what the port sent and fetched, what the reader knows of the board, and the form of the program that is served
 pub record PortDeskState : Type 0 where
   pub port : PortState
   pub reader : ReaderState
+  pub form : Form
 
--- a desk is stored as its two parts
+-- a desk is stored as its three parts
 abbrev pub port_desk_code : Coded PortDeskState
 port_desk_code =
-    code_by (PortState × ReaderState) (coded× port.the_row.coded reader.the_row.coded)
-    (λ d. (d.port, d.reader)) (λ p. record { port = p.0; reader = p.1 }) (λ _. refl)
+    code_by (PortState × (ReaderState × Form)) (coded× port.the_row.coded (coded× reader.the_row.coded form_code))
+    (λ d. (d.port, (d.reader, d.form))) (λ p. record { port = p.0; reader = p.1.0; form = p.1.1 }) (λ _. refl)
 
 -- the port fetched some answers more, of which this is the last, and none is missing
 abbrev pub FetchesAll : PortState → Answer → PortState → Type 0
@@ -58,9 +61,9 @@ abbrev pub look_reply : Look → ReaderState → Reply
 look_reply look.Board r = reply.Board (length r.rows) r.frozen
 look_reply (look.Row number) r = row_reply (slice_get r.rows number)
 
--- which reply a line may get, and what the port and the reader are then
+-- which reply a line may get, and what the port and the reader are then; the form stays
 abbrev pub GivesAt : PortDeskState → Line → Reply → PortDeskState → Type 0
 GivesAt s (line.Look asked) answer s' =
-    (s'.port ≡ s.port) × Learns s.reader s'.reader × (answer ≡ look_reply asked s'.reader)
+    (s'.port ≡ s.port) × (s'.form ≡ s.form) × Learns s.reader s'.reader × (answer ≡ look_reply asked s'.reader)
 GivesAt s said answer s' =
-    (s'.reader ≡ s.reader) × (Asks s.port said answer s'.port ⊎ IsBusy s.port answer s'.port)
+    (s'.reader ≡ s.reader) × (s'.form ≡ s.form) × (Asks s.port said answer s'.port ⊎ IsBusy s.port answer s'.port)

@@ -3,6 +3,7 @@ use Rattle.std.specs.Prelude.{◌≡◌, ◌⊎◌, ℕ, ◌+◌, ◌<◌, ◌�
 use Rattle.std.specs.Io.KnownBytes.{Appends, Consumes, IsAtEnd}
 use Rattle.std.specs.List.{flat_map}
 use Rattle.warp_tag.specs.Lists.{StartsWith}
+use Rattle.warp_tag.specs.declared.form.Form.{Form}
 use Rattle.warp_record.specs.declared.line.Line.{Line}
 use Rattle.warp_record.specs.declared.line.Line.TheVariants.{Ask}
 use Rattle.warp_record.specs.declared.line.Query.TheVariants.{Log}
@@ -81,19 +82,19 @@ EndsPull quiet heard end.Strange = EndsWith quiet pulled.Strange heard
 EndsPull quiet heard (end.Held refusal) = EndsWith quiet (pulled.Held refusal) heard × (passes refusal → ⊥)
 EndsPull quiet heard other = AllGoOn quiet 0 heard
 
--- the reply that a line of the bytes spells, if it spells one; one of more than 128 bytes spells none
-abbrev pub SpellsReply : Piece → Option Reply → Type 0
-SpellsReply (Whole bytes) (Some reply) = IsReply reply × (bytes ≡ reply_spelling reply)
-SpellsReply (Whole bytes) None = (reply : Reply) → IsReply reply → bytes ≡ reply_spelling reply → ⊥
-SpellsReply Long reply = reply ≡ None
-SpellsReply Torn reply = reply ≡ None
+-- the reply of the form that a line of the bytes spells, if it spells one; one of more than 128 bytes spells none
+abbrev pub SpellsReply : Form → Piece → Option Reply → Type 0
+SpellsReply f (Whole bytes) (Some reply) = IsReply f reply × (bytes ≡ reply_spelling reply)
+SpellsReply f (Whole bytes) None = (reply : Reply) → IsReply f reply → bytes ≡ reply_spelling reply → ⊥
+SpellsReply f Long reply = reply ≡ None
+SpellsReply f Torn reply = reply ≡ None
 
 -- what was heard is what these lines spell, one for one
-abbrev pub AreSpelled : List Piece → List Heard → Type 0
-AreSpelled [] [] = Unit {0}
-AreSpelled (line ∷ lines) (heard ∷ rest) = SpellsReply line heard.reply × AreSpelled lines rest
-AreSpelled [] (heard ∷ rest) = ⊥
-AreSpelled (line ∷ lines) [] = ⊥
+abbrev pub AreSpelled : Form → List Piece → List Heard → Type 0
+AreSpelled f [] [] = Unit {0}
+AreSpelled f (line ∷ lines) (heard ∷ rest) = SpellsReply f line heard.reply × AreSpelled f lines rest
+AreSpelled f [] (heard ∷ rest) = ⊥
+AreSpelled f (line ∷ lines) [] = ⊥
 
 -- what is left over behind the lines that were heard: at End the beginning of a line, and no byte comes behind it
 abbrev pub IsLeftOver : PullEnd → List ℕ → Option (List ℕ) → Type 0
@@ -101,10 +102,10 @@ IsLeftOver end.End rest left-after = IsOneLine rest × IsAtEnd left-after
 IsLeftOver other rest left-after = Unit {0}
 
 -- of a source that tells its bytes, what was heard is what its first lines spell; the rest that was read is left over
-abbrev pub HasHeard : PullEnd → List Heard → Option (List ℕ) → Option (List ℕ) → Type 0
-HasHeard ended heard left left-after =
+abbrev pub HasHeard : Form → PullEnd → List Heard → Option (List ℕ) → Option (List ℕ) → Type 0
+HasHeard f ended heard left left-after =
     (lines : List ℕ) × (rest : List ℕ) × Consumes left left-after (lines ++ rest) × AreWholeLines lines
-    × AreSpelled (lines_of lines) heard × IsLeftOver ended rest left-after
+    × AreSpelled f (lines_of lines) heard × IsLeftOver ended rest left-after
 
 -- the question for a place of the log, with its line feed
 abbrev pub question : ℕ → List ℕ
@@ -141,11 +142,11 @@ HasTurned ended asked reads reads-after =
 
 -- From this state of the desk pulling may end so, and leave that state: of some replies, which the bytes that were read spell, to
 -- questions that were written, and of which each led to its outcome; in no more turns than it may have.
-abbrev pub PullsTo : {S : Type 0} → (S → Line → Reply → S → Type 0) → S → ℕ → PullEnd → S
+abbrev pub PullsTo : {S : Type 0} → Form → (S → Line → Reply → S → Type 0) → S → ℕ → PullEnd → S
     → Option (List ℕ) → Option (List ℕ) → Option (List ℕ) → Option (List ℕ) → Option ℕ → Option ℕ → Type 0
-PullsTo gives s quiet ended s' left left-after written written-after reads reads-after =
+PullsTo f gives s quiet ended s' left left-after written written-after reads reads-after =
     (heard : List Heard) × (next : ℕ) × (begun : ℕ) × PullsAll gives s 1 heard next s' × EndsPull quiet heard ended
-    × HasHeard ended heard left left-after × HasAsked ended heard next begun written written-after
+    × HasHeard f ended heard left left-after × HasAsked ended heard next begun written written-after
     × HasTurned ended (length heard + begun) reads reads-after
 
 -- the counts of failed reads and of failed writes, before and after: one of them grew by one where pulling ended for that, and

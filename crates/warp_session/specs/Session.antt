@@ -1,9 +1,11 @@
 -- The transcript of a session over any desk: what its bytes give, line by line. A desk is in a state of `S`, and
--- `gives s line reply s'` says that in the state s a line may get this reply and leave the state s'.
+-- `gives s line reply s'` says that in the state s a line may get this reply and leave the state s'. The form says which lines
+-- the bytes may spell.
 use Rattle.std.specs.Prelude.{◌≡◌, ◌⊎◌, ℕ, ◌+◌, ◌<◌, ◌≤◌, List, [], ◌∷◌, ◌++◌, Option, IfSome}
 use Rattle.std.specs.Io.KnownBytes.{Appends, Consumes}
 use Rattle.std.specs.List.{flat_map}
 use Rattle.warp_tag.specs.Limits.{most_reads}
+use Rattle.warp_tag.specs.declared.form.Form.{Form}
 use Rattle.warp_record.specs.declared.line.Line.{Line}
 use Rattle.warp_record.specs.declared.reply.Reply.{Reply}
 use Rattle.warp_record.specs.declared.reply.Reply.TheVariants.{Refused}
@@ -15,40 +17,41 @@ use Rattle.warp_session.specs.Stream.{WritesFront, reads_more}
 use Rattle.warp_session.specs.declared.desk_session.SessionEnd.{SessionEnd}
 use Rattle.warp_session.specs.declared.desk_session.SessionEnd.TheVariants.{End, ReadFault, WriteFault, TooManyReads, NoMemory}
 
--- the bytes spell this line
-abbrev pub SpellsLine : List ℕ → Line → Type 0
-SpellsLine bytes line = IsLine line × (bytes ≡ spelling line)
+-- the bytes spell this line of the form
+abbrev pub SpellsLine : Form → List ℕ → Line → Type 0
+SpellsLine f bytes line = IsLine f line × (bytes ≡ spelling line)
 
 -- What a piece of the bytes gives: a whole line what the line that it spells gives, or refusal 1 where it spells none;
 -- a torn one refusal 1, a long one refusal 9. A refusal leaves the state as it was.
-abbrev pub GivesPiece : {S : Type 0} → (S → Line → Reply → S → Type 0) → S → Piece → Reply → S → Type 0
-GivesPiece {S} gives s (Whole bytes) reply s' =
-    ((line : Line) × SpellsLine bytes line × gives s line reply s')
-    ⊎ (((line : Line) → ¬ SpellsLine bytes line) × (reply ≡ Refused Syntax) × (s' ≡ s))
-GivesPiece gives s Torn reply s' = (reply ≡ Refused Syntax) × (s' ≡ s)
-GivesPiece gives s Long reply s' = (reply ≡ Refused TooLong) × (s' ≡ s)
+abbrev pub GivesPiece : {S : Type 0} → Form → (S → Line → Reply → S → Type 0) → S → Piece → Reply → S → Type 0
+GivesPiece {S} f gives s (Whole bytes) reply s' =
+    ((line : Line) × SpellsLine f bytes line × gives s line reply s')
+    ⊎ (((line : Line) → ¬ SpellsLine f bytes line) × (reply ≡ Refused Syntax) × (s' ≡ s))
+GivesPiece f gives s Torn reply s' = (reply ≡ Refused Syntax) × (s' ≡ s)
+GivesPiece f gives s Long reply s' = (reply ≡ Refused TooLong) × (s' ≡ s)
 
 -- the pieces may give these replies, one after another, each in the state that the one before left
-abbrev pub GivesAll : {S : Type 0} → (S → Line → Reply → S → Type 0) → S → List Piece → List Reply → S → Type 0
-GivesAll gives s [] [] s' = s' ≡ s
-GivesAll {S} gives s (piece ∷ pieces) (reply ∷ replies) s' =
-    (mid : S) × GivesPiece gives s piece reply mid × GivesAll gives mid pieces replies s'
-GivesAll gives s [] (reply ∷ replies) s' = ⊥
-GivesAll gives s (piece ∷ pieces) [] s' = ⊥
+abbrev pub GivesAll : {S : Type 0} → Form → (S → Line → Reply → S → Type 0) → S → List Piece → List Reply → S → Type 0
+GivesAll f gives s [] [] s' = s' ≡ s
+GivesAll {S} f gives s (piece ∷ pieces) (reply ∷ replies) s' =
+    (mid : S) × GivesPiece f gives s piece reply mid × GivesAll f gives mid pieces replies s'
+GivesAll f gives s [] (reply ∷ replies) s' = ⊥
+GivesAll f gives s (piece ∷ pieces) [] s' = ⊥
 
 -- the pieces may give this text, and leave this state
-abbrev pub GivesText : {S : Type 0} → (S → Line → Reply → S → Type 0) → S → List Piece → List ℕ → S → Type 0
-GivesText gives s pieces text s' =
-    (replies : List Reply) × GivesAll gives s pieces replies s' × (text ≡ flat_map reply_line replies)
+abbrev pub GivesText : {S : Type 0} → Form → (S → Line → Reply → S → Type 0) → S → List Piece → List ℕ → S → Type 0
+GivesText f gives s pieces text s' =
+    (replies : List Reply) × GivesAll f gives s pieces replies s' × (text ≡ flat_map reply_line replies)
 
 -- from this state a session over these bytes may write this text, and leave this state
-abbrev pub Session : {S : Type 0} → (S → Line → Reply → S → Type 0) → S → List ℕ → List ℕ → S → Type 0
-Session gives s bytes text s' = GivesText gives s (lines_of bytes) text s'
+abbrev pub Session : {S : Type 0} → Form → (S → Line → Reply → S → Type 0) → S → List ℕ → List ℕ → S → Type 0
+Session f gives s bytes text s' = GivesText f gives s (lines_of bytes) text s'
 
 -- of a source that tells its bytes, the transcript of all of them was written behind what the sink tells
-abbrev pub Transcribes : {S : Type 0} → (S → Line → Reply → S → Type 0) → S → Option (List ℕ) → Option (List ℕ) → Option (List ℕ) → S → Type 0
-Transcribes gives s left written written-after s' =
-    IfSome left (λ input. (text : List ℕ) × Session gives s input text s' × Appends written written-after text)
+abbrev pub Transcribes : {S : Type 0} → Form → (S → Line → Reply → S → Type 0)
+    → S → Option (List ℕ) → Option (List ℕ) → Option (List ℕ) → S → Type 0
+Transcribes f gives s left written written-after s' =
+    IfSome left (λ input. (text : List ℕ) × Session f gives s input text s' × Appends written written-after text)
 
 -- there are no bytes, or the last one is a line feed
 abbrev pub AreWholeLines : List ℕ → Type 0
@@ -56,18 +59,19 @@ AreWholeLines bytes = (bytes ≡ []) ⊎ ((front : List ℕ) × (bytes ≡ front
 
 -- Of the bytes that the source lost, the transcript of the whole lines was written behind what the sink tells; of the
 -- line behind them, which has no line feed yet, nothing.
-abbrev pub TranscribesLines : {S : Type 0} → (S → Line → Reply → S → Type 0)
+abbrev pub TranscribesLines : {S : Type 0} → Form → (S → Line → Reply → S → Type 0)
     → S → Option (List ℕ) → Option (List ℕ) → Option (List ℕ) → Option (List ℕ) → S → Type 0
-TranscribesLines gives s left left-after written written-after s' =
+TranscribesLines f gives s left left-after written written-after s' =
     (lines : List ℕ) × (line : List ℕ) × Consumes left left-after (lines ++ line) × AreWholeLines lines × IsOneLine line
-    × ((text : List ℕ) × Session gives s lines text s' × Appends written written-after text)
+    × ((text : List ℕ) × Session f gives s lines text s' × Appends written written-after text)
 
 -- Of the pieces of the bytes that a source told some first ones were answered and no other, and a front of their text was written
 -- behind what the sink tells.
-abbrev pub TranscribesFront : {S : Type 0} → (S → Line → Reply → S → Type 0) → S → Option (List ℕ) → Option (List ℕ) → Option (List ℕ) → S → Type 0
-TranscribesFront gives s left written written-after s' =
+abbrev pub TranscribesFront : {S : Type 0} → Form → (S → Line → Reply → S → Type 0)
+    → S → Option (List ℕ) → Option (List ℕ) → Option (List ℕ) → S → Type 0
+TranscribesFront f gives s left written written-after s' =
     IfSome left (λ input. (answered : List Piece) × (rest : List Piece) × (lines_of input ≡ answered ++ rest)
-    × ((text : List ℕ) × GivesText gives s answered text s' × WritesFront written written-after text))
+    × ((text : List ℕ) × GivesText f gives s answered text s' × WritesFront written written-after text))
 
 -- the counts of failed reads and of failed writes, before and after a session that ended so: one of them grew by one where it
 -- ended for that, and else none did

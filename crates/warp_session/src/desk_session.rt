@@ -21,6 +21,7 @@ use std::marker::Model;
 use std::mem;
 use warp_exchange::Desk;
 use warp_record::{Fed, Feed, REPLY_ROOM, Refusal, Reply, read_line, write_reply};
+use warp_tag::Form;
 
 /// The most reads of a session.
 const MAX_READS: u32 = 1_000_000_000;
@@ -46,12 +47,12 @@ pub enum SessionEnd {
     NoMemory,
 }
 
-/// The reply to a whole line, without its line feed.
+/// The reply to a whole line of this form, without its line feed.
 #[inline(always)]
-fn reply_to_text<D: Desk>(desk: &mut D, text: &[u8]) -> Reply
-    ensures { GivesPiece D.gives (D.state desk.old) (Whole text.now) result (D.state desk.new) }
+fn reply_to_text<D: Desk>(form: Form, desk: &mut D, text: &[u8]) -> Reply
+    ensures { GivesPiece form D.gives (D.state desk.old) (Whole text.now) result (D.state desk.new) }
 {
-    match read_line(text) {
+    match read_line(form, text) {
         Some(line) => desk.ask(line),
         None => Reply::Refused(Refusal::Syntax),
     }
@@ -120,24 +121,25 @@ impl Transcriber {
         Ok(())
     }
 
-    /// Answers a whole line, without its line feed, and gathers the reply.
+    /// Answers a whole line of this form, without its line feed, and gathers the reply.
     #[inline(never)]
     fn answer_text<D: Desk, W: Sink>(
         &mut self,
+        form: Form,
         desk: &mut D,
         sink: &mut W,
         text: &[u8],
     ) -> Result<(), Failed>
-        ensures answered { OnOk result (Replied D.gives (Whole text.now ∷ [])
+        ensures answered { OnOk result (Replied form D.gives (Whole text.now ∷ [])
             (at (D.state desk.old) self.old (W.written sink.old) (W.failures sink.old))
             (at (D.state desk.new) self.new (W.written sink.new) (W.failures sink.new))) }
-        ensures broken { OnErr result (Broken D.gives (Whole text.now ∷ [])
+        ensures broken { OnErr result (Broken form D.gives (Whole text.now ∷ [])
             (at (D.state desk.old) self.old (W.written sink.old) (W.failures sink.old))
             (at (D.state desk.new) self.new (W.written sink.new) (W.failures sink.new))) }
         ensures kept { self.new.kept ≡ self.old.kept }
         ensures failures { CountsFailures (W.failures sink.old) (W.failures sink.new) result }
     {
-        let reply = reply_to_text(desk, text);
+        let reply = reply_to_text(form, desk, text);
         self.gather(sink, &reply)?;
         Ok(())
     }
@@ -145,18 +147,19 @@ impl Transcriber {
     /// Answers a line that was cut from the stream, if there is one, and gathers the reply.
     fn answer<D: Desk, W: Sink>(
         &mut self,
+        form: Form,
         desk: &mut D,
         sink: &mut W,
         fed: Option<Fed>,
     ) -> Result<(), Failed>
-        ensures turn { Turn (λ _. Replied D.gives (pieces_fed fed)) (Broken D.gives (pieces_fed fed))
+        ensures turn { Turn (λ _. Replied form D.gives (pieces_fed fed)) (Broken form D.gives (pieces_fed fed))
             (at (D.state desk.old) self.old (W.written sink.old) (W.failures sink.old))
             (at (D.state desk.new) self.new (W.written sink.new) (W.failures sink.new)) result }
         ensures kept { self.new.kept ≡ self.old.kept }
     {
         match fed {
             None => Ok(()),
-            Some(Fed::Text(bytes)) => self.answer_text(desk, sink, &bytes),
+            Some(Fed::Text(bytes)) => self.answer_text(form, desk, sink, &bytes),
             Some(Fed::TooLong) => {
                 self.gather(sink, &Reply::Refused(Refusal::TooLong))?;
                 Ok(())
@@ -172,61 +175,70 @@ impl Transcriber {
     /// Gives how many bytes it took.
     fn take_line<D: Desk, W: Sink>(
         &mut self,
+        form: Form,
         desk: &mut D,
         sink: &mut W,
         bytes: &[u8],
     ) -> Result<usize, Failed>
         requires { 0 < length bytes.now }
         ensures count { IfOk result (λ n. (0 < n) × (n ≤ length bytes.now)) }
-        ensures turn { Turn (λ n. TakesBytes D.gives (take n bytes.now)) (BreaksBytes D.gives bytes.now)
+        ensures turn { Turn (λ n. TakesBytes form D.gives (take n bytes.now)) (BreaksBytes form D.gives bytes.now)
             (at (D.state desk.old) self.old (W.written sink.old) (W.failures sink.old))
             (at (D.state desk.new) self.new (W.written sink.new) (W.failures sink.new)) result }
     {
         // A line of which nothing came before is read where it stands.
         if let Some(text) = self.feed.whole(bytes) {
-            self.answer_text(desk, sink, text)?;
+            self.answer_text(form, desk, sink, text)?;
             return Ok(text.len() + 1);
         }
         let (count, fed) = self.feed.push(bytes);
-        self.answer(desk, sink, fed)?;
+        self.answer(form, desk, sink, fed)?;
         Ok(count)
     }
 
     /// Takes bytes, answers the lines that they end, and writes all that was gathered.
     fn take<D: Desk, W: Sink>(
         &mut self,
+        form: Form,
         desk: &mut D,
         sink: &mut W,
         bytes: &[u8],
     ) -> Result<(), Failed>
-        ensures turn { Turn (λ _. TakesBytes D.gives bytes.now) (BreaksBytes D.gives bytes.now)
+        ensures turn { Turn (λ _. TakesBytes form D.gives bytes.now) (BreaksBytes form D.gives bytes.now)
             (at (D.state desk.old) self.old (W.written sink.old) (W.failures sink.old))
             (at (D.state desk.new) self.new (W.written sink.new) (W.failures sink.new)) result }
         ensures empty { OnOk result (self.new.gathered ≡ []) }
     {
         let mut at = 0;
         while at < bytes.len() {
-            at += self.take_line(desk, sink, &bytes[at..])?;
+            at += self.take_line(form, desk, sink, &bytes[at..])?;
         }
         self.flush(sink)?;
         Ok(())
     }
 
     /// Answers the last line, which has no line feed, if there is one, and writes all that was gathered.
-    fn finish<D: Desk, W: Sink>(&mut self, desk: &mut D, sink: &mut W) -> Result<(), Failed>
-        ensures { Turn (λ _. Ends D.gives) (BreaksAtEnd D.gives)
+    fn finish<D: Desk, W: Sink>(
+        &mut self,
+        form: Form,
+        desk: &mut D,
+        sink: &mut W,
+    ) -> Result<(), Failed>
+        ensures { Turn (λ _. Ends form D.gives) (BreaksAtEnd form D.gives)
             (at (D.state desk.old) self.old (W.written sink.old) (W.failures sink.old))
             (at (D.state desk.new) self.new (W.written sink.new) (W.failures sink.new)) result }
     {
         let last = mem::replace(&mut self.feed, Feed::new()).end();
-        self.answer(desk, sink, last)?;
+        self.answer(form, desk, sink, last)?;
         self.flush(sink)?;
         Ok(())
     }
 
-    /// Reads lines to the end of `source` by way of `buffer`, and writes to `sink` what `desk` replies to each.
+    /// Reads lines of this form to the end of `source` by way of `buffer`, and writes to `sink` what `desk` replies to
+    /// each.
     fn answer_all<R: Source, W: Sink, D: Desk>(
         &mut self,
+        form: Form,
         source: &mut R,
         sink: &mut W,
         desk: &mut D,
@@ -235,16 +247,16 @@ impl Transcriber {
         requires room { 0 < length buffer.old }
         requires new { self.old ≡ nothing_held }
         ensures bytes { result ≡ SessionEnd.End →
-            Transcribes D.gives (D.state desk.old) (R.left source.old)
+            Transcribes form D.gives (D.state desk.old) (R.left source.old)
             (W.written sink.old) (W.written sink.new) (D.state desk.new) }
         ensures lines { result ≡ SessionEnd.ReadFault →
-            TranscribesLines D.gives (D.state desk.old) (R.left source.old) (R.left source.new)
+            TranscribesLines form D.gives (D.state desk.old) (R.left source.old) (R.left source.new)
             (W.written sink.old) (W.written sink.new) (D.state desk.new) }
         ensures long { result ≡ SessionEnd.TooManyReads →
-            TranscribesLines D.gives (D.state desk.old) (R.left source.old) (R.left source.new)
+            TranscribesLines form D.gives (D.state desk.old) (R.left source.old) (R.left source.new)
             (W.written sink.old) (W.written sink.new) (D.state desk.new) }
         ensures front { result ≡ SessionEnd.WriteFault →
-            TranscribesFront D.gives (D.state desk.old) (R.left source.old)
+            TranscribesFront form D.gives (D.state desk.old) (R.left source.old)
             (W.written sink.old) (W.written sink.new) (D.state desk.new) }
         ensures failures { FailsSo result (R.failures source.old) (R.failures source.new)
             (W.failures sink.old) (W.failures sink.new) }
@@ -259,12 +271,12 @@ impl Transcriber {
             };
             let has_ended = count == 0;
             if has_ended {
-                let Ok(()) = self.finish(desk, sink) else {
+                let Ok(()) = self.finish(form, desk, sink) else {
                     return SessionEnd::WriteFault;
                 };
                 return SessionEnd::End;
             }
-            let Ok(()) = self.take(desk, sink, &buffer[..count]) else {
+            let Ok(()) = self.take(form, desk, sink, &buffer[..count]) else {
                 return SessionEnd::WriteFault;
             };
         }
@@ -282,9 +294,9 @@ fn begin(alloc: Global) -> Result<(Vec<u8>, Transcriber), AllocError>
     Ok((buffer, transcriber))
 }
 
-/// Reads lines to the end of `source`, and writes to `sink` what `desk` replies to each, in order. Replies are
-/// gathered, and written before the next read. A last line without a line feed is refused 1, a line of more than 128
-/// bytes refused 9.
+/// Reads lines to the end of `source`, in the form of the desk's program, and writes to `sink` what `desk` replies to
+/// each, in order. Replies are gathered, and written before the next read. A last line without a line feed is refused
+/// 1, as is one that is no line of that form; a line of more than 128 bytes refused 9.
 pub fn session<R: Source, W: Sink, D: Desk>(
     alloc: Global,
     source: &mut R,
@@ -293,21 +305,21 @@ pub fn session<R: Source, W: Sink, D: Desk>(
 ) -> SessionEnd
     // At the end all bytes were read, and their transcript was written.
     ensures bytes { result ≡ SessionEnd.End →
-        Transcribes D.gives (D.state desk.old) (R.left source.old)
-        (W.written sink.old) (W.written sink.new) (D.state desk.new) }
+        Transcribes (D.form_of (D.state desk.old)) D.gives (D.state desk.old)
+        (R.left source.old) (W.written sink.old) (W.written sink.new) (D.state desk.new) }
     // Before a failed read the lines so far were answered, and no torn one.
     ensures lines { result ≡ SessionEnd.ReadFault →
-        TranscribesLines D.gives (D.state desk.old) (R.left source.old) (R.left source.new)
-        (W.written sink.old) (W.written sink.new) (D.state desk.new) }
+        TranscribesLines (D.form_of (D.state desk.old)) D.gives (D.state desk.old)
+        (R.left source.old) (R.left source.new) (W.written sink.old) (W.written sink.new) (D.state desk.new) }
     // So they were where too many reads came to no end.
     ensures long { result ≡ SessionEnd.TooManyReads →
-        TranscribesLines D.gives (D.state desk.old) (R.left source.old) (R.left source.new)
-        (W.written sink.old) (W.written sink.new) (D.state desk.new) }
+        TranscribesLines (D.form_of (D.state desk.old)) D.gives (D.state desk.old)
+        (R.left source.old) (R.left source.new) (W.written sink.old) (W.written sink.new) (D.state desk.new) }
     // At a failed write some first lines were answered, no other was put to the desk, and a front of their replies is
     // out.
     ensures front { result ≡ SessionEnd.WriteFault →
-        TranscribesFront D.gives (D.state desk.old) (R.left source.old)
-        (W.written sink.old) (W.written sink.new) (D.state desk.new) }
+        TranscribesFront (D.form_of (D.state desk.old)) D.gives (D.state desk.old)
+        (R.left source.old) (W.written sink.old) (W.written sink.new) (D.state desk.new) }
     // One read has failed, or one write, where it ended for that, and else none.
     ensures failures { FailsSo result (R.failures source.old) (R.failures source.new)
         (W.failures sink.old) (W.failures sink.new) }
@@ -321,5 +333,6 @@ pub fn session<R: Source, W: Sink, D: Desk>(
     let Ok((mut buffer, mut transcriber)) = begin(alloc) else {
         return SessionEnd::NoMemory;
     };
-    transcriber.answer_all(source, sink, desk, buffer.as_mut_slice())
+    let form = desk.form();
+    transcriber.answer_all(form, source, sink, desk, buffer.as_mut_slice())
 }

@@ -3,6 +3,7 @@
 use crate::door::Gate;
 use warp_exchange::Desk;
 use warp_record::{Line, Reply};
+use warp_tag::Form;
 
 /// A desk, and the gate that is called round each line that a session asks it.
 #[derive(Drop)]
@@ -31,6 +32,12 @@ impl<'a, D: Desk, G: Gate> Desk for GatedDesk<'a, D, G> {
     ghost state = { λ d. D.state d.desk };
 
     ghost gives = { D.gives };
+
+    ghost form_of = { D.form_of };
+
+    fn form(&self) -> Form {
+        self.desk.form()
+    }
 
     fn ask(&mut self, line: Line) -> Reply {
         self.gate.before_ask(self.session, self.asked);

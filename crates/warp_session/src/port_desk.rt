@@ -1,5 +1,6 @@
 //! The desk of a session that is served with others: another thread answers its lines, and it reads the board itself.
 ghost use Rattle.std.specs.Prelude.{◌≡◌, IfSome};
+ghost use Rattle.warp_tag.specs.Limits.{widest};
 ghost use Rattle.warp_record.specs.Reply.{IsReply};
 ghost use Rattle.warp_lanes.specs.declared.answer.Answer.{Answer};
 ghost use Rattle.warp_session.specs.PortDesk.{GivesAt, FetchesAll, Learns, PortDeskState, look_reply};
@@ -12,15 +13,17 @@ use warp_board::{Board, Reader};
 use warp_exchange::Desk;
 use warp_lanes::{Port, PortEnd};
 use warp_record::{Line, Look, Refusal, Reply};
+use warp_tag::Form;
 
 /// A desk that sends its lines to the thread that holds the replica, and waits for each answer. It answers the lines of
-/// the board itself. Contracts see its port and its reader.
+/// the board itself. Contracts see its port, its reader, and the form of the program that is served.
 #[derive(Drop)]
 pub struct PortDesk<'a, X: Wait + Clock> {
     rt: &'a X,
     board: &'a Board,
     port: Port,
     reader: Reader,
+    form: Form,
 }
 
 impl<'a, X: Wait + Clock> Model for PortDesk<'a, X> {
@@ -31,22 +34,30 @@ impl<'a, X: Wait + Clock> Model for PortDesk<'a, X> {
 
     ghost coded = { port_desk_code };
 
-    ghost view = { λ d. record { port = d.port; reader = d.reader } };
+    ghost view = { λ d. record { port = d.port; reader = d.reader; form = d.form } };
 
     ghost invariant = { λ d. d.reader.board ≡ d.board.now };
 }
 
 impl<'a, X: Wait + Clock> PortDesk<'a, X> {
-    /// The desk of this port, whose lane an engine serves, and of this reader of the board. It waits by `rt`.
-    pub fn new(rt: &'a X, board: &'a Board, port: Port, reader: Reader) -> PortDesk<'a, X>
+    /// The desk of this port, whose lane an engine serves, of this reader of the board, and of lines of this form, which
+    /// the engine's program has. It waits by `rt`.
+    pub fn new(
+        rt: &'a X,
+        board: &'a Board,
+        port: Port,
+        reader: Reader,
+        form: Form,
+    ) -> PortDesk<'a, X>
         requires { reader.board ≡ board.now }
-        ensures { result ≡ record { port = port; reader = reader } }
+        ensures { result ≡ record { port = port; reader = reader; form = form } }
     {
         PortDesk {
             rt,
             board,
             port,
             reader,
+            form,
         }
     }
 
@@ -84,7 +95,7 @@ fn look(board: &Board, reader: &mut Reader, asked: Look) -> Reply
     requires { reader.old.board ≡ board.now }
     ensures learns { Learns reader.old reader.new }
     ensures answer { result ≡ look_reply «asked» reader.new }
-    ensures reply { IsReply result }
+    ensures reply { IsReply widest result }
 {
     match asked {
         Look::Board => {
@@ -111,6 +122,12 @@ impl<'a, X: Wait + Clock> Desk for PortDesk<'a, X> {
     ghost state = { λ d. d };
 
     ghost gives = { GivesAt };
+
+    ghost form_of = { λ s. s.form };
+
+    fn form(&self) -> Form {
+        self.form
+    }
 
     /// A line of the board is answered at once. Any other is sent and its answer waited for; where the lane is full it
     /// is refused 10 and not sent.

@@ -3,6 +3,7 @@ ghost use Rattle.std.specs.Prelude.{◌≡◌, ◌≢◌, ℕ, ◌+◌, ◌<◌,
 ghost use Rattle.std.specs.Prelude.{List, MatchBool, OnErr, OnOk, Option, is_none};
 ghost use Rattle.std.specs.Io.KnownBytes.{Appends, Consumes, IsAtEnd};
 ghost use Rattle.warp_tag.specs.Lists.{StartsWith};
+ghost use Rattle.warp_tag.specs.Limits.{widest};
 ghost use Rattle.warp_record.specs.Lines.{piece_of};
 ghost use Rattle.warp_record.specs.declared.reply.Reply.{Reply};
 ghost use Rattle.warp_record.specs.Reply.{IsReply};
@@ -22,6 +23,7 @@ use std::thread;
 use std::time::{Clock, Duration};
 use warp_exchange::{Desk, Pulled, Puller};
 use warp_record::{Fed, Refusal, Reply, read_reply};
+use warp_tag::Form;
 
 /// The most turns of a pull: one is a question to the other replica, or a read.
 const MAX_TURNS: u32 = 1_000_000;
@@ -45,13 +47,13 @@ pub enum PullEnd {
     NoMemory,
 }
 
-/// The reply that a line spells, if it does; one of more than 128 bytes spells none.
-fn reply_of(fed: &Fed) -> Option<Reply>
-    ensures reply { IfSome result IsReply }
-    ensures spells { SpellsReply (piece_of fed.now) result }
+/// The reply of this form that a line spells, if it does; one of more than 128 bytes spells none.
+fn reply_of(form: Form, fed: &Fed) -> Option<Reply>
+    ensures reply { IfSome result (IsReply widest) }
+    ensures spells { SpellsReply form (piece_of fed.now) result }
 {
     match fed {
-        Fed::Text(bytes) => read_reply(bytes),
+        Fed::Text(bytes) => read_reply(form, bytes),
         _ => None,
     }
 }
@@ -230,15 +232,15 @@ impl Conversation {
     }
 
     /// Does what the reply leads to, and counts levels.
-    fn hear<D: Desk>(&mut self, fed: &Fed, desk: &mut D) -> Pulled
+    fn hear<D: Desk>(&mut self, form: Form, fed: &Fed, desk: &mut D) -> Pulled
         requires { self.old.levels < MAX_TURNS }
-        ensures pulls { (reply : Option Reply) × SpellsReply (piece_of fed.now) reply
+        ensures pulls { (reply : Option Reply) × SpellsReply form (piece_of fed.now) reply
             × Pulls D.gives (D.state desk.old) self.old.puller reply
             (record { pulled = result; next = self.new.puller }) (D.state desk.new) }
         ensures others { (self.new.inbox ≡ self.old.inbox) × (self.new.waits ≡ self.old.waits) }
         ensures levels { self.new.levels ≡ levels_with self.old.levels result }
     {
-        let pulled = self.puller.on_reply(reply_of(fed), desk);
+        let pulled = self.puller.on_reply(reply_of(form, fed), desk);
         self.levels = if pulled == Pulled::Level {
             self.levels + 1
         } else {
@@ -247,9 +249,10 @@ impl Conversation {
         pulled
     }
 
-    /// Pulls to an end.
+    /// Pulls to an end, by replies of this form.
     fn run<X: Clock, R: Source, W: Sink, D: Desk>(
         &mut self,
+        form: Form,
         rt: &X,
         source: &mut R,
         sink: &mut W,
@@ -259,7 +262,7 @@ impl Conversation {
     ) -> PullEnd
         requires started { (self.old.puller ≡ 1) × (self.old.levels ≡ 0) }
         requires silent { (self.old.inbox ≡ empty_inbox) × (self.old.waits ≡ false) }
-        ensures pulls { PullsTo D.gives (D.state desk.old) quiet result (D.state desk.new)
+        ensures pulls { PullsTo form D.gives (D.state desk.old) quiet result (D.state desk.new)
             (R.left source.old) (R.left source.new) (W.written sink.old) (W.written sink.new)
             (R.reads source.old) (R.reads source.new) }
         ensures failures { PullFails result (R.failures source.old) (R.failures source.new)
@@ -274,7 +277,7 @@ impl Conversation {
             let Some(fed) = fed else {
                 continue;
             };
-            let pulled = self.hear(&fed, desk);
+            let pulled = self.hear(form, &fed, desk);
             if rests(pulled) {
                 thread::sleep(rt, pause);
             }
@@ -288,8 +291,9 @@ impl Conversation {
 }
 
 /// Asks the other replica, whose replies come by `source` and whose lines go by `sink`, for its log, place after place,
-/// and puts its records to `desk`. It ends where so many replies in a row, `quiet`, were that the other log has no
-/// more, at least one; behind each of these, and behind a refusal that passes, it sleeps for `pause`.
+/// and puts its records to `desk`. It reads the replies in the form of the desk's program: one that is none of that form
+/// ends it as any other that does not read. It ends where so many replies in a row, `quiet`, were that the other log has
+/// no more, at least one; behind each of these, and behind a refusal that passes, it sleeps for `pause`.
 pub fn pull<X: Clock, R: Source, W: Sink, D: Desk>(
     rt: &X,
     alloc: Global,
@@ -301,7 +305,8 @@ pub fn pull<X: Clock, R: Source, W: Sink, D: Desk>(
 ) -> PullEnd
     // The replies are what the lines that were read spell, and the questions that they answer were written. The desk
     // was asked what the replies led to and nothing else. The last of them are why it ended, or its turns were over.
-    ensures pulls { PullsTo D.gives (D.state desk.old) quiet result (D.state desk.new)
+    ensures pulls { PullsTo (D.form_of (D.state desk.old)) D.gives
+        (D.state desk.old) quiet result (D.state desk.new)
         (R.left source.old) (R.left source.new) (W.written sink.old) (W.written sink.new)
         (R.reads source.old) (R.reads source.new) }
     // One read has failed, or one write, where it ended for that, and else none.
@@ -314,5 +319,6 @@ pub fn pull<X: Clock, R: Source, W: Sink, D: Desk>(
     let Ok(mut conversation) = Conversation::new(alloc) else {
         return PullEnd::NoMemory;
     };
-    conversation.run(rt, source, sink, desk, quiet, pause)
+    let form = desk.form();
+    conversation.run(form, rt, source, sink, desk, quiet, pause)
 }

@@ -25,6 +25,7 @@ use warp_lanes::{Engine, Lane, lane};
 use warp_line::Timeline;
 use warp_replica::Replica;
 use warp_step::Program;
+use warp_tag::Form;
 
 /// What the executor hands back: the engine that it was given, after some turns.
 #[derive(Drop)]
@@ -36,12 +37,13 @@ impl<T: Timeline> Promise<Engine<T>> for ServesOf<T> {
     ghost kept_by = { λ p e. KeepsEngine p.given.value e };
 }
 
-/// So many lanes, and a desk at each.
+/// So many lanes, and a desk at each, whose lines are of this form.
 fn make_desks<'a, X: Wait + Clock>(
     rt: &'a X,
     alloc: Global,
     board: &'a Board,
     reader: Reader,
+    form: Form,
     count: usize,
 ) -> Result<(Vec<PortDesk<'a, X>>, Vec<Lane>), AllocError>
     requires { reader.board ≡ board.now }
@@ -58,7 +60,7 @@ fn make_desks<'a, X: Wait + Clock>(
             unreachable!()
         };
         reader = rest;
-        desks.push(PortDesk::new(rt, board, port, own))?;
+        desks.push(PortDesk::new(rt, board, port, own, form))?;
         lanes.push(end)?;
     }
     Ok((desks, lanes))
@@ -382,10 +384,11 @@ pub fn serve_sessions<
     ensures room { IfOk result (λ engine. room_of engine.writer.board ≡ most_rows) }
 {
     let room = Room::new(alloc, peers.len())?;
+    let form = program.form();
     let replica = Replica::new(alloc, program)?;
     let (board, writer, reader) = board(alloc, MAX_ROWS)?;
     let board = &board;
-    let (desks, lanes) = make_desks(rt, alloc, board, reader, sessions + peers.len())?;
+    let (desks, lanes) = make_desks(rt, alloc, board, reader, form, sessions + peers.len())?;
     let engine = Engine::new(replica, lanes, writer);
     let executor = Executor { engine, board };
     let served = serve_beside(rt, alloc, executor, desks, door, peers, gate, room)?;

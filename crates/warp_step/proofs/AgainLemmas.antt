@@ -16,7 +16,7 @@ use Rattle.warp_body.specs.Presence.{Presence, is_target, kind_of, places_of, pr
 use Rattle.warp_body.specs.declared.place.Places.{Places}
 use Rattle.warp_body.specs.declared.place.Target.{Target}
 use Rattle.warp_body.specs.declared.place.Target.TheVariants as to
-use Rattle.warp_step.specs.Program.{Program}
+use Rattle.warp_step.specs.Program.{Program, top_of}
 use Rattle.warp_step.specs.Valid.{program_places}
 use Rattle.warp_step.specs.Snapshot.{Snapshot, AreInOrder, entered, entered_where, has_key, key_before, landed, with_entry}
 use Rattle.warp_step.specs.Step.{absent, arrived_entries, repeats, with_repeats}
@@ -379,7 +379,7 @@ where_behind t PastMicro k v front s here later room = refl
 
 landed_behind : (P : Program) (t : Moment) (delay : ℕ) (k : Target) (v : ℤ) (front : List Waiting) (s : Snapshot) → IsTrue (list_all (λ w. is_same w.tag t) front)
     → nat_lt (length (front ++ s.pending)) most_pending ≡ true → landed P t delay k v (with_front front s) ≡ with_front front (landed P t delay k v s)
-landed_behind P t delay k v front s here room = where_behind t (landing P.stop P.top t delay) k v front s here (lands_later P.stop P.top t delay) room
+landed_behind P t delay k v front s here room = where_behind t (landing P.stop (top_of P) t delay) k v front s here (lands_later P.stop (top_of P) t delay) room
 
 if_behind : (b : Bool) (front : List Waiting) (s u v : Snapshot) → u ≡ with_front front v → (if b then u else with_front front s) ≡ with_front front (if b then v else s)
 if_behind true front s u v is = is

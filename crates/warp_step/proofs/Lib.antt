@@ -13,6 +13,8 @@ pub mod PartedLists
 pub mod PendingLemmas
 pub mod PlaceLemmas
 pub mod PlanLemmas
+pub mod RaisedPrograms
+pub mod RaisedRuns
 pub mod ReactLemmas
 pub mod RepeatLemmas
 pub mod RowsBefore

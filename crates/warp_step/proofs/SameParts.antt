@@ -47,7 +47,7 @@ module _ (P : Program) (order : List ℕ) where
     statement_in r (SetVariable k e) = ap (λ (b : Bool). owns_variable P r.reactor k && b) (term_in r e)
     statement_in r (PutOutput port e) = ap (λ (b : Bool). names r.writes (to.Port port) && b) (term_in r e)
     statement_in r (ScheduleAction action delay e) =
-        ap (λ (b : Bool). names r.writes (to.Action action) && nat_le delay longest_period && b) (term_in r e)
+        ap (λ (b : Bool). names r.writes (to.Action action) && nat_le delay (longest_period P.form) && b) (term_in r e)
     statement_in r (Choose e first second) =
         let test = term_in r e in
         let one = body_in r first in

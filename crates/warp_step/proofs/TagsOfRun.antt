@@ -3,11 +3,11 @@ use Rattle.std.proofs.Common.{◌≡◌, inl, inr, ℕ, ◌+◌, ◌≤◌, Bool
 use Rattle.std.specs.List.{list_all, list_any, AllByRecursion}
 use Rattle.std.proofs.lemmas.Bool.{cases_Bool}
 use Rattle.std.proofs.lemmas.Bool.Decides.{nat_tests}
-use Rattle.warp_tag.specs.Limits.{longest_stop, last_microstep, most_names}
+use Rattle.warp_tag.specs.Limits.{widest, longest_stop, last_microstep, most_names}
 use Rattle.warp_tag.specs.Moment.{Moment, is_before, is_same}
 use Rattle.warp_tag.specs.Table.{Event}
 use Rattle.warp_tag.proofs.Tags.{same_is, is_same_self, before_trans}
-use Rattle.warp_step.specs.Program.{Program}
+use Rattle.warp_step.specs.Program.{Program, top_of}
 use Rattle.warp_step.specs.Snapshot.{Snapshot, start_state}
 use Rattle.warp_step.specs.Events.{event_fits, is_in_time}
 use Rattle.warp_step.specs.Step.{state_after}
@@ -52,7 +52,7 @@ waits_at p E last s t events pending h = elim (cases_Bool (list_any (λ e. is_sa
 -- the box has the program's times and the events' tags
 pub record Holds (T M : ℕ) (P : Program) (E : List Event) : Type 0 where
   pub stop : P.stop ≤ T
-  pub top : P.top ≤ M
+  pub top : top_of P ≤ M
   pub events : list_all (λ e. is_inside T M e.tag) E ≡ true
 
 -- after a step at a tag inside all that is pending is inside
@@ -89,17 +89,17 @@ events_in_time P (e ∷ es) h =
     grind (arith, nat_tests)
 
 -- within the limits the tags of a program are few
-size_few : (stop top : ℕ) → stop ≤ longest_stop → top ≤ last_microstep → size stop top ≤ most_names
+size_few : (stop top : ℕ) → stop ≤ longest_stop widest → top ≤ last_microstep widest → size stop top ≤ most_names
 size_few stop top h k = grind (arith, nat_tests)
 
 -- a trace of a program within the limits, over events that it takes, has few rows
-pub few_rows : (P : Program) (E : List Event) (rows : List Row) → P.stop ≤ longest_stop → P.top ≤ last_microstep
+pub few_rows : (P : Program) (E : List Event) (rows : List Row) → P.stop ≤ longest_stop widest → top_of P ≤ last_microstep widest
     → IsTrue (list_all (event_fits P) E) → Run P E rows → length rows ≤ most_names
 few_rows P E rows stop top fits run =
     let events = events_in_time P E fits in
-    let box : Holds P.stop P.top P E = record { stop = omega arith; top = omega arith; events = events } in
-    let few = rows_left P.stop P.top P E None (start_state P) rows box refl (start_inside P.stop P.top P box.stop) run in
-    let all = size_few P.stop P.top stop top in
+    let box : Holds P.stop (top_of P) P E = record { stop = omega arith; top = omega arith; events = events } in
+    let few = rows_left P.stop (top_of P) P E None (start_state P) rows box refl (start_inside P.stop (top_of P) P box.stop) run in
+    let all = size_few P.stop (top_of P) stop top in
     omega arith
 
 -- what is pending is after the last row, at the start and so everywhere in a run

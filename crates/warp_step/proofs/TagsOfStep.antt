@@ -10,7 +10,7 @@ use Rattle.warp_body.specs.Presence.{Presence, present_at}
 use Rattle.warp_body.specs.declared.place.Target.{Target}
 use Rattle.warp_body.specs.declared.place.Target.TheVariants as to
 use Rattle.warp_body.specs.declared.stmt.Wish.{Wish}
-use Rattle.warp_step.specs.Program.{Program, delay_of, starts_of}
+use Rattle.warp_step.specs.Program.{Program, delay_of, starts_of, top_of}
 use Rattle.warp_step.specs.Snapshot.{Snapshot, key_before, has_key, with_entry, entered, landed, first_tag, begins, with_timers, with_startup, start_state}
 use Rattle.warp_step.specs.Events.{is_in_time}
 use Rattle.warp_step.specs.Step.{present_first, without_entries, repeats, with_repeats, reacted, with_wish, with_wishes, with_all_wishes, delivered, with_links, state_after}
@@ -25,7 +25,7 @@ all_at p s = list_all (λ w. p w.tag) s.pending
 
 -- what lands from a tag is after it, and within the program's times or at the same time
 abbrev pub lands : Program → Moment → Moment → Bool
-lands P t u = is_before t u && (nat_le u.time P.stop || u.time == t.time) && nat_le u.microstep P.top
+lands P t u = is_before t u && (nat_le u.time P.stop || u.time == t.time) && nat_le u.microstep (top_of P)
 
 -- entries with one more at a tag that passes still pass
 entries_with : (p : Moment → Bool) (tag : Moment) (target : Target) (value : ℤ) (ws : List Waiting) → p tag ≡ true
@@ -56,7 +56,7 @@ module _ (P : Program) (t : Moment) (p : Moment → Bool) (good : (u : Moment) �
   -- what is pending passes it, with what lands too
   landed_at : (delay : ℕ) (target : Target) (value : ℤ) (s : Snapshot) → all_at p s ≡ true → all_at p (landed P t delay target value s) ≡ true
   landed_at delay target value s h = elim (cases_Bool (delay == 0)) [
-    | inl now ↦ elim (cases_Bool (nat_le (t.microstep + 1) P.top)) [
+    | inl now ↦ elim (cases_Bool (nat_le (t.microstep + 1) (top_of P))) [
       | inl room ↦
           let u : Moment = record { time = t.time; microstep = t.microstep + 1 } in
           let there : lands P t u ≡ true = grind (arith, nat_tests) in
@@ -140,7 +140,7 @@ later P s t X h =
     (kept_at (λ u. not (is_before u t)) (λ u. is_before t u) t (λ u a b. grind (arith, nat_tests)) s.pending h)
 
 -- in a box of times and microsteps that has the program's, a step leaves it only what is in the box
-pub in_box : (P : Program) (s : Snapshot) (t : Moment) (X : List Given) (T M : ℕ) → P.stop ≤ T → P.top ≤ M → t.time ≤ T
+pub in_box : (P : Program) (s : Snapshot) (t : Moment) (X : List Given) (T M : ℕ) → P.stop ≤ T → top_of P ≤ M → t.time ≤ T
     → all_at (λ u. nat_le u.time T && nat_le u.microstep M) s ≡ true
     → all_at (λ u. nat_le u.time T && nat_le u.microstep M) (state_after P s t X) ≡ true
 in_box P s t X T M stop top time h =
@@ -152,7 +152,7 @@ pub in_time : (P : Program) (s : Snapshot) (t : Moment) (X : List Given) → IsT
     → IsTrue (list_all (λ w. is_in_time P w.tag) s.pending) → IsTrue (list_all (λ w. is_in_time P w.tag) (state_after P s t X).pending)
 in_time P s t X here h =
     let time : t.time ≤ P.stop = grind (arith, nat_tests) in
-    in_box P s t X P.stop P.top (omega arith) (omega arith) time h
+    in_box P s t X P.stop (top_of P) (omega arith) (omega arith) time h
 
 -- a test that all tags pass at which something may be pending at the start: the first microsteps up to the stop
 module _ (P : Program) (p : Moment → Bool) (good : (time : ℕ) → time ≤ P.stop → p (record { time = time; microstep = 0 }) ≡ true) where

@@ -13,7 +13,7 @@ use Rattle.warp_body.specs.Effect.{wish_fits}
 use Rattle.warp_body.specs.declared.place.Target.{Target}
 use Rattle.warp_body.specs.declared.place.Target.TheVariants as to
 use Rattle.warp_body.specs.declared.stmt.Wish.{Wish}
-use Rattle.warp_step.specs.Program.{Program, delay_of, starts_of}
+use Rattle.warp_step.specs.Program.{Program, delay_of, starts_of, top_of}
 use Rattle.warp_step.specs.Valid.{is_valid, link_fits, program_places, program_sizes}
 use Rattle.warp_step.specs.Snapshot.{Snapshot, IsStateOf, entry_fits, key_before, has_key, with_entry, entered, entered_where, landed, first_tag, begins, with_timers, with_startup, start_state}
 use Rattle.warp_step.specs.Events.{is_in_time}
@@ -59,7 +59,7 @@ module _ (q : Target → Bool) where
 
   landed_to : (P : Program) (t : Moment) (delay : ℕ) (target : Target) (value : ℤ) (s : Snapshot) → q target ≡ true → all_to q s ≡ true
       → all_to q (landed P t delay target value s) ≡ true
-  landed_to P t delay target value s here h = where_to (landing P.stop P.top t delay) target value s here h
+  landed_to P t delay target value s here h = where_to (landing P.stop (top_of P) t delay) target value s here h
 
   either_to : (b : Bool) (x s : Snapshot) → all_to q x ≡ true → all_to q s ≡ true → all_to q (if b then x else s) ≡ true
   either_to true x s h k = h
@@ -158,15 +158,15 @@ module _ (P : Program) where
   fit_both (w ∷ ws) h k =
       let targets = and_parts (fits w.target) (list_all (λ v. fits v.target) ws) h in
       let tags = and_parts (is_in_time P w.tag) (list_all (λ v. is_in_time P v.tag) ws) k in
-      let times = and_parts (nat_le w.tag.time P.stop) (nat_le w.tag.microstep P.top) tags.0 in
+      let times = and_parts (nat_le w.tag.time P.stop) (nat_le w.tag.microstep (top_of P)) tags.0 in
       and_from (entry_fits P w) (list_all (entry_fits P) ws) (and_from _ _ (and_from _ _ targets.0 times.0) times.1) (fit_both ws targets.1 tags.1)
 
   -- the three parts of an entry that fits
   fit_parts : (w : Waiting) → IsTrue (entry_fits P w) → (fits w.target ≡ true) × (is_in_time P w.tag ≡ true)
   fit_parts w h =
-      let a = and_parts (fits w.target && nat_le w.tag.time P.stop) (nat_le w.tag.microstep P.top) h in
+      let a = and_parts (fits w.target && nat_le w.tag.time P.stop) (nat_le w.tag.microstep (top_of P)) h in
       let b = and_parts (fits w.target) (nat_le w.tag.time P.stop) a.0 in
-      (b.0, and_from (nat_le w.tag.time P.stop) (nat_le w.tag.microstep P.top) b.1 a.1)
+      (b.0, and_from (nat_le w.tag.time P.stop) (nat_le w.tag.microstep (top_of P)) b.1 a.1)
 
   pub fit_targets : (ws : List Waiting) → IsTrue (list_all (entry_fits P) ws) → list_all (λ w. fits w.target) ws ≡ true
   fit_targets ws h = list_all_weaker (entry_fits P) (λ w. fits w.target) (λ w x. (fit_parts w x).0) ws h
@@ -182,7 +182,7 @@ module _ (P : Program) where
   pub step_is : (s : Snapshot) (t : Moment) (X : List Given) → IsTrue (is_valid P) → IsTrue (list_all (list_all (wish_fits (program_sizes P))) (reacted P s t X).wishes)
       → CanStep P s t X → IsStateOf P (state_after P s t X)
   step_is s t X valid wishes can =
-      let here : IsTrue (is_in_time P t) = and_from _ _ (le-leb t.time P.stop can.time) (le-leb t.microstep P.top can.microstep) in
+      let here : IsTrue (is_in_time P t) = and_from _ _ (le-leb t.time P.stop can.time) (le-leb t.microstep (top_of P) can.microstep) in
       record {
         vars = step_vars P s t X ∙ can.state.vars;
         entries = fit_both (state_after P s t X).pending (step_to s t X valid wishes (fit_targets s.pending can.state.entries)) (in_time P s t X here (fit_tags s.pending can.state.entries));

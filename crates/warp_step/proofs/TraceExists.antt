@@ -7,7 +7,7 @@ use Rattle.std.proofs.lemmas.List.Folds.{list_any-append}
 use Rattle.warp_tag.specs.Moment.{Moment, is_before, is_same}
 use Rattle.warp_tag.specs.Table.{Event}
 use Rattle.warp_tag.proofs.Tags.{same_is, is_same_self, not_before_self, not_before_trans}
-use Rattle.warp_step.specs.Program.{Program}
+use Rattle.warp_step.specs.Program.{Program, top_of}
 use Rattle.warp_step.specs.Snapshot.{Snapshot, start_state}
 use Rattle.warp_step.specs.Step.{state_after, outputs_after}
 use Rattle.warp_step.specs.Run.{Row, Run, RunFrom, IsNext, waits, is_after, given_at}
@@ -153,7 +153,7 @@ wider T M U N (e ∷ es) t m h =
 
 -- some box holds a program and its events
 some_box : (P : Program) (E : List Event) → (T : ℕ) × (M : ℕ) × Holds T M P E
-some_box P [] = (P.stop, P.top, record { stop = omega arith; top = omega arith; events = refl })
+some_box P [] = (P.stop, top_of P, record { stop = omega arith; top = omega arith; events = refl })
 some_box P (e ∷ es) =
     let small = some_box P es in
     let T = small.0 in

@@ -2,18 +2,19 @@
 use Rattle.std.proofs.Common.{◌≡◌, ℕ, zero, suc, ◌<◌, ◌≤◌, Bool, true, false, ◌&&◌, ◌++◌, List, [], ◌∷◌, length, map, get_or, nat_lt, nat_le, not, arith, IsTrue, Option, Some, None, refl, sym, ap, ◌∙◌, subst, inl, inr}
 use Rattle.std.specs.List.{list_all, list_any}
 use Rattle.std.specs.Option.{IfSome}
-use Rattle.std.proofs.lemmas.Bool.{cases_Bool, and_parts, and_from, or_cases, ltb-true, leb-true, eqb-true, lt-ltb}
+use Rattle.std.proofs.lemmas.Bool.{cases_Bool, and_parts, and_from, or_cases, ltb-true, leb-true, eqb-true, lt-ltb, le-leb}
 use Rattle.std.proofs.lemmas.List.{get_or-map}
 use Rattle.std.proofs.lemmas.List.Folds.{list_all_at, list_all-append}
 use Rattle.std.proofs.lemmas.Option.{slice_get-get_or}
-use Rattle.warp_tag.specs.Limits.{longest_stop, longest_period, last_microstep, most_origins, most_reactors, most_variables, most_ports, most_actions, most_timers, most_reactions, most_links, most_inputs, most_outputs, most_wishes}
+use Rattle.warp_tag.specs.Limits.{widest, longest_stop, longest_period, last_microstep, most_origins, most_reactors, most_variables, most_ports, most_actions, most_timers, most_reactions, most_links, most_inputs, most_outputs, most_wishes}
+use Rattle.warp_tag.proofs.Forms.{stop_widens, microstep_widens, period_widens, origins_widen}
 use Rattle.warp_body.specs.Codes.{target_at, target_at-own}
 use Rattle.warp_body.specs.Presence.{is_target, target_fits, kind_of, number_of}
 use Rattle.warp_body.specs.Term.{Term, Constant, VariableAt, ValueAt, PresentAt, OfOne, OfTwo, Choice, term_fits}
 use Rattle.warp_body.specs.Effect.{Statement, SetVariable, PutOutput, ScheduleAction, Choose, Body, Done, Then, schedules_of, statement_fits, body_fits}
 use Rattle.warp_body.specs.declared.place.Target.{Target}
 use Rattle.warp_body.specs.declared.place.Target.TheVariants as to
-use Rattle.warp_step.specs.Program.{Program, Rule, delay_of}
+use Rattle.warp_step.specs.Program.{Program, Rule, delay_of, top_of}
 use Rattle.warp_step.specs.Step.{port_of}
 use Rattle.warp_step.specs.Valid.{is_valid, is_within_limits, is_distinct, is_rising, fed, has, names, is_readable, is_writable, owns_variable, term_may, statement_may, body_may, rule_fits, link_fits, leads_on, input_fits, program_places, program_sizes}
 use Rattle.warp_step.specs.Order.{is_admissible}
@@ -36,12 +37,12 @@ list_all_weaker p q f (x ∷ xs) h =
     let both = and_parts (p x) (list_all p xs) h in
     and_from (q x) (list_all q xs) (f x both.0) (list_all_weaker p q f xs both.1)
 
--- the limits, by number
+-- the limits, by number: what its form allows is within the widest
 pub record Limited (P : Program) : Type 0 where
-  pub stop : P.stop ≤ longest_stop
-  pub top : P.top ≡ last_microstep
+  pub stop : P.stop ≤ longest_stop widest
+  pub top : top_of P ≤ last_microstep widest
   pub origins_some : 1 ≤ P.origins
-  pub origins : P.origins ≤ most_origins
+  pub origins : P.origins ≤ most_origins widest
   pub reactors : P.reactors ≤ most_reactors
   pub variables : length P.variables ≤ most_variables
   pub ports : length P.ports ≤ most_ports
@@ -59,18 +60,21 @@ limited P h =
     let c = and_parts _ _ b.0 in
     let d = and_parts _ _ c.0 in
     let e = and_parts _ _ d.0 in
-    let f = and_parts _ _ e.0 in
     let g = and_parts _ _ c.1 in
     let i = and_parts _ _ g.0 in
     let j = and_parts _ _ b.1 in
     let k = and_parts _ _ j.0 in
     let l = and_parts _ _ a.1 in
     let m = and_parts _ _ l.0 in
+    let stop : P.stop ≤ longest_stop P.form = leb-true _ _ e.0 in
+    let origins : P.origins ≤ most_origins P.form = leb-true _ _ d.1 in
+    let stops = stop_widens P.form in
+    let many = origins_widen P.form in
     record {
-      stop = leb-true _ _ f.0;
-      top = eqb-true _ _ f.1;
+      stop = omega (arith, stop, stops);
+      top = microstep_widens P.form;
       origins_some = leb-true _ _ e.1;
-      origins = leb-true _ _ d.1;
+      origins = omega (arith, origins, many);
       reactors = leb-true _ _ i.0;
       variables = leb-true _ _ i.1;
       ports = leb-true _ _ g.1;
@@ -87,8 +91,8 @@ pub record Validity (P : Program) : Type 0 where
   pub limits : Limited P
   pub variables : IsTrue (list_all (λ v. nat_lt v.reactor P.reactors) P.variables)
   pub ports : IsTrue (list_all (λ p. nat_lt p.reactor P.reactors) P.ports)
-  pub actions : IsTrue (list_all (λ a. nat_lt a.reactor P.reactors && nat_le a.delay longest_period) P.actions)
-  pub timers : IsTrue (list_all (λ t. nat_lt t.reactor P.reactors && nat_le t.offset longest_period && nat_le t.period longest_period) P.timers)
+  pub actions : IsTrue (list_all (λ a. nat_lt a.reactor P.reactors && nat_le a.delay (longest_period P.form)) P.actions)
+  pub timers : IsTrue (list_all (λ t. nat_lt t.reactor P.reactors && nat_le t.offset (longest_period P.form) && nat_le t.period (longest_period P.form)) P.timers)
   pub rules : IsTrue (list_all (rule_fits P) P.reactions)
   pub rising : IsTrue (is_rising (map (λ r. r.reactor) P.reactions))
   pub links : IsTrue (list_all (link_fits P) P.links)
@@ -152,18 +156,28 @@ port_within P input d h lt =
     let within : (get_or P.inputs input d).port < length P.ports = input_port P (get_or P.inputs input d) fits in
     subst (λ (n : ℕ). n < length P.ports) (sym (port_at P input d lt)) within
 
+-- what is within the longest period of the program's form is within the longest of all
+within_period : (P : Program) (n : ℕ) → IsTrue (nat_le n (longest_period P.form)) → n ≤ longest_period widest
+within_period P n h =
+    let own : n ≤ longest_period P.form = leb-true _ _ h in
+    let widens = period_widens P.form in
+    omega (arith, own, widens)
+
 -- an action's delay, and a timer's offset and period, are in range
-pub action_delay : (P : Program) (action : ℕ) (d : Action) → IsTrue (is_valid P) → action < length P.actions → (get_or P.actions action d).delay ≤ longest_period
+pub action_delay : (P : Program) (action : ℕ) (d : Action) → IsTrue (is_valid P) → action < length P.actions
+    → (get_or P.actions action d).delay ≤ longest_period widest
 action_delay P action d h lt =
-    leb-true _ _ (and_parts _ _ (list_all_get _ P.actions action d (validity P h).actions lt)).1
+    within_period P _ (and_parts _ _ (list_all_get _ P.actions action d (validity P h).actions lt)).1
 
-pub timer_offset : (P : Program) (timer : ℕ) (d : Timer) → IsTrue (is_valid P) → timer < length P.timers → (get_or P.timers timer d).offset ≤ longest_period
+pub timer_offset : (P : Program) (timer : ℕ) (d : Timer) → IsTrue (is_valid P) → timer < length P.timers
+    → (get_or P.timers timer d).offset ≤ longest_period widest
 timer_offset P timer d h lt =
-    leb-true _ _ (and_parts _ _ (and_parts _ _ (list_all_get _ P.timers timer d (validity P h).timers lt)).0).1
+    within_period P _ (and_parts _ _ (and_parts _ _ (list_all_get _ P.timers timer d (validity P h).timers lt)).0).1
 
-pub timer_period : (P : Program) (timer : ℕ) (d : Timer) → IsTrue (is_valid P) → timer < length P.timers → (get_or P.timers timer d).period ≤ longest_period
+pub timer_period : (P : Program) (timer : ℕ) (d : Timer) → IsTrue (is_valid P) → timer < length P.timers
+    → (get_or P.timers timer d).period ≤ longest_period widest
 timer_period P timer d h lt =
-    leb-true _ _ (and_parts _ _ (list_all_get _ P.timers timer d (validity P h).timers lt)).1
+    within_period P _ (and_parts _ _ (list_all_get _ P.timers timer d (validity P h).timers lt)).1
 
 -- the delay of an action that is there, by its number
 pub delay_at : (P : Program) (action : ℕ) (d : Action) → action < length P.actions → delay_of P action ≡ (get_or P.actions action d).delay
@@ -176,11 +190,11 @@ link_source P l h = has_within P.ports l.source (λ p. not p.is_input) (and_part
 pub link_target : (P : Program) (l : Link) → IsTrue (link_fits P l) → l.target < length P.ports
 link_target P l h = has_within P.ports l.target (λ p. p.is_input) (and_parts _ _ (and_parts _ _ h).0).1
 
-leads_delay : (P : Program) (l : Link) (delay : Option ℕ) → IsTrue (leads_on P l delay) → IfSome delay (λ d. d ≤ longest_period)
+leads_delay : (P : Program) (l : Link) (delay : Option ℕ) → IsTrue (leads_on P l delay) → IfSome delay (λ d. d ≤ longest_period widest)
 leads_delay P l None h = tt
-leads_delay P l (Some delay) h = leb-true delay longest_period h
+leads_delay P l (Some delay) h = within_period P delay h
 
-pub link_delay : (P : Program) (l : Link) → IsTrue (link_fits P l) → IfSome l.delay (λ d. d ≤ longest_period)
+pub link_delay : (P : Program) (l : Link) → IsTrue (link_fits P l) → IfSome l.delay (λ d. d ≤ longest_period widest)
 link_delay P l h = leads_delay P l l.delay (and_parts _ _ h).1
 
 -- the ports of outputs are ports
@@ -250,10 +264,11 @@ mutual
       let both = and_parts (names r.writes (to.Port port)) (term_may P r e) h in
       and_from _ _ (named_passes (target_fits (program_places P)) r.writes (to.Port port) n.writable both.0) (term_in P r n e both.1)
   statement_in P r n (ScheduleAction action delay e) h =
-      let outer = and_parts (names r.writes (to.Action action) && nat_le delay longest_period) (term_may P r e) h in
-      let inner = and_parts (names r.writes (to.Action action)) (nat_le delay longest_period) outer.0 in
+      let outer = and_parts (names r.writes (to.Action action) && nat_le delay (longest_period P.form)) (term_may P r e) h in
+      let inner = and_parts (names r.writes (to.Action action)) (nat_le delay (longest_period P.form)) outer.0 in
+      let within : IsTrue (nat_le delay (longest_period widest)) = le-leb delay (longest_period widest) (within_period P delay inner.1) in
       and_from _ _
-      (and_from _ _ (named_passes (target_fits (program_places P)) r.writes (to.Action action) n.writable inner.0) inner.1)
+      (and_from _ _ (named_passes (target_fits (program_places P)) r.writes (to.Action action) n.writable inner.0) within)
       (term_in P r n e outer.1)
   statement_in P r n (Choose e first second) h =
       let outer = and_parts (term_may P r e && body_may P r first) (body_may P r second) h in

@@ -17,7 +17,7 @@ use Rattle.warp_body.specs.Term.{value_of, is_true}
 use Rattle.warp_body.specs.declared.place.Target.{Target}
 use Rattle.warp_body.specs.declared.place.Target.TheVariants as to
 use Rattle.warp_body.specs.declared.stmt.Wish.{Wish}
-use Rattle.warp_step.specs.Program.{Program, Rule, delay_of, starts_of}
+use Rattle.warp_step.specs.Program.{Program, Rule, delay_of, starts_of, top_of}
 use Rattle.warp_step.specs.Snapshot.{Snapshot, entered, entered_where, landed, with_timers, with_startup, start_state, has_key, begins, first_tag}
 use Rattle.warp_step.specs.Step.{Reacting, is_triggered, react, after_reactions, present_first, no_wishes, reacted, without_entries, with_repeats, with_wish, with_wishes, with_all_wishes, delivered, with_links, state_after}
 use Rattle.warp_step.specs.Run.{Row, Run, RunFrom, state_at_end, given_at}
@@ -73,7 +73,7 @@ where_vars PastStop target value s = refl
 where_vars PastMicro target value s = refl
 
 pub landed_vars : (P : Program) (t : Moment) (delay : ℕ) (target : Target) (value : ℤ) (s : Snapshot) → (landed P t delay target value s).vars ≡ s.vars
-landed_vars P t delay target value s = where_vars (landing P.stop P.top t delay) target value s
+landed_vars P t delay target value s = where_vars (landing P.stop (top_of P) t delay) target value s
 
 -- a snapshot or the one that it becomes, with the same variables
 pub same_vars : (b : Bool) (x s : Snapshot) → x.vars ≡ s.vars → (if b then x else s).vars ≡ s.vars

@@ -1,6 +1,8 @@
 -- Codes of programs, so that a model's value may have one: a record is stored as its fields.
-use Rattle.std.specs.Prelude.{ℕ, ℤ, Bool, List, Option, refl}
+use Rattle.std.specs.Prelude.{◌≡◌, ℕ, ℤ, Bool, true, false, List, Option, refl}
 use Rattle.std.specs.Coded.{Coded, code_by, coded×, coded_ℕ, coded_ℤ, coded_bool, coded_list, coded_option}
+use Rattle.warp_tag.specs.declared.form.Form.{Form}
+use Rattle.warp_tag.specs.declared.form.Form.TheVariants.{One, Two}
 use Rattle.warp_body.specs.Codes.{body_code, target_code}
 use Rattle.warp_body.specs.Effect.{Body}
 use Rattle.warp_body.specs.declared.place.Target.{Target}
@@ -46,9 +48,25 @@ rule_code =
     (λ p. record { reactor = p.0; triggers = p.1.0; reads = p.1.1.0; writes = p.1.1.1.0; body = p.1.1.1.1 })
     (λ _. refl)
 
--- four numbers, and nine lists
+-- whether a form is the second, and the form that it is then
+abbrev pub is_two : Form → Bool
+is_two One = false
+is_two Two = true
+
+abbrev pub form_of : Bool → Form
+form_of false = One
+form_of true = Two
+
+abbrev read_form : (f : Form) → form_of (is_two f) ≡ f
+read_form One = refl
+read_form Two = refl
+
+abbrev pub form_code : Coded Form
+form_code = code_by Bool coded_bool is_two form_of read_form
+
+-- its form and three numbers, and nine lists
 abbrev pub Numbers : Type 0
-Numbers = ℕ × (ℕ × (ℕ × ℕ))
+Numbers = Form × (ℕ × (ℕ × ℕ))
 
 abbrev pub Things : Type 0
 Things = List Variable × (List Port × (List Action × List Timer))
@@ -57,7 +75,7 @@ abbrev pub Wiring : Type 0
 Wiring = List Rule × (List ℕ × (List Link × (List ProgramInput × List ℕ)))
 
 abbrev pub numbers_code : Coded Numbers
-numbers_code = coded× coded_ℕ (coded× coded_ℕ (coded× coded_ℕ coded_ℕ))
+numbers_code = coded× form_code (coded× coded_ℕ (coded× coded_ℕ coded_ℕ))
 
 abbrev pub things_code : Coded Things
 things_code = coded× (coded_list variable_code) (coded× (coded_list port_code) (coded× (coded_list action_code) (coded_list timer_code)))
@@ -71,12 +89,12 @@ abbrev pub program_code : Coded Program
 program_code =
     code_by (Numbers × (Things × Wiring)) (coded× numbers_code (coded× things_code wiring_code))
     (λ P. (
-      (P.stop, (P.top, (P.origins, P.reactors))),
+      (P.form, (P.stop, (P.origins, P.reactors))),
       ((P.variables, (P.ports, (P.actions, P.timers))), (P.reactions, (P.order, (P.links, (P.inputs, P.outputs))))),
     ))
     (λ p. record {
-      stop = p.0.0;
-      top = p.0.1.0;
+      form = p.0.0;
+      stop = p.0.1.0;
       origins = p.0.1.1.0;
       reactors = p.0.1.1.1;
       variables = p.1.0.0;

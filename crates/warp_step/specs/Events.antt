@@ -2,7 +2,7 @@
 use Rattle.std.specs.Prelude.{ℕ, Bool, ◌&&◌, ◌==◌, nat_lt, nat_le, IsTrue, length, map, slice_index}
 use Rattle.warp_tag.specs.Moment.{Moment}
 use Rattle.warp_tag.specs.Table.{Event}
-use Rattle.warp_step.specs.Program.{Program}
+use Rattle.warp_step.specs.Program.{Program, top_of}
 
 -- the origin is one of the program's
 abbrev pub is_declared : Program → ℕ → Bool
@@ -10,7 +10,7 @@ is_declared P origin = nat_lt origin P.origins
 
 -- the tag is not past the stop, nor past the last microstep of its time
 abbrev pub is_in_time : Program → Moment → Bool
-is_in_time P tag = nat_le tag.time P.stop && nat_le tag.microstep P.top
+is_in_time P tag = nat_le tag.time P.stop && nat_le tag.microstep (top_of P)
 
 -- the program has an input with this number
 abbrev pub has_input : Program → ℕ → Bool

@@ -1,6 +1,9 @@
 -- A program as definitions see it: its parts in file order, without where they lie in memory.
 use Rattle.std.specs.Prelude.{ℕ, ℤ, List, map, slice_get}
 use Rattle.std.specs.Option.{option_map_or}
+use Rattle.warp_tag.specs.Limits.{last_microstep}
+use Rattle.warp_tag.specs.declared.form.Form.{Form}
+use Rattle.warp_tag.specs.declared.form.Form.TheVariants.{Two}
 use Rattle.warp_body.specs.Effect.{Body, statements_of}
 use Rattle.warp_body.specs.declared.place.Target.{Target}
 use Rattle.warp_step.specs.declared.parts.Variable.{Variable}
@@ -20,12 +23,12 @@ pub record Rule : Type 0 where
   pub writes : List Target
   pub body : Body
 
--- the program: its stop, the last microstep of its times, how many origins and reactors; its variables, ports, actions,
+-- the program: its form, its stop, how many origins and reactors; its variables, ports, actions,
 -- timers and reactions, by number; the numbers of the reactions in the order in which a step runs them; its links and
 -- inputs, by number; and the ports of its outputs
 pub record Program : Type 0 where
+  pub form : Form
   pub stop : ℕ
-  pub top : ℕ
   pub origins : ℕ
   pub reactors : ℕ
   pub variables : List Variable
@@ -55,3 +58,11 @@ starts_of P = map (λ v. v.start) P.variables
 -- the minimum delay of an action
 abbrev pub delay_of : Program → ℕ → ℕ
 delay_of P action = option_map_or (λ a. a.delay) (slice_get P.actions action) 0
+
+-- the last microstep of its times
+abbrev pub top_of : Program → ℕ
+top_of P = last_microstep P.form
+
+-- the same program, of version 2
+abbrev pub raised : Program → Program
+raised P = record P { form = Two }

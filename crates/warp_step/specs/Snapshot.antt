@@ -9,7 +9,7 @@ use Rattle.warp_tag.specs.declared.tag.Landing.TheVariants.{At, PastStop, PastMi
 use Rattle.warp_body.specs.Presence.{target_fits, target_before, is_target}
 use Rattle.warp_body.specs.declared.place.Target.{Target}
 use Rattle.warp_body.specs.declared.place.Target.TheVariants as to
-use Rattle.warp_step.specs.Program.{Program, starts_of}
+use Rattle.warp_step.specs.Program.{Program, starts_of, top_of}
 use Rattle.warp_step.specs.Valid.{program_places, names}
 use Rattle.warp_step.specs.declared.parts.Timer.{Timer}
 use Rattle.warp_step.specs.declared.pending.Waiting.{Waiting}
@@ -63,7 +63,7 @@ entered_where PastMicro target value s = with_loss s
 
 -- with an entry after a delay from a tag
 abbrev pub landed : Program → Moment → ℕ → Target → ℤ → Snapshot → Snapshot
-landed P tag delay target value s = entered_where (landing P.stop P.top tag delay) target value s
+landed P tag delay target value s = entered_where (landing P.stop (top_of P) tag delay) target value s
 
 -- the first tag
 abbrev pub first_tag : Moment
@@ -90,7 +90,7 @@ start_state P = with_timers P.stop 0 P.timers (with_startup P (record { vars = s
 
 -- the entry is for a target of the program, at a tag that the program executes
 abbrev pub entry_fits : Program → Waiting → Bool
-entry_fits P w = target_fits (program_places P) w.target && nat_le w.tag.time P.stop && nat_le w.tag.microstep P.top
+entry_fits P w = target_fits (program_places P) w.target && nat_le w.tag.time P.stop && nat_le w.tag.microstep (top_of P)
 
 -- a state of this program: it has its variables, and what is pending is for its targets, at tags that it executes
 pub record IsStateOf (P : Program) (s : Snapshot) : Type 0 where

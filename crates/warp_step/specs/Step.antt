@@ -7,7 +7,7 @@ use Rattle.warp_body.specs.Presence.{Presence, nothing_present, present_at, with
 use Rattle.warp_body.specs.Effect.{Effect, effect_of}
 use Rattle.warp_body.specs.declared.place.Target.TheVariants as to
 use Rattle.warp_body.specs.declared.stmt.Wish.{Wish}
-use Rattle.warp_step.specs.Program.{Rule, Program, delay_of}
+use Rattle.warp_step.specs.Program.{Rule, Program, delay_of, top_of}
 use Rattle.warp_step.specs.Valid.{is_distinct, program_places}
 use Rattle.warp_step.specs.Snapshot.{Snapshot, IsStateOf, landed}
 use Rattle.warp_step.specs.declared.parts.Link.{Link}
@@ -164,7 +164,7 @@ pub record AreInputs (P : Program) (X : List Given) : Type 0 where
 pub record CanStep (P : Program) (s : Snapshot) (t : Moment) (X : List Given) : Type 0 where
   pub state : IsStateOf P s
   pub time : t.time ≤ P.stop
-  pub microstep : t.microstep ≤ P.top
+  pub microstep : t.microstep ≤ top_of P
   pub none_before : IsTrue (list_all (λ w. not (is_before w.tag t)) s.pending)
   pub some : IsTrue (nat_lt 0 (length X) || list_any (λ w. is_same w.tag t) s.pending)
   pub inputs : AreInputs P X

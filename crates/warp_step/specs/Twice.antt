@@ -1,6 +1,6 @@
 -- The program `twice`: input a, of origin 0, doubles the total and adds; input b, of origin 1, subtracts; each puts the total.
 use Rattle.std.specs.Prelude.{pos, true, false, [], ◌∷◌}
-use Rattle.warp_tag.specs.Limits.{last_microstep}
+use Rattle.warp_tag.specs.declared.form.Form.TheVariants.{One}
 use Rattle.warp_body.specs.Term.{Constant, VariableAt, ValueAt, OfTwo}
 use Rattle.warp_body.specs.Effect.{SetVariable, PutOutput, Done, Then}
 use Rattle.warp_body.specs.declared.place.Target.TheVariants as to
@@ -33,8 +33,8 @@ on_b = record {
 
 abbrev pub twice : Program
 twice = record {
+  form = One;
   stop = 100;
-  top = last_microstep;
   origins = 2;
   reactors = 1;
   variables = (record { reactor = 0; start = pos 0 }) ∷ [];

@@ -2,7 +2,7 @@
 pub use Rattle.warp_step.specs.Named.{is_distinct, is_rising, has, names, reactor_of}
 use Rattle.std.specs.Prelude.{ℕ, Bool, true, false, not, ◌&&◌, ◌==◌, nat_lt, nat_le, List, ◌++◌, length, map, Option, Some, None}
 use Rattle.std.specs.List.{list_all}
-use Rattle.warp_tag.specs.Limits.{longest_stop, longest_period, last_microstep, most_origins, most_reactors, most_variables, most_ports, most_actions, most_timers, most_reactions, most_links, most_inputs, most_outputs, most_wishes}
+use Rattle.warp_tag.specs.Limits.{longest_stop, longest_period, most_origins, most_reactors, most_variables, most_ports, most_actions, most_timers, most_reactions, most_links, most_inputs, most_outputs, most_wishes}
 use Rattle.warp_body.specs.Term.{Term, Constant, VariableAt, ValueAt, PresentAt, OfOne, OfTwo, Choice}
 use Rattle.warp_body.specs.Effect.{Statement, SetVariable, PutOutput, ScheduleAction, Choose, Body, Done, Then, schedules_of}
 use Rattle.warp_body.specs.declared.place.Places.{Places}
@@ -55,7 +55,7 @@ abbrev mutual
   pub statement_may : Program → Rule → Statement → Bool
   statement_may P r (SetVariable k e) = owns_variable P r.reactor k && term_may P r e
   statement_may P r (PutOutput port e) = names r.writes (to.Port port) && term_may P r e
-  statement_may P r (ScheduleAction action delay e) = names r.writes (to.Action action) && nat_le delay longest_period && term_may P r e
+  statement_may P r (ScheduleAction action delay e) = names r.writes (to.Action action) && nat_le delay (longest_period P.form) && term_may P r e
   statement_may P r (Choose e first second) = term_may P r e && body_may P r first && body_may P r second
 
   pub body_may : Program → Rule → Body → Bool
@@ -70,7 +70,7 @@ rule_fits P r =
 
 -- with a delay it is in range; without one the link may lead to any reactor, its own included
 abbrev pub leads_on : Program → Link → Option ℕ → Bool
-leads_on P l (Some delay) = nat_le delay longest_period
+leads_on P l (Some delay) = nat_le delay (longest_period P.form)
 leads_on P l None = true
 
 -- a link leads from an output to an input
@@ -85,10 +85,10 @@ input_fits P i = nat_lt i.origin P.origins && has P.ports i.port (λ p. p.is_inp
 abbrev pub fed : Program → List ℕ
 fed P = map (λ l. l.target) P.links ++ map (λ i. i.port) P.inputs
 
--- stop and counts are within the limits
+-- stop and counts are within the limits of its form
 abbrev pub is_within_limits : Program → Bool
 is_within_limits P =
-    (nat_le P.stop longest_stop && P.top == last_microstep && nat_le 1 P.origins && nat_le P.origins most_origins)
+    (nat_le P.stop (longest_stop P.form) && nat_le 1 P.origins && nat_le P.origins (most_origins P.form))
     && (nat_le P.reactors most_reactors && nat_le (length P.variables) most_variables && nat_le (length P.ports) most_ports)
     && (nat_le (length P.actions) most_actions && nat_le (length P.timers) most_timers && nat_le (length P.reactions) most_reactions)
     && (nat_le (length P.links) most_links && nat_le (length P.inputs) most_inputs && nat_le (length P.outputs) most_outputs)
@@ -97,8 +97,8 @@ is_within_limits P =
 abbrev pub have_reactors : Program → Bool
 have_reactors P =
     list_all (λ v. nat_lt v.reactor P.reactors) P.variables && list_all (λ p. nat_lt p.reactor P.reactors) P.ports
-    && list_all (λ a. nat_lt a.reactor P.reactors && nat_le a.delay longest_period) P.actions
-    && list_all (λ t. nat_lt t.reactor P.reactors && nat_le t.offset longest_period && nat_le t.period longest_period) P.timers
+    && list_all (λ a. nat_lt a.reactor P.reactors && nat_le a.delay (longest_period P.form)) P.actions
+    && list_all (λ t. nat_lt t.reactor P.reactors && nat_le t.offset (longest_period P.form) && nat_le t.period (longest_period P.form)) P.timers
 
 -- a program: within the limits; reactions in the order of their reactors; all that is named is there and may be named; one
 -- source for each input port; each port once among the outputs; and the order of its reactions is one that they may run in

@@ -1,14 +1,13 @@
 -- How the code keeps a program.
 use Rattle.std.specs.Prelude.{map}
-use Rattle.warp_tag.specs.Limits.{last_microstep}
 use Rattle.warp_step.specs.Program.{Program, rule_of}
 use Rattle.warp_step.specs.declared.parts.Parts.{Parts}
 
--- the program with these parts; in this version the last microstep of every program is that of all tags
+-- the program with these parts
 abbrev pub program_of : Parts → Program
 program_of p = record {
+  form = p.form;
   stop = p.stop;
-  top = last_microstep;
   origins = p.origins;
   reactors = p.reactors;
   variables = p.variables.items;

@@ -1,10 +1,12 @@
 //! What is present at a tag before the reactions run: the entries that are pending there, and what is given. The timers
 //! among the entries are made pending again.
-ghost use Rattle.std.specs.Prelude.{◌≡◌, ◌<◌, ◌≤◌, ◌∷◌, IsTrue, false, not, length, map, take, drop, filter, slice_get, List};
+ghost use Rattle.std.specs.Prelude.{◌≡◌, ◌<◌, ◌≤◌, ◌∷◌, IsTrue, List, false, not};
+ghost use Rattle.std.specs.Prelude.{length, map, take, drop, filter, slice_get};
 ghost use Rattle.std.specs.Option.{option_map_or};
 ghost use Rattle.std.specs.List.{list_all};
 ghost use Rattle.warp_tag.specs.Moment.{is_before, is_same};
 ghost use Rattle.warp_body.specs.Presence.{places_of, target_fits, with_value};
+ghost use Rattle.warp_step.specs.Program.{top_of};
 ghost use Rattle.warp_step.specs.Valid.{program_places};
 ghost use Rattle.warp_step.specs.Snapshot.{AreInOrder, IsStateOf};
 ghost use Rattle.warp_step.specs.Step.{AreInputs, absent, arrived, arrived_entries, sources_of, with_repeats};
@@ -38,6 +40,7 @@ impl State {
     ) -> Concerned
         requires state { IsStateOf program.now self.old }
         requires time { tag.time ≤ program.now.stop }
+        requires microstep { tag.microstep ≤ top_of program.now }
         requires none_before { IsTrue (list_all (λ w. not (is_before w.tag tag)) self.old.pending) }
         requires plan { plan.now ≡ plan_of program.now }
         requires absent { present.old ≡ absent program.now }
@@ -72,6 +75,7 @@ impl State {
     ) -> Concerned
         requires state { IsStateOf program.now self.old }
         requires time { tag.time ≤ program.now.stop }
+        requires microstep { tag.microstep ≤ top_of program.now }
         requires some { 0 < length self.old.pending }
         requires plan { plan.now ≡ plan_of program.now }
         requires absent { present.old ≡ absent program.now }
@@ -105,6 +109,7 @@ impl State {
     ) -> Concerned
         requires state { IsStateOf program.now self.old }
         requires time { tag.time ≤ program.now.stop }
+        requires microstep { tag.microstep ≤ top_of program.now }
         requires none_before { IsTrue (list_all (λ w. not (is_before w.tag tag)) self.old.pending) }
         requires plan { plan.now ≡ plan_of program.now }
         requires absent { present.old ≡ absent program.now }
@@ -142,6 +147,7 @@ impl State {
     )
         requires state { IsStateOf program.now self.old }
         requires time { tag.time ≤ program.now.stop }
+        requires microstep { tag.microstep ≤ top_of program.now }
         requires places { places_of present.old ≡ program_places program.now }
         requires none_before { IsTrue (list_all (λ w. not (is_before w.tag tag)) self.old.pending) }
         requires plan { plan.now ≡ plan_of program.now }
@@ -176,6 +182,7 @@ impl State {
         present: &mut Present,
     )
         requires time { tag.time ≤ program.now.stop }
+        requires microstep { tag.microstep ≤ top_of program.now }
         requires some { 0 < length self.old.pending }
         requires targets { IsTrue (list_all (λ w. target_fits (program_places program.now) w.target)
             (take 1 self.old.pending)) }
@@ -210,6 +217,7 @@ impl State {
         entry: Waiting,
     )
         requires time { tag.time ≤ program.now.stop }
+        requires microstep { tag.microstep ≤ top_of program.now }
         requires target { IsTrue (target_fits (program_places program.now) entry.target) }
         requires places { places_of present.old ≡ program_places program.now }
         requires plan { plan.now ≡ plan_of program.now }

@@ -2,10 +2,11 @@
 ghost use Rattle.std.specs.Prelude.{◌≡◌, ◌<◌, ◌≤◌, IsTrue, length, map, nat_lt, pos, replicate, List, []};
 ghost use Rattle.std.specs.Prelude.{if◌then◌else◌};
 ghost use Rattle.std.specs.List.{list_all};
-ghost use Rattle.warp_tag.specs.Limits.{longest_period};
+ghost use Rattle.warp_tag.specs.Limits.{longest_period, widest};
 ghost use Rattle.warp_body.specs.Presence.{places_of, present_at};
 ghost use Rattle.warp_body.specs.declared.place.Target.TheVariants as to;
 ghost use Rattle.warp_body.specs.Effect.{wish_fits};
+ghost use Rattle.warp_step.specs.Program.{top_of};
 ghost use Rattle.warp_step.specs.Valid.{link_fits, program_places, program_sizes};
 ghost use Rattle.warp_step.specs.Snapshot.{landed};
 ghost use Rattle.warp_step.specs.inner.Due.{AreDue};
@@ -28,7 +29,8 @@ impl State {
     #[inline(always)]
     pub(crate) fn repeat_timer(&mut self, program: &Program, tag: Tag, number: u32, timer: &Timer)
         requires time { tag.time ≤ program.now.stop }
-        requires period { timer.now.period ≤ longest_period }
+        requires microstep { tag.microstep ≤ top_of program.now }
+        requires period { timer.now.period ≤ longest_period widest }
         ensures { self.new ≡ (if nat_lt 0 timer.now.period
             then landed program.now tag timer.now.period (to.Timer number) (pos 0) self.old
             else self.old) }
@@ -52,6 +54,7 @@ impl State {
         wished: bool,
     )
         requires time { tag.time ≤ program.now.stop }
+        requires microstep { tag.microstep ≤ top_of program.now }
         requires places { places_of present.now ≡ program_places program.now }
         requires plan { plan.now ≡ plan_of program.now }
         requires due { AreDue program.now present.now due.word }
@@ -70,6 +73,7 @@ impl State {
     #[inline(always)]
     fn enter_wishes(&mut self, program: &Program, tag: Tag, wishes: &[Wishes], wished: bool)
         requires time { tag.time ≤ program.now.stop }
+        requires microstep { tag.microstep ≤ top_of program.now }
         requires wishes { IsTrue (list_all (list_all (wish_fits (program_sizes program.now))) (lists_of wishes.now)) }
         requires none { HasNone wished (lists_of wishes.now) }
         ensures { self.new ≡ with_all_wishes program.now tag (lists_of wishes.now) self.old }
@@ -83,6 +87,7 @@ impl State {
     #[inline(never)]
     fn enter_lists(&mut self, program: &Program, tag: Tag, wishes: &[Wishes])
         requires time { tag.time ≤ program.now.stop }
+        requires microstep { tag.microstep ≤ top_of program.now }
         requires wishes { IsTrue (list_all (list_all (wish_fits (program_sizes program.now))) (lists_of wishes.now)) }
         ensures { self.new ≡ with_all_wishes program.now tag (lists_of wishes.now) self.old }
     {
@@ -94,6 +99,7 @@ impl State {
     /// Enters the wishes of one reaction: each lands after the action's minimum delay and its own.
     fn enter_list(&mut self, program: &Program, tag: Tag, wishes: &[Wish])
         requires time { tag.time ≤ program.now.stop }
+        requires microstep { tag.microstep ≤ top_of program.now }
         requires wishes { IsTrue (list_all (wish_fits (program_sizes program.now)) wishes.now) }
         ensures { self.new ≡ with_wishes program.now tag wishes.now self.old }
     {
@@ -107,6 +113,7 @@ impl State {
     #[inline(always)]
     fn deliver(&mut self, program: &Program, plan: &Plan, tag: Tag, due: Marks, present: &Present)
         requires time { tag.time ≤ program.now.stop }
+        requires microstep { tag.microstep ≤ top_of program.now }
         requires places { places_of present.now ≡ program_places program.now }
         requires plan { plan.now ≡ plan_of program.now }
         requires due { AreDue program.now present.now due.word }
@@ -121,6 +128,7 @@ impl State {
     #[inline(never)]
     fn deliver_due(&mut self, program: &Program, tag: Tag, due: Marks, present: &Present)
         requires time { tag.time ≤ program.now.stop }
+        requires microstep { tag.microstep ≤ top_of program.now }
         requires places { places_of present.now ≡ program_places program.now }
         requires due { AreDue program.now present.now due.word }
         ensures { self.new ≡ with_links program.now tag present.now program.now.links self.old }
@@ -139,6 +147,7 @@ impl State {
     /// Enters what one link delivers, if it has a delay and its source is present.
     fn deliver_link(&mut self, program: &Program, tag: Tag, present: &Present, link: &Link)
         requires time { tag.time ≤ program.now.stop }
+        requires microstep { tag.microstep ≤ top_of program.now }
         requires places { places_of present.now ≡ program_places program.now }
         requires link { IsTrue (link_fits program.now link.now) }
         ensures { self.new ≡

@@ -4,13 +4,14 @@ ghost use Rattle.std.specs.List.{list_all};
 ghost use Rattle.warp_tag.specs.Lists.{StartsWith};
 ghost use Rattle.warp_tag.specs.Moment.{Moment, is_before};
 ghost use Rattle.warp_tag.specs.Table.{Event};
-ghost use Rattle.warp_step.specs.Program.{Program};
+ghost use Rattle.warp_step.specs.Program.{Program, raised};
+ghost use Rattle.warp_step.specs.Events.{IsEventOf, IsNameOf};
 ghost use Rattle.warp_step.specs.Order.{file_order, in_order, is_admissible, leads_later};
 ghost use Rattle.warp_step.specs.Valid.{is_rising, is_valid, rule_fits};
-ghost use Rattle.warp_step.specs.Snapshot.{Snapshot};
+ghost use Rattle.warp_step.specs.Snapshot.{Snapshot, start_state};
 ghost use Rattle.warp_step.specs.Step.{outputs_after, reacted, state_after};
 ghost use Rattle.warp_step.specs.declared.given.Given.{Given};
-ghost use Rattle.warp_step.specs.Run.{Row, Run, events_until, rows_until, outputs_of, outputs_until};
+ghost use Rattle.warp_step.specs.Run.{Row, Run, events_until, rows_until, outputs_of, outputs_until, state_at_end};
 
 /// A law: exactly one trace fits a program and its events.
 pub fn one_trace()
@@ -51,8 +52,8 @@ pub fn file_order_is_admissible()
         IsTrue (list_all (leads_later P) P.links) → IsTrue (is_admissible P (file_order P)) }
 {}
 
-/// A law: whatever order a program's reactions run in, of those that are admissible, it makes the same of the variables,
-/// of what is present and of the wishes, and so the same steps, states, outputs and runs.
+/// A law: whatever order a program's reactions run in, of those that are admissible, it makes the same of the
+/// variables, of what is present and of the wishes, and so the same steps, states, outputs and runs.
 pub fn any_order()
     ensures valid { (P : Program) (order : List ℕ) → IsTrue (is_valid P) → IsTrue (is_admissible P order) →
         IsTrue (is_valid (in_order P order)) }
@@ -68,4 +69,23 @@ pub fn any_order()
     ensures run { (P : Program) (a b : List ℕ) (E : List Event) (trace : List Row) → IsTrue (is_valid P) →
         IsTrue (is_admissible P a) → IsTrue (is_admissible P b) →
         Run (in_order P a) E trace → Run (in_order P b) E trace }
+{}
+
+/// A law: a program raised to version 2 is valid and takes what it took, and where its run lost nothing, the raised
+/// program has the same run and no other, and so the same last state and outputs.
+pub fn raised_run()
+    ensures valid { (P : Program) → IsTrue (is_valid P) → IsTrue (is_valid (raised P)) }
+    ensures run { (P : Program) (E : List Event) (trace : List Row) → Run P E trace →
+        (state_at_end (start_state P) trace).lost ≡ 0 → Run (raised P) E trace }
+    ensures unique { (P : Program) (E : List Event) (trace other : List Row) → Run P E trace → Run (raised P) E other →
+        (state_at_end (start_state P) trace).lost ≡ 0 → trace ≡ other }
+    ensures state { (P : Program) (E : List Event) (trace other : List Row) → Run P E trace → Run (raised P) E other →
+        (state_at_end (start_state P) trace).lost ≡ 0 →
+        state_at_end (start_state (raised P)) other ≡ state_at_end (start_state P) trace }
+    ensures outputs { (P : Program) (E : List Event) (trace other : List Row) → Run P E trace → Run (raised P) E other →
+        (state_at_end (start_state P) trace).lost ≡ 0 → outputs_of other ≡ outputs_of trace }
+    ensures takes { (P : Program) (origin : ℕ) (tag : Moment) (input : ℕ) → IsEventOf P origin tag input →
+        IsEventOf (raised P) origin tag input }
+    ensures takes_name { (P : Program) (origin : ℕ) (tag : Moment) → IsNameOf P origin tag →
+        IsNameOf (raised P) origin tag }
 {}

@@ -1,5 +1,6 @@
 //! The parts of a program: plain data, which need not fit together.
 use crate::reaction::Reaction;
+use warp_tag::Form;
 
 /// A variable.
 #[derive(Clone, Copy, Debug, PartialEq, Eq)]
@@ -24,7 +25,7 @@ pub struct Port {
 pub struct Action {
     /// The number of its reactor.
     pub reactor: u32,
-    /// Its minimum delay, 0 to 1,000,000.
+    /// Its minimum delay, 0 to the form's `longest_period`.
     pub delay: u64,
 }
 
@@ -33,9 +34,9 @@ pub struct Action {
 pub struct Timer {
     /// The number of its reactor.
     pub reactor: u32,
-    /// Its offset, 0 to 1,000,000.
+    /// Its offset, 0 to the form's `longest_period`.
     pub offset: u64,
-    /// Its period, 0 to 1,000,000.
+    /// Its period, 0 to the form's `longest_period`.
     pub period: u64,
 }
 
@@ -46,7 +47,8 @@ pub struct Link {
     pub source: u32,
     /// The number of the input port.
     pub target: u32,
-    /// Its delay, 0 to 1,000,000: after 0 it delivers at the next microstep. Without one it delivers at the same tag.
+    /// Its delay, 0 to the form's `longest_period`: after 0 it delivers at the next microstep. Without one it delivers
+    /// at the same tag.
     pub delay: Option<u64>,
 }
 
@@ -62,9 +64,11 @@ pub struct ProgramInput {
 /// The parts of a program, each by number in the order of the file, over all its reactors.
 #[derive(Debug, Drop)]
 pub struct Parts {
-    /// The last time that is executed, 0 to 1,000,000.
+    /// The form of the program, by its version.
+    pub form: Form,
+    /// The last time that is executed, 0 to the form's `longest_stop`.
     pub stop: u64,
-    /// How many origins there are, 1 to 32.
+    /// How many origins there are, 1 to the form's `most_origins`.
     pub origins: u32,
     /// How many reactors there are, at most 64.
     pub reactors: u32,

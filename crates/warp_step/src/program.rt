@@ -1,7 +1,7 @@
 //! Programs: how the code keeps one, what it tells, copies and comparison.
 ghost use Rattle.std.specs.Prelude.{◌≡◌, ◌↔◌, ℕ, ◌<◌, ◌≤◌, IsTrue, IfOk, length, map};
-ghost use Rattle.warp_tag.specs.Limits.{longest_period};
-ghost use Rattle.warp_step.specs.Program.{rule_of, delay_of};
+ghost use Rattle.warp_tag.specs.Limits.{last_microstep, longest_period, widest};
+ghost use Rattle.warp_step.specs.Program.{rule_of, delay_of, raised, top_of};
 ghost use Rattle.warp_step.specs.View.{program_of};
 ghost use Rattle.warp_step.specs.Valid.{is_valid};
 
@@ -9,7 +9,7 @@ use crate::parts::{Action, Link, Parts, Port, ProgramInput, Timer, Variable};
 use crate::reaction::{Reaction, copy_reactions, same_reactions};
 use std::alloc::Global;
 use std::marker::Model;
-use warp_tag::OutOfMemory;
+use warp_tag::{Form, OutOfMemory};
 
 /// A reactor program, valid by its type: within the limits, and with parts that fit together.
 #[derive(Debug, Drop)]
@@ -53,14 +53,30 @@ impl Program {
         let _parts = &self.parts;
     }
 
-    /// The last time at which the program executes, 0 to 1,000,000 in its own unit.
+    /// The form of the program, by its version: what its lines and replies may name.
+    pub fn form(&self) -> Form
+        ensures { result ≡ self.now.form }
+    {
+        self.parts.form
+    }
+
+    /// The last microstep of its times, 15 or 255.
+    #[inline(always)]
+    pub fn top(&self) -> u32
+        ensures top { result ≡ top_of self.now }
+        ensures range { result ≤ last_microstep widest }
+    {
+        self.form().last_microstep()
+    }
+
+    /// The last time at which the program executes, 0 to the form's `longest_stop`, in its own unit.
     pub fn stop(&self) -> u64
         ensures { result ≡ self.now.stop }
     {
         self.parts.stop
     }
 
-    /// How many origins there are, 1 to 32.
+    /// How many origins there are, 1 to the form's `most_origins`.
     pub fn origins(&self) -> u32
         ensures { result ≡ self.now.origins }
     {
@@ -140,11 +156,11 @@ impl Program {
         self.parts.inputs[input as usize].port
     }
 
-    /// The minimum delay of an action, 0 to 1,000,000.
+    /// The minimum delay of an action, 0 to the form's `longest_period`.
     pub fn delay(&self, action: u32) -> u64
         requires { action < length self.now.actions }
         ensures delay { result ≡ delay_of self.now action }
-        ensures range { result ≤ longest_period }
+        ensures range { result ≤ longest_period widest }
     {
         self.parts.actions[action as usize].delay
     }
@@ -157,6 +173,17 @@ impl Program {
         Ok(Program { parts })
     }
 
+    /// The same program of version 2, whose limits are wider: where its run lost nothing, the run stays the same. Of a
+    /// program of version 2 it is a copy.
+    pub fn raise(alloc: Global, program: &Program) -> Result<Program, OutOfMemory>
+        ensures { IfOk result (λ p. p ≡ raised program.now) }
+    {
+        let parts = program.parts.copy(alloc)?;
+        Ok(Program {
+            parts: parts.raise(),
+        })
+    }
+
     /// Whether two programs are the same.
     pub fn is_same(&self, other: &Program) -> bool
         ensures { IsTrue result ↔ (self.now ≡ other.now) }
@@ -166,6 +193,14 @@ impl Program {
 }
 
 impl Parts {
+    /// The same parts, of version 2.
+    fn raise(mut self) -> Parts
+        ensures { program_of result ≡ raised (program_of self) }
+    {
+        self.form = Form::Two;
+        self
+    }
+
     /// The same parts.
     fn copy(&self, alloc: Global) -> Result<Parts, OutOfMemory>
         ensures { IfOk result (λ p. program_of p ≡ program_of self.now) }
@@ -180,6 +215,7 @@ impl Parts {
         let inputs = self.inputs.as_slice().to_vec(alloc)?;
         let outputs = self.outputs.as_slice().to_vec(alloc)?;
         Ok(Parts {
+            form: self.form,
             stop: self.stop,
             origins: self.origins,
             reactors: self.reactors,
@@ -199,7 +235,8 @@ impl Parts {
     fn is_same(&self, other: &Parts) -> bool
         ensures { IsTrue result ↔ (program_of self.now ≡ program_of other.now) }
     {
-        if self.stop != other.stop
+        if self.form != other.form
+            || self.stop != other.stop
             || self.origins != other.origins
             || self.reactors != other.reactors
         {

@@ -1,8 +1,8 @@
 //! The state of a program between two steps.
 ghost use Rattle.std.specs.Prelude.{◌≡◌, ◌≤◌, ◌+◌, ◌↔◌, ℕ, pos, length, map, IfOk, IsTrue};
 ghost use Rattle.std.specs.List.{list_any};
-ghost use Rattle.warp_tag.specs.Limits.{longest_delay, most_pending, most_variables};
-ghost use Rattle.warp_step.specs.Program.{rule_of};
+ghost use Rattle.warp_tag.specs.Limits.{longest_delay, widest, most_pending, most_variables};
+ghost use Rattle.warp_step.specs.Program.{rule_of, top_of};
 ghost use Rattle.warp_step.specs.Valid.{names};
 ghost use Rattle.warp_body.specs.declared.place.Target.TheVariants as to;
 ghost use Rattle.warp_step.specs.Snapshot.{AreInOrder, IsStateOf, entered, landed, least_pending, start_state};
@@ -124,11 +124,12 @@ impl State {
         value: i64,
     )
         requires time { tag.time ≤ program.now.stop }
-        requires delay { delay ≤ longest_delay }
+        requires microstep { tag.microstep ≤ top_of program.now }
+        requires delay { delay ≤ longest_delay widest }
         ensures { self.new ≡ landed program.now tag delay target value self.old }
     {
         program.valid();
-        match tag.after(delay, program.stop()) {
+        match tag.after(delay, program.stop(), program.top()) {
             Landing::At(tag) => self.enter(tag, target, value),
             Landing::PastStop => {}
             Landing::PastMicro => self.lose(),

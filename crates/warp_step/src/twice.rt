@@ -11,7 +11,7 @@ use crate::program::Program;
 use crate::reaction::Reaction;
 use std::alloc::Global;
 use warp_body::{BinaryOperator, Expr, Stmt, Target};
-use warp_tag::OutOfMemory;
+use warp_tag::{Form, OutOfMemory};
 
 impl Program {
     /// The program `twice`, of two origins: an event of origin 0 doubles the total and adds its value, one of
@@ -41,6 +41,7 @@ impl Program {
         let inputs = vec![in alloc; a, b]?;
         let outputs = vec![in alloc; 2]?;
         Ok(Program::new(Parts {
+            form: Form::One,
             stop: 100,
             origins: 2,
             reactors: 1,

@@ -1,12 +1,9 @@
 -- An event against which a program has no reason is one that it takes.
-use Rattle.std.proofs.Common.{◌≡◌, ℕ, ℤ, ◌≤◌, Bool, true, false, ◌&&◌, Some, None, IsTrue, refl, arith}
+use Rattle.std.proofs.Common.{◌≡◌, ℕ, ℤ, Bool, true, false, ◌&&◌, Some, None, refl}
 use Rattle.std.specs.Prelude.{if◌then◌else◌}
-use Rattle.std.proofs.lemmas.Bool.Decides.{nat_tests}
-use Rattle.warp_tag.specs.Moment.{Moment, IsInRange}
+use Rattle.warp_tag.specs.Moment.{Moment}
 use Rattle.warp_step.specs.Program.{Program}
-use Rattle.warp_step.specs.Valid.{is_valid}
 use Rattle.warp_step.specs.Events.{is_declared, is_in_time, has_input, owns_input, IsEventOf}
-use Rattle.warp_step.proofs.ValidLemmas.{validity}
 use Rattle.warp_record.specs.declared.record.Record.TheVariants.{Event}
 use Rattle.warp_record.specs.declared.reply.Refusal.TheVariants.{NoOrigin, PastStop, NoInput, NotYours}
 use Rattle.warp_table.specs.Check.{refusal_of}
@@ -36,10 +33,3 @@ allowed_takes P origin tag input value h =
 pub takes_allowed : (P : Program) (origin : ℕ) (tag : Moment) (input : ℕ) (value : ℤ) → IsEventOf P origin tag input → refusal_of P (Event origin tag input value) ≡ None
 takes_allowed P origin tag input value h =
     none_left (is_declared P origin) (is_in_time P tag) (has_input P input) (owns_input P origin input) h
-
--- a tag that is not past the stop is in time, since no tag is past the last microstep
-pub in_time : (P : Program) (tag : Moment) → IsTrue (is_valid P) → IsInRange tag → tag.time ≤ P.stop → is_in_time P tag ≡ true
-in_time P tag valid range below =
-    let top = (validity P valid).limits.top in
-    let microstep = range.microstep in
-    grind (arith, nat_tests)

@@ -6,7 +6,7 @@ use Rattle.std.specs.Option.{unwrap_or}
 use Rattle.std.proofs.lemmas.Bool.{cases_eq, false≢true}
 use Rattle.std.proofs.lemmas.List.{get_or-set_other, get_or-set_same, get_or_default}
 use Rattle.std.proofs.Math.ListN.{length-set}
-use Rattle.warp_tag.specs.Limits.{most_origins}
+use Rattle.warp_tag.specs.Limits.{most_origins, widest}
 use Rattle.warp_tag.specs.Moment.{Moment}
 use Rattle.warp_tag.specs.Table.{fresh}
 use Rattle.warp_tag.specs.declared.entry.Entry.{Entry}
@@ -92,7 +92,7 @@ pub own_heard : (records : List Record) (old new : List Heard) (said : Record) (
 own_heard records old new said own same at heard = subst (λ (h : Heard). IsHeard (set_of records) (origin_of said) h) (sym (at ∙ same (origin_of said))) (heard.each (origin_of said))
 
 -- with what is heard of its own origin, a record is heard
-pub all_heard : (records : List Record) (old new : List Heard) (said : Record) (own : Heard) → ((origin : ℕ) → heard_at new origin ≡ heard_at old origin) → length new ≤ most_origins → origin_of said < length new →
+pub all_heard : (records : List Record) (old new : List Heard) (said : Record) (own : Heard) → ((origin : ℕ) → heard_at new origin ≡ heard_at old origin) → length new ≤ most_origins widest → origin_of said < length new →
     AreHeard records old → IsHeard (set_of (records ++ said ∷ [])) (origin_of said) own → AreHeard (records ++ said ∷ []) (set new (origin_of said) own)
 all_heard records old new said own same few within all heard = record {
   few = omega (arith, length-set new (origin_of said) own);

@@ -301,8 +301,8 @@ fn put_last(blocks: &mut Vec<Block>, tally: Tally) -> Result<(), AllocError>
     requires in_order { AreInOrder (all_of blocks.old.items) }
     requires none { All (λ t. is_before tally.tag t.tag ≡ false) (all_of blocks.old.items) }
     ensures some { AreSome blocks.new.items }
-    ensures ok { OnOk result
-        (all_of blocks.new.items ≡ insert (all_of blocks.old.items) (place_of tally.tag (all_of blocks.old.items)) tally) }
+    ensures ok { OnOk result (all_of blocks.new.items
+        ≡ insert (all_of blocks.old.items) (place_of tally.tag (all_of blocks.old.items)) tally) }
     ensures err { OnErr result (all_of blocks.new.items ≡ all_of blocks.old.items) }
 {
     let count = blocks.len();

@@ -196,7 +196,8 @@ fn cut_of<T: Tagged>(blocks: &[Vec<T>], at: usize, tag: Tag) -> usize
 /// Cuts the items from this place on off, and gives them with room for a whole block. An `Err` changes nothing.
 fn cut_off<T: Copy + Drop>(block: &mut Vec<T>, cut: usize) -> Result<Vec<T>, AllocError>
     requires { cut ≤ vec_len block.old }
-    ensures ok { IfOk result (λ more. (block.new.items ≡ take cut block.old.items) × (more.items ≡ drop cut block.old.items)) }
+    ensures ok { IfOk result (λ more.
+        (block.new.items ≡ take cut block.old.items) × (more.items ≡ drop cut block.old.items)) }
     ensures err { OnErr result (block.new.items ≡ block.old.items) }
 {
     let alloc = *block.allocator();
@@ -267,8 +268,8 @@ fn block_for<T: Tagged + Copy + Drop>(
     Ok(block_of(blocks, tag))
 }
 
-/// Makes room for one more item of a tag, wherever it goes, and gives its block, which is this one, where it is, or else
-/// sought. The items stay, also on an `Err`.
+/// Makes room for one more item of a tag, wherever it goes, and gives its block, which is this one, where it is, or
+/// else sought. The items stay, also on an `Err`.
 #[inline(never)]
 fn make_room_anywhere<T: Tagged + Copy + Drop>(
     blocks: &mut Vec<Vec<T>>,

@@ -10,7 +10,7 @@ ghost use Rattle.std.specs.Prelude.{length, slice_get, vec_len, Contains, IsTrue
 ghost use Rattle.std.specs.Prelude.{OnErr, MatchResult};
 ghost use Rattle.std.specs.Map.{lookup};
 ghost use Rattle.std.specs.Option.{option_copied};
-ghost use Rattle.warp_tag.specs.Limits.{most_origins, most_records};
+ghost use Rattle.warp_tag.specs.Limits.{most_origins, most_records, widest};
 ghost use Rattle.warp_step.specs.Events.{is_declared};
 ghost use Rattle.warp_record.specs.declared.record.Record.{Record};
 ghost use Rattle.warp_record.specs.declared.reply.Refusal.{Refusal};
@@ -22,7 +22,8 @@ ghost use Rattle.warp_table.specs.Records.{set_of};
 ghost use Rattle.warp_table.specs.Table.{names_of};
 ghost use Rattle.warp_table.specs.inner.Heard.{Announced, AreHeard, IsHeard, heard_at, with_tag};
 ghost use Rattle.warp_table.specs.inner.Kept.{HoldsEvent, IsAdded, Keeps, NotesEvent, counts_less, entry_of};
-ghost use Rattle.warp_table.specs.inner.Kept.{event_place, is_named, known_of, other_place, parted_of, payload_at, place_in};
+ghost use Rattle.warp_table.specs.inner.Kept.{event_place, is_named, known_of, other_place, parted_of, payload_at};
+ghost use Rattle.warp_table.specs.inner.Kept.{place_in};
 ghost use Rattle.warp_table.specs.inner.Kept.{put_known, put_other, record_at, stands, with_event_at};
 ghost use Rattle.warp_table.specs.inner.Kept.{with_withdrawal_at, withdrawal_place};
 
@@ -96,8 +97,8 @@ impl Model for Table {
 impl Table {
     ghost use Rattle.warp_table.specs.Log.{EachOnce, IsAt};
 
-    /// Whether the program takes such a record, and else the first reason why not: no such origin, past its stop, no
-    /// such input, an input of another origin.
+    /// Whether the program takes such a record, and else the first reason why not: no such origin, past its stop or the
+    /// last microstep of its times, no such input, an input of another origin.
     pub fn check(program: &Program, record: &Record) -> Result<(), Refusal>
         ensures { MatchResult result (λ _. refusal_of program.now «record».now ≡ None)
             (λ k. refusal_of program.now «record».now ≡ Some k) }
@@ -155,7 +156,7 @@ impl Table {
     /// and whether it is new. A record that was there stays in its place. An `Err` changes nothing.
     pub fn add(&mut self, record: &Record) -> Result<Added, OutOfMemory>
         requires room { length self.old < most_records }
-        requires origin { origin_of «record».now < most_origins }
+        requires origin { origin_of «record».now < most_origins widest }
         ensures new { IfOk result (λ added. IsTrue added.is_new →
             (¬ Contains self.old «record».now) × (added.place ≡ length self.old + 1) ×
             (self.new ≡ self.old ++ «record».now ∷ [])) }
@@ -635,9 +636,9 @@ fn origin_of(record: &Record) -> u32
 
 /// Keeps an announcer for each origin up to this one. What is heard stays, also on an `Err`.
 fn keep_up_to(announcers: &mut Vec<Announcer>, origin: u32) -> Result<(), OutOfMemory>
-    requires origin { origin < most_origins }
-    requires few { length announcers.old.items ≤ most_origins }
-    ensures few { length announcers.new.items ≤ most_origins }
+    requires origin { origin < most_origins widest }
+    requires few { length announcers.old.items ≤ most_origins widest }
+    ensures few { length announcers.new.items ≤ most_origins widest }
     ensures same { (other : ℕ) → heard_at announcers.new.items other ≡ heard_at announcers.old.items other }
     ensures ok { OnOk result (origin < vec_len announcers.new) }
 {
@@ -704,7 +705,7 @@ fn note(
     announcers: &mut Vec<Announcer>,
     record: &Record,
 ) -> Result<Added, OutOfMemory>
-    requires origin { origin_of «record».now < most_origins }
+    requires origin { origin_of «record».now < most_origins widest }
     requires room { length records.now < most_records }
     requires keeps { Keeps records.now names.old others.old.entries }
     requires heard { AreHeard records.now announcers.old.items }
@@ -742,15 +743,12 @@ fn check_event(program: &Program, origin: u32, tag: Tag, input: u32) -> Result<(
 }
 
 /// Why the program takes no withdrawal of this origin, at this tag.
-#[tactic(auto, using(crate::proofs::Allowed::in_time))]
 fn check_name(program: &Program, origin: u32, tag: Tag) -> Result<(), Refusal>
     ensures { MatchResult result (λ _. refusal_of program.now (Record.Withdraw origin tag) ≡ None)
         (λ k. refusal_of program.now (Record.Withdraw origin tag) ≡ Some k) }
 {
-    // Each program is valid, and so no tag is past the last microstep of its times.
-    program.valid();
     check_origin(program, origin)?;
-    if program.stop() < tag.time() {
+    if program.stop() < tag.time() || program.top() < tag.micro() {
         return Err(Refusal::PastStop);
     }
     Ok(())
@@ -766,7 +764,7 @@ fn check_end(program: &Program, origin: u32, tag: Tag) -> Result<(), Refusal>
     program.valid();
     check_origin(program, origin)?;
     let end = Tag::beginning_of(program.stop() + 1);
-    if end.is_before(tag) {
+    if end.is_before(tag) || program.top() < tag.micro() {
         return Err(Refusal::PastStop);
     }
     Ok(())

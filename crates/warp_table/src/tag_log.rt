@@ -1,5 +1,5 @@
-//! The tags of an origin's names: as they came, until an announcement asks how many are before its tag, and in order from
-//! then on.
+//! The tags of an origin's names: as they came, until an announcement asks how many are before its tag, and in order
+//! from then on.
 //!
 //! So a name of an origin that announced nothing costs a push here, in any order of tags.
 ghost use Rattle.std.specs.Prelude.{◌≡◌, ◌+◌, ◌<◌, ◌^◌, [], IfOk, OnOk, OnErr, length};

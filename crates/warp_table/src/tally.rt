@@ -1,7 +1,8 @@
 //! An announcement with how many names are before its tag so far, and what follows from such counts.
 ghost use Rattle.std.specs.Prelude.{◌≡◌, ◌+◌, ◌<◌, ◌≤◌, ◌^◌, ◌||◌};
 ghost use Rattle.warp_table.specs.inner.Tally.{IsSpare, IsSpared, before_of, has_doubled, is_exceeded, is_met};
-ghost use Rattle.warp_table.specs.inner.Tally.{less_one, no_names, number_of, with_more, with_name, with_one, with_tally};
+ghost use Rattle.warp_table.specs.inner.Tally.{less_one, no_names, number_of, with_more, with_name, with_one};
+ghost use Rattle.warp_table.specs.inner.Tally.{with_tally};
 
 use crate::tags::Tagged;
 use warp_tag::Tag;

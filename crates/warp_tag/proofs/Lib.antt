@@ -4,3 +4,4 @@ pub mod Names
 pub mod Tables
 pub mod Known
 pub mod Payloads
+pub mod Forms

@@ -1,29 +1,42 @@
--- The limits of version 1: each number once. The code's constants are tied to them by the contracts that cite these names.
+-- The limits: each number once. Those that a version widens are by form, with a column for each. The code's constants are
+-- tied to them by the contracts that cite these names.
 use Rattle.std.specs.Prelude.{ℕ}
+use Rattle.warp_tag.specs.declared.form.Form.{Form}
+use Rattle.warp_tag.specs.declared.form.Form.TheVariants.{One, Two}
+
+-- the widest form: what is in range in any is in range in it
+abbrev pub widest : Form
+widest = Two
 
 -- the last time that a program can have as its stop
-abbrev pub longest_stop : ℕ
-longest_stop = 1000000
+abbrev pub longest_stop : Form → ℕ
+longest_stop One = 1000000
+longest_stop Two = 10000000
 
 -- the last time of a tag: one past the last stop, so that "everything up to the stop" has an end
-abbrev pub last_time : ℕ
-last_time = 1000001
+abbrev pub last_time : Form → ℕ
+last_time One = 1000001
+last_time Two = 10000001
 
 -- the last microstep of a time
-abbrev pub last_microstep : ℕ
-last_microstep = 15
+abbrev pub last_microstep : Form → ℕ
+last_microstep One = 15
+last_microstep Two = 255
 
 -- the longest delay, offset or period that a program can name
-abbrev pub longest_period : ℕ
-longest_period = 1000000
+abbrev pub longest_period : Form → ℕ
+longest_period One = 1000000
+longest_period Two = 10000000
 
 -- the longest delay that lands: two delays of a program, added
-abbrev pub longest_delay : ℕ
-longest_delay = 2000000
+abbrev pub longest_delay : Form → ℕ
+longest_delay One = 2000000
+longest_delay Two = 20000000
 
 -- the most origins of a program
-abbrev pub most_origins : ℕ
-most_origins = 32
+abbrev pub most_origins : Form → ℕ
+most_origins One = 32
+most_origins Two = 64
 
 -- the most reactors of a program
 abbrev pub most_reactors : ℕ

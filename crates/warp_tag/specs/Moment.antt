@@ -1,6 +1,7 @@
 -- Tags as definitions see them.
 use Rattle.std.specs.Prelude.{ℕ, ◌≤◌, Bool, ◌==◌, ◌&&◌, ◌||◌, nat_lt}
-use Rattle.warp_tag.specs.Limits.{last_time, last_microstep}
+use Rattle.warp_tag.specs.Limits.{widest, last_time, last_microstep}
+use Rattle.warp_tag.specs.declared.form.Form.{Form}
 
 -- a time and a microstep
 pub record Moment : Type 0 where
@@ -15,7 +16,11 @@ is_before a b = nat_lt a.time b.time || (a.time == b.time && nat_lt a.microstep 
 abbrev pub is_same : Moment → Moment → Bool
 is_same a b = a.time == b.time && a.microstep == b.microstep
 
--- the range of a tag
-pub record IsInRange (t : Moment) : Type 0 where
-  pub time : t.time ≤ last_time
-  pub microstep : t.microstep ≤ last_microstep
+-- the range of a tag in a form
+pub record IsTagOf (f : Form) (t : Moment) : Type 0 where
+  pub time : t.time ≤ last_time f
+  pub microstep : t.microstep ≤ last_microstep f
+
+-- the range of a tag in any form
+abbrev pub IsInRange : Moment → Type 0
+IsInRange t = IsTagOf widest t

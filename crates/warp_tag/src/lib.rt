@@ -6,10 +6,12 @@
 #![tactic(auto)]
 
 mod entry;
+mod form;
 mod out;
 mod tag;
 
 pub use entry::Entry;
+pub use form::Form;
 pub use out::Out;
 pub use std::alloc::AllocError as OutOfMemory;
 pub use tag::{

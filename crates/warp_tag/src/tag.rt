@@ -1,6 +1,6 @@
 //! Tags and landings: their ranges, their order, and where a delay leads.
 ghost use Rattle.std.specs.Prelude.{◌≡◌, ℕ, ◌≤◌, SomeIff, ◌+◌, ◌*◌, nat_eq};
-ghost use Rattle.warp_tag.specs.Limits.{last_microstep, last_time, longest_delay, longest_period, longest_stop};
+ghost use Rattle.warp_tag.specs.Limits.{last_microstep, last_time, longest_delay, longest_period, longest_stop, widest};
 ghost use Rattle.std.specs.Ordering.{eq_of_both, on};
 ghost use Rattle.std.specs.Cmp.Rules.{comparing, hashing};
 ghost use Rattle.std.specs.Hash as fed;
@@ -9,25 +9,26 @@ ghost use Rattle.std.proofs.Common.{rules};
 use std::hash::{Hash, Hasher};
 use std::marker::Model;
 
-/// The last time that a program can have as its stop, in the program's own unit.
-pub const MAX_STOP: u64 = 1_000_000;
+/// The last time that a program of any form can have as its stop, in the program's own unit.
+pub const MAX_STOP: u64 = 10_000_000;
 
 /// The last time of a tag: one past the last stop, so that "everything up to the stop" has an end.
-pub const MAX_TIME: u64 = 1_000_001;
+pub const MAX_TIME: u64 = 10_000_001;
 
-/// The last microstep of a time.
-pub const LAST_MICROSTEP: u32 = 15;
+/// The last microstep of a time, in the widest form.
+pub const LAST_MICROSTEP: u32 = 255;
 
-/// The longest delay, offset or period that a program can name.
-pub const MAX_PERIOD: u64 = 1_000_000;
+/// The longest delay, offset or period that a program of any form can name.
+pub const MAX_PERIOD: u64 = 10_000_000;
 
 /// The longest delay that a call of `Tag::after` is given: two delays of a program, added.
-pub const MAX_DELAY: u64 = 2_000_000;
+pub const MAX_DELAY: u64 = 20_000_000;
 
 /// How many microsteps a time has room for in the number of a tag.
 const MICROSTEPS: u32 = 256;
 
-/// A time, 0 to `MAX_TIME`, and a microstep, 0 to `LAST_MICROSTEP`. Tags are ordered by time, then by microstep.
+/// A time, 0 to `MAX_TIME`, and a microstep, 0 to `LAST_MICROSTEP`, in any form. Tags are ordered by time, then by
+/// microstep.
 ///
 /// It is kept as one number of 32 bits, 256 times the time plus the microstep, since a log keeps a tag of each record
 /// at several places, and numbers are compared at once.
@@ -102,7 +103,7 @@ impl Tag {
 
     /// The tag at which a time begins, at microstep 0.
     pub fn beginning_of(time: u64) -> Tag
-        requires { time ≤ last_time }
+        requires { time ≤ last_time widest }
         ensures { result ≡ record { time = time; microstep = 0 } }
     {
         Tag::of(time, 0)
@@ -148,13 +149,15 @@ impl Tag {
         self == other
     }
 
-    /// Where a delay lands from this tag in a program with this stop: at the later time with microstep 0,
-    /// or, for no delay, at the next microstep (Lohstroh et al. 2021).
-    pub fn after(self, delay: u64, stop: u64) -> Landing
-        requires delay { delay ≤ longest_delay }
-        requires stop { stop ≤ longest_stop }
+    /// Where a delay lands from this tag in a program with this stop and this last microstep: at the later time with
+    /// microstep 0, or, for no delay, at the next microstep (Lohstroh et al. 2021).
+    pub fn after(self, delay: u64, stop: u64, top: u32) -> Landing
+        requires delay { delay ≤ longest_delay widest }
+        requires stop { stop ≤ longest_stop widest }
+        requires top { top ≤ last_microstep widest }
         requires time { self.time ≤ stop }
-        ensures { result ≡ landing stop last_microstep self delay }
+        requires microstep { self.microstep ≤ top }
+        ensures { result ≡ landing stop top self delay }
     {
         if delay > 0 {
             let time = self.time() + delay;
@@ -163,7 +166,7 @@ impl Tag {
             } else {
                 Landing::PastStop
             }
-        } else if self.micro() < LAST_MICROSTEP {
+        } else if self.micro() < top {
             let micro = self.micro() + 1;
             Landing::At(Tag::of(self.time(), micro))
         } else {
@@ -174,9 +177,9 @@ impl Tag {
 
 /// A law: the constants are the limits of the definitions.
 pub fn tag_limits()
-    ensures stop { longest_stop ≡ MAX_STOP }
-    ensures time { last_time ≡ MAX_TIME }
-    ensures microstep { last_microstep ≡ LAST_MICROSTEP }
-    ensures period { longest_period ≡ MAX_PERIOD }
-    ensures delay { longest_delay ≡ MAX_DELAY }
+    ensures stop { longest_stop widest ≡ MAX_STOP }
+    ensures time { last_time widest ≡ MAX_TIME }
+    ensures microstep { last_microstep widest ≡ LAST_MICROSTEP }
+    ensures period { longest_period widest ≡ MAX_PERIOD }
+    ensures delay { longest_delay widest ≡ MAX_DELAY }
 {}

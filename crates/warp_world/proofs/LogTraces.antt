@@ -1,5 +1,5 @@
 -- A log has a table whose live events the program takes, and a trace.
-use Rattle.std.proofs.Common.{◌≡◌, ℕ, suc, true, List, [], ◌∷◌, All, fold, Option, None, Result, Err, IsTrue, refl, arith}
+use Rattle.std.proofs.Common.{◌≡◌, ℕ, suc, List, [], ◌∷◌, fold, Option, None, Result, Err, IsTrue, refl, arith}
 use Rattle.std.specs.List.{list_all}
 use Rattle.std.proofs.KnownBytes.{Appends-nil}
 use Rattle.warp_tag.specs.Moment.{Moment}

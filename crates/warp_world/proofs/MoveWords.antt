@@ -1,7 +1,9 @@
 -- The words of a move and of a number of replicas: they are few, and they are plain.
 use Rattle.std.proofs.Common.{◌≡◌, ℕ, ◌<◌, ◌≤◌, true, [], ◌∷◌, length, decimal, refl, arith}
+use Rattle.warp_tag.specs.declared.form.Form.{Form}
 use Rattle.warp_record.specs.Record.{record_words}
 use Rattle.warp_record.proofs.LineWords.{words_of_record}
+use Rattle.warp_record.proofs.Wider.{record_widens}
 use Rattle.warp_record.proofs.PlainWords.{are_plain, plain_number, plain_record}
 use Rattle.warp_world.specs.Moves.{IsMove, move_words}
 use Rattle.warp_world.specs.Schedule.{IsCount, count_words}
@@ -17,14 +19,14 @@ few_words (Settle replica) = (omega arith, omega arith)
 few_words (Restart replica) = (omega arith, omega arith)
 
 -- the words of a move are plain
-pub plain_move : (next : Move) → IsMove next → are_plain (move_words next) ≡ true
-plain_move (Make replica said) fits = plain_number replica (record_words said) (omega (arith, fits.0)) (plain_record said fits.1)
-plain_move (Carry from place to) fits =
+pub plain_move : (f : Form) (next : Move) → IsMove f next → are_plain (move_words next) ≡ true
+plain_move f (Make replica said) fits = plain_number replica (record_words said) (omega (arith, fits.0)) (plain_record said (record_widens f said fits.1))
+plain_move f (Carry from place to) fits =
     plain_number from (decimal place ∷ decimal to ∷ []) (omega (arith, fits.0))
     (plain_number place (decimal to ∷ []) (omega (arith, fits.1)) (plain_number to [] (omega (arith, fits.2)) refl))
-plain_move (Collect replica) fits = plain_number replica [] (omega (arith, fits)) refl
-plain_move (Settle replica) fits = plain_number replica [] (omega (arith, fits)) refl
-plain_move (Restart replica) fits = plain_number replica [] (omega (arith, fits)) refl
+plain_move f (Collect replica) fits = plain_number replica [] (omega (arith, fits)) refl
+plain_move f (Settle replica) fits = plain_number replica [] (omega (arith, fits)) refl
+plain_move f (Restart replica) fits = plain_number replica [] (omega (arith, fits)) refl
 
 -- the words of a number of replicas are plain
 pub plain_count : (count : ℕ) → IsCount count → are_plain (count_words count) ≡ true

@@ -4,6 +4,7 @@ use Rattle.std.specs.List.{All, slice_split, join_with_byte}
 use Rattle.std.proofs.lemmas.List.{append-nil, flat_map_more}
 use Rattle.std.proofs.lemmas.List.Elements.{All-append, All-cons}
 use Rattle.std.proofs.lemmas.List.Splits.{slice_split_at, slice_split_none, length-slice_split}
+use Rattle.warp_tag.specs.declared.form.Form.{Form}
 use Rattle.warp_record.specs.Lines.{is_end, IsOneLine}
 use Rattle.warp_record.specs.Number.{is_space}
 use Rattle.warp_record.proofs.LineCuts.{first_line}
@@ -56,15 +57,15 @@ same_first words others rest after some some_others plain plain_others same =
     (sym (words_of_text joined words some plain refl) ∙ one.0, one.1)
 
 -- a schedule with one more move
-pub one_more : (bytes : List ℕ) (count : ℕ) (moves : List Move) (next : Move) (rest behind : List ℕ)
-    → All IsMove moves → IsMove next
+pub one_more : (f : Form) (bytes : List ℕ) (count : ℕ) (moves : List Move) (next : Move) (rest behind : List ℕ)
+    → All (IsMove f) moves → IsMove f next
     → bytes ≡ schedule_text count moves ++ rest → rest ≡ line (move_words next) ++ behind
-    → All IsMove (moves ++ next ∷ []) × (bytes ≡ schedule_text count (moves ++ next ∷ []) ++ behind)
-one_more bytes count moves next rest behind fit fits text first =
+    → All (IsMove f) (moves ++ next ∷ []) × (bytes ≡ schedule_text count (moves ++ next ∷ []) ++ behind)
+one_more f bytes count moves next rest behind fit fits text first =
     let text_of : Move → List ℕ = λ (m : Move). line (move_words m) in
     let before : List ℕ = schedule_text count moves in
     let more = flat_map_more text_of (line (count_words count)) moves next in (
-      All-append IsMove moves (next ∷ []) fit (All-cons IsMove next [] fits (λ k d below. absurd (omega arith))),
+      All-append (IsMove f) moves (next ∷ []) fit (All-cons (IsMove f) next [] fits (λ k d below. absurd (omega arith))),
       text
           ∙ ap (λ (left : List ℕ). before ++ left) first
           ∙ sym (append_assoc before (text_of next) behind)

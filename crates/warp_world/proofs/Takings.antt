@@ -1,12 +1,12 @@
 -- What a log is once a record was taken: it has the record as its last one where the log takes it in, and else is as before.
-use Rattle.std.proofs.Common.{◌≡◌, ◌≢◌, ◌⊎◌, ℕ, ◌-◌, ◌<◌, Bool, true, false, not, ◌&&◌, nat_lt, List, [], ◌∷◌, ◌++◌, length, Option, Some, None, Result, Ok, Err, Contains, if◌then◌else◌, inl, inr, sym, ap, subst, ◌∙◌, refl, true≢false, arith}
+use Rattle.std.proofs.Common.{◌≡◌, ◌≢◌, ◌⊎◌, ℕ, ◌-◌, ◌<◌, Bool, true, false, not, ◌&&◌, ◌||◌, nat_lt, List, [], ◌∷◌, ◌++◌, length, Option, Some, None, Result, Ok, Err, Contains, if◌then◌else◌, inl, inr, sym, ap, subst, ◌∙◌, refl, true≢false, arith}
 use Rattle.std.specs.Option.{is_none}
 use Rattle.std.proofs.Math.Bool.{and-false}
 use Rattle.std.proofs.lemmas.Bool.{and_from, cases_Bool, le-ltb, lt-ltb}
 use Rattle.std.proofs.lemmas.Option.{get_or_from_slice_get, slice_get_within}
 use Rattle.warp_tag.specs.Limits.{most_records}
 use Rattle.warp_tag.specs.Moment.{is_before}
-use Rattle.warp_step.specs.Program.{Program}
+use Rattle.warp_step.specs.Program.{Program, top_of}
 use Rattle.warp_step.specs.Events.{is_declared, is_in_time, has_input, owns_input}
 use Rattle.warp_record.specs.declared.record.Record.{Record}
 use Rattle.warp_record.specs.declared.record.Record.TheVariants.{Event, Withdraw, Announce}
@@ -56,7 +56,7 @@ no_reason P (Event origin tag input value) =
     refl
 no_reason P (Withdraw origin tag) = either (is_declared P origin) _ _ (either (is_in_time P tag) None (Some PastStop) refl refl) refl
 no_reason P (Announce origin tag events withdrawn) =
-    either (is_declared P origin) _ _ (either (is_before (end_of P) tag) (Some PastStop) None refl refl) refl
+    either (is_declared P origin) _ _ (either (is_before (end_of P) tag || nat_lt (top_of P) tag.microstep) (Some PastStop) None refl refl) refl
 
 -- that a record was refused
 abbrev refused : Refusal → Result Took Refusal

@@ -8,8 +8,8 @@ use Rattle.warp_step.specs.Snapshot.{Snapshot}
 use Rattle.warp_step.specs.Step.{state_after, outputs_after}
 use Rattle.warp_step.specs.declared.given.Given.{Given}
 use Rattle.warp_world.specs.Labels.{Names}
-use Rattle.warp_world.specs.Trace.{came, changed, changed_part, due, due_part, events_part, outputs_part, pending_part, put, released_part, row_line, tag_part}
-use Rattle.warp_world.specs.inner.Tracing.{TellsRow, row_after}
+use Rattle.warp_world.specs.Trace.{came, changed, changed_part, due, due_part, events_part, outputs_part, pending_part, put, released_part, tag_part}
+use Rattle.warp_world.specs.inner.Tracing.{TellsRow}
 
 -- three pieces behind a text, the last one of two parts
 pub three_pieces : (t0 a b c d t1 t2 t3 : List ℕ) → t1 ≡ t0 ++ a → t2 ≡ t1 ++ b → t3 ≡ t2 ++ (c ++ d) → t3 ≡ t0 ++ (((a ++ b) ++ c) ++ d)

@@ -1,5 +1,5 @@
 -- How far a trace has come: a front of the names, the rows of the run that are left, and the lines of those told so far.
-use Rattle.std.proofs.Common.{◌≡◌, inl, inr, ℕ, ◌+◌, ◌-◌, ◌<◌, ◌≤◌, length, List, ◌++◌, ◌∷◌, [], take, drop, filter, map, ap, sym, subst, ◌∙◌, refl, rules, arith, IsTrue, MatchBool, true, false, not, ◌||◌, nat_lt, Option, Some, None, append_assoc, take-append-drop}
+use Rattle.std.proofs.Common.{◌≡◌, inl, inr, ℕ, ◌+◌, ◌-◌, ◌<◌, ◌≤◌, length, List, ◌++◌, ◌∷◌, [], take, drop, filter, map, ap, sym, subst, ◌∙◌, refl, rules, arith, IsTrue, true, false, not, ◌||◌, nat_lt, Option, Some, None, append_assoc, take-append-drop}
 use Rattle.std.specs.List.{list_all, list_any}
 use Rattle.std.proofs.lemmas.Bool.{cases_Bool, MatchBool-at_true, MatchBool-at_false}
 use Rattle.std.proofs.lemmas.Bool.Decides.{nat_tests}
@@ -13,12 +13,12 @@ use Rattle.warp_tag.proofs.Tags.{same_is}
 use Rattle.warp_step.specs.Program.{Program}
 use Rattle.warp_step.specs.Snapshot.{Snapshot, least_pending, start_state}
 use Rattle.warp_step.specs.Step.{Step, state_after, outputs_after}
-use Rattle.warp_step.specs.Run.{Row, Run, RunFrom, IsNext, waits, is_after, given_of, given_at}
+use Rattle.warp_step.specs.Run.{Row, RunFrom, IsNext, waits, is_after, given_of, given_at}
 use Rattle.warp_step.specs.declared.given.Given.{Given}
 use Rattle.warp_step.specs.declared.pending.Waiting.{Waiting}
 use Rattle.warp_step.proofs.TagsOfRun.{start_after}
 use Rattle.warp_step.proofs.TraceExists.{exists}
-use Rattle.warp_step.proofs.TraceLemmas.{one_next, one_rest, one_row}
+use Rattle.warp_step.proofs.TraceLemmas.{one_next, one_row}
 use Rattle.warp_line.specs.inner.Replay.{HasOtherHead, Passes, is_waiting, next_of, none_before}
 use Rattle.warp_line.proofs.LiveLemmas.{live-append}
 use Rattle.warp_line.proofs.NextLemmas.{next_entries, next_moves}

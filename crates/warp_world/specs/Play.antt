@@ -30,7 +30,7 @@ Prints P number (log ∷ logs) text =
     (a : Answers) × (rest : List ℕ)
     × AreAnswers P (set_of log) a × (text ≡ replica_lines number a ++ rest) × Prints P (number + 1) logs rest
 
--- the bytes spell a schedule, and the text is printed of its replicas after its moves
+-- the bytes spell a schedule in the form of the program, and the text is printed of its replicas after its moves
 abbrev pub PlaysSchedule : Program → List ℕ → List ℕ → Type 0
 PlaysSchedule P bytes text =
-    (count : ℕ) × (moves : List Move) × SpellsSchedule bytes count moves × Prints P 0 (world_after P count moves).logs text
+    (count : ℕ) × (moves : List Move) × SpellsSchedule P.form bytes count moves × Prints P 0 (world_after P count moves).logs text

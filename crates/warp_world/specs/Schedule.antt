@@ -1,6 +1,7 @@
--- Schedule files: what one spells, and at which line it is refused.
+-- Schedule files: what one spells, by form, and at which line it is refused.
 use Rattle.std.specs.Prelude.{◌≡◌, ◌≢◌, ℕ, zero, suc, ◌<◌, ◌≤◌, List, [], ◌∷◌, ◌++◌, length, All, codes, decimal, flat_map}
 use Rattle.std.specs.List.{join_with_byte}
+use Rattle.warp_tag.specs.declared.form.Form.{Form}
 use Rattle.warp_world.specs.Moves.{IsMove, most_replicas, move_words}
 use Rattle.warp_world.specs.declared.fault.ScheduleFault.{ScheduleFault}
 use Rattle.warp_world.specs.declared.fault.ScheduleFault.TheVariants.{Line, NoMemory}
@@ -26,26 +27,26 @@ line words = join_with_byte 32 words ++ 10 ∷ []
 abbrev pub schedule_text : ℕ → List Move → List ℕ
 schedule_text count moves = line (count_words count) ++ flat_map (λ move. line (move_words move)) moves
 
--- the bytes spell this schedule
-pub record SpellsSchedule (bytes : List ℕ) (count : ℕ) (moves : List Move) : Type 0 where
+-- the bytes spell this schedule in a form
+pub record SpellsSchedule (f : Form) (bytes : List ℕ) (count : ℕ) (moves : List Move) : Type 0 where
   pub size : length bytes ≤ longest_schedule
   pub count_fits : IsCount count
-  pub moves_fit : All IsMove moves
+  pub moves_fit : All (IsMove f) moves
   pub text : bytes ≡ schedule_text count moves
 
--- The bytes are refused at this line, from 1: the lines before it are those of a schedule, and then comes something that begins
--- with no line of a move, or in the first place with no number of replicas. Bytes that are too many are refused at line 0.
-abbrev pub IsRefusedAt : List ℕ → ℕ → Type 0
-IsRefusedAt bytes zero = longest_schedule < length bytes
-IsRefusedAt bytes (suc zero) =
+-- The bytes are refused at this line in a form, from 1: the lines before it are those of a schedule, and then comes something that
+-- begins with no line of a move, or in the first place with no number of replicas. Bytes that are too many are refused at line 0.
+abbrev pub IsRefusedAt : Form → List ℕ → ℕ → Type 0
+IsRefusedAt f bytes zero = longest_schedule < length bytes
+IsRefusedAt f bytes (suc zero) =
     (length bytes ≤ longest_schedule) × ((count : ℕ) (rest : List ℕ) → IsCount count → bytes ≢ schedule_text count [] ++ rest)
-IsRefusedAt bytes (suc (suc number)) =
+IsRefusedAt f bytes (suc (suc number)) =
     (length bytes ≤ longest_schedule)
-    × ((count : ℕ) × (moves : List Move) × (rest : List ℕ) × IsCount count × All IsMove moves × (length moves ≡ number)
+    × ((count : ℕ) × (moves : List Move) × (rest : List ℕ) × IsCount count × All (IsMove f) moves × (length moves ≡ number)
     × (bytes ≡ schedule_text count moves ++ rest) × (rest ≢ [])
-    × ((move : Move) (after : List ℕ) → IsMove move → rest ≢ line (move_words move) ++ after))
+    × ((move : Move) (after : List ℕ) → IsMove f move → rest ≢ line (move_words move) ++ after))
 
--- Why a schedule is refused: at the line that is named there; or memory was wanting, which is never said of bytes that are too many.
-abbrev pub IsFault : List ℕ → ScheduleFault → Type 0
-IsFault bytes (Line number) = IsRefusedAt bytes number
-IsFault bytes NoMemory = length bytes ≤ longest_schedule
+-- Why a schedule is refused in a form: at the line that is named there; or memory was wanting, which is never said of bytes that are too many.
+abbrev pub IsFault : Form → List ℕ → ScheduleFault → Type 0
+IsFault f bytes (Line number) = IsRefusedAt f bytes number
+IsFault f bytes NoMemory = length bytes ≤ longest_schedule

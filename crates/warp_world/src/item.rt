@@ -1,15 +1,19 @@
 //! What a row of a trace tells, thing by thing, gathered from the run.
 ghost use Rattle.std.specs.Prelude.{◌≡◌, ◌++◌, ◌∷◌, [], ◌==◌, OnOk, filter, length, map};
-ghost use Rattle.std.specs.Prelude.{◌<◌, ◌≤◌, false, slice_get};
+ghost use Rattle.std.specs.Prelude.{ℕ, ◌<◌, ◌≤◌, IsTrue, false, slice_get, slice_index_or};
 ghost use Rattle.std.specs.Option.{option_map_or};
 ghost use Rattle.std.specs.Ordering.{int_eq};
 ghost use Rattle.warp_tag.specs.Limits.{most_variables};
 ghost use Rattle.warp_tag.specs.Table.{live};
 ghost use Rattle.warp_world.specs.Trace.{came, came_of, changed, changed_at, changed_of, due, put};
+ghost use Rattle.warp_world.specs.inner.Tracing.{changed_from};
 
 use warp_body::Target;
 use warp_step::{Out, Program, State};
 use warp_tag::{Entry, OutOfMemory, Tag};
+
+/// So many variables are compared at once.
+const RUN: usize = 8;
 
 /// One thing that a row tells.
 #[derive(Clone, Copy)]
@@ -54,6 +58,33 @@ fn add_events(entries: &[Entry], input: u32, items: &mut Vec<Item>) -> Result<()
     Ok(())
 }
 
+/// The input of the name's live event, where that is from this input on and before the next one; else the next one.
+fn nearer(entry: &Entry, from: u32, next: u32) -> u32
+    requires { from ≤ next }
+    ensures from { from ≤ result }
+    ensures next { result ≤ next }
+    ensures none { (n : ℕ) → from ≤ n → n < result → filter (λ e. e.input == n) (live (entry.now ∷ [])) ≡ [] }
+{
+    match entry.event {
+        Some((input, _)) if from <= input && input < next && !entry.withdrawn => input,
+        _ => next,
+    }
+}
+
+/// The first input from this one on that a live event of these names is for; where there is none before it, the end.
+fn next_input(entries: &[Entry], from: u32, end: u32) -> u32
+    requires { from ≤ end }
+    ensures from { from ≤ result }
+    ensures end { result ≤ end }
+    ensures none { (n : ℕ) → from ≤ n → n < result → filter (λ e. e.input == n) (live entries.now) ≡ [] }
+{
+    let mut next = end;
+    for entry in entries {
+        next = nearer(entry, from, next);
+    }
+    next
+}
+
 /// Gathers the live events of these names, in the order of the program's inputs.
 pub(crate) fn gather_events(
     program: &Program,
@@ -65,8 +96,11 @@ pub(crate) fn gather_events(
     // Each program is valid, and so has few inputs.
     program.valid();
     items.clear();
-    for number in 0..program.inputs().len() {
-        add_events(entries, number as u32, items)?;
+    let end = program.inputs().len() as u32;
+    let mut number = next_input(entries, 0, end);
+    while number < end {
+        add_events(entries, number, items)?;
+        number = next_input(entries, number + 1, end);
     }
     Ok(())
 }
@@ -75,8 +109,13 @@ pub(crate) fn gather_events(
 pub(crate) fn gather_due(state: &State, tag: Tag, items: &mut Vec<Item>) -> Result<(), OutOfMemory>
     ensures { OnOk result (items.new.items ≡ due tag state.now) }
 {
+    // What is pending stands in order of tags.
+    state.valid();
     items.clear();
     for entry in state.pending() {
+        if tag.is_before(entry.tag) {
+            return Ok(());
+        }
         if entry.tag.is_same(tag) {
             items.push(Item::Due {
                 target: entry.target,
@@ -130,16 +169,53 @@ fn add_changed_at(
     }
 }
 
-/// Gathers the variables of these whose values were others.
+/// Whether the runs with this number are both there, and have the same values.
+fn is_same_run(old: &[[i64; RUN]], new: &[[i64; RUN]], number: usize) -> bool
+    ensures { IsTrue result →
+        (number < length old.now) × (slice_index_or old.now number [] ≡ slice_index_or new.now number []) }
+{
+    let Some(values) = old.get(number) else {
+        return false;
+    };
+    let Some(others) = new.get(number) else {
+        return false;
+    };
+    values == others
+}
+
+/// Adds the variables with these numbers, from this one up to the end, whose values were others.
+fn add_others(
+    before: &[i64],
+    after: &[i64],
+    from: usize,
+    end: usize,
+    items: &mut Vec<Item>,
+) -> Result<(), OutOfMemory>
+    requires few { end ≤ most_variables }
+    requires end { (from ≤ end) × (end ≤ length after.now) }
+    ensures { OnOk result (items.new.items ++ changed_from before.now after.now end
+        ≡ items.old.items ++ changed_from before.now after.now from) }
+{
+    for number in from..end {
+        add_changed_at(before, after, number, items)?;
+    }
+    Ok(())
+}
+
+/// Gathers the variables of these whose values were others. It compares them run by run.
 fn gather_others(before: &[i64], after: &[i64], items: &mut Vec<Item>) -> Result<(), OutOfMemory>
     requires { length after.now ≤ most_variables }
     ensures { OnOk result (items.new.items ≡ changed before.now after.now) }
 {
     items.clear();
-    for number in 0..after.len() {
-        add_changed_at(before, after, number, items)?;
+    let (old, _) = before.as_chunks::<RUN>();
+    let (new, _) = after.as_chunks::<RUN>();
+    for number in 0..new.len() {
+        if !is_same_run(old, new, number) {
+            add_others(before, after, number * RUN, (number + 1) * RUN, items)?;
+        }
     }
-    Ok(())
+    add_others(before, after, new.len() * RUN, after.len(), items)
 }
 
 /// Gathers the variables whose values were others.

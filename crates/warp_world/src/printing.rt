@@ -21,17 +21,17 @@ use warp_step::Program;
 use warp_tag::OutOfMemory;
 
 /// What is printed of a schedule: for each replica, after all moves and settled, its number, its horizon, how many
-/// outputs there are and how many are released, how much was lost, and its variables. `Err` says at which line the
-/// schedule is refused, or that memory was wanting.
+/// outputs there are and how many are released, how much was lost, and its variables. The schedule is read in the form
+/// of the program. `Err` says at which line it is refused, or that memory was wanting.
 pub fn play_text<T: Timeline + Drop>(
     alloc: Global,
     program: &Program,
     schedule: &[u8],
 ) -> Result<Vec<u8>, ScheduleFault>
     ensures text { IfOk result (λ text. PlaysSchedule program.now schedule.now text.items) }
-    ensures refused { IfErr result (IsFault schedule.now) }
+    ensures refused { IfErr result (IsFault program.now.form schedule.now) }
 {
-    let (count, moves) = read_schedule(alloc, schedule)?;
+    let (count, moves) = read_schedule(alloc, program.form(), schedule)?;
     let mut world = play::<T>(alloc, program, count, &moves)?;
     world.settle(alloc)?;
     let text = world_text(alloc, &world)?;

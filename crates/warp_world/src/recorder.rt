@@ -1,6 +1,6 @@
 //! A desk that takes records, and executes nothing.
 ghost use Rattle.std.specs.Prelude.{◌≡◌, ℕ, ◌<◌, ◌≤◌, [], IfErr, IfNone, IfOk, IfSome, None, Contains, length};
-ghost use Rattle.warp_tag.specs.Limits.{most_origins, most_records};
+ghost use Rattle.warp_tag.specs.Limits.{most_origins, most_records, widest};
 ghost use Rattle.warp_record.specs.Reply.{IsReply};
 ghost use Rattle.warp_record.specs.declared.line.Line.{Line};
 ghost use Rattle.warp_record.specs.declared.record.Record.{Record};
@@ -18,6 +18,7 @@ use warp_record::{Line, Record, Refusal, Reply};
 use warp_replica::Took;
 use warp_step::Program;
 use warp_table::Table;
+use warp_tag::Form;
 
 /// A program and the records that it took, for whoever wants them and no answers. Contracts see both, as of a replica.
 #[derive(Drop)]
@@ -86,7 +87,7 @@ impl Recorder {
     fn take(&mut self, record: &Record) -> Result<Took, Refusal>
         ensures takes { Takes self.old.program self.old.records «record».now result self.new.records }
         ensures program { self.new.program ≡ self.old.program }
-        ensures reply { IsReply (told result) }
+        ensures reply { IsReply widest (told result) }
     {
         Table::check(&self.program, record)?;
         if self.table.is_full() {
@@ -122,6 +123,8 @@ impl Desk for Recorder {
 
     ghost gives = { LocalGives };
 
+    ghost form_of = { λ s. s.program.form };
+
     /// Takes a record that a line brings. It executes nothing, and so a query gets `refused 8`.
     fn ask(&mut self, line: Line) -> Reply {
         match line {
@@ -135,12 +138,17 @@ impl Desk for Recorder {
             Line::Collect => Reply::Refused(Refusal::NoMemory),
         }
     }
+
+    /// The form of the program.
+    fn form(&self) -> Form {
+        self.program.form()
+    }
 }
 
 /// That a record's origin is in range, against which the program has no reason. It does nothing.
 fn origin_in_range(program: &Program, record: &Record)
     requires { refusal_of program.now «record».now ≡ None }
-    ensures { origin_of «record».now < most_origins }
+    ensures { origin_of «record».now < most_origins widest }
 {
     // Each program is valid, and so has few origins.
     program.valid();

@@ -11,8 +11,21 @@ use warp_body::Target;
 use warp_step::State;
 use warp_tag::{OutOfMemory, Tag};
 
-/// Appends a number.
+/// Appends a number. Most have one digit: origins, microsteps and how many entries are pending.
+#[inline(always)]
 pub(crate) fn append_number(text: &mut Vec<u8>, number: u64) -> Result<(), OutOfMemory>
+    ensures { OnOk result (text.new.items ≡ text.old.items ++ decimal number) }
+{
+    if number < 10 {
+        text.push(b'0' + number as u8)?;
+        return Ok(());
+    }
+    append_long(text, number)
+}
+
+/// Appends a number of any length.
+#[inline(never)]
+fn append_long(text: &mut Vec<u8>, number: u64) -> Result<(), OutOfMemory>
     ensures { OnOk result (text.new.items ≡ text.old.items ++ decimal number) }
 {
     let mut digits = Buffer::new();
@@ -41,6 +54,7 @@ fn append_name(text: &mut Vec<u8>, names: &[String], number: u32) -> Result<(), 
 }
 
 /// Appends the same in quotes.
+#[inline(always)]
 fn append_quoted(text: &mut Vec<u8>, names: &[String], number: u32) -> Result<(), OutOfMemory>
     ensures { OnOk result (text.new.items ≡ text.old.items ++ quoted (map string_bytes names.now) number) }
 {
@@ -150,6 +164,7 @@ fn append_items(text: &mut Vec<u8>, labels: &Labels, items: &[Item]) -> Result<(
 }
 
 /// Appends the part of a row's line that begins so, and has these items.
+#[inline(always)]
 pub(crate) fn append_part(
     text: &mut Vec<u8>,
     labels: &Labels,

@@ -1,7 +1,9 @@
-//! Schedule files, read: a line with the number of replicas, and a line for each move. Each schedule has one text.
+//! Schedule files, read: a line with the number of replicas, and a line for each move, whose ranges are those of a form.
+//! Each schedule has one text.
 ghost use Rattle.std.specs.Prelude.{◌≡◌, ◌≢◌, ℕ, ◌<◌, List, [], ◌∷◌, ◌++◌, IfSome, IfNone, IfOk, IfErr, codes, decimal};
 ghost use Rattle.std.specs.Prelude.{length, map};
 ghost use Rattle.std.specs.List.{slice_split};
+ghost use Rattle.warp_tag.specs.declared.form.Form.{Form};
 ghost use Rattle.warp_record.specs.Lines.{IsOneLine};
 ghost use Rattle.warp_record.specs.Number.{is_space};
 ghost use Rattle.warp_world.specs.Moves.{IsMove, most_replicas, move_words};
@@ -12,6 +14,7 @@ use crate::fault::ScheduleFault;
 use crate::moves::Move;
 use std::alloc::Global;
 use warp_record::{MAX_COUNT, is_keyword, read_record, read_u32, split_words};
+use warp_tag::Form;
 
 /// The most bytes of a schedule file.
 pub const MAX_SCHEDULE: usize = 1_048_576;
@@ -77,27 +80,27 @@ fn count_of(words: &[&[u8]]) -> Option<usize>
     }
 }
 
-/// The move that these words tell behind `make`; `None` where there is none.
-fn read_make(words: &[&[u8]]) -> Option<Move>
+/// The move in range in this form that these words tell behind `make`; `None` where there is none.
+fn read_make(form: Form, words: &[&[u8]]) -> Option<Move>
     ensures found { IfSome result
-        (λ next. IsMove next × (codes "make" ∷ map (λ word. word.now) words.now ≡ move_words next)) }
+        (λ next. IsMove form next × (codes "make" ∷ map (λ word. word.now) words.now ≡ move_words next)) }
     ensures none { IfNone result
-        ((next : Move) → IsMove next → codes "make" ∷ map (λ word. word.now) words.now ≢ move_words next) }
+        ((next : Move) → IsMove form next → codes "make" ∷ map (λ word. word.now) words.now ≢ move_words next) }
 {
     let [replica, said @ ..] = words else {
         return None;
     };
     let replica = read_replica(replica)?;
-    let record = read_record(said)?;
+    let record = read_record(form, said)?;
     Some(Move::Make { replica, record })
 }
 
-/// The move that these words tell behind `carry`; `None` where there is none.
-fn read_carry(words: &[&[u8]]) -> Option<Move>
+/// The move in range in this form that these words tell behind `carry`; `None` where there is none.
+fn read_carry(form: Form, words: &[&[u8]]) -> Option<Move>
     ensures found { IfSome result
-        (λ next. IsMove next × (codes "carry" ∷ map (λ word. word.now) words.now ≡ move_words next)) }
+        (λ next. IsMove form next × (codes "carry" ∷ map (λ word. word.now) words.now ≡ move_words next)) }
     ensures none { IfNone result
-        ((next : Move) → IsMove next → codes "carry" ∷ map (λ word. word.now) words.now ≢ move_words next) }
+        ((next : Move) → IsMove form next → codes "carry" ∷ map (λ word. word.now) words.now ≢ move_words next) }
 {
     let [from, place, to] = words else {
         return None;
@@ -108,28 +111,28 @@ fn read_carry(words: &[&[u8]]) -> Option<Move>
     Some(Move::Carry { from, place, to })
 }
 
-/// The move in range whose words are this one and these, which are two or more; `None` where there is none.
-fn read_long(word: &[u8], fields: &[&[u8]]) -> Option<Move>
+/// The move in range in this form whose words are this one and these, which are two or more; `None` where there is none.
+fn read_long(form: Form, word: &[u8], fields: &[&[u8]]) -> Option<Move>
     requires { 1 < length fields.now }
     ensures found { IfSome result
-        (λ next. IsMove next × (word.now ∷ map (λ word. word.now) fields.now ≡ move_words next)) }
+        (λ next. IsMove form next × (word.now ∷ map (λ word. word.now) fields.now ≡ move_words next)) }
     ensures none { IfNone result
-        ((next : Move) → IsMove next → word.now ∷ map (λ word. word.now) fields.now ≢ move_words next) }
+        ((next : Move) → IsMove form next → word.now ∷ map (λ word. word.now) fields.now ≢ move_words next) }
 {
     if is_keyword(word, MAKE) {
-        return read_make(fields);
+        return read_make(form, fields);
     }
     if is_keyword(word, CARRY) {
-        return read_carry(fields);
+        return read_carry(form, fields);
     }
     None
 }
 
-/// The move in range whose words are these two; `None` where there is none.
-fn read_short(word: &[u8], replica: &[u8]) -> Option<Move>
-    ensures found { IfSome result (λ next. IsMove next × (word.now ∷ replica.now ∷ [] ≡ move_words next)) }
+/// The move in range in this form whose words are these two; `None` where there is none.
+fn read_short(form: Form, word: &[u8], replica: &[u8]) -> Option<Move>
+    ensures found { IfSome result (λ next. IsMove form next × (word.now ∷ replica.now ∷ [] ≡ move_words next)) }
     ensures none { IfNone result
-        ((next : Move) → IsMove next → word.now ∷ replica.now ∷ [] ≢ move_words next) }
+        ((next : Move) → IsMove form next → word.now ∷ replica.now ∷ [] ≢ move_words next) }
 {
     let replica = read_replica(replica)?;
     if is_keyword(word, COLLECT) {
@@ -144,15 +147,15 @@ fn read_short(word: &[u8], replica: &[u8]) -> Option<Move>
     None
 }
 
-/// The move in range whose words these are; `None` where there is none.
-fn move_of(words: &[&[u8]]) -> Option<Move>
-    ensures found { IfSome result (λ next. IsMove next × (map (λ word. word.now) words.now ≡ move_words next)) }
-    ensures none { IfNone result ((next : Move) → IsMove next → map (λ word. word.now) words.now ≢ move_words next) }
+/// The move in range in this form whose words these are; `None` where there is none.
+fn move_of(form: Form, words: &[&[u8]]) -> Option<Move>
+    ensures found { IfSome result (λ next. IsMove form next × (map (λ word. word.now) words.now ≡ move_words next)) }
+    ensures none { IfNone result ((next : Move) → IsMove form next → map (λ word. word.now) words.now ≢ move_words next) }
 {
     match words {
         [] | [_] => None,
-        [word, replica] => read_short(word, replica),
-        [word, fields @ ..] => read_long(word, fields),
+        [word, replica] => read_short(form, word, replica),
+        [word, fields @ ..] => read_long(form, word, fields),
     }
 }
 
@@ -165,13 +168,13 @@ fn count_in(text: &[u8]) -> Option<usize>
     count_of(&words)
 }
 
-/// The move that the text of a line spells; `None` where it spells none.
-fn move_in(text: &[u8]) -> Option<Move>
-    ensures found { IfSome result (λ next. IsMove next × (slice_split is_space text.now ≡ move_words next)) }
-    ensures none { IfNone result ((next : Move) → IsMove next → slice_split is_space text.now ≢ move_words next) }
+/// The move in range in this form that the text of a line spells; `None` where it spells none.
+fn move_in(form: Form, text: &[u8]) -> Option<Move>
+    ensures found { IfSome result (λ next. IsMove form next × (slice_split is_space text.now ≡ move_words next)) }
+    ensures none { IfNone result ((next : Move) → IsMove form next → slice_split is_space text.now ≢ move_words next) }
 {
     let words = split_words(text)?;
-    move_of(&words)
+    move_of(form, &words)
 }
 
 /// The number of replicas that the first line spells, and the bytes behind the line; `None` where it spells none.
@@ -185,22 +188,27 @@ fn read_count(bytes: &[u8]) -> Option<(usize, &[u8])>
     Some((count, rest))
 }
 
-/// The move that the first line spells, and the bytes behind the line; `None` where it spells none.
-fn read_move(bytes: &[u8]) -> Option<(Move, &[u8])>
-    ensures found { IfSome result (λ read. IsMove read.0 × (bytes.now ≡ line (move_words read.0) ++ read.1.now)) }
+/// The move in range in this form that the first line spells, and the bytes behind the line; `None` where it spells none.
+fn read_move(form: Form, bytes: &[u8]) -> Option<(Move, &[u8])>
+    ensures found { IfSome result (λ read. IsMove form read.0 × (bytes.now ≡ line (move_words read.0) ++ read.1.now)) }
     ensures none { IfNone result
-        ((next : Move) (rest : List ℕ) → IsMove next → bytes.now ≢ line (move_words next) ++ rest) }
+        ((next : Move) (rest : List ℕ) → IsMove form next → bytes.now ≢ line (move_words next) ++ rest) }
 {
     let (text, rest) = split_line(bytes)?;
-    let next = move_in(text)?;
+    let next = move_in(form, text)?;
     Some((next, rest))
 }
 
-/// How many replicas a schedule file names, 1 to `MAX_REPLICAS`, and its moves. `Err` says at which line it is
-/// refused, which is 0 where it has more than `MAX_SCHEDULE` bytes, or that memory was wanting.
-pub fn read_schedule(alloc: Global, bytes: &[u8]) -> Result<(usize, Vec<Move>), ScheduleFault>
-    ensures found { IfOk result (λ schedule. SpellsSchedule bytes.now schedule.0 schedule.1.items) }
-    ensures refused { IfErr result (λ fault. IsFault bytes.now fault) }
+/// How many replicas a schedule file names, 1 to `MAX_REPLICAS`, and its moves. A record that one of them makes is in
+/// range in this form. `Err` says at which line the file is refused, which is 0 where it has more than `MAX_SCHEDULE`
+/// bytes, or that memory was wanting.
+pub fn read_schedule(
+    alloc: Global,
+    form: Form,
+    bytes: &[u8],
+) -> Result<(usize, Vec<Move>), ScheduleFault>
+    ensures found { IfOk result (λ schedule. SpellsSchedule form bytes.now schedule.0 schedule.1.items) }
+    ensures refused { IfErr result (λ fault. IsFault form bytes.now fault) }
 {
     if bytes.len() > MAX_SCHEDULE {
         return Err(ScheduleFault::Line(0));
@@ -210,7 +218,7 @@ pub fn read_schedule(alloc: Global, bytes: &[u8]) -> Result<(usize, Vec<Move>), 
     };
     let mut moves = Vec::new(alloc);
     while !rest.is_empty() {
-        let Some((next, behind)) = read_move(rest) else {
+        let Some((next, behind)) = read_move(form, rest) else {
             return Err(ScheduleFault::Line(moves.len() as u64 + 2));
         };
         moves.push(next)?;

@@ -171,7 +171,7 @@ fault_outcome schedule_fault.NoMemory = Memory
 abbrev pub PlaysBytes : ReactorProgram → List ℕ → Seen → Seen → Outcome → Type 0
 PlaysBytes P bytes before after outcome =
     ((text : List ℕ) × PlaysSchedule P bytes text × IsPrinted text before after outcome)
-    ⊎ (((fault : ScheduleFault) × IsFault bytes fault × (outcome ≡ fault_outcome fault)) × (after ≡ before))
+    ⊎ (((fault : ScheduleFault) × IsFault P.form bytes fault × (outcome ≡ fault_outcome fault)) × (after ≡ before))
 
 -- the run ends so where the file of the schedule couldn't be read, or memory was wanting for it
 abbrev pub IsUnread : Outcome → Type 0
@@ -245,7 +245,7 @@ GivesAmply P records said reply records' = Gives P records said reply records' �
 
 -- a session over these bytes may leave this log, and memory was wanting for no record
 abbrev pub LeavesLog : ReactorProgram → List ℕ → List Record → Type 0
-LeavesLog P input log = (text : List ℕ) × Session (GivesAmply P) [] input text log
+LeavesLog P input log = (text : List ℕ) × Session P.form (GivesAmply P) [] input text log
 
 -- of a source that tells its bytes, the text is the trace of the program, with these names, over the log that its lines leave
 abbrev pub IsTraceOf : TraceNames → ReactorProgram → Option (List ℕ) → List ℕ → Type 0

@@ -11,7 +11,7 @@ use crate::program_file::{ENOUGH, TWICE, refused};
 use std::alloc::Global;
 use std::fs::{self, Files};
 use std::io::Read;
-use warp_prog::{LoadError, explanation, file_labels, load, program_account};
+use warp_prog::{LoadError, explanation, load_labelled, program_account};
 use warp_step::Program;
 
 /// What is told of the program of this name. Where its file is refused, `remark` gets where and why.
@@ -47,10 +47,10 @@ fn built_in_account(alloc: Global, with_numbers: bool) -> Result<String, Outcome
     let Ok(program) = Program::twice(alloc) else {
         return Err(Outcome::Memory);
     };
-    let Ok(labels) = file_labels(alloc, TWICE.as_bytes()) else {
+    let Ok(labelled) = load_labelled(alloc, TWICE.as_bytes()) else {
         return Err(Outcome::Memory);
     };
-    match program_account(alloc, &program, &labels, with_numbers) {
+    match program_account(alloc, &program, &labelled.labels, with_numbers) {
         Ok(text) => Ok(text),
         Err(_) => Err(Outcome::Memory),
     }
@@ -83,33 +83,15 @@ fn bytes_account(
     ensures err { IfErr result
         (λ outcome. (error : LoadError) × IsRefused bytes.now error × (outcome ≡ refused_outcome error)) }
 {
-    match load(alloc, bytes) {
-        Ok(program) => {
-            let text = loaded_account(alloc, bytes, &program, with_numbers)?;
-            Ok(text)
+    match load_labelled(alloc, bytes) {
+        Ok(labelled) => {
+            let account = program_account(alloc, &labelled.program, &labelled.labels, with_numbers);
+            match account {
+                Ok(text) => Ok(text),
+                Err(_) => Err(refused(LoadError::Memory)),
+            }
         }
         Err(error) => Err(explained(alloc, bytes, error, remark)),
-    }
-}
-
-/// What is told of the program that these bytes spell, and that was loaded.
-fn loaded_account(
-    alloc: Global,
-    bytes: &[u8],
-    program: &Program,
-    with_numbers: bool,
-) -> Result<String, Outcome>
-    requires { IsLoaded bytes.now program.now }
-    ensures ok { IfOk result (λ text. IsToldOf bytes.now with_numbers (string_bytes text)) }
-    ensures err { IfErr result
-        (λ outcome. (error : LoadError) × IsRefused bytes.now error × (outcome ≡ refused_outcome error)) }
-{
-    match file_labels(alloc, bytes) {
-        Ok(labels) => match program_account(alloc, program, &labels, with_numbers) {
-            Ok(text) => Ok(text),
-            Err(_) => Err(refused(LoadError::Memory)),
-        },
-        Err(error) => Err(refused(error)),
     }
 }
 

@@ -10,6 +10,7 @@ use std::marker::Model;
 use warp_exchange::Desk;
 use warp_record::{Line, Refusal, Reply};
 use warp_step::Program;
+use warp_tag::Form;
 use warp_world::Recorder;
 
 /// A recorder, and whether it refused a record for want of memory.
@@ -50,12 +51,19 @@ impl Desk for Gatherer {
 
     ghost gives = { Gathers };
 
+    ghost form_of = { λ g. g.taken.program.form };
+
     /// What the recorder replies: it takes a record, and refuses all else.
     fn ask(&mut self, line: Line) -> Reply {
         let is_record = brings_record(&line);
         let reply = self.recorder.ask(line);
         self.has_lacked |= is_record & is_want(&reply);
         reply
+    }
+
+    /// The form of the recorder's program.
+    fn form(&self) -> Form {
+        self.recorder.form()
     }
 }
 

@@ -8,11 +8,11 @@ ghost use Rattle.warpd.specs.Outcome.{IsNamedWith, IsNone, refused_outcome, trac
 
 use crate::file_bytes::{first_bytes, without_file};
 use crate::outcome::Outcome;
-use crate::program_file::{ENOUGH, TWICE, built_in, refused, spelled_program};
+use crate::program_file::{ENOUGH, TWICE, built_in, refused};
 use std::alloc::Global;
 use std::fs::{self, Files};
 use std::io::Read;
-use warp_prog::file_labels;
+use warp_prog::{LabelledProgram, load_labelled};
 use warp_step::Program;
 use warp_world::Labels;
 
@@ -47,10 +47,10 @@ fn built_in_labelled(alloc: Global) -> Result<Labelled, Outcome>
     ensures err { IfErr result (λ outcome. outcome ≡ Outcome.Memory) }
 {
     let program = built_in(alloc)?;
-    match file_labels(alloc, TWICE.as_bytes()) {
-        Ok(labels) => Ok(Labelled {
+    match load_labelled(alloc, TWICE.as_bytes()) {
+        Ok(read) => Ok(Labelled {
             program,
-            labels: names_for_a_trace(labels),
+            labels: names_for_a_trace(read.labels),
         }),
         Err(_) => Err(Outcome::Memory),
     }
@@ -75,9 +75,8 @@ fn bytes_labelled(alloc: Global, bytes: &[u8]) -> Result<Labelled, Outcome>
     ensures err { IfErr result
         (λ outcome. (error : LoadError) × IsRefused bytes.now error × (outcome ≡ refused_outcome error)) }
 {
-    let program = spelled_program(alloc, bytes)?;
-    match file_labels(alloc, bytes) {
-        Ok(labels) => Ok(Labelled {
+    match load_labelled(alloc, bytes) {
+        Ok(LabelledProgram { program, labels }) => Ok(Labelled {
             program,
             labels: names_for_a_trace(labels),
         }),

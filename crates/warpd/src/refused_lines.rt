@@ -3,6 +3,7 @@
 use std::alloc::{AllocError, Global};
 use warp_record::{Feed, Refusal, Reply, read_reply};
 use warp_session::{Failed, Sink};
+use warp_tag::Form;
 
 /// Takes the replies to lines, and keeps how many lines were refused, and which of them was the first.
 #[derive(Drop)]
@@ -65,7 +66,8 @@ fn reason_told(reply: &[u8]) -> Option<u32> {
     if reply.first() != Some(&b'r') {
         return None;
     }
-    match read_reply(reply) {
+    // A refusal is spelled alike in every form.
+    match read_reply(Form::Two, reply) {
         Some(Reply::Refused(Refusal::NoMemory | Refusal::NoBoard)) => None,
         Some(Reply::Refused(refusal)) => Some(refusal.number()),
         _ => None,

@@ -52,7 +52,7 @@ fn read_lines<R: Source, W: Sink>(
     streams: &mut Streams<R, W>,
 ) -> SessionEnd
     ensures bytes { result ≡ SessionEnd.End →
-        Transcribes Gathers desk.old streams.old.left None None desk.new }
+        Transcribes desk.old.taken.program.form Gathers desk.old streams.old.left None None desk.new }
     ensures failures { FailsSo result streams.old.failed_reads streams.new.failed_reads 0 0 }
     ensures many { result ≡ SessionEnd.TooManyReads → IfSome streams.old.left (λ input. most_reads ≤ length input) }
     ensures written { WritesNothing streams.old streams.new }

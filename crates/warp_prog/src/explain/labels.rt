@@ -1,16 +1,13 @@
 //! The names that stand for numbers: `REACTOR.NAME` of each thing of a program, in the order of its numbers.
-ghost use Rattle.std.specs.Prelude.{◌≡◌, ◌++◌, IfErr, IfOk, OnOk, map, string_bytes};
-ghost use Rattle.warp_prog.specs.Explain.{IsLabelled, label, labelled, labels_in, port_label, port_names};
+ghost use Rattle.std.specs.Prelude.{◌≡◌, ◌++◌, IfOk, OnOk, map, string_bytes};
+ghost use Rattle.warp_prog.specs.Explain.{label, labelled, labels_in, port_label, port_names};
 ghost use Rattle.warp_prog.specs.Explain.{names_of};
-ghost use Rattle.warp_prog.specs.Load.{IsRefused};
 ghost use Rattle.warp_prog.specs.Uses.{action_names, timer_names, variable_names};
 ghost use Rattle.warp_prog.specs.View.{file_tree, reactor_tree};
 
-use crate::error::LoadError;
 use crate::file::{InputPart, PortName, ProgramFile, Reactor};
 use crate::name::Name;
 use crate::named::Named;
-use crate::reading::reading;
 use std::alloc::{AllocError, Global};
 use std::marker::Model;
 
@@ -50,24 +47,8 @@ impl Model for Labels {
     } };
 }
 
-/// The labels of a program file, whether or not it has a fault beyond its shape.
-///
-/// # Errors
-///
-/// The fault of bytes that are no file, as `load` tells it. `Memory` comes only where a growth was refused.
-pub fn file_labels(alloc: Global, bytes: &[u8]) -> Result<Labels, LoadError>
-    ensures ok { IfOk result (IsLabelled bytes.now) }
-    ensures err { IfErr result (IsRefused bytes.now) }
-{
-    let file = reading(alloc, bytes)?;
-    match labels_of(alloc, &file) {
-        Ok(labels) => Ok(labels),
-        Err(_) => Err(LoadError::Memory),
-    }
-}
-
 /// The labels of a file.
-fn labels_of(alloc: Global, file: &ProgramFile) -> Result<Labels, AllocError>
+pub(crate) fn labels_of(alloc: Global, file: &ProgramFile) -> Result<Labels, AllocError>
     ensures { IfOk result (λ l. l ≡ names_of (file_tree file.now)) }
 {
     let inside = inside_all(alloc, &file.reactors)?;

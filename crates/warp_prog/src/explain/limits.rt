@@ -7,18 +7,26 @@ use crate::explain::reason::Reason;
 use crate::explain::trail::{Step, Trail};
 use crate::file::{ActionPart, InputPart, LinkPart, ProgramFile, Reaction, Reactor, TimerPart};
 use crate::limits::{
-    FIRST_VERSION, LAST_VERSION, LONGEST_PERIOD, LONGEST_STOP, MOST_ACTIONS, MOST_INPUTS,
-    MOST_LINKS, MOST_ORIGINS, MOST_OUTPUTS, MOST_PORTS, MOST_REACTIONS, MOST_REACTORS, MOST_TIMERS,
-    MOST_VARIABLES, is_outside,
+    FIRST_VERSION, LAST_VERSION, MOST_ACTIONS, MOST_INPUTS, MOST_LINKS, MOST_OUTPUTS, MOST_PORTS,
+    MOST_REACTIONS, MOST_REACTORS, MOST_TIMERS, MOST_VARIABLES, form_of_version, is_outside,
+    longest_period, longest_stop, most_origins,
 };
+use warp_tag::Form;
 
 /// That a file goes past no limit. Whether its version is known is looked at last.
 pub(crate) fn check_limits<'f>(file: &'f ProgramFile, at: &mut Trail) -> Result<(), Reason<'f>> {
-    check_range(file.stop, 0, LONGEST_STOP, Step::Key("stop"), at)?;
-    check_range(file.origins, 1, MOST_ORIGINS, Step::Key("origins"), at)?;
+    let form = form_of_version(file.version);
+    check_range(file.stop, 0, longest_stop(form), Step::Key("stop"), at)?;
+    check_range(
+        file.origins,
+        1,
+        most_origins(form),
+        Step::Key("origins"),
+        at,
+    )?;
     check_lengths(file, at)?;
     check_totals(&file.reactors, at)?;
-    check_parts(file, at)?;
+    check_parts(file, form, at)?;
     if is_outside(file.version, FIRST_VERSION, LAST_VERSION) {
         at.back(Step::Key("version"));
         return Err(Reason::Plain("this version of the format is not known"));
@@ -115,54 +123,63 @@ fn take_room<'f>(room: &mut Room, reactor: &'f Reactor) -> Result<(), Reason<'f>
     Ok(())
 }
 
-fn check_parts<'f>(file: &'f ProgramFile, at: &mut Trail) -> Result<(), Reason<'f>> {
+fn check_parts<'f>(file: &'f ProgramFile, form: Form, at: &mut Trail) -> Result<(), Reason<'f>> {
     for (i, reactor) in file.reactors.iter().enumerate() {
-        let found = check_reactor(reactor, at);
+        let found = check_reactor(reactor, form, at);
         at.along(Step::Of("reactors", i), found)?;
     }
-    check_links(&file.links, at)?;
+    check_links(&file.links, form, at)?;
     check_inputs(&file.inputs, file.origins, at)
 }
 
-fn check_reactor<'f>(reactor: &'f Reactor, at: &mut Trail) -> Result<(), Reason<'f>> {
-    check_actions(&reactor.actions, at)?;
-    check_timers(&reactor.timers, at)?;
-    check_reactions(&reactor.reactions, at)
+fn check_reactor<'f>(reactor: &'f Reactor, form: Form, at: &mut Trail) -> Result<(), Reason<'f>> {
+    check_actions(&reactor.actions, form, at)?;
+    check_timers(&reactor.timers, form, at)?;
+    check_reactions(&reactor.reactions, form, at)
 }
 
-fn check_actions<'f>(actions: &'f [ActionPart], at: &mut Trail) -> Result<(), Reason<'f>> {
+fn check_actions<'f>(
+    actions: &'f [ActionPart],
+    form: Form,
+    at: &mut Trail,
+) -> Result<(), Reason<'f>> {
     for (i, action) in actions.iter().enumerate() {
-        let found = check_range(action.delay, 0, LONGEST_PERIOD, Step::Item(1), at);
+        let found = check_range(action.delay, 0, longest_period(form), Step::Item(1), at);
         at.along(Step::Of("actions", i), found)?;
     }
     Ok(())
 }
 
-fn check_timers<'f>(timers: &'f [TimerPart], at: &mut Trail) -> Result<(), Reason<'f>> {
+fn check_timers<'f>(timers: &'f [TimerPart], form: Form, at: &mut Trail) -> Result<(), Reason<'f>> {
     for (i, timer) in timers.iter().enumerate() {
-        let found = check_timer(timer, at);
+        let found = check_timer(timer, form, at);
         at.along(Step::Of("timers", i), found)?;
     }
     Ok(())
 }
 
-fn check_timer<'f>(timer: &'f TimerPart, at: &mut Trail) -> Result<(), Reason<'f>> {
-    check_range(timer.offset, 0, LONGEST_PERIOD, Step::Item(1), at)?;
-    check_range(timer.period, 0, LONGEST_PERIOD, Step::Item(2), at)
+fn check_timer<'f>(timer: &'f TimerPart, form: Form, at: &mut Trail) -> Result<(), Reason<'f>> {
+    let longest = longest_period(form);
+    check_range(timer.offset, 0, longest, Step::Item(1), at)?;
+    check_range(timer.period, 0, longest, Step::Item(2), at)
 }
 
-fn check_reactions<'f>(reactions: &'f [Reaction], at: &mut Trail) -> Result<(), Reason<'f>> {
+fn check_reactions<'f>(
+    reactions: &'f [Reaction],
+    form: Form,
+    at: &mut Trail,
+) -> Result<(), Reason<'f>> {
     for (i, reaction) in reactions.iter().enumerate() {
-        let found = check_body(&reaction.body, at);
+        let found = check_body(&reaction.body, form, at);
         at.along(Step::Of("reactions", i), found)?;
     }
     Ok(())
 }
 
-fn check_links<'f>(links: &'f [LinkPart], at: &mut Trail) -> Result<(), Reason<'f>> {
+fn check_links<'f>(links: &'f [LinkPart], form: Form, at: &mut Trail) -> Result<(), Reason<'f>> {
     for (i, link) in links.iter().enumerate() {
         let delay = link.delay.unwrap_or(0);
-        let found = check_range(delay, 0, LONGEST_PERIOD, Step::Item(2), at);
+        let found = check_range(delay, 0, longest_period(form), Step::Item(2), at);
         at.along(Step::Of("links", i), found)?;
     }
     Ok(())

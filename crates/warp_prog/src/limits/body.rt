@@ -8,6 +8,7 @@ ghost use Rattle.warp_prog.specs.inner.Rule.{statements_tree};
 
 use crate::file::{Expression, Statement};
 use crate::limits::period_exceeds;
+use warp_tag::Form;
 
 /// How deep an expression may be, and a list of statements.
 pub(crate) const DEEPEST: usize = 24;
@@ -16,12 +17,12 @@ pub(crate) const DEEPEST: usize = 24;
 pub(crate) const MOST_WISHES: usize = 16;
 
 /// Whether a body is too deep or schedules too often, an expression in it is too deep, or a delay is outside its range.
-pub(crate) fn body_exceeds(body: &[Statement]) -> bool
-    ensures { result ≡ body_exceeds (statements_tree body.now) }
+pub(crate) fn body_exceeds(body: &[Statement], form: Form) -> bool
+    ensures { result ≡ body_exceeds form (statements_tree body.now) }
 {
     has_deep_term(body)
         || is_deeper(body, DEEPEST)
-        || delay_exceeds(body)
+        || delay_exceeds(body, form)
         || room_for_wishes(body, MOST_WISHES).is_none()
 }
 
@@ -100,11 +101,11 @@ fn is_deeper_statement(statement: &Statement, levels: usize) -> bool
 /// Whether a scheduling in the body has a delay outside its range.
 #[cycle(delay_exceeds)]
 #[tactic(auto, using(crate::proofs::Anys::anys))]
-fn delay_exceeds(body: &[Statement]) -> bool
-    ensures { result ≡ list_any period_exceeds (body_delays (statements_tree body.now)) }
+fn delay_exceeds(body: &[Statement], form: Form) -> bool
+    ensures { result ≡ list_any (period_exceeds form) (body_delays (statements_tree body.now)) }
 {
     for statement in body {
-        if statement_delay_exceeds(statement) {
+        if statement_delay_exceeds(statement, form) {
             return true;
         }
     }
@@ -113,13 +114,15 @@ fn delay_exceeds(body: &[Statement]) -> bool
 
 #[cycle(delay_exceeds)]
 #[tactic(auto, using(crate::proofs::Anys::anys))]
-fn statement_delay_exceeds(statement: &Statement) -> bool
-    ensures { result ≡ list_any period_exceeds (statement_delays (statement_tree statement.now)) }
+fn statement_delay_exceeds(statement: &Statement, form: Form) -> bool
+    ensures { result ≡ list_any (period_exceeds form) (statement_delays (statement_tree statement.now)) }
 {
     match statement {
         Statement::Set(..) | Statement::Put(..) => false,
-        Statement::Schedule(_, delay, _) => period_exceeds(*delay),
-        Statement::If(_, first, second) => delay_exceeds(first) || delay_exceeds(second),
+        Statement::Schedule(_, delay, _) => period_exceeds(*delay, form),
+        Statement::If(_, first, second) => {
+            delay_exceeds(first, form) || delay_exceeds(second, form)
+        }
     }
 }
 

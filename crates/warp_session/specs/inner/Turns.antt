@@ -2,6 +2,7 @@
 use Rattle.std.specs.Prelude.{◌≡◌, ℕ, List, [], ◌++◌, Option, Result, IfErr, IfOk}
 use Rattle.std.specs.Io.KnownBytes.{Appends}
 use Rattle.std.specs.Option.{option_map, option_to_list}
+use Rattle.warp_tag.specs.declared.form.Form.{Form}
 use Rattle.warp_record.specs.declared.line.Line.{Line}
 use Rattle.warp_record.specs.declared.reply.Reply.{Reply}
 use Rattle.warp_record.specs.declared.feed.Fed.{Fed}
@@ -30,23 +31,23 @@ abbrev pub at : {S : Type 0} → S → Held → Option (List ℕ) → ℕ → At
 at state held written failures = record { state = state; held = held; written = written; failures = failures }
 
 -- these pieces were answered: of their text behind what was gathered the front went out, and the rest is gathered now
-pub record Replied {S : Type 0} (gives : S → Line → Reply → S → Type 0) (pieces : List Piece) (old new : At S) : Type 0 where
+pub record Replied {S : Type 0} (f : Form) (gives : S → Line → Reply → S → Type 0) (pieces : List Piece) (old new : At S) : Type 0 where
   pub text : List ℕ
   pub sent : List ℕ
-  pub given : GivesText gives old.state pieces text new.state
+  pub given : GivesText f gives old.state pieces text new.state
   pub out : Appends old.written new.written sent
   pub rest : sent ++ new.held.gathered ≡ old.held.gathered ++ text
 
 -- these pieces were answered, and of their text behind what was gathered a front went out
-pub record Broken {S : Type 0} (gives : S → Line → Reply → S → Type 0) (pieces : List Piece) (old new : At S) : Type 0 where
+pub record Broken {S : Type 0} (f : Form) (gives : S → Line → Reply → S → Type 0) (pieces : List Piece) (old new : At S) : Type 0 where
   pub text : List ℕ
-  pub given : GivesText gives old.state pieces text new.state
+  pub given : GivesText f gives old.state pieces text new.state
   pub out : WritesFront old.written new.written (old.held.gathered ++ text)
 
 -- some first ones of these pieces were answered, until a write failed
-abbrev pub BreaksOff : {S : Type 0} → (S → Line → Reply → S → Type 0) → List Piece → At S → At S → Type 0
-BreaksOff gives pieces old new =
-    (answered : List Piece) × (rest : List Piece) × (pieces ≡ answered ++ rest) × Broken gives answered old new
+abbrev pub BreaksOff : {S : Type 0} → Form → (S → Line → Reply → S → Type 0) → List Piece → At S → At S → Type 0
+BreaksOff f gives pieces old new =
+    (answered : List Piece) × (rest : List Piece) × (pieces ≡ answered ++ rest) × Broken f gives answered old new
 
 -- what a call of a session does: at Ok the first, and no write failed; at Err one did, and the second
 pub record Turn {S T E : Type 0} (Does : T → At S → At S → Type 0) (Breaks : At S → At S → Type 0) (old new : At S)
@@ -60,7 +61,7 @@ abbrev pub AreCutOff : List ℕ → Type 0
 AreCutOff bytes = (more : List ℕ) → lines_of (bytes ++ more) ≡ lines_of bytes ++ lines_of more
 
 -- from `start` on these bytes were taken: their whole lines were answered, and the feed keeps the unfinished one
-pub record Taken {S : Type 0} (gives : S → Line → Reply → S → Type 0) (bytes : List ℕ) (start now : At S) : Type 0 where
+pub record Taken {S : Type 0} (f : Form) (gives : S → Line → Reply → S → Type 0) (bytes : List ℕ) (start now : At S) : Type 0 where
   pub lines : List ℕ
   pub line : List ℕ
   pub cut : bytes ≡ lines ++ line
@@ -68,27 +69,28 @@ pub record Taken {S : Type 0} (gives : S → Line → Reply → S → Type 0) (b
   pub cut_off : AreCutOff lines
   pub one_line : IsOneLine line
   pub kept : now.held.kept ≡ kept_of line
-  pub answers : Replied gives (lines_of lines) start now
+  pub answers : Replied f gives (lines_of lines) start now
 
 -- whatever was taken before, these bytes were taken too
-abbrev pub TakesBytes : {S : Type 0} → (S → Line → Reply → S → Type 0) → List ℕ → At S → At S → Type 0
-TakesBytes {S} gives bytes old new =
-    (start : At S) → (seen : List ℕ) → Taken gives seen start old → Taken gives (seen ++ bytes) start new
+abbrev pub TakesBytes : {S : Type 0} → Form → (S → Line → Reply → S → Type 0) → List ℕ → At S → At S → Type 0
+TakesBytes {S} f gives bytes old new =
+    (start : At S) → (seen : List ℕ) → Taken f gives seen start old → Taken f gives (seen ++ bytes) start new
 
 -- whatever was taken before, and whatever follows, a write failed in the midst of what was taken and of these bytes
-abbrev pub BreaksBytes : {S : Type 0} → (S → Line → Reply → S → Type 0) → List ℕ → At S → At S → Type 0
-BreaksBytes {S} gives bytes old new =
-    (start : At S) → (seen : List ℕ) → Taken gives seen start old → (more : List ℕ) → BreaksOff gives (lines_of ((seen ++ bytes) ++ more)) start new
+abbrev pub BreaksBytes : {S : Type 0} → Form → (S → Line → Reply → S → Type 0) → List ℕ → At S → At S → Type 0
+BreaksBytes {S} f gives bytes old new =
+    (start : At S) → (seen : List ℕ) → Taken f gives seen start old → (more : List ℕ)
+    → BreaksOff f gives (lines_of ((seen ++ bytes) ++ more)) start new
 
 -- whatever was taken before, all of it, a write failed in its midst
-abbrev pub BreaksAtEnd : {S : Type 0} → (S → Line → Reply → S → Type 0) → At S → At S → Type 0
-BreaksAtEnd {S} gives old new =
-    (start : At S) → (seen : List ℕ) → Taken gives seen start old → BreaksOff gives (lines_of seen) start new
+abbrev pub BreaksAtEnd : {S : Type 0} → Form → (S → Line → Reply → S → Type 0) → At S → At S → Type 0
+BreaksAtEnd {S} f gives old new =
+    (start : At S) → (seen : List ℕ) → Taken f gives seen start old → BreaksOff f gives (lines_of seen) start new
 
 -- whatever was taken before, all of it is answered now, and nothing is gathered any more
-abbrev pub Ends : {S : Type 0} → (S → Line → Reply → S → Type 0) → At S → At S → Type 0
-Ends {S} gives old new =
-    (start : At S) → (seen : List ℕ) → Taken gives seen start old → Replied gives (lines_of seen) start new × (new.held.gathered ≡ [])
+abbrev pub Ends : {S : Type 0} → Form → (S → Line → Reply → S → Type 0) → At S → At S → Type 0
+Ends {S} f gives old new =
+    (start : At S) → (seen : List ℕ) → Taken f gives seen start old → Replied f gives (lines_of seen) start new × (new.held.gathered ≡ [])
 
 -- the pieces that a feed gave: one or none
 abbrev pub pieces_fed : Option Fed → List Piece

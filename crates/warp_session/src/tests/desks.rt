@@ -1,8 +1,11 @@
-//! A desk whose lane is full, and one that looks at the board before and after a row came.
+//! A desk whose lane is full, and what it is asked in each form, and one that looks at the board before and after a row
+//! came.
 ghost use Rattle.std.specs.Prelude.{◌≡◌};
 ghost use Rattle.warp_lanes.specs.Engine.{IsFresh};
 
+use crate::desk_session::session;
 use crate::port_desk::PortDesk;
+use crate::tests::memory::Talk;
 use std::alloc::Global;
 use std::process::Abort;
 use std::sync::Wait;
@@ -14,7 +17,7 @@ use warp_line::{Plain, Timeline};
 use warp_record::{Line, Look, Query, Refusal, Reply};
 use warp_replica::Replica;
 use warp_step::{Out, Program};
-use warp_tag::Tag;
+use warp_tag::{Form, Tag};
 
 const LINE: Line = Line::Ask(Query::Outputs);
 
@@ -28,12 +31,32 @@ fn fill(rt: &impl Abort, port: &mut Port) {
     }
 }
 
-/// A desk of this port is busy, and is ended with its lane still there.
-fn is_busy<'a, X: Wait + Clock + Abort>(rt: &'a X, board: &'a Board, port: Port, reader: Reader)
+/// A line of the second form that is none of the first.
+const WIDE: &str = "event 63 10000001 255 63 1\n";
+
+/// What a session over this desk replies to it.
+fn told<X: Wait + Clock + Abort, D: Desk>(rt: &X, alloc: Global, desk: &mut D) -> Option<Reply> {
+    let talk = Talk::of(rt, alloc, WIDE);
+    let (mut source, mut sink) = talk.server_end(rt);
+    session(alloc, &mut source, &mut sink, desk);
+    talk.answered.reply(rt)
+}
+
+/// A desk of this port and form is busy, refuses the wide line so, and is ended with its lane still there.
+fn is_busy<'a, X: Wait + Clock + Abort>(
+    rt: &'a X,
+    alloc: Global,
+    board: &'a Board,
+    port: Port,
+    reader: Reader,
+    form: Form,
+    refusal: Refusal,
+)
     requires { reader.board ≡ board.now }
 {
-    let mut desk = PortDesk::new(rt, board, port, reader);
+    let mut desk = PortDesk::new(rt, board, port, reader, form);
     assert_eq!(rt; desk.ask(LINE), Reply::Refused(Refusal::Busy));
+    assert_eq!(rt; told(rt, alloc, &mut desk), Some(Reply::Refused(refusal)));
     let (end, _) = desk.finish();
     assert!(rt; end.is_some());
 }
@@ -61,19 +84,26 @@ fn lines_of<T: Timeline>(rt: &impl Abort, alloc: Global, engine: &mut Engine<T>)
     PLACES + 1
 }
 
-/// The lane of a busy desk holds as many lines as were sent.
-fn holds_all<T: Timeline + Drop, X: Wait + Clock + Abort>(rt: &X, alloc: Global) {
+/// The lane of a busy desk of this form, which refuses the wide line so, holds as many lines as were sent.
+fn holds_all<T: Timeline + Drop, X: Wait + Clock + Abort>(
+    rt: &X,
+    alloc: Global,
+    form: Form,
+    refusal: Refusal,
+) {
     let (board, _, reader) = board(alloc, 1).expect(rt, "memory");
     let (mut port, lane) = lane(alloc).expect(rt, "memory");
     fill(rt, &mut port);
     let mut engine = engine::<T>(rt, alloc, lane);
-    is_busy(rt, &board, port, reader);
+    is_busy(rt, alloc, &board, port, reader, form, refusal);
     assert_eq!(rt; lines_of(rt, alloc, &mut engine), PLACES);
 }
 
 #[test]
 fn a_full_lane_is_busy(rt: HostRuntime) {
-    holds_all::<Plain, HostRuntime>(&rt, rt.alloc());
+    // The wide line is one for the lane, or is none.
+    holds_all::<Plain, HostRuntime>(&rt, rt.alloc(), Form::Two, Refusal::Busy);
+    holds_all::<Plain, HostRuntime>(&rt, rt.alloc(), Form::One, Refusal::Syntax);
 }
 
 /// A row of port 0.
@@ -101,7 +131,7 @@ fn looks_anew<'a, X: Wait + Clock + Abort>(
     requires writer { writer.board ≡ board.now }
     requires reader { reader.board ≡ board.now }
 {
-    let mut desk = PortDesk::new(rt, board, port, reader);
+    let mut desk = PortDesk::new(rt, board, port, reader, Form::One);
     assert_eq!(rt; desk.ask(FIRST), Reply::NoRow);
     assert_eq!(rt; writer.append(board, row(rt)), Ok(()));
     assert_eq!(rt; desk.ask(FIRST), Reply::Row(row(rt)));

@@ -11,6 +11,7 @@ use std::sync::{Mutex, Wait};
 use std::thread;
 use std::time::{Clock, Duration};
 use warp_record::{Reply, read_reply};
+use warp_tag::Form;
 
 /// How often something is waited for, a millisecond each time, before it is given up.
 const TURNS: u32 = 10_000;
@@ -68,7 +69,7 @@ impl Pipe {
     pub(crate) fn reply(&self, rt: &impl Wait) -> Option<Reply> {
         let bytes = self.bytes.lock(rt);
         match bytes.split_last() {
-            Some((b'\n', line)) => read_reply(line),
+            Some((b'\n', line)) => read_reply(Form::One, line),
             _ => None,
         }
     }

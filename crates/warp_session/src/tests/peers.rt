@@ -20,14 +20,15 @@ const LONG: &str = concat!(
 /// What a peer replies, how a pull of an empty log of the program `twice` ends over it, and how many records came.
 type Row = (&'static str, PullEnd, u32);
 
-const PEERS: [Row; 8] = [
+const PEERS: [Row; 9] = [
     (
         "log 1 event 9 5 0 0 3\n",
         PullEnd::Held(Refusal::NoOrigin),
         0,
     ),
-    // No line has such an origin.
+    // No line of the first form has such an origin, or such a microstep.
     ("log 1 event 40 5 0 0 3\n", PullEnd::Strange, 0),
+    ("log 1 event 0 5 16 0 3\n", PullEnd::Strange, 0),
     ("log 0 event 0 5 0 0 3\n", PullEnd::Strange, 0),
     ("taken 1\n", PullEnd::Strange, 0),
     ("refused 8\nnone 0\n", PullEnd::Quiet, 0),

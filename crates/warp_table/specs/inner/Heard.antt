@@ -1,6 +1,6 @@
 -- What is kept of one origin, for proofs alone: the tags of its names, and its announcements.
 use Rattle.std.specs.Prelude.{◌≡◌, ◌⊎◌, ℕ, ℤ, ◌<◌, ◌≤◌, ◌↔◌, Bool, false, IsTrue, IfSome, Option, Some, None, List, [], ◌∷◌, fold, length, filter, get_or, Contains, AllPairs, if◌then◌else◌}
-use Rattle.warp_tag.specs.Limits.{most_origins}
+use Rattle.warp_tag.specs.Limits.{most_origins, widest}
 use Rattle.warp_tag.specs.Moment.{Moment, is_before}
 use Rattle.warp_record.specs.declared.record.Record.{Record}
 use Rattle.warp_record.specs.declared.record.Record.TheVariants.{Announce}
@@ -89,5 +89,5 @@ heard_at heards origin = get_or heards origin nothing_heard
 
 -- these are what a list of records has of its origins, by number
 pub record AreHeard (records : List Record) (heards : List Heard) : Type 0 where
-  pub few : length heards ≤ most_origins
+  pub few : length heards ≤ most_origins widest
   pub each : (origin : ℕ) → IsHeard (set_of records) origin (heard_at heards origin)

@@ -1,16 +1,18 @@
 -- What one turn of a trace does: it goes past the names of one tag, with a row where something is given or pending there.
 -- This follows the loop, for its proof's sake: no contract of a public call cites it.
-use Rattle.std.specs.Prelude.{◌≡◌, ℕ, ◌+◌, List, ◌++◌, MatchBool}
+use Rattle.std.specs.Prelude.{◌≡◌, ℕ, ℤ, ◌+◌, List, ◌++◌, MatchBool, drop}
+use Rattle.std.specs.List.{flat_map}
 use Rattle.warp_tag.specs.Moment.{Moment}
 use Rattle.warp_tag.specs.Table.{Event}
 use Rattle.warp_step.specs.Program.{Program}
 use Rattle.warp_step.specs.Snapshot.{Snapshot}
-use Rattle.warp_step.specs.Step.{state_after, outputs_after}
-use Rattle.warp_step.specs.Run.{Row, given_of}
+use Rattle.warp_step.specs.Step.{numbers, state_after, outputs_after}
+use Rattle.warp_step.specs.Run.{Row}
 use Rattle.warp_step.specs.declared.given.Given.{Given}
 use Rattle.warp_line.specs.inner.Replay.{is_waiting}
 use Rattle.warp_world.specs.Labels.{Names}
-use Rattle.warp_world.specs.Trace.{row_line}
+use Rattle.warp_world.specs.Trace.{changed_at, row_line}
+use Rattle.warp_world.specs.declared.item.Item.{Item}
 
 -- the row that a step from a state makes
 abbrev pub row_after : Program → Snapshot → Moment → List Given → Row
@@ -35,3 +37,7 @@ TellsTag names P horizon t events X old new text text' ticks ticks' =
     MatchBool (is_waiting t X old.pending)
     (TellsRow names P horizon t events X old new text text' ticks ticks')
     (Stays old new text text' ticks ticks')
+
+-- the variables from this number on whose values were others before
+abbrev pub changed_from : List ℤ → List ℤ → ℕ → List Item
+changed_from before after n = flat_map (changed_at before after) (numbers n (drop n after))

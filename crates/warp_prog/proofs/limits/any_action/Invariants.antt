@@ -6,4 +6,4 @@ use Rattle.warp_prog.proofs.limits.any_action.Given as goal
 
 abbrev pub invariant-loop-action : goal.invariant-loop-action
 invariant-loop-action l =
-    list_any action_exceeds (drop l.action-index l.actions) ≡ list_any action_exceeds l.actions
+    list_any (action_exceeds l.form) (drop l.action-index l.actions) ≡ list_any (action_exceeds l.form) l.actions

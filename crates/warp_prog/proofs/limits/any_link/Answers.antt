@@ -5,8 +5,8 @@ use Rattle.warp_prog.proofs.limits.any_link.Goals as goal
 
 pub loop-link-preserved : goal.loop-link-preserved
 loop-link-preserved c =
-    any_more link_exceeds _ c.loop-link.link-index c.link-item.result c.loop-link-test.true c.link-item.is (sym c.link_exceeds.ensures ∙ c.if-link_exceeds.false)
+    any_more (link_exceeds c.args.form) _ c.loop-link.link-index c.link-item.result c.loop-link-test.true c.link-item.is (sym c.link_exceeds.ensures ∙ c.if-link_exceeds.false)
     ∙ c.loop-link.invariant
 
 pub returns : goal.returns
-returns c = sym (any_none link_exceeds _ c.loop-link.link-index c.loop-link-test.false) ∙ c.loop-link.invariant
+returns c = sym (any_none (link_exceeds c.args.form) _ c.loop-link.link-index c.loop-link-test.false) ∙ c.loop-link.invariant

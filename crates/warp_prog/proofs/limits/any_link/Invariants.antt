@@ -6,4 +6,4 @@ use Rattle.warp_prog.proofs.limits.any_link.Given as goal
 
 abbrev pub invariant-loop-link : goal.invariant-loop-link
 invariant-loop-link l =
-    list_any link_exceeds (drop l.link-index l.links) ≡ list_any link_exceeds l.links
+    list_any (link_exceeds l.form) (drop l.link-index l.links) ≡ list_any (link_exceeds l.form) l.links

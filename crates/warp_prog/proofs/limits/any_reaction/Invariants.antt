@@ -7,4 +7,4 @@ use Rattle.warp_prog.proofs.limits.any_reaction.Given as goal
 
 abbrev pub invariant-loop-reaction : goal.invariant-loop-reaction
 invariant-loop-reaction l =
-    list_any reaction_exceeds (map reaction_tree (drop l.reaction-index l.reactions)) ≡ list_any reaction_exceeds (map reaction_tree l.reactions)
+    list_any (reaction_exceeds l.form) (map reaction_tree (drop l.reaction-index l.reactions)) ≡ list_any (reaction_exceeds l.form) (map reaction_tree l.reactions)

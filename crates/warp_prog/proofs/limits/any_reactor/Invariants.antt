@@ -7,4 +7,4 @@ use Rattle.warp_prog.proofs.limits.any_reactor.Given as goal
 
 abbrev pub invariant-loop-reactor : goal.invariant-loop-reactor
 invariant-loop-reactor l =
-    list_any reactor_exceeds (map reactor_tree (drop l.reactor-index l.reactors)) ≡ list_any reactor_exceeds (map reactor_tree l.reactors)
+    list_any (reactor_exceeds l.form) (map reactor_tree (drop l.reactor-index l.reactors)) ≡ list_any (reactor_exceeds l.form) (map reactor_tree l.reactors)

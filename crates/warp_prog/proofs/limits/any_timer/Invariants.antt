@@ -6,4 +6,4 @@ use Rattle.warp_prog.proofs.limits.any_timer.Given as goal
 
 abbrev pub invariant-loop-timer : goal.invariant-loop-timer
 invariant-loop-timer l =
-    list_any timer_exceeds (drop l.timer-index l.timers) ≡ list_any timer_exceeds l.timers
+    list_any (timer_exceeds l.form) (drop l.timer-index l.timers) ≡ list_any (timer_exceeds l.form) l.timers

@@ -1,7 +1,6 @@
 -- a file without fault is within the limits, so its numbers fit
 use Rattle.std.proofs.Common.{rules, arith, [], ◌≡◌, ◌∙◌, sym, ap, length, map}
 use Rattle.std.proofs.lemmas.List.{length-map}
-use Rattle.warp_tag.specs.Limits.{last_microstep}
 use Rattle.warp_step.specs.Program.{rule_of}
 use Rattle.warp_prog.specs.Numbered.{nothing_before, in_each, its_variables, its_ports, its_actions, its_timers, its_reactions, numbered_link, numbered_input, source_number}
 use Rattle.warp_prog.specs.View.{file_tree, reactor_tree}
@@ -49,8 +48,8 @@ returns c =
     let inputs : c.in_ok-inputs.inputs.items ≡ map (numbered_input rs) f.inputs.items = search rules in
     let outputs : c.in_ok-outputs.outputs.items ≡ map (source_number rs) f.outputs.items = search rules in
     λ i. record {
+      form = c.form_of.ensures i;
       stop = c.stop_of.ensures i;
-      top = last_microstep;
       origins = c.origins_of.ensures i;
       reactors = reactors i;
       variables = variables i;

@@ -4,11 +4,16 @@ use crate::explain::reason::Reason;
 use crate::explain::trail::{Step, Trail};
 use crate::file::{Expression, Statement};
 use crate::limits::body::{DEEPEST, MOST_WISHES, is_deeper_term, room_for_wishes};
-use crate::limits::{LONGEST_PERIOD, is_outside};
+use crate::limits::{is_outside, longest_period};
+use warp_tag::Form;
 
 /// That a body goes past no limit.
-pub(crate) fn check_body<'f>(body: &'f [Statement], at: &mut Trail) -> Result<(), Reason<'f>> {
-    let mut found = check_statements(body, DEEPEST, at);
+pub(crate) fn check_body<'f>(
+    body: &'f [Statement],
+    form: Form,
+    at: &mut Trail,
+) -> Result<(), Reason<'f>> {
+    let mut found = check_statements(body, DEEPEST, form, at);
     if found.is_ok() && room_for_wishes(body, MOST_WISHES).is_none() {
         found = Err(Reason::Many("\"schedule\"", MOST_WISHES));
     }
@@ -20,10 +25,11 @@ pub(crate) fn check_body<'f>(body: &'f [Statement], at: &mut Trail) -> Result<()
 fn check_statements<'f>(
     body: &'f [Statement],
     levels: usize,
+    form: Form,
     at: &mut Trail,
 ) -> Result<(), Reason<'f>> {
     for (i, statement) in body.iter().enumerate() {
-        let found = check_statement(statement, levels, at);
+        let found = check_statement(statement, levels, form, at);
         at.along(Step::Item(i), found)?;
     }
     Ok(())
@@ -33,6 +39,7 @@ fn check_statements<'f>(
 fn check_statement<'f>(
     statement: &'f Statement,
     levels: usize,
+    form: Form,
     at: &mut Trail,
 ) -> Result<(), Reason<'f>> {
     let Some(below) = levels.checked_sub(1) else {
@@ -40,12 +47,12 @@ fn check_statement<'f>(
     };
     match statement {
         Statement::Set(_, term) | Statement::Put(_, term) => check_term(term, 2, at),
-        Statement::Schedule(_, delay, term) => check_scheduling(*delay, term, at),
+        Statement::Schedule(_, delay, term) => check_scheduling(*delay, term, form, at),
         Statement::If(test, first, second) => {
             check_term(test, 1, at)?;
-            let found = check_statements(first, below, at);
+            let found = check_statements(first, below, form, at);
             at.along(Step::Item(2), found)?;
-            let found = check_statements(second, below, at);
+            let found = check_statements(second, below, form, at);
             at.along(Step::Item(3), found)
         }
     }
@@ -54,11 +61,13 @@ fn check_statement<'f>(
 fn check_scheduling<'f>(
     delay: i64,
     term: &'f Expression,
+    form: Form,
     at: &mut Trail,
 ) -> Result<(), Reason<'f>> {
-    if is_outside(delay, 0, LONGEST_PERIOD) {
+    let longest = longest_period(form);
+    if is_outside(delay, 0, longest) {
         at.back(Step::Item(2));
-        return Err(Reason::Range(delay, 0, LONGEST_PERIOD));
+        return Err(Reason::Range(delay, 0, longest));
     }
     check_term(term, 3, at)
 }

@@ -7,4 +7,4 @@ pub returns-then-is_keyword-clause-none : goal.returns-then-is_keyword-clause-no
 returns-then-is_keyword-clause-none c =
     let key : c.args.word.now ≡ codes "breach" = c.is_keyword.ensures.0 c.if-is_keyword.true in
     IfNone_then c.breach_of.result c.breach_of.ensures.none
-    (λ large line fits are. no_breach c.args.number line (omega (arith, c.ranges.number.fits)) large fits (rw key at are))
+    (λ large line fits are. no_breach c.args.form c.args.number line (omega (arith, c.ranges.number.fits)) large fits (rw key at are))

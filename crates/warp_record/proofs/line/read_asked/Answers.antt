@@ -13,7 +13,8 @@ returns-in_err-cut_last_index-clause-none c =
     let words : slice_split is_space bytes ≡ codes "var" ∷ words_behind c.in-Some.text.now = c.in-Some.ensures.found in
     rw c.from_residual.ensures
     (λ line fits is.
-    let told = index_of_var (words_behind c.in-Some.text.now) line fits (sym words ∙ (words_of_line bytes line fits is).0) in
+    let are = sym words ∙ (words_of_line c.args.form bytes line fits is).0 in
+    let told = index_of_var c.args.form (words_behind c.in-Some.text.now) line fits are in
     absurd (c.in_err-cut_last_index.ensures.none told.0 told.1 told.2))
 
 pub returns-in-Some-clause-found : goal.returns-in-Some-clause-found
@@ -30,7 +31,8 @@ returns-in_err-cut_last_index-2-clause-none c =
     let words : slice_split is_space bytes ≡ codes "output" ∷ words_behind c.in-Some-behind_output.text.now = c.in-Some-behind_output.ensures.found in
     rw c.from_residual-in_err-cut_last_index-2.ensures
     (λ line fits is.
-    let told = index_of_output (words_behind c.in-Some-behind_output.text.now) line fits (sym words ∙ (words_of_line bytes line fits is).0) in
+    let are = sym words ∙ (words_of_line c.args.form bytes line fits is).0 in
+    let told = index_of_output c.args.form (words_behind c.in-Some-behind_output.text.now) line fits are in
     absurd (c.in_err-cut_last_index-2.ensures.none told.0 told.1 told.2))
 
 pub returns-in-Some-behind_output-clause-found : goal.returns-in-Some-behind_output-clause-found

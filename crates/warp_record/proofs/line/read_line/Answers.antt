@@ -13,7 +13,8 @@ returns-in_err-read_event-clause-none c =
     let words : slice_split is_space bytes ≡ codes "event" ∷ words_behind c.in-Some.text.now = c.in-Some.ensures.found in
     rw c.from_residual.ensures
     (λ line fits is.
-    let told = record_of_line (codes "event" ∷ words_behind c.in-Some.text.now) line refl fits (sym words ∙ (words_of_line bytes line fits is).0) in
+    let are = sym words ∙ (words_of_line c.args.form bytes line fits is).0 in
+    let told = record_of_line c.args.form (codes "event" ∷ words_behind c.in-Some.text.now) line refl fits are in
     c.in_err-read_event.ensures.none told.0 told.1 told.2)
 
 pub returns-in-Some-clause-found : goal.returns-in-Some-clause-found
@@ -27,7 +28,8 @@ returns-in_err-read_withdrawal-clause-none c =
     let words : slice_split is_space bytes ≡ codes "withdraw" ∷ words_behind c.in-Some-behind_withdraw.text.now = c.in-Some-behind_withdraw.ensures.found in
     rw c.from_residual-in_err-read_withdrawal.ensures
     (λ line fits is.
-    let told = record_of_line (codes "withdraw" ∷ words_behind c.in-Some-behind_withdraw.text.now) line refl fits (sym words ∙ (words_of_line bytes line fits is).0) in
+    let are = sym words ∙ (words_of_line c.args.form bytes line fits is).0 in
+    let told = record_of_line c.args.form (codes "withdraw" ∷ words_behind c.in-Some-behind_withdraw.text.now) line refl fits are in
     c.in_err-read_withdrawal.ensures.none told.0 told.1 told.2)
 
 pub returns-in-Some-behind_withdraw-clause-found : goal.returns-in-Some-behind_withdraw-clause-found
@@ -41,7 +43,8 @@ returns-in_err-read_announcement-clause-none c =
     let words : slice_split is_space bytes ≡ codes "announce" ∷ words_behind c.in-Some-behind_announce.text.now = c.in-Some-behind_announce.ensures.found in
     rw c.from_residual-in_err-read_announcement.ensures
     (λ line fits is.
-    let told = record_of_line (codes "announce" ∷ words_behind c.in-Some-behind_announce.text.now) line refl fits (sym words ∙ (words_of_line bytes line fits is).0) in
+    let are = sym words ∙ (words_of_line c.args.form bytes line fits is).0 in
+    let told = record_of_line c.args.form (codes "announce" ∷ words_behind c.in-Some-behind_announce.text.now) line refl fits are in
     c.in_err-read_announcement.ensures.none told.0 told.1 told.2)
 
 pub returns-in-Some-behind_announce-clause-found : goal.returns-in-Some-behind_announce-clause-found

@@ -8,7 +8,7 @@ use Rattle.warp_record.proofs.line.read_other.Goals as goal
 pub returns-in_err-words-clause-none : goal.returns-in_err-words-clause-none
 returns-in_err-words-clause-none c =
     rw c.from_residual.ensures
-    (λ line fits is. absurd (omega (arith, c.in_err-words.ensures.none, (words_of_line c.args.bytes.now line fits is).1)))
+    (λ line fits is. absurd (omega (arith, c.in_err-words.ensures.none, (words_of_line c.args.form c.args.bytes.now line fits is).1)))
 
 pub returns-clause-found : goal.returns-clause-found
 returns-clause-found c =
@@ -21,5 +21,5 @@ returns-clause-none c =
     let are = ap (map (λ (word : Bor (List ℕ)). word.now)) c.deref.ensures.0 ∙ c.in_ok-words.ensures.found in
     IfNone_then c.line_of.result c.line_of.ensures.none
     (λ none line fits is.
-    let told = none line fits (are ∙ (words_of_line c.args.bytes.now line fits is).0) in
+    let told = none line fits (are ∙ (words_of_line c.args.form c.args.bytes.now line fits is).0) in
     (told.0, sym are ∙ told.1))

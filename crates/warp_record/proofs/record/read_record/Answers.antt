@@ -12,15 +12,15 @@ returns-in_err-origin-clause-none c =
     rw c.from_residual.ensures
     (λ said fits are.
     let same = sym (four_first c.args.words.now c.in-len4-up.len_at_least) ∙ are in
-    let told = name_words _ _ _ _ _ said fits same in
-    c.in_err-origin.ensures.none told.0 (omega (arith, told.2)) told.4)
+    let told = name_words c.args.form _ _ _ _ _ said fits same in
+    c.in_err-origin.ensures.none told.0 (omega (arith, told.2, c.last_origin.ensures)) told.4)
 
 pub returns-in_err-tag-clause-none : goal.returns-in_err-tag-clause-none
 returns-in_err-tag-clause-none c =
     rw c.from_residual-in_err-tag.ensures
     (λ said fits are.
     let same = sym (four_first c.args.words.now c.in-len4-up.len_at_least) ∙ are in
-    let told = name_words _ _ _ _ _ said fits same in
+    let told = name_words c.args.form _ _ _ _ _ said fits same in
     c.in_err-tag.ensures.none told.1 told.3 told.5 told.6)
 
 pub returns-in_err-input-clause-none : goal.returns-in_err-input-clause-none
@@ -30,7 +30,7 @@ returns-in_err-input-clause-none c =
     let words = c.args.words.now in
     let key : text_at words 0 ≡ codes "event" = c.is_keyword.ensures.0 c.if-is_keyword.true in
     let same = sym (four_first words c.in-len4-up.len_at_least) ∙ are in
-    let told = event_operands _ _ _ _ said fits (rw key at same) in
+    let told = event_operands c.args.form _ _ _ _ said fits (rw key at same) in
     c.in_err-input.ensures.none told.0 told.1 told.2 told.3 told.4)
 
 pub returns-in_err-events-clause-none : goal.returns-in_err-events-clause-none
@@ -40,5 +40,5 @@ returns-in_err-events-clause-none c =
     let words = c.args.words.now in
     let key : text_at words 0 ≡ codes "announce" = c.is_keyword-else-is_keyword.ensures.0 c.if-is_keyword-2.true in
     let same = sym (four_first words c.in-len4-up.len_at_least) ∙ are in
-    let told = announcement_operands _ _ _ _ said fits (rw key at same) in
+    let told = announcement_operands c.args.form _ _ _ _ said fits (rw key at same) in
     c.in_err-events.ensures.none told.0 told.1 told.2 told.3 told.4)

@@ -7,7 +7,7 @@ pub returns-in_err-log-clause-none : goal.returns-in_err-log-clause-none
 returns-in_err-log-clause-none c =
     rw c.from_residual.ensures
     (λ reply fits are.
-    let told = horizon_words (texts c.args.words.now) reply fits are in
+    let told = horizon_words c.args.form (texts c.args.words.now) reply fits are in
     let same = sym (three_texts c.args.words.now c.in-len3.len_at_least c.in-len3.len_below) ∙ told.4 in
     c.in_err-log.ensures.none told.0 told.2 (ap (λ (ws : List (List ℕ)). get_or ws 0 []) same))
 
@@ -15,6 +15,6 @@ pub returns-in_err-tag-clause-none : goal.returns-in_err-tag-clause-none
 returns-in_err-tag-clause-none c =
     rw c.from_residual-in_err-tag.ensures
     (λ reply fits are.
-    let told = horizon_words (texts c.args.words.now) reply fits are in
+    let told = horizon_words c.args.form (texts c.args.words.now) reply fits are in
     let same = sym (three_texts c.args.words.now c.in-len3.len_at_least c.in-len3.len_below) ∙ told.4 in
     c.in_err-tag.ensures.none told.1 told.3 (ap (λ (ws : List (List ℕ)). get_or ws 1 []) same) (ap (λ (ws : List (List ℕ)). get_or ws 2 []) same))

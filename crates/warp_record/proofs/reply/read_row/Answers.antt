@@ -7,5 +7,5 @@ pub returns-in_err-output-clause-none : goal.returns-in_err-output-clause-none
 returns-in_err-output-clause-none c =
     rw c.from_residual.ensures
     (λ reply fits are.
-    let told = row_words (texts c.args.words.now) reply fits are in
+    let told = row_words c.args.form (texts c.args.words.now) reply fits are in
     c.in_err-output.ensures.none told.0 told.1 told.2)

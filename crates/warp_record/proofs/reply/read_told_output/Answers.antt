@@ -5,14 +5,14 @@ use Rattle.warp_record.proofs.reply.read_told_output.Goals as goal
 
 pub returns-in_default-clause-none : goal.returns-in_default-clause-none
 returns-in_default-clause-none c = λ reply fits are.
-    let told = output_words (texts c.args.words.now) reply fits are in
+    let told = output_words c.args.form (texts c.args.words.now) reply fits are in
     omega (arith, c.in_default.len_below, as_many c.args.words.now _ told.4)
 
 pub returns-in_err-log-clause-none : goal.returns-in_err-log-clause-none
 returns-in_err-log-clause-none c =
     rw c.from_residual.ensures
     (λ reply fits are.
-    let told = output_words (texts c.args.words.now) reply fits are in
+    let told = output_words c.args.form (texts c.args.words.now) reply fits are in
     let same = sym (first_text c.args.words.now c.in-len1-up.len_at_least) ∙ told.4 in
     c.in_err-log.ensures.none told.0 told.2 (ap (λ (ws : List (List ℕ)). get_or ws 0 []) same))
 
@@ -20,6 +20,6 @@ pub returns-in_err-output-clause-none : goal.returns-in_err-output-clause-none
 returns-in_err-output-clause-none c =
     rw c.from_residual-in_err-output.ensures
     (λ reply fits are.
-    let told = output_words (texts c.args.words.now) reply fits are in
+    let told = output_words c.args.form (texts c.args.words.now) reply fits are in
     let same = sym (first_text c.args.words.now c.in-len1-up.len_at_least) ∙ told.4 in
     c.in_err-output.ensures.none told.1 told.3 (ap (λ (ws : List (List ℕ)). drop 1 ws) same))

@@ -1,10 +1,15 @@
 -- the inputs that are left add what all add
-use Rattle.std.proofs.Common.{◌≡◌, ◌++◌, drop, filter, map}
-use Rattle.std.specs.Prelude.{◌==◌}
+use Rattle.std.proofs.Common.{◌≡◌, ◌++◌, ◌-◌, ◌≤◌, drop}
 use Rattle.warp_tag.specs.Table.{live}
 use Rattle.warp_world.specs.Trace.{came}
 use Rattle.warp_world.proofs.TraceItems.{came_from}
 use Rattle.warp_world.proofs.item.gather_events.Given as goal
 
 abbrev pub invariant-loop-number : goal.invariant-loop-number
-invariant-loop-number l = l.items.items ++ came_from l.number (drop l.number l.program.inputs) (live l.entries) ≡ came l.program (live l.entries)
+invariant-loop-number l = record {
+  within : l.number ≤ l.end;
+  came : l.items.items ++ came_from l.number (drop l.number l.program.inputs) (live l.entries) ≡ came l.program (live l.entries);
+}
+
+abbrev pub decreases-loop-number : goal.decreases-loop-number
+decreases-loop-number l = l.end - l.number

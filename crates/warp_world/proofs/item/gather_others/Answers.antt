@@ -1,17 +1,27 @@
--- the next number
-use Rattle.std.proofs.Common.{◌+◌, drop}
-use Rattle.std.specs.Prelude.{pos}
-use Rattle.std.specs.List.{flat_map}
-use Rattle.warp_step.specs.Step.{numbers}
-use Rattle.warp_world.specs.Trace.{changed, changed_at}
-use Rattle.warp_world.proofs.TraceItems.{gathered, number_next}
+-- a run in which nothing changed adds nothing
+use Rattle.std.proofs.Common.{◌≡◌, ◌∙◌, ◌+◌, ◌*◌, ◌++◌, [], ap, arith, get_or, rules, sym, true}
+use Rattle.warp_world.specs.inner.Tracing.{changed_from}
+use Rattle.warp_world.proofs.TraceItems.{run_passed}
 use Rattle.warp_world.proofs.item.gather_others.Goals as goal
+use Rattle.warp_world.proofs.item.gather_others.Goals.{then-not-is_same_run+in_ok-add_others, else-not-is_same_run}
 
 pub loop-number-preserved : goal.loop-number-preserved
 loop-number-preserved c =
-    let n = c.loop-number.number in
     let before = c.args.before.now in
     let after = c.args.after.now in
-    gathered c.loop-number.items.items (changed_at before after n) c.add_changed_at.new.items.items
-    (flat_map (changed_at before after) (numbers (n + 1) (drop (n + 1) after))) (flat_map (changed_at before after) (numbers n (drop n after)))
-    (changed before after) c.in_ok-add_changed_at.ensures (number_next (changed_at before after) n after (pos 0) c.loop-number-test.true) c.loop-number.invariant
+    let n = c.loop-number.number in
+    let left = changed_from before after ((n + 1) * 8) in
+    let was = c.loop-number.invariant in
+    elim c.if-not-is_same_run.branch [
+      | then-not-is_same_run+in_ok-add_others w ↦ ap (λ v. v.items ++ left) w.items-is ∙ w.in_ok-add_others.ensures ∙ was
+      | else-not-is_same_run w ↦
+          let same : c.is_same_run.result ≡ true = search rules in
+          let runs = c.is_same_run.ensures same in
+          let old = c.as_chunks.ensures.front_len in
+          let new = c.as_chunks-2.ensures.front_len in
+          let there = runs.0 in
+          let test = c.loop-number-test.true in
+          let passed = run_passed before after n (omega arith) (omega arith)
+          (ap (λ l. get_or l n []) (sym c.as_chunks.ensures.front) ∙ runs.1 ∙ ap (λ l. get_or l n []) c.as_chunks-2.ensures.front) in
+          ap (λ v. v.items ++ left) w.items-is ∙ ap (λ l. c.loop-number.items.items ++ l) (sym passed) ∙ was
+    ]

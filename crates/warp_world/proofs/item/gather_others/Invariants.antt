@@ -1,10 +1,8 @@
--- the numbers that are left add what all add
-use Rattle.std.proofs.Common.{◌≡◌, ◌++◌, drop}
-use Rattle.std.specs.List.{flat_map}
-use Rattle.warp_step.specs.Step.{numbers}
-use Rattle.warp_world.specs.Trace.{changed, changed_at}
+-- the runs that are left add what all add
+use Rattle.std.proofs.Common.{◌≡◌, ◌++◌, ◌*◌}
+use Rattle.warp_world.specs.Trace.{changed}
+use Rattle.warp_world.specs.inner.Tracing.{changed_from}
 use Rattle.warp_world.proofs.item.gather_others.Given as goal
 
 abbrev pub invariant-loop-number : goal.invariant-loop-number
-invariant-loop-number l =
-    l.items.items ++ flat_map (changed_at l.before l.after) (numbers l.number (drop l.number l.after)) ≡ changed l.before l.after
+invariant-loop-number l = l.items.items ++ changed_from l.before l.after (l.number * 8) ≡ changed l.before l.after

@@ -1,5 +1,5 @@
 -- sorting only moves them, and no name comes before the one in front of it
-use Rattle.std.proofs.Common.{rules, arith, ◌≡◌, ◌∙◌, sym, get_or, ◌+◌}
+use Rattle.std.proofs.Common.{rules, arith, ◌∙◌, sym, get_or, ◌+◌}
 use Rattle.std.proofs.lemmas.List.Sorted.{answers_always}
 use Rattle.warp_tag.specs.declared.entry.Entry.{Entry}
 use Rattle.warp_table.proofs.ListedNames.{names_differ}

@@ -5,14 +5,14 @@ use Rattle.warp_world.proofs.schedule.read_make.Goals as goal
 
 pub returns-in_default-clause-none : goal.returns-in_default-clause-none
 returns-in_default-clause-none c = λ next fits are.
-    let told = make_words (texts c.args.words.now) next fits are in
+    let told = make_words c.args.form (texts c.args.words.now) next fits are in
     omega (arith, c.in_default.len_below, as_many c.args.words.now _ told.4)
 
 pub returns-in_err-replica-clause-none : goal.returns-in_err-replica-clause-none
 returns-in_err-replica-clause-none c =
     rw c.from_residual.ensures
     (λ next fits are.
-    let told = make_words (texts c.args.words.now) next fits are in
+    let told = make_words c.args.form (texts c.args.words.now) next fits are in
     let same = sym (first_text c.args.words.now c.in-len1-up.len_at_least) ∙ told.4 in
     c.in_err-replica.ensures.none told.0 told.2 (ap (λ (ws : List (List ℕ)). get_or ws 0 []) same))
 
@@ -20,6 +20,6 @@ pub returns-in_err-record-clause-none : goal.returns-in_err-record-clause-none
 returns-in_err-record-clause-none c =
     rw c.from_residual-in_err-record.ensures
     (λ next fits are.
-    let told = make_words (texts c.args.words.now) next fits are in
+    let told = make_words c.args.form (texts c.args.words.now) next fits are in
     let same = sym (first_text c.args.words.now c.in-len1-up.len_at_least) ∙ told.4 in
     c.in_err-record.ensures.none told.1 told.3 (ap (λ (ws : List (List ℕ)). drop 1 ws) same))

@@ -6,7 +6,7 @@ use Rattle.warp_world.proofs.schedule.read_move.Goals as goal
 pub returns-in_err-text-clause-none : goal.returns-in_err-text-clause-none
 returns-in_err-text-clause-none c =
     rw c.from_residual.ensures
-    (λ next rest fits is. no_first c.args.bytes.now rest (move_words next) c.in_err-text.ensures.none (plain_move next fits) is)
+    (λ next rest fits is. no_first c.args.bytes.now rest (move_words next) c.in_err-text.ensures.none (plain_move c.args.form next fits) is)
 
 pub returns-in_err-next-clause-none : goal.returns-in_err-next-clause-none
 returns-in_err-next-clause-none c =
@@ -14,7 +14,7 @@ returns-in_err-next-clause-none c =
     rw c.from_residual-in_err-next.ensures
     (λ next rest fits is.
     let first = words_of_first c.args.bytes.now c.in_ok-text.text.now c.in_ok-text.rest.now rest (move_words next) cut.0 cut.1
-    (few_words next).0 (plain_move next fits) is in
+    (few_words next).0 (plain_move c.args.form next fits) is in
     c.in_err-next.ensures.none next fits first.0)
 
 pub returns-clause-found : goal.returns-clause-found

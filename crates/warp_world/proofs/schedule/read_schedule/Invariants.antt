@@ -8,7 +8,7 @@ use Rattle.warp_world.proofs.schedule.read_schedule.Given as goal
 abbrev pub invariant-loop-rest : goal.invariant-loop-rest
 invariant-loop-rest l = record {
   count : IsCount l.count;
-  moves : All IsMove l.moves.items;
+  moves : All (IsMove l.form) l.moves.items;
   text : l.bytes ≡ schedule_text l.count l.moves.items ++ l.rest;
 }
 

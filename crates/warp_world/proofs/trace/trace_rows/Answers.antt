@@ -1,28 +1,26 @@
 -- each turn goes on by what stands at one tag, and tells its row where it has one
-use Rattle.std.proofs.Common.{rules, arith, ◌≡◌, ◌∙◌, ◌+◌, ◌-◌, ◌<◌, ◌≤◌, ℕ, List, [], ◌++◌, Option, Result, Ok, Err, Some, None, length, drop, take, map, sym, ap, subst, refl, IsTrue, append_assoc}
+use Rattle.std.proofs.Common.{rules, ◌≡◌, ◌∙◌, ◌+◌, ◌-◌, ◌<◌, ℕ, List, [], ◌++◌, Option, Result, Ok, Err, Some, None, length, drop, take, sym, ap, subst, refl, IsTrue, append_assoc}
 use Rattle.std.proofs.KnownBytes.{Appends-nil, Appends-trans}
 use Rattle.std.specs.List.{list_all}
 use Rattle.warp_tag.specs.Moment.{Moment}
-use Rattle.warp_tag.specs.Table.{Event, live, IsTable}
+use Rattle.warp_tag.specs.Table.{live, IsTable}
 use Rattle.warp_tag.specs.declared.entry.Entry.{Entry}
 use Rattle.warp_step.specs.Program.{Program}
 use Rattle.warp_step.specs.Snapshot.{Snapshot, least_pending, start_state}
-use Rattle.warp_step.specs.Run.{Row, Run, given_of}
+use Rattle.warp_step.specs.Run.{Row, Run}
 use Rattle.warp_step.specs.Events.{event_fits}
-use Rattle.warp_step.specs.declared.given.Given.{Given}
 use Rattle.warp_step.proofs.TraceExists.{exists}
 use Rattle.warp_step.proofs.TraceLemmas.{one_rest}
-use Rattle.warp_line.specs.inner.Replay.{Passes, next_of}
-use Rattle.warp_line.proofs.NextLemmas.{next_entries, next_pending, none_next}
+use Rattle.warp_line.specs.inner.Replay.{next_of}
+use Rattle.warp_line.proofs.NextLemmas.{next_pending, none_next}
 use Rattle.warp_line.proofs.ProgressLemmas.{rows_left}
-use Rattle.warp_line.proofs.ReplayLemmas.{can_step, fits_drop, fits_take, passes, table_drop, table_take}
+use Rattle.warp_line.proofs.ReplayLemmas.{can_step, fits_drop, fits_take, table_drop, table_take}
 use Rattle.warp_world.specs.Labels.{Names}
 use Rattle.std.specs.Io.KnownBytes.{Appends}
 use Rattle.warp_world.specs.Printed.{PrintsFront, PrintsText}
 use Rattle.warp_world.specs.Trace.{row_lines}
 use Rattle.warp_world.specs.declared.printer.TraceFault.{TraceFault}
 use Rattle.warp_world.specs.declared.printer.TraceFault.TheVariants.{NoMemory, Output}
-use Rattle.warp_world.specs.inner.Tracing.{TellsTag}
 use Rattle.warp_world.proofs.TraceText.{ended, failed, stopped}
 use Rattle.warp_world.proofs.TraceTurns.{Reached, next_passes, reached_end, reached_ends, reached_on, reached_start, tells_there, whole_lines}
 use Rattle.warp_world.proofs.trace.trace_rows.Goals as goal

@@ -5,6 +5,6 @@ use Rattle.warpd.proofs.checking.built_in_account.Goals as goal
 
 pub returns-in-Ok-program_account-clause-ok : goal.returns-in-Ok-program_account-clause-ok
 returns-in-Ok-program_account-clause-ok c = (
-  c.in-Ok-file_labels.labels,
-  c.in-Ok-program_account.ensures ∙ ap (λ P. account_text P c.in-Ok-file_labels.labels c.args.with_numbers) c.in-Ok.ensures,
+  c.in-Ok-load_labelled.labelled.labels,
+  c.in-Ok-program_account.ensures ∙ ap (λ P. account_text P c.in-Ok-load_labelled.labelled.labels c.args.with_numbers) c.in-Ok.ensures,
 )

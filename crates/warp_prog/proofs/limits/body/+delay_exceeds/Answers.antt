@@ -9,11 +9,11 @@ use Rattle.warp_prog.proofs.limits.body.+delay_exceeds.Goals as goal
 
 pub delay_exceeds-loop-statement-preserved : goal.delay_exceeds-loop-statement-preserved
 delay_exceeds-loop-statement-preserved t c =
-    any_part_more period_exceeds (λ s. statement_delays (statement_tree s)) (λ ss. body_delays (statements_tree ss)) (λ _ _. refl) _ c.loop-statement.statement-index c.statement-item.result
+    any_part_more (period_exceeds c.args.form) (λ s. statement_delays (statement_tree s)) (λ ss. body_delays (statements_tree ss)) (λ _ _. refl) _ c.loop-statement.statement-index c.statement-item.result
     c.loop-statement-test.true c.statement-item.is (sym c.statement_delay_exceeds.ensures ∙ c.if-statement_delay_exceeds.false)
     ∙ c.loop-statement.invariant
 
 pub delay_exceeds-returns : goal.delay_exceeds-returns
 delay_exceeds-returns t c =
-    sym (at_drop_all (λ ss. list_any period_exceeds (body_delays (statements_tree ss))) _ c.loop-statement.statement-index c.loop-statement-test.false)
+    sym (at_drop_all (λ ss. list_any (period_exceeds c.args.form) (body_delays (statements_tree ss))) _ c.loop-statement.statement-index c.loop-statement-test.false)
     ∙ c.loop-statement.invariant

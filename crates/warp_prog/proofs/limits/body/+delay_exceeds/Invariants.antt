@@ -7,4 +7,4 @@ use Rattle.warp_prog.proofs.limits.body.+delay_exceeds.Given as goal
 
 abbrev pub invariant-delay_exceeds-loop-statement : goal.invariant-delay_exceeds-loop-statement
 invariant-delay_exceeds-loop-statement l =
-    list_any period_exceeds (body_delays (statements_tree (drop l.statement-index l.body))) ≡ list_any period_exceeds (body_delays (statements_tree l.body))
+    list_any (period_exceeds l.form) (body_delays (statements_tree (drop l.statement-index l.body))) ≡ list_any (period_exceeds l.form) (body_delays (statements_tree l.body))

@@ -7,12 +7,12 @@ use Rattle.warp_session.proofs.TurnsLemmas.{Replied-nil, Replied-gathered}
 use Rattle.warp_session.proofs.desk_session.Transcriber.answer.Goals as goal
 
 pub returns-in-None-clause-turn : goal.returns-in-None-clause-turn
-returns-in-None-clause-turn g c = record { does = rw c.in-None.is (Replied-nil g.D.Desk.gives _); breaks = tt; failures = refl }
+returns-in-None-clause-turn g c = record { does = rw c.in-None.is (Replied-nil c.args.form g.D.Desk.gives _); breaks = tt; failures = refl }
 
 pub returns-in_ok-gather-in-Some-TooLong-clause-turn : goal.returns-in_ok-gather-in-Some-TooLong-clause-turn
 returns-in_ok-gather-in-Some-TooLong-clause-turn g c = record {
   does = rw (c.in-Some-TooLong.is, c.in-Some-TooLong.field-0-is)
-      (Replied-gathered g.D.Desk.gives Long (Refused TooLong) _ _ (refl, refl) c.in_ok-gather-in-Some-TooLong.ensures.gathered);
+      (Replied-gathered c.args.form g.D.Desk.gives Long (Refused TooLong) _ _ (refl, refl) c.in_ok-gather-in-Some-TooLong.ensures.gathered);
   breaks = tt;
   failures = c.in_ok-gather-in-Some-TooLong.ensures.failures;
 }
@@ -20,7 +20,7 @@ returns-in_ok-gather-in-Some-TooLong-clause-turn g c = record {
 pub returns-in_ok-gather-in-Some-Torn-clause-turn : goal.returns-in_ok-gather-in-Some-Torn-clause-turn
 returns-in_ok-gather-in-Some-Torn-clause-turn g c = record {
   does = rw (c.in-Some-Torn.is, c.in-Some-Torn.field-0-is)
-      (Replied-gathered g.D.Desk.gives Torn (Refused Syntax) _ _ (refl, refl) c.in_ok-gather-in-Some-Torn.ensures.gathered);
+      (Replied-gathered c.args.form g.D.Desk.gives Torn (Refused Syntax) _ _ (refl, refl) c.in_ok-gather-in-Some-Torn.ensures.gathered);
   breaks = tt;
   failures = c.in_ok-gather-in-Some-Torn.ensures.failures;
 }
@@ -28,12 +28,12 @@ returns-in_ok-gather-in-Some-Torn-clause-turn g c = record {
 pub returns-in_err-gather-in-Some-TooLong-clause-turn : goal.returns-in_err-gather-in-Some-TooLong-clause-turn
 returns-in_err-gather-in-Some-TooLong-clause-turn g c = broke_off _ _ _ _ _ c.from_residual.result c.from_residual.ensures.1
     (rw (c.in-Some-TooLong.is, c.in-Some-TooLong.field-0-is)
-    (Broken-gathered g.D.Desk.gives Long (Refused TooLong) _ _ (refl, refl) c.in_err-gather-in-Some-TooLong.ensures.front))
+    (Broken-gathered c.args.form g.D.Desk.gives Long (Refused TooLong) _ _ (refl, refl) c.in_err-gather-in-Some-TooLong.ensures.front))
     c.in_err-gather-in-Some-TooLong.ensures.failures
 
 pub returns-in_err-gather-in-Some-Torn-clause-turn : goal.returns-in_err-gather-in-Some-Torn-clause-turn
 returns-in_err-gather-in-Some-Torn-clause-turn g c =
     broke_off _ _ _ _ _ c.from_residual-in_err-gather-in-Some-Torn.result c.from_residual-in_err-gather-in-Some-Torn.ensures.1
     (rw (c.in-Some-Torn.is, c.in-Some-Torn.field-0-is)
-    (Broken-gathered g.D.Desk.gives Torn (Refused Syntax) _ _ (refl, refl) c.in_err-gather-in-Some-Torn.ensures.front))
+    (Broken-gathered c.args.form g.D.Desk.gives Torn (Refused Syntax) _ _ (refl, refl) c.in_err-gather-in-Some-Torn.ensures.front))
     c.in_err-gather-in-Some-Torn.ensures.failures

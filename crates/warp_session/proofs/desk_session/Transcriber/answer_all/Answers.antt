@@ -9,8 +9,8 @@ use Rattle.warp_session.proofs.desk_session.Transcriber.answer_all.Goals as goal
 pub returns-then-has_ended-clause-bytes : goal.returns-then-has_ended-clause-bytes
 returns-then-has_ended-clause-bytes g c = λ end.
     let was = c.reads.invariant in
-    transcribed g.D.Desk.gives _ _ _ was.seen c.read.new.buffer c.in-Ok.count _ _ _ refl was.taken c.in-Ok-finish.ensures.does was.read
-    c.in-Ok.ensures.bytes c.if-has_ended.true (omega (arith, c.requires.room, c.read.auto.buffer, c.reads.auto.buffer))
+    transcribed c.args.form g.D.Desk.gives _ _ _ was.seen c.read.new.buffer c.in-Ok.count _ _ _ refl was.taken
+    c.in-Ok-finish.ensures.does was.read c.in-Ok.ensures.bytes c.if-has_ended.true (omega (arith, c.requires.room, c.read.auto.buffer, c.reads.auto.buffer))
 
 pub reads-preserved : goal.reads-preserved
 reads-preserved g c =
@@ -31,7 +31,7 @@ pub reads-init : goal.reads-init
 reads-init g c = rw c.requires.new (record {
   seen = [];
   read = Consumes-nil _;
-  taken = Taken-nil g.D.Desk.gives _ refl;
+  taken = Taken-nil c.args.form g.D.Desk.gives _ refl;
   reads = omega arith;
   counted = reads_more-none _;
   empty = refl;
@@ -42,14 +42,14 @@ reads-init g c = rw c.requires.new (record {
 pub returns-in_default-finish-clause-front : goal.returns-in_default-finish-clause-front
 returns-in_default-finish-clause-front g c = λ _.
     let was = c.reads.invariant in
-    front_of_all g.D.Desk.gives _ _ _ was.seen c.read.new.buffer c.in-Ok.count _ _ _ refl was.taken c.in_default-finish.ensures.breaks was.read
-    c.in-Ok.ensures.bytes c.if-has_ended.true (omega (arith, c.requires.room, c.read.auto.buffer, c.reads.auto.buffer))
+    front_of_all c.args.form g.D.Desk.gives _ _ _ was.seen c.read.new.buffer c.in-Ok.count _ _ _ refl was.taken
+    c.in_default-finish.ensures.breaks was.read c.in-Ok.ensures.bytes c.if-has_ended.true (omega (arith, c.requires.room, c.read.auto.buffer, c.reads.auto.buffer))
 
 pub returns-in_default-take-clause-front : goal.returns-in_default-take-clause-front
 returns-in_default-take-clause-front g c = λ _.
     let was = c.reads.invariant in
-    front_of_bytes g.D.Desk.gives _ _ _ was.seen (take c.in-Ok.count c.read.new.buffer) _ _ _ refl was.taken c.in_default-take.ensures.turn.breaks
-    was.read c.in-Ok.ensures.bytes.0
+    front_of_bytes c.args.form g.D.Desk.gives _ _ _ was.seen (take c.in-Ok.count c.read.new.buffer) _ _ _ refl was.taken
+    c.in_default-take.ensures.turn.breaks was.read c.in-Ok.ensures.bytes.0
 
 pub returns-in_default-clause-reads : goal.returns-in_default-clause-reads
 returns-in_default-clause-reads g c =

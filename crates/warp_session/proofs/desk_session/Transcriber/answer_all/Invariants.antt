@@ -9,7 +9,7 @@ abbrev pub invariant-reads : goal.invariant-reads
 invariant-reads g l = record {
   seen : List ℕ;
   read : Consumes (g.R.Source.left l.initial.source) (g.R.Source.left l.source) seen;
-  taken : Taken g.D.Desk.gives seen
+  taken : Taken l.form g.D.Desk.gives seen
       (at (g.D.Desk.state l.initial.desk) nothing_held (g.W.Sink.written l.initial.sink) (g.W.Sink.failures l.initial.sink))
       (at (g.D.Desk.state l.desk) l.self (g.W.Sink.written l.sink) (g.W.Sink.failures l.sink));
   reads : l._read ≤ length seen;

@@ -6,7 +6,8 @@ use Rattle.warp_session.proofs.desk_session.Transcriber.finish.Goals as goal
 pub returns : goal.returns
 returns g c = record {
   does = rw (← c.self.view_is)
-      (Ends-last g.D.Desk.gives _ _ _ c.replace.new.dest c.end-last.result (λ line kept. c.end-last.ensures line (c.replace.ensures.value ∙ kept))
+      (Ends-last c.args.form g.D.Desk.gives _ _ _ c.replace.new.dest c.end-last.result
+      (λ line kept. c.end-last.ensures line (c.replace.ensures.value ∙ kept))
       c.in_ok-answer.ensures.turn.does refl c.in_ok-flush.ensures.empty c.in_ok-flush.ensures.written);
   breaks = tt;
   failures = c.in_ok-flush.ensures.failures ∙ c.in_ok-answer.ensures.turn.failures;
@@ -15,13 +16,15 @@ returns g c = record {
 pub returns-in_err-answer : goal.returns-in_err-answer
 returns-in_err-answer g c = broke_off _ _ _ _ _ c.from_residual.result c.from_residual.ensures.1
     (rw (← c.self.view_is)
-    (BreaksAtEnd-last g.D.Desk.gives _ _ c.replace.new.dest c.end-last.result (λ line kept. c.end-last.ensures line (c.replace.ensures.value ∙ kept))
+    (BreaksAtEnd-last c.args.form g.D.Desk.gives _ _ c.replace.new.dest c.end-last.result
+    (λ line kept. c.end-last.ensures line (c.replace.ensures.value ∙ kept))
     c.in_err-answer.ensures.turn.breaks))
     c.in_err-answer.ensures.turn.failures
 
 pub returns-in_err-flush : goal.returns-in_err-flush
 returns-in_err-flush g c = broke_off _ _ _ _ _ c.from_residual-in_err-flush.result c.from_residual-in_err-flush.ensures.1
     (rw (← c.self.view_is)
-    (BreaksAtEnd-flush g.D.Desk.gives _ _ _ c.replace.new.dest c.end-last.result (λ line kept. c.end-last.ensures line (c.replace.ensures.value ∙ kept))
+    (BreaksAtEnd-flush c.args.form g.D.Desk.gives _ _ _ c.replace.new.dest c.end-last.result
+    (λ line kept. c.end-last.ensures line (c.replace.ensures.value ∙ kept))
     c.in_ok-answer.ensures.turn.does refl c.in_err-flush.ensures.front))
     (c.in_err-flush.ensures.failures ∙ ap (λ n. n + 1) c.in_ok-answer.ensures.turn.failures)

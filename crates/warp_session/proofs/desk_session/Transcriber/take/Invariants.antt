@@ -6,7 +6,7 @@ use Rattle.warp_session.proofs.desk_session.Transcriber.take.Given as goal
 abbrev pub invariant-loop-at : goal.invariant-loop-at
 invariant-loop-at g l = record {
   within : l.at ≤ length l.bytes;
-  takes : TakesBytes g.D.Desk.gives (take l.at l.bytes)
+  takes : TakesBytes l.form g.D.Desk.gives (take l.at l.bytes)
       (at (g.D.Desk.state l.initial.desk) l.initial.self (g.W.Sink.written l.initial.sink) (g.W.Sink.failures l.initial.sink))
       (at (g.D.Desk.state l.desk) l.self (g.W.Sink.written l.sink) (g.W.Sink.failures l.sink));
   sound : g.W.Sink.failures l.sink ≡ g.W.Sink.failures l.initial.sink;

@@ -13,7 +13,7 @@ pub turns-init : goal.turns-init
 turns-init g c = record {
   heard = [];
   pulls = (c.requires.started.0, refl);
-  talked = Talked-nil _ _ _ _ _ c.requires.silent.0 c.requires.silent.1;
+  talked = Talked-nil c.args.form _ _ _ _ _ c.requires.silent.0 c.requires.silent.1;
   goes = tt;
   levels = c.requires.started.1;
   few = omega (arith, c.requires.started.1);
@@ -30,14 +30,14 @@ returns-in-Err-clause-pulls g c =
     let e = c.in-Err.ensures in
     let place = c.turns.self.puller in
     let pend = pending c.turns.self.waits place in
-    let talked = Talked-moved _ _ _ _ _ _ was.heard pend e.front.0 _ _ was.talked e.front.2 in (
+    let talked = Talked-moved c.args.form _ _ _ _ _ _ was.heard pend e.front.0 _ _ was.talked e.front.2 in (
       was.heard,
       place,
       1,
       was.pulls,
       ends_cut c.args.quiet was.heard c.in-Err.end was.goes e.cut.0,
-      has_heard _ _ _ _ was.heard (pend ++ e.front.0) _ c.in-Err.end talked e.end,
-      has_asked _ _ _ _ was.heard (pend ++ e.front.0) _ c.in-Err.end place 1 talked e.front.1,
+      has_heard c.args.form _ _ _ _ was.heard (pend ++ e.front.0) _ c.in-Err.end talked e.end,
+      has_asked c.args.form _ _ _ _ was.heard (pend ++ e.front.0) _ c.in-Err.end place 1 talked e.front.1,
       (
         was.count + waiting c.turns.self.waits,
         turns_cut c.in-Err.end ((length was.heard + 1) + (was.count + waiting c.turns.self.waits)) e.cut.0 (omega arith)
@@ -68,8 +68,9 @@ returns-clause-pulls g c =
       waiting c.turns.self.waits,
       was.pulls,
       was.goes,
-      has_heard _ _ _ _ was.heard pend _ end.TooManyTurns was.talked (λ is. absurd (many_no_end is)),
-      has_asked _ _ _ _ was.heard pend _ end.TooManyTurns place (waiting c.turns.self.waits) was.talked (begun_waiting c.turns.self.waits place),
+      has_heard c.args.form _ _ _ _ was.heard pend _ end.TooManyTurns was.talked (λ is. absurd (many_no_end is)),
+      has_asked c.args.form _ _ _ _ was.heard pend _ end.TooManyTurns place (waiting c.turns.self.waits)
+          was.talked (begun_waiting c.turns.self.waits place),
       (was.count, omega (arith, was.turns, c.turns-test.false, c.turns.auto._turn-end), was.counted),
     )
 
@@ -83,7 +84,7 @@ turns-preserved-in_default g c =
     record {
       heard = was.heard;
       pulls = rw c.turn.ensures.puller was.pulls;
-      talked = Talked-none _ _ _ _ was.talked.cut was.heard c.in-Ok.fed c.turn.new.self.waits place c.turn.new.self.puller
+      talked = Talked-none c.args.form _ _ _ _ was.talked.cut was.heard c.in-Ok.fed c.turn.new.self.waits place c.turn.new.self.puller
           c.turn.new.self.inbox was.talked.spelled went c.in_default.is c.in-Ok.ensures.waits c.turn.ensures.puller;
       goes = was.goes;
       levels = c.turn.ensures.levels ∙ was.levels;
@@ -111,7 +112,7 @@ returns-in-Some-end_of-clause-pulls g c =
     let levels = h.levels ∙ ap (λ (n : ℕ). levels_with n outcome) (c.turn.ensures.levels ∙ was.levels) in
     let went = Went-turned _ _ _ _ _ _ was.talked.cut (questions was.heard) (pending c.turns.self.waits place) t.0 (question place)
     c.in-Ok.fed _ t.1 c.turn.new.self.inbox was.talked.went t.2 t.3 t.4 in
-    let talked = Talked-some _ _ _ _ was.talked.cut was.heard c.in-Ok.fed c.in-Some.fed one c.hear-pulled.new.self.waits next
+    let talked = Talked-some c.args.form _ _ _ _ was.talked.cut was.heard c.in-Ok.fed c.in-Some.fed one c.hear-pulled.new.self.waits next
     c.turn.new.self.inbox c.hear-pulled.new.self.inbox was.talked.spelled went c.in-Some.is h.pulls.1
     (h.others.1 ∙ c.in-Ok.ensures.waits) h.others.0 in
     let turns : c.turns._turn + 1 ≡ (length heard + 0) + (was.count + waiting c.turns.self.waits) =
@@ -123,9 +124,9 @@ returns-in-Some-end_of-clause-pulls g c =
       PullsAll-more g.D.Desk.gives _ _ _ 1 place next was.heard h.pulls.0 outcome was.pulls (rw (← c.turn.ensures.puller) h.pulls.2),
       ends_behind c.args.quiet c.hear-pulled.new.self.levels was.heard place h.pulls.0 outcome c.in-Some-end_of.end was.goes levels
           c.in-Some-end_of.ensures.some,
-      has_heard _ _ _ _ heard pend _ c.in-Some-end_of.end talked
+      has_heard c.args.form _ _ _ _ heard pend _ c.in-Some-end_of.end talked
           (λ is. absurd (behind_no_end c.args.quiet c.hear-pulled.new.self.levels outcome c.in-Some-end_of.end c.in-Some-end_of.ensures.some is)),
-      has_asked _ _ _ _ heard pend _ c.in-Some-end_of.end next 0 talked
+      has_asked c.args.form _ _ _ _ heard pend _ c.in-Some-end_of.end next 0 talked
           (begun_behind c.args.quiet c.hear-pulled.new.self.levels outcome (question next) pend c.in-Some-end_of.end c.in-Some-end_of.ensures.some
           (none_pending c.in-Ok.fed c.in-Some.fed c.hear-pulled.new.self.waits next c.in-Some.is (h.others.1 ∙ c.in-Ok.ensures.waits))),
       (
@@ -152,7 +153,7 @@ turns-preserved g c =
     record {
       heard = more was.heard place h.pulls.0 outcome;
       pulls = PullsAll-more g.D.Desk.gives _ _ _ 1 place next was.heard h.pulls.0 outcome was.pulls (rw (← c.turn.ensures.puller) h.pulls.2);
-      talked = Talked-some _ _ _ _ was.talked.cut was.heard c.in-Ok.fed c.in-Some.fed one c.hear-pulled.new.self.waits next
+      talked = Talked-some c.args.form _ _ _ _ was.talked.cut was.heard c.in-Ok.fed c.in-Some.fed one c.hear-pulled.new.self.waits next
           c.turn.new.self.inbox c.hear-pulled.new.self.inbox was.talked.spelled went c.in-Some.is h.pulls.1
           (h.others.1 ∙ c.in-Ok.ensures.waits) h.others.0;
       goes = AllGoOn-more c.args.quiet 0 was.heard place h.pulls.0 outcome was.goes

@@ -10,7 +10,7 @@ abbrev pub invariant-turns : goal.invariant-turns
 invariant-turns g l = record {
   heard : List Heard;
   pulls : PullsAll g.D.Desk.gives (g.D.Desk.state l.initial.desk) 1 heard l.self.puller (g.D.Desk.state l.desk);
-  talked : Talked (g.R.Source.left l.initial.source) (g.R.Source.left l.source)
+  talked : Talked l.form (g.R.Source.left l.initial.source) (g.R.Source.left l.source)
       (g.W.Sink.written l.initial.sink) (g.W.Sink.written l.sink) heard (pending l.self.waits l.self.puller) l.self.inbox;
   goes : AllGoOn l.quiet 0 heard;
   levels : l.self.levels ≡ last_levels 0 heard;

@@ -2,7 +2,7 @@
 use Rattle.std.proofs.Common.{◌≡◌, ◌<◌, ◌≤◌, length, Some, ap, arith}
 use Rattle.std.specs.Option.{IfSome}
 use Rattle.std.proofs.lemmas.Bool.{lt-ltb}
-use Rattle.warp_tag.specs.Limits.{longest_period}
+use Rattle.warp_tag.specs.Limits.{longest_period, widest}
 use Rattle.warp_step.proofs.ValidLemmas.{link_source, link_delay}
 use Rattle.warp_step.proofs.state.State.deliver_link.Goals as goal
 
@@ -15,5 +15,5 @@ get-requires c =
 pub land-requires-clause-delay : goal.land-requires-clause-delay
 land-requires-clause-delay c =
     let delay = link_delay c.args.program.now c.args.link.now c.requires.link in
-    let here : IfSome (Some c.in-Some.delay) (λ d. d ≤ longest_period) = rw c.in-Some.is at delay in
+    let here : IfSome (Some c.in-Some.delay) (λ d. d ≤ longest_period widest) = rw c.in-Some.is at delay in
     omega (arith, here)

@@ -4,7 +4,6 @@ use Rattle.std.specs.Vec.{vec_items}
 use Rattle.warp_tag.specs.Moment.{is_before}
 use Rattle.warp_table.specs.declared.rows.NameRow.{NameRow}
 use Rattle.warp_table.specs.inner.Blocks.{AreOrdered, flat}
-use Rattle.warp_table.specs.inner.NamesByOrigin.{row_of}
 use Rattle.warp_table.proofs.RowBlocks.{none_before, ordered_rows, tag_of}
 use Rattle.warp_table.proofs.rows.Rows.seek.Goals as goal
 

@@ -1,5 +1,5 @@
 -- as many stand in the list as came
-use Rattle.std.proofs.Common.{◌≡◌, false, [], List, length, ap, sym, ◌∙◌, arith, rules}
+use Rattle.std.proofs.Common.{◌≡◌, [], List, length, ap, sym, ◌∙◌, arith, rules}
 use Rattle.warp_tag.specs.Moment.{Moment}
 use Rattle.warp_table.proofs.TagLogs.{as_many}
 use Rattle.warp_table.proofs.tag_log.TagLog.insert.Goals as goal
