@@ -1,4 +1,6 @@
 pub mod Bodies
+pub mod BranchLemmas
+pub mod CompileLemmas
+pub mod MachineLemmas
 pub mod SlotLemmas
-pub mod SumLemmas
 pub mod Terms

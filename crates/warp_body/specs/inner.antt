@@ -1,3 +1,4 @@
 -- What the code keeps inside and no public contract cites.
 pub mod Slots
-pub mod Sums
+pub mod Machine
+pub mod Compiled

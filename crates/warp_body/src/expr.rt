@@ -1,7 +1,6 @@
 //! Expressions: their values, copies and comparison.
-ghost use Rattle.std.specs.Prelude.{◌≡◌, ℕ, length, IsTrue, IfOk, IfSome, ◌↔◌};
-ghost use Rattle.warp_body.specs.Term.{Term, Choice, term_of, value_of, result_of_one, result_of_two, term_fits};
-ghost use Rattle.warp_body.specs.Term.{sizes_of};
+ghost use Rattle.std.specs.Prelude.{◌≡◌, length, IsTrue, IfOk, ◌↔◌};
+ghost use Rattle.warp_body.specs.Term.{term_of, value_of, term_fits, sizes_of};
 
 use crate::operator::{BinaryOperator, UnaryOperator, as_number, is_true};
 use crate::place::{Present, Sizes, Target, Vars};
@@ -36,10 +35,6 @@ pub fn eval(expr: &Expr, vars: &Vars, present: &Present) -> i64
 }
 
 /// The value of an expression over the values of the variables.
-///
-/// It comes at once for a leaf, and for an operator of two operands, each a leaf or an operator over two leaves. The
-/// rest is left to functions of their own, which are called last, so that this one has no registers to save.
-#[cycle(eval_expr)]
 pub(crate) fn evaluate(expr: &Expr, vars: &[i64], present: &Present) -> i64
     requires { IsTrue (term_fits (sizes_of vars.now present.now) (term_of expr.now)) }
     ensures { result ≡ value_of (term_of expr.now) vars.now present.now }
@@ -49,151 +44,18 @@ pub(crate) fn evaluate(expr: &Expr, vars: &[i64], present: &Present) -> i64
         Expr::Variable(k) => vars[*k as usize],
         Expr::Value(target) => present.get(*target).unwrap_or(0),
         Expr::Present(target) => as_number(present.get(*target).is_some()),
-        Expr::Unary(operator, a) => unary(*operator, a, vars, present),
+        Expr::Unary(operator, a) => operator.apply(evaluate(a, vars, present)),
         Expr::Binary(operator, a, b) => {
-            let Some(left) = shallow(a, vars, present) else {
-                return binary(*operator, a, b, vars, present);
-            };
-            let Some(right) = shallow(b, vars, present) else {
-                return binary_from(*operator, left, b, vars, present);
-            };
-            operator.apply(left, right)
+            let left = evaluate(a, vars, present);
+            operator.apply(left, evaluate(b, vars, present))
         }
-        Expr::If(condition, a, b) => choice(condition, a, b, vars, present),
-    }
-}
-
-/// The value of an expression, with no call for a leaf.
-#[inline(always)]
-pub(crate) fn value(expr: &Expr, vars: &[i64], present: &Present) -> i64
-    requires { IsTrue (term_fits (sizes_of vars.now present.now) (term_of expr.now)) }
-    ensures { result ≡ value_of (term_of expr.now) vars.now present.now }
-{
-    match leaf(expr, vars, present) {
-        Some(value) => value,
-        None => evaluate(expr, vars, present),
-    }
-}
-
-/// The result of an operator of one operand.
-#[cycle(eval_expr)]
-#[inline(never)]
-fn unary(operator: UnaryOperator, a: &Expr, vars: &[i64], present: &Present) -> i64
-    requires { IsTrue (term_fits (sizes_of vars.now present.now) (term_of a.now)) }
-    ensures { result ≡ result_of_one operator (value_of (term_of a.now) vars.now present.now) }
-{
-    operator.apply(evaluate(a, vars, present))
-}
-
-/// The result of an operator of two operands.
-#[cycle(eval_expr)]
-#[inline(never)]
-fn binary(operator: BinaryOperator, a: &Expr, b: &Expr, vars: &[i64], present: &Present) -> i64
-    requires first { IsTrue (term_fits (sizes_of vars.now present.now) (term_of a.now)) }
-    requires second { IsTrue (term_fits (sizes_of vars.now present.now) (term_of b.now)) }
-    ensures { result ≡
-        result_of_two operator (value_of (term_of a.now) vars.now present.now)
-        (value_of (term_of b.now) vars.now present.now) }
-{
-    let left = evaluate(a, vars, present);
-    let right = match leaf(b, vars, present) {
-        Some(value) => value,
-        None => evaluate(b, vars, present),
-    };
-    operator.apply(left, right)
-}
-
-/// The result of an operator of two operands, of which the first has this value.
-#[cycle(eval_expr)]
-#[inline(never)]
-fn binary_from(
-    operator: BinaryOperator,
-    left: i64,
-    b: &Expr,
-    vars: &[i64],
-    present: &Present,
-) -> i64
-    requires { IsTrue (term_fits (sizes_of vars.now present.now) (term_of b.now)) }
-    ensures { result ≡ result_of_two operator left (value_of (term_of b.now) vars.now present.now) }
-{
-    operator.apply(left, evaluate(b, vars, present))
-}
-
-/// The value of the second where the first isn't 0, else of the third.
-#[cycle(eval_expr)]
-#[inline(never)]
-fn choice(condition: &Expr, a: &Expr, b: &Expr, vars: &[i64], present: &Present) -> i64
-    requires condition { IsTrue (term_fits (sizes_of vars.now present.now) (term_of condition.now)) }
-    requires first { IsTrue (term_fits (sizes_of vars.now present.now) (term_of a.now)) }
-    requires second { IsTrue (term_fits (sizes_of vars.now present.now) (term_of b.now)) }
-    ensures { result ≡ value_of (Choice (term_of condition.now) (term_of a.now) (term_of b.now)) vars.now present.now }
-{
-    if is_true(evaluate(condition, vars, present)) {
-        evaluate(a, vars, present)
-    } else {
-        evaluate(b, vars, present)
-    }
-}
-
-/// The value of a leaf, or of an operator over two leaves; `None` for any other expression.
-#[inline(always)]
-fn shallow(expr: &Expr, vars: &[i64], present: &Present) -> Option<i64>
-    requires { IsTrue (term_fits (sizes_of vars.now present.now) (term_of expr.now)) }
-    ensures { IfSome result (λ value. value ≡ value_of (term_of expr.now) vars.now present.now) }
-{
-    match expr {
-        Expr::Binary(operator, a, b) => {
-            let left = leaf(a, vars, present)?;
-            let right = leaf(b, vars, present)?;
-            Some(operator.apply(left, right))
+        Expr::If(condition, a, b) => {
+            if is_true(evaluate(condition, vars, present)) {
+                evaluate(a, vars, present)
+            } else {
+                evaluate(b, vars, present)
+            }
         }
-        _ => leaf(expr, vars, present),
-    }
-}
-
-/// The value of an operator over operands of which each is a leaf or an operator over two leaves; `None` for any other
-/// expression, and for a division.
-#[inline(always)]
-pub(crate) fn quick(expr: &Expr, vars: &[i64], present: &Present) -> Option<i64>
-    requires { IsTrue (term_fits (sizes_of vars.now present.now) (term_of expr.now)) }
-    ensures { IfSome result (λ value. value ≡ value_of (term_of expr.now) vars.now present.now) }
-{
-    let Expr::Binary(operator, a, b) = expr else {
-        return None;
-    };
-    let left = of_leaves(a, vars, present)?;
-    let right = of_leaves(b, vars, present)?;
-    operator.apply_undivided(left, right)
-}
-
-/// The value of a leaf, or of an operator over two leaves; `None` for any other expression, and for a division.
-#[inline(always)]
-pub(crate) fn of_leaves(expr: &Expr, vars: &[i64], present: &Present) -> Option<i64>
-    requires { IsTrue (term_fits (sizes_of vars.now present.now) (term_of expr.now)) }
-    ensures { IfSome result (λ value. value ≡ value_of (term_of expr.now) vars.now present.now) }
-{
-    match expr {
-        Expr::Binary(operator, a, b) => {
-            let left = leaf(a, vars, present)?;
-            let right = leaf(b, vars, present)?;
-            operator.apply_undivided(left, right)
-        }
-        _ => leaf(expr, vars, present),
-    }
-}
-
-/// The value of a number, a variable, an action or a port, which most operands are; `None` for any other expression.
-#[inline(always)]
-pub(crate) fn leaf(expr: &Expr, vars: &[i64], present: &Present) -> Option<i64>
-    requires { IsTrue (term_fits (sizes_of vars.now present.now) (term_of expr.now)) }
-    ensures { IfSome result (λ value. value ≡ value_of (term_of expr.now) vars.now present.now) }
-{
-    match expr {
-        Expr::Number(n) => Some(*n),
-        Expr::Variable(k) => Some(vars[*k as usize]),
-        Expr::Value(Target::Port(n)) => Some(present.get(Target::Port(*n)).unwrap_or(0)),
-        Expr::Value(Target::Action(n)) => Some(present.get(Target::Action(*n)).unwrap_or(0)),
-        _ => None,
     }
 }
 

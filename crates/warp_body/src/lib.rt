@@ -7,12 +7,13 @@
 #![tactic(auto)]
 
 mod code;
+mod compile;
 mod expr;
+mod instruction;
 mod operator;
 mod place;
 mod slots;
 mod stmt;
-mod sum;
 
 pub use code::Code;
 pub use expr::{Expr, eval};
