@@ -233,8 +233,7 @@ impl Front {
         }
     }
 
-    /// Has the next row make a checkpoint first. Where checkpoints are large, the newest one goes, if the one before it
-    /// is near enough.
+    /// Has the next row make a checkpoint first, and drops the newest one, if the one before it is near enough.
     #[inline(never)]
     fn save_here(&mut self)
         ensures others { self.new ≡ record self.old { due = 0; history = self.new.history } }
@@ -242,20 +241,22 @@ impl Front {
             IsAt P E self.new done }
     {
         self.due = 0;
-        if !self.is_large() {
-            return;
-        }
         let Some(older) = self.history.before_newest() else {
             return;
         };
-        if self.rows.saturating_sub(older.rows) <= SPACING {
+        if self.rows.saturating_sub(older.rows) <= self.apart() {
             self.history.drop_newest();
         }
     }
 
-    /// Whether a checkpoint of the state has many values and entries. On this hangs how many stand, and nothing else.
-    fn is_large(&self) -> bool {
-        self.state.vars().len() + self.state.pending().len() > LARGE
+    /// How far apart the two checkpoints may be between which one goes: large ones stand farther apart.
+    fn apart(&self) -> usize
+        ensures { result ≤ spacing }
+    {
+        if self.state.vars().len() + self.state.pending().len() > LARGE {
+            return SPACING;
+        }
+        SPACING / 2
     }
 
     /// Makes a checkpoint, where one more row is not to be executed without.
