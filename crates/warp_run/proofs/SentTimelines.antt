@@ -27,7 +27,7 @@ front_send = declared_send front.the_type (
         search sendable depth 60,
         (
           search sendable,
-          (search sendable, (search sendable, (search sendable depth 60, (history.the_send, (aside.the_send, (scratch_send, tt)))))),
+          (search sendable, (search sendable depth 60, (search sendable, (search sendable depth 60, (history.the_send, (aside.the_send, (scratch_send, tt))))))),
         ),
       ),
     ),

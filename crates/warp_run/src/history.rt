@@ -244,6 +244,18 @@ impl History {
         Some(mark.done)
     }
 
+    /// How far the one before the newest checkpoint is.
+    pub fn before_newest(&self) -> Option<Done>
+        ensures { IfSome result (λ done.
+            (newest (drop 1 self.now.saves) ≡ Some done) × (0 < length self.now.saves)) }
+    {
+        let count = self.marks.len();
+        if count < 2 {
+            return None;
+        }
+        Some(self.marks[count - 2].done)
+    }
+
     /// Whether the newest checkpoint is of this state.
     pub fn is_of(&self, state: &State) -> bool
         ensures { IsTrue result ↔ IsOfState self.now.saves state.now }

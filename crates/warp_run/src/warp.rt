@@ -279,7 +279,7 @@ impl Warp {
         self.front.get_ready(program)?;
         self.cursor = behind;
         let alone = slice::from_ref(&first.given);
-        self.front.step(program, first.tag, alone, meter);
+        self.front.step_at_event(program, first.tag, alone, meter);
         Ok(())
     }
 
@@ -331,7 +331,7 @@ impl Warp {
         let cursor = gather_from(&self.arena, self.cursor, tag, &mut self.given)?;
         self.front.get_ready(program)?;
         self.cursor = cursor;
-        self.front.step(program, tag, &self.given, meter);
+        self.front.step_at_event(program, tag, &self.given, meter);
         Ok(())
     }
 

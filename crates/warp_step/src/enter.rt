@@ -19,7 +19,6 @@ use crate::marks::{Marks, first_link};
 use crate::parts::{Link, Timer};
 use crate::plan::Plan;
 use crate::program::Program;
-use crate::react::clear_wishes;
 use crate::state::State;
 use warp_body::{Present, Target, Wish, Wishes};
 use warp_tag::Tag;
@@ -65,34 +64,36 @@ impl State {
         ensures none { lists_of wishes.new ≡ replicate (length wishes.old) [] }
     {
         self.enter_wishes(program, tag, wishes, wished);
-        clear_wishes(wishes, wished);
         self.deliver(program, plan, tag, due, present);
     }
 
-    /// Enters the wishes of the reactions, of which there may be some where the flag says so.
+    /// Enters the wishes of the reactions, of which there may be some where the flag says so, and empties their lists.
     #[inline(always)]
-    fn enter_wishes(&mut self, program: &Program, tag: Tag, wishes: &[Wishes], wished: bool)
+    fn enter_wishes(&mut self, program: &Program, tag: Tag, wishes: &mut [Wishes], wished: bool)
         requires time { tag.time ≤ program.now.stop }
         requires microstep { tag.microstep ≤ top_of program.now }
-        requires wishes { IsTrue (list_all (list_all (wish_fits (program_sizes program.now))) (lists_of wishes.now)) }
-        requires none { HasNone wished (lists_of wishes.now) }
-        ensures { self.new ≡ with_all_wishes program.now tag (lists_of wishes.now) self.old }
+        requires wishes { IsTrue (list_all (list_all (wish_fits (program_sizes program.now))) (lists_of wishes.old)) }
+        requires none { HasNone wished (lists_of wishes.old) }
+        ensures state { self.new ≡ with_all_wishes program.now tag (lists_of wishes.old) self.old }
+        ensures none { lists_of wishes.new ≡ replicate (length wishes.old) [] }
     {
         if wished {
             self.enter_lists(program, tag, wishes);
         }
     }
 
-    /// Enters the wishes of each reaction, in the order of the file.
+    /// Enters the wishes of each reaction, in the order of the file, and empties its list.
     #[inline(never)]
-    fn enter_lists(&mut self, program: &Program, tag: Tag, wishes: &[Wishes])
+    fn enter_lists(&mut self, program: &Program, tag: Tag, wishes: &mut [Wishes])
         requires time { tag.time ≤ program.now.stop }
         requires microstep { tag.microstep ≤ top_of program.now }
-        requires wishes { IsTrue (list_all (list_all (wish_fits (program_sizes program.now))) (lists_of wishes.now)) }
-        ensures { self.new ≡ with_all_wishes program.now tag (lists_of wishes.now) self.old }
+        requires wishes { IsTrue (list_all (list_all (wish_fits (program_sizes program.now))) (lists_of wishes.old)) }
+        ensures state { self.new ≡ with_all_wishes program.now tag (lists_of wishes.old) self.old }
+        ensures none { lists_of wishes.new ≡ replicate (length wishes.old) [] }
     {
-        for list in wishes {
+        for list in wishes.iter_mut() {
             self.enter_list(program, tag, list);
+            list.clear();
         }
     }
 

@@ -158,6 +158,24 @@ pub(crate) fn enter_near(entries: &mut Entries, tag: Tag, target: Target, value:
     false
 }
 
+/// How many entries come before this tag and target. What is lost for want of room is mostly behind all.
+#[inline(always)]
+fn place_in(entries: &Entries, tag: Tag, target: Target) -> usize
+    requires { AreInOrder entries.now }
+    ensures place { result ≡
+        prefix_len (λ w. key_before w.tag w.target (record {
+          tag = tag;
+          target = target;
+          value = w.value;
+        })) entries.now }
+    ensures within { result ≤ length entries.now }
+{
+    if is_behind(entries, tag, target) {
+        return entries.len();
+    }
+    place(entries.as_slice(), tag, target)
+}
+
 /// Enters a value at a tag to a target: one that is there takes it, a new one comes in where there is room. Answers
 /// whether it is in.
 #[inline(always)]
@@ -166,7 +184,7 @@ pub(crate) fn enter_entry(entries: &mut Entries, tag: Tag, target: Target, value
     ensures answer { result ≡ (list_any (has_key tag target) entries.old || nat_lt (length entries.old) most_pending) }
     ensures entries { entries.new ≡ (if result then with_entry tag target value entries.old else entries.old) }
 {
-    let at = place(entries.as_slice(), tag, target);
+    let at = place_in(entries, tag, target);
     let entry = Waiting { tag, target, value };
     if is_there(entries.as_slice(), at, tag, target) {
         entries.set(at, entry);

@@ -1,6 +1,6 @@
 //! The reactions of a step, and the outputs that it puts.
 ghost use Rattle.std.specs.Prelude.{◌≡◌, ℕ, ◌+◌, ◌≤◌, ◌<◌, ◌++◌, IsTrue, is_some, false, true, List, [], map, filter};
-ghost use Rattle.std.specs.Prelude.{replicate, length, slice_index_or, vec_len, vec_capacity};
+ghost use Rattle.std.specs.Prelude.{length, slice_index_or, vec_len, vec_capacity};
 ghost use Rattle.std.specs.List.{list_all, list_any};
 ghost use Rattle.warp_tag.specs.Limits.{most_wishes};
 ghost use Rattle.warp_body.specs.Presence.{Presence, places_of, present_at, target_fits};
@@ -165,27 +165,6 @@ pub(crate) fn run_reactions(
         turn = due.after(turn);
     }
     wished
-}
-
-/// Forgets all wishes; the flag says whether there may be some.
-#[inline(always)]
-pub(crate) fn clear_wishes(wishes: &mut [Wishes], wished: bool)
-    requires { HasNone wished (lists_of wishes.old) }
-    ensures { lists_of wishes.new ≡ replicate (length wishes.old) [] }
-{
-    if wished {
-        clear_lists(wishes);
-    }
-}
-
-/// Empties all lists.
-#[inline(never)]
-fn clear_lists(wishes: &mut [Wishes])
-    ensures { lists_of wishes.new ≡ replicate (length wishes.old) [] }
-{
-    for list in wishes.iter_mut() {
-        list.clear();
-    }
 }
 
 /// Appends an output for each program output that is present.
