@@ -127,7 +127,8 @@ fn front_number(bytes: &[u8], max: u64) -> Option<(u64, usize)>
     Some((number, count))
 }
 
-/// The number up to `max` that is the next word, and what is left behind it.
+/// The number up to `max` that is the next word, and what is left behind it: for numbers that have more than one digit as
+/// a rule.
 #[inline(always)]
 pub(crate) fn cut_number(text: &[u8], max: u64) -> Option<(u64, &[u8])>
     requires { max < 10 ^ FEW_DIGITS }
@@ -139,12 +140,24 @@ pub(crate) fn cut_number(text: &[u8], max: u64) -> Option<(u64, &[u8])>
     let [_, bytes @ ..] = text else {
         return None;
     };
-    if bytes.len() > 1 && bytes[1] == b' ' {
-        let digit = one_digit(bytes, max)?;
-        return Some((digit, &bytes[1..]));
-    }
     let (number, count) = front_number(bytes, max)?;
     Some((number, &bytes[count..]))
+}
+
+/// The number up to `max` that is the next word, and what is left behind it: for numbers of one digit as a rule.
+#[inline(always)]
+fn cut_short(text: &[u8], max: u64) -> Option<(u64, &[u8])>
+    requires { max < 10 ^ FEW_DIGITS }
+    ensures found { IfSome result
+        (λ cut. (cut.0 ≤ max) × (words_behind text.now ≡ decimal cut.0 ∷ words_behind cut.1.now)) }
+    ensures none { IfNone result ((number : ℕ) (words : List (List ℕ)) → number ≤ max →
+        words_behind text.now ≡ decimal number ∷ words → ⊥) }
+{
+    if text.len() > 2 && text[2] == b' ' {
+        let digit = one_digit(&text[1..], max)?;
+        return Some((digit, &text[2..]));
+    }
+    cut_number(text, max)
 }
 
 /// The number up to `max` that is the next word and fits 32 bits, and what is left behind it.
@@ -155,7 +168,7 @@ pub(crate) fn cut_u32(text: &[u8], max: u32) -> Option<(u32, &[u8])>
     ensures none { IfNone result ((number : ℕ) (words : List (List ℕ)) → number ≤ max →
         words_behind text.now ≡ decimal number ∷ words → ⊥) }
 {
-    let (number, rest) = cut_number(text, u64::from(max))?;
+    let (number, rest) = cut_short(text, u64::from(max))?;
     Some((number as u32, rest))
 }
 
