@@ -11,6 +11,7 @@ ghost use Rattle.std.specs.Str.Parse.{AllDigits, digits_value};
 ghost use Rattle.warp_record.specs.Number.{is_space};
 ghost use Rattle.warp_record.specs.inner.Behind.{words_behind};
 
+use crate::eight::{EIGHT, count_digits, value_of_first};
 use crate::number::{FEW_DIGITS, digit, is_padded, read_int};
 
 /// Whether these four bytes stand at the place: one comparison of numbers.
@@ -30,9 +31,6 @@ pub(crate) fn are_four(bytes: &[u8], place: usize, four: [u8; 4]) -> bool
     ];
     u32::from_le_bytes(found) == u32::from_le_bytes(four)
 }
-
-/// How many digits are read with no look at the number of bytes.
-const KNOWN_TURNS: usize = 8;
 
 /// The number that the digits at the front write, of which it takes up to `most`, and how many these are.
 #[inline(always)]
@@ -66,11 +64,11 @@ fn front_digits(bytes: &[u8]) -> (u64, usize)
     ensures end { result.1 < FEW_DIGITS → result.1 < length bytes.now →
         digit_value (slice_index bytes.now result.1) < 10 → ⊥ }
 {
-    // Up to so many are read by a loop with a known number of turns, which is quick.
-    if bytes.len() >= KNOWN_TURNS {
-        let (number, count) = digits_up_to(bytes, KNOWN_TURNS);
-        if count < KNOWN_TURNS {
-            return (number, count);
+    // Mostly there are fewer than eight, with bytes behind them: these are read at once.
+    if bytes.len() >= EIGHT {
+        let count = count_digits(bytes);
+        if 0 < count && count < EIGHT {
+            return (value_of_first(bytes, count), count);
         }
     }
     digits_up_to(bytes, bytes.len().min(FEW_DIGITS))
