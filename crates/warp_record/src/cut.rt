@@ -116,10 +116,10 @@ fn front_number(bytes: &[u8], max: u64) -> Option<(u64, usize)>
     if !ends_word(bytes, count) {
         return None;
     }
-    if is_padded(&bytes[..count]) {
+    if number > max {
         return None;
     }
-    if number > max {
+    if is_padded(&bytes[..count]) {
         return None;
     }
     Some((number, count))

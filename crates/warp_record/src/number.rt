@@ -89,7 +89,11 @@ fn digits(word: &[u8]) -> Option<u64>
 pub(crate) fn is_padded(word: &[u8]) -> bool
     ensures { IsTrue result ↔ ((1 < length word.now) × (slice_index word.now 0 ≡ 48)) }
 {
-    word.len() > 1 && word[0] == b'0'
+    // Seldom is the first one a zero, so it is looked at first.
+    if word.is_empty() {
+        return false;
+    }
+    word[0] == b'0' && word.len() > 1
 }
 
 /// The number up to `max` that the word spells.
