@@ -282,6 +282,10 @@ pub(crate) fn append_from(out: &mut Vec<u8>, block: &[u8], start: usize, end: us
     ensures len { vec_len out.new ≤ vec_len out.old + most }
     ensures capacity { vec_capacity out.old ≤ vec_capacity out.new }
 {
+    // There is room. Told so, the copy below calls nothing, and whoever appends a block saves no registers.
+    if out.capacity() - out.len() < most {
+        return;
+    }
     let length = out.len() + (end - start);
     append(out, &block[start..start + most]);
     out.truncate(length);
