@@ -1,10 +1,10 @@
 -- Digits at the front of eight bytes, found in all of them at once, and the number that they write, by arithmetic on one number.
-use Rattle.std.proofs.Common.{◌≡◌, ℕ, zero, suc, ◌+◌, ◌-◌, ◌*◌, ◌/◌, ◌%◌, ◌^◌, ◌<◌, ◌≤◌, Bool, true, false, not, cond, leb, List, [], ◌∷◌, ◌++◌, map, length, get_or, take, drop, replicate, bit_and, w8, w64, sym, refl, ap, ◌∙◌, leb-true, leb-false, length-take-le, length-take, length-append, mod-eq_of_lt, add-zero, mul_assoc, pow-suc, pow-add, pow_pos, arith}
+use Rattle.std.proofs.Common.{◌≡◌, ℕ, zero, suc, ◌+◌, ◌-◌, ◌*◌, ◌/◌, ◌%◌, ◌^◌, ◌<◌, ◌≤◌, Bool, true, false, not, cond, leb, List, [], ◌∷◌, ◌++◌, map, length, get_or, take, replicate, bit_and, w8, w64, sym, refl, ap, ◌∙◌, leb-true, leb-false, length-take-le, length-take, length-append, mod-eq_of_lt, add-zero, pow-suc, pow-add, arith}
 use Rattle.std.specs.Char.{digit_value}
 use Rattle.std.specs.Int.{from_le_bytes}
 use Rattle.std.specs.Int.Digits.{AllBelowBase, number_from_digits}
 use Rattle.std.specs.List.{prefix_len, position_or_len}
-use Rattle.std.specs.Str.Parse.{AllDigits, digits_value, digits_value_after}
+use Rattle.std.specs.Str.Parse.{AllDigits, digits_value}
 use Rattle.std.proofs.lemmas.Int.Digits.{digits_value_is}
 use Rattle.std.proofs.lemmas.List.{length-map, length-replicate, take-take}
 use Rattle.std.proofs.lemmas.Simd.{zip2_splat, zip2_splat_left, tops_compared, map-map, mask_l-mod, run_in_chunk_le, run_in_chunk_fails, run_in_chunk_stops}
