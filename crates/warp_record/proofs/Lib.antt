@@ -1,3 +1,4 @@
+pub mod EightDigits
 pub mod LineCuts
 pub mod LineForms
 pub mod LineWords

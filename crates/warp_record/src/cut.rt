@@ -11,6 +11,7 @@ ghost use Rattle.std.specs.Str.Parse.{AllDigits, digits_value};
 ghost use Rattle.warp_record.specs.Number.{is_space};
 ghost use Rattle.warp_record.specs.inner.Behind.{words_behind};
 
+use crate::eight::{EIGHT, count_digits, value_of_first};
 use crate::number::{FEW_DIGITS, digit, is_padded, read_int};
 
 /// Whether these four bytes stand at the place: one comparison of numbers.
@@ -30,9 +31,6 @@ pub(crate) fn are_four(bytes: &[u8], place: usize, four: [u8; 4]) -> bool
     ];
     u32::from_le_bytes(found) == u32::from_le_bytes(four)
 }
-
-/// How many digits are read with no look at the number of bytes.
-const KNOWN_TURNS: usize = 8;
 
 /// The number that the digits at the front write, of which it takes up to `most`, and how many these are.
 #[inline(always)]
@@ -66,11 +64,11 @@ fn front_digits(bytes: &[u8]) -> (u64, usize)
     ensures end { result.1 < FEW_DIGITS → result.1 < length bytes.now →
         digit_value (slice_index bytes.now result.1) < 10 → ⊥ }
 {
-    // Up to so many are read by a loop with a known number of turns, which is quick.
-    if bytes.len() >= KNOWN_TURNS {
-        let (number, count) = digits_up_to(bytes, KNOWN_TURNS);
-        if count < KNOWN_TURNS {
-            return (number, count);
+    // Mostly there are fewer than eight, with bytes behind them: these are read at once.
+    if bytes.len() >= EIGHT {
+        let count = count_digits(bytes);
+        if 0 < count && count < EIGHT {
+            return (value_of_first(bytes, count), count);
         }
     }
     digits_up_to(bytes, bytes.len().min(FEW_DIGITS))
@@ -118,16 +116,17 @@ fn front_number(bytes: &[u8], max: u64) -> Option<(u64, usize)>
     if !ends_word(bytes, count) {
         return None;
     }
-    if is_padded(&bytes[..count]) {
+    if number > max {
         return None;
     }
-    if number > max {
+    if is_padded(&bytes[..count]) {
         return None;
     }
     Some((number, count))
 }
 
-/// The number up to `max` that is the next word, and what is left behind it.
+/// The number up to `max` that is the next word, and what is left behind it: for numbers that have more than one digit as
+/// a rule.
 #[inline(always)]
 pub(crate) fn cut_number(text: &[u8], max: u64) -> Option<(u64, &[u8])>
     requires { max < 10 ^ FEW_DIGITS }
@@ -139,12 +138,24 @@ pub(crate) fn cut_number(text: &[u8], max: u64) -> Option<(u64, &[u8])>
     let [_, bytes @ ..] = text else {
         return None;
     };
-    if bytes.len() > 1 && bytes[1] == b' ' {
-        let digit = one_digit(bytes, max)?;
-        return Some((digit, &bytes[1..]));
-    }
     let (number, count) = front_number(bytes, max)?;
     Some((number, &bytes[count..]))
+}
+
+/// The number up to `max` that is the next word, and what is left behind it: for numbers of one digit as a rule.
+#[inline(always)]
+fn cut_short(text: &[u8], max: u64) -> Option<(u64, &[u8])>
+    requires { max < 10 ^ FEW_DIGITS }
+    ensures found { IfSome result
+        (λ cut. (cut.0 ≤ max) × (words_behind text.now ≡ decimal cut.0 ∷ words_behind cut.1.now)) }
+    ensures none { IfNone result ((number : ℕ) (words : List (List ℕ)) → number ≤ max →
+        words_behind text.now ≡ decimal number ∷ words → ⊥) }
+{
+    if text.len() > 2 && text[2] == b' ' {
+        let digit = one_digit(&text[1..], max)?;
+        return Some((digit, &text[2..]));
+    }
+    cut_number(text, max)
 }
 
 /// The number up to `max` that is the next word and fits 32 bits, and what is left behind it.
@@ -155,7 +166,7 @@ pub(crate) fn cut_u32(text: &[u8], max: u32) -> Option<(u32, &[u8])>
     ensures none { IfNone result ((number : ℕ) (words : List (List ℕ)) → number ≤ max →
         words_behind text.now ≡ decimal number ∷ words → ⊥) }
 {
-    let (number, rest) = cut_number(text, u64::from(max))?;
+    let (number, rest) = cut_short(text, u64::from(max))?;
     Some((number as u32, rest))
 }
 

@@ -6,6 +6,7 @@
 
 mod count;
 mod cut;
+mod eight;
 mod feed;
 mod law;
 mod line;

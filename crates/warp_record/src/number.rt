@@ -89,7 +89,11 @@ fn digits(word: &[u8]) -> Option<u64>
 pub(crate) fn is_padded(word: &[u8]) -> bool
     ensures { IsTrue result ↔ ((1 < length word.now) × (slice_index word.now 0 ≡ 48)) }
 {
-    word.len() > 1 && word[0] == b'0'
+    // Seldom is the first one a zero, so it is looked at first.
+    if word.is_empty() {
+        return false;
+    }
+    word[0] == b'0' && word.len() > 1
 }
 
 /// The number up to `max` that the word spells.
@@ -278,6 +282,10 @@ pub(crate) fn append_from(out: &mut Vec<u8>, block: &[u8], start: usize, end: us
     ensures len { vec_len out.new ≤ vec_len out.old + most }
     ensures capacity { vec_capacity out.old ≤ vec_capacity out.new }
 {
+    // There is room. Told so, the copy below calls nothing, and whoever appends a block saves no registers.
+    if out.capacity() - out.len() < most {
+        return;
+    }
     let length = out.len() + (end - start);
     append(out, &block[start..start + most]);
     out.truncate(length);

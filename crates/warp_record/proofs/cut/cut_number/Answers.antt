@@ -2,27 +2,10 @@ use Rattle.std.proofs.Common.{◌-◌, length, take, drop, sym, ◌∙◌}
 use Rattle.warp_record.proofs.WordFronts.{behind_first, front_word, cut_front}
 use Rattle.warp_record.proofs.cut.cut_number.Goals as goal
 
-pub returns-in_err-digit-clause-none : goal.returns-in_err-digit-clause-none
-returns-in_err-digit-clause-none c =
-    let text = c.args.text.now in
-    rw c.from_residual.ensures
-    (λ n words le are.
-    c.in_err-digit.ensures.none n le
-    (front_word (take (length text - 1) (drop 1 text)) _ words (sym (behind_first text c.in-len1-up.len_at_least) ∙ are)))
-
-pub returns-then-bytes-eq32-clause-found : goal.returns-then-bytes-eq32-clause-found
-returns-then-bytes-eq32-clause-found c =
-    let text = c.args.text.now in
-    let front = c.in_ok-digit.ensures.found in (
-      front.0,
-      behind_first text c.in-len1-up.len_at_least
-          ∙ cut_front (take (length text - 1) (drop 1 text)) _ 1 front.1 front.2,
-    )
-
 pub returns-in_err-number-clause-none : goal.returns-in_err-number-clause-none
 returns-in_err-number-clause-none c =
     let text = c.args.text.now in
-    rw c.from_residual-in_err-number.ensures
+    rw c.from_residual.ensures
     (λ n words le are.
     c.in_err-number.ensures.none n le
     (front_word (take (length text - 1) (drop 1 text)) _ words (sym (behind_first text c.in-len1-up.len_at_least) ∙ are)))
