@@ -10,6 +10,7 @@
 
 mod arenas;
 mod boards;
+mod bodies;
 mod desks;
 mod files;
 mod lanes;
@@ -88,6 +89,7 @@ fn perform_low<P: Print + Clock>(
         "twice" => programs::twice_twice(rt, alloc),
         "steps" => steps::perform(rt, alloc, program, rest),
         "arenas" => arenas::perform(rt, alloc, rest),
+        "bodies" => bodies::perform(rt, alloc, program, rest),
         "boards" => boards::perform(rt, alloc),
         "exhausted" => pulls::exhausted(rt, alloc, rest),
         "schedule" => worlds::read_once(rt, alloc, Form::One, rest.as_bytes()),
