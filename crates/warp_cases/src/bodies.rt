@@ -19,6 +19,7 @@ use warp_step::Program;
 const MOST_WISHES: usize = 16;
 
 /// Variables, and what is present.
+#[derive(Drop)]
 struct Side {
     vars: Vars,
     present: Present,
