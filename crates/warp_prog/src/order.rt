@@ -2,7 +2,8 @@
 //!
 //! For each reaction its predecessors are listed once, by marks on the ports that it waits for; then each turn looks
 //! along the reactions for the first that does not stand while all of these do.
-ghost use Rattle.std.specs.Prelude.{◌≡◌, ◌<◌, ◌^◌, true, false, ◌++◌, replicate, IfOk, OnOk, IfSome, length, map, slice_set};
+ghost use Rattle.std.specs.Prelude.{◌≡◌, ◌<◌, ◌^◌, true, false, ◌++◌, replicate, length, map, slice_set};
+ghost use Rattle.std.specs.Prelude.{IfOk, OnOk, IfSome};
 ghost use Rattle.std.specs.List.{list_any, list_all};
 ghost use Rattle.warp_body.specs.declared.place.Target.TheVariants.{Port};
 ghost use Rattle.warp_body.specs.Presence.{is_target};
