@@ -1,6 +1,7 @@
 -- The element of a number: in a list after others, in a list of pictures, and where a name is found.
-use Rattle.std.proofs.Common.{◌≡◌, ℕ, zero, suc, ◌+◌, ◌<◌, Bool, true, false, not, ◌&&◌, ◌||◌, cond, List, [], ◌∷◌, ◌++◌, length, map, drop, ap, sym, subst, ◌∙◌, refl, inl, inr, one-add, zero-add, suc-add, append_assoc, map-id, bytes_eq, arith}
-use Rattle.std.proofs.lemmas.Bool.{cases_Bool, true≢false, and_from}
+use Rattle.std.proofs.Common.{◌≡◌, ℕ, zero, suc, ◌+◌, ◌<◌, ◌≤◌, nat_lt, Bool, true, false, not, ◌&&◌, ◌||◌, cond, List, [], ◌∷◌, ◌++◌, length, map, drop, ap, sym, subst, ◌∙◌, refl, inl, inr, one-add, zero-add, suc-add, append_assoc, map-id, bytes_eq, arith}
+use Rattle.std.proofs.lemmas.Bool.{cases_Bool, true≢false, and_from, lt-ltb}
+use Rattle.std.proofs.lemmas.Bool.Decides.{nat_tests}
 use Rattle.std.proofs.lemmas.List.{length-map}
 use Rattle.warp_step.specs.Valid.{has}
 use Rattle.warp_prog.specs.File.{Word}
@@ -54,6 +55,26 @@ place-here name n ns h = ap (λ b. cond (not b) (1 + place_among ns name) 0) h
 
 pub place-past : (name n : Word) (ns : List Word) → bytes_eq name n ≡ false → place_among (n ∷ ns) name ≡ suc (place_among ns name)
 place-past name n ns h = ap (λ b. cond (not b) (1 + place_among ns name) 0) h ∙ one-add (place_among ns name)
+
+-- a name is among others exactly if its place is within
+pub place-within : (name : Word) (ns : List Word) → nat_lt (place_among ns name) (length ns) ≡ is_among ns name
+place-within name [] = grind (arith, nat_tests)
+place-within name (n ∷ ns) =
+    let rest = place-within name ns in
+    elim (cases_Bool (bytes_eq name n)) [
+      | inl here ↦
+          let first = place-here name n ns here in
+          lt-ltb (place_among (n ∷ ns) name) (suc (length ns)) (omega (arith, first)) ∙ sym (ap (λ b. b || is_among ns name) here)
+      | inr past ↦
+          let next = place-past name n ns past in
+          grind (arith, nat_tests, rest, next) ∙ sym (ap (λ b. b || is_among ns name) past)
+    ]
+
+pub place-found : (name : Word) (ns : List Word) → place_among ns name < length ns → is_among ns name ≡ true
+place-found name ns h = sym (place-within name ns) ∙ lt-ltb (place_among ns name) (length ns) h
+
+pub place-missed : (name : Word) (ns : List Word) → length ns ≤ place_among ns name → is_among ns name ≡ false
+place-missed name ns h = sym (place-within name ns) ∙ grind (arith, nat_tests, h)
 
 -- the thing that is found by its name
 pub has-found : {X Y : Type 0} (called : X → Word) (f : X → Y) (q : Y → Bool) (name : Word) → ((x : X) → bytes_eq name (called x) ≡ true → q (f x) ≡ true) →

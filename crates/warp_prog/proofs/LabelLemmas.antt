@@ -1,6 +1,6 @@
--- Labels: one reactor more.
-use Rattle.std.proofs.Common.{◌≡◌, List, ◌++◌, ℕ, ◌+◌, ◌<◌, length, map, drop, get_or, ap, sym, ◌∙◌}
-use Rattle.std.proofs.lemmas.List.{append_assoc, at_drop_more}
+-- Labels: one reactor more, and one text more.
+use Rattle.std.proofs.Common.{◌≡◌, List, [], ◌∷◌, ◌++◌, ℕ, ◌+◌, ◌<◌, length, map, drop, take, get_or, ap, sym, ◌∙◌}
+use Rattle.std.proofs.lemmas.List.{append_assoc, at_drop_more, map-append, map_more}
 use Rattle.warp_prog.specs.Explain.{labelled, labels_in}
 use Rattle.warp_prog.specs.File.{Word, ReactorPart}
 use Rattle.warp_prog.specs.View.{reactor_tree}
@@ -15,3 +15,11 @@ labels_more its done new rs i r within here e =
     ap (λ xs. xs ++ rest) e ∙ append_assoc done (labelled its (reactor_tree r)) rest
     ∙ ap (λ s. done ++ (labelled its (reactor_tree s) ++ rest)) here
     ∙ sym (at_drop_more (λ ss. done ++ labels_in its (map reactor_tree ss)) rs i r within)
+
+-- one text more, which is that of one thing more
+pub texts_more : {S X : Type 0} (bytes : S → Word) (f : X → Word) (done new : List S) (text : S) (xs : List X) (i : ℕ) (x : X)
+    → i < length xs → x ≡ get_or xs i x → new ≡ done ++ text ∷ [] → bytes text ≡ f x → map bytes done ≡ map f (take i xs)
+    → map bytes new ≡ map f (take (i + 1) xs)
+texts_more bytes f done new text xs i x within here e shown so =
+    ap (map bytes) e ∙ map-append bytes done (text ∷ []) ∙ ap (λ ts. ts ++ bytes text ∷ []) so
+    ∙ ap (λ t. map f (take i xs) ++ t ∷ []) (shown ∙ ap f here) ∙ sym (map_more f xs i x within)

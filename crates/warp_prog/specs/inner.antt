@@ -5,3 +5,4 @@ pub mod Read
 pub mod Placing
 pub mod Cause
 pub mod Circle
+pub mod Fingerprint

@@ -1,7 +1,7 @@
 //! Why a file is no program, in words for who wrote it: where its first fault stands, and what is wrong there.
 //!
-//! `load` says which fault is the first. Here it is looked for a second time, with its place: a walk goes down the file,
-//! and on its way back each level adds its step to the trail.
+//! `load` says which fault is the first. Here it is looked for a second time, with its place: a walk goes down the
+//! file, and on its way back each level adds its step to the trail.
 
 mod account;
 mod circle;

@@ -4,6 +4,7 @@ ghost use Rattle.warp_step.specs.View.{program_of};
 ghost use Rattle.warp_prog.specs.Explain.{IsLabelled};
 ghost use Rattle.warp_prog.specs.Load.{IsFaultless, IsLoaded, IsRefused, lacks_order};
 ghost use Rattle.warp_prog.specs.Numbered.{is_first_version, numbered};
+ghost use Rattle.warp_prog.specs.Reading.{reading_of};
 ghost use Rattle.warp_prog.specs.View.{file_tree};
 ghost use Rattle.warp_prog.specs.inner.Cause.{IsCause, IsNamed};
 
@@ -41,9 +42,8 @@ pub fn load(alloc: Global, bytes: &[u8]) -> Result<Program, LoadError>
     ensures ok { IfOk result (λ program. IsLoaded bytes.now program) }
     ensures err { IfErr result (λ error. IsRefused bytes.now error) }
 {
-    let file = reading(alloc, bytes)?;
-    let parts = parts_of(alloc, &file)?;
-    Ok(Program::new(parts))
+    let read = read_program(alloc, bytes)?;
+    Ok(read.program)
 }
 
 /// Loads the program that the bytes of a file spell, with the names of its parts: the file is read once for both.
@@ -56,9 +56,29 @@ pub fn load_labelled(alloc: Global, bytes: &[u8]) -> Result<LabelledProgram, Loa
     ensures labels { IfOk result (λ l. IsLabelled bytes.now l.labels) }
     ensures err { IfErr result (IsRefused bytes.now) }
 {
+    let read = read_program(alloc, bytes)?;
+    with_labels(read.program, labels_of(alloc, &read.file))
+}
+
+/// A program, and the file that spells it.
+#[derive(Drop)]
+struct ReadProgram {
+    program: Program,
+    file: ProgramFile,
+}
+
+/// The program that the bytes of a file spell, and their file.
+fn read_program(alloc: Global, bytes: &[u8]) -> Result<ReadProgram, LoadError>
+    ensures program { IfOk result (λ read. IsLoaded bytes.now read.program) }
+    ensures file { IfOk result (λ read. reading_of bytes.now ≡ Ok (file_tree read.file)) }
+    ensures err { IfErr result (IsRefused bytes.now) }
+{
     let file = reading(alloc, bytes)?;
     let parts = parts_of(alloc, &file)?;
-    with_labels(Program::new(parts), labels_of(alloc, &file))
+    Ok(ReadProgram {
+        program: Program::new(parts),
+        file,
+    })
 }
 
 /// A program with these labels, if there was memory for them.

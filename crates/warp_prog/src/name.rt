@@ -1,6 +1,7 @@
 //! Names of reactors and of what stands in them, and references to ports.
 ghost use Rattle.std.specs.Prelude.{◌≡◌, ◌↔◌, IsTrue, List};
 ghost use Rattle.warp_prog.specs.Word.{is_letter, is_word_byte, are_word_bytes, is_name, name_of};
+ghost use Rattle.warp_prog.specs.inner.Fingerprint.{with_byte, fingerprint_of};
 
 use arrayvec::ArrayString;
 use std::marker::Model;
@@ -12,17 +13,22 @@ const LONGEST_NAME: usize = 32;
 #[derive(Drop)]
 pub struct Name {
     text: ArrayString<32>,
+    /// A number that follows from the text: names whose numbers differ are not the same, and no text is looked at.
+    fingerprint: u64,
 }
 
 impl Model for Name {
-    ghost use Rattle.std.specs.Prelude.{ℕ, List};
+    ghost use Rattle.std.specs.Prelude.{◌≡◌, ℕ, List};
     ghost use Rattle.std.specs.Coded.{coded_ℕ, coded_list};
+    ghost use Rattle.warp_prog.specs.inner.Fingerprint.{fingerprint_of};
 
     ghost Value = { List ℕ };
 
     ghost coded = { coded_list coded_ℕ };
 
     ghost view = { λ n. n.text.bytes };
+
+    ghost invariant = { λ n. n.fingerprint ≡ fingerprint_of n.text.bytes };
 }
 
 impl Name {
@@ -33,8 +39,9 @@ impl Name {
         if !is_name(text.as_bytes()) {
             return None;
         }
+        let fingerprint = fingerprint_of(text.as_bytes());
         match ArrayString::from(text) {
-            Ok(text) => Some(Name { text }),
+            Ok(text) => Some(Name { text, fingerprint }),
             Err(_) => None,
         }
     }
@@ -46,12 +53,37 @@ impl Name {
         self.text.as_str()
     }
 
+    /// The number that follows from the name.
+    pub(crate) fn fingerprint(&self) -> u64
+        ensures { result ≡ fingerprint_of self.now }
+    {
+        self.fingerprint
+    }
+
     /// Whether two names are the same.
     pub fn is_same(&self, other: &Name) -> bool
         ensures { IsTrue result ↔ (self.now ≡ other.now) }
     {
         self.as_str() == other.as_str()
     }
+}
+
+/// The number of a text.
+fn fingerprint_of(text: &[u8]) -> u64
+    ensures { result ≡ fingerprint_of text.now }
+{
+    let mut fingerprint = 0;
+    for byte in text {
+        fingerprint = with_byte(fingerprint, *byte);
+    }
+    fingerprint
+}
+
+/// The number after one more byte: those of texts of at most seven bytes all differ.
+fn with_byte(fingerprint: u64, byte: u8) -> u64
+    ensures { result ≡ with_byte fingerprint byte }
+{
+    fingerprint.wrapping_mul(257).wrapping_add(byte as u64)
 }
 
 fn is_letter(byte: u8) -> bool

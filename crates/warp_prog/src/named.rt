@@ -50,6 +50,9 @@ impl Named for TimerPart {
 pub(crate) fn is_same(a: &Name, b: &Name) -> bool
     ensures { result ≡ bytes_eq a.now b.now }
 {
+    if a.fingerprint() != b.fingerprint() {
+        return false;
+    }
     a.as_str() == b.as_str()
 }
 

@@ -2,7 +2,8 @@
 //!
 //! For each reaction its predecessors are listed once, by marks on the ports that it waits for; then each turn looks
 //! along the reactions for the first that does not stand while all of these do.
-ghost use Rattle.std.specs.Prelude.{◌≡◌, ◌<◌, ◌^◌, true, false, ◌++◌, replicate, IfOk, OnOk, IfSome, length, map, slice_set};
+ghost use Rattle.std.specs.Prelude.{◌≡◌, ◌<◌, ◌^◌, true, false, ◌++◌, replicate, length, map, slice_set};
+ghost use Rattle.std.specs.Prelude.{IfOk, OnOk, IfSome};
 ghost use Rattle.std.specs.List.{list_any, list_all};
 ghost use Rattle.warp_body.specs.declared.place.Target.TheVariants.{Port};
 ghost use Rattle.warp_body.specs.Presence.{is_target};
@@ -32,20 +33,46 @@ pub(crate) fn file_order(alloc: Global, parts: &Parts) -> Result<Vec<u32>, OutOf
     Ok(order)
 }
 
+/// The reactions of a program, as far as they can be put in order.
+#[derive(Drop)]
+pub(crate) struct Placing {
+    /// For each reaction those that precede it.
+    pub before: Vec<Vec<u32>>,
+    /// Whether each stands.
+    pub placed: Vec<bool>,
+    /// Those that stand, in order.
+    pub order: Vec<u32>,
+}
+
 /// The loader's order of reactions. It has fewer than there are exactly where no order is admissible.
 pub(crate) fn loader_order(alloc: Global, parts: &Parts) -> Result<Vec<u32>, OutOfMemory>
     requires { length parts.now.reactions.items < 2 ^ 32 }
     ensures { IfOk result (λ order. order.items ≡ loader_order (program_of parts.now)) }
 {
+    let placing = place_reactions(alloc, parts)?;
+    Ok(placing.order)
+}
+
+/// Puts the reactions of a program in the loader's order, as far as there is one.
+pub(crate) fn place_reactions(alloc: Global, parts: &Parts) -> Result<Placing, OutOfMemory>
+    requires { length parts.now.reactions.items < 2 ^ 32 }
+    ensures before { let P = program_of parts.now in
+        IfOk result (λ p. map numbers_of p.before.items ≡ map (predecessors P) (file_order P)) }
+    ensures order { IfOk result (λ p. p.order.items ≡ loader_order (program_of parts.now)) }
+{
     let before = all_predecessors(alloc, parts)?;
     let mut placed = none_placed(alloc, before.len())?;
     let mut order = Vec::with_capacity(alloc, before.len())?;
     place_all(&before, &mut placed, &mut order)?;
-    Ok(order)
+    Ok(Placing {
+        before,
+        placed,
+        order,
+    })
 }
 
 /// So many flags, for reactions none of which stands.
-pub(crate) fn none_placed(alloc: Global, count: usize) -> Result<Vec<bool>, OutOfMemory>
+fn none_placed(alloc: Global, count: usize) -> Result<Vec<bool>, OutOfMemory>
     ensures { IfOk result (λ flags. flags.items ≡ replicate count false) }
 {
     let mut flags = Vec::with_capacity(alloc, count)?;
@@ -56,7 +83,7 @@ pub(crate) fn none_placed(alloc: Global, count: usize) -> Result<Vec<bool>, OutO
 }
 
 /// Puts reactions behind those that stand, each the least numbered that may follow, as long as one may.
-pub(crate) fn place_all(
+fn place_all(
     before: &[Vec<u32>],
     placed: &mut [bool],
     order: &mut Vec<u32>,
@@ -120,7 +147,7 @@ fn all_placed(placed: &[bool], reactions: &[u32]) -> bool
 }
 
 /// For each reaction those that precede it.
-pub(crate) fn all_predecessors(alloc: Global, parts: &Parts) -> Result<Vec<Vec<u32>>, OutOfMemory>
+fn all_predecessors(alloc: Global, parts: &Parts) -> Result<Vec<Vec<u32>>, OutOfMemory>
     requires { length parts.now.reactions.items < 2 ^ 32 }
     ensures { let P = program_of parts.now in
         IfOk result (λ all. map numbers_of all.items ≡ map (predecessors P) (file_order P)) }

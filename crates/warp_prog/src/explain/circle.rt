@@ -14,7 +14,7 @@ use crate::file::{ProgramFile, Reactor};
 use crate::limits::exceeds_limits;
 use crate::name::Name;
 use crate::numbered::numbered;
-use crate::order::{all_predecessors, is_placed, none_placed, place_all};
+use crate::order::{is_placed, place_reactions};
 use std::alloc::{AllocError, Global};
 use warp_step::Parts;
 
@@ -35,11 +35,8 @@ fn circle_in(alloc: Global, parts: &Parts) -> Result<Vec<u32>, AllocError>
     requires { length parts.now.reactions.items < 2 ^ 32 }
     ensures { IfOk result (λ circle. is_circle (program_of parts.now) circle.items ≡ true) }
 {
-    let before = all_predecessors(alloc, parts)?;
-    let mut placed = none_placed(alloc, before.len())?;
-    let mut order = Vec::with_capacity(alloc, before.len())?;
-    place_all(&before, &mut placed, &mut order)?;
-    circle_among(alloc, &before, &placed)
+    let placing = place_reactions(alloc, parts)?;
+    circle_among(alloc, &placing.before, &placing.placed)
 }
 
 /// A circle among the reactions that do not stand.

@@ -10,8 +10,7 @@ ghost use Rattle.warp_prog.specs.View.{reactor_tree, term_tree, statement_tree, 
 use crate::both::both;
 use crate::file::{Expression, Reactor, Statement};
 use crate::name::Name;
-use crate::named::is_among;
-use crate::numbered::place::{action_number, output_number, readable, variable_number};
+use crate::numbered::place::{action_number, output_number, place_of, readable, variable_number};
 use crate::scope::Before;
 use std::alloc::Global;
 use warp_body::{BinaryOperator, Expr, Stmt};
@@ -22,10 +21,9 @@ fn numbered_name(before: &Before, reactor: &Reactor, name: &Name) -> Expr
     requires { HasRoom before.now (reactor_tree reactor.now) }
     ensures { term_of result ≡ numbered_term before.now (reactor_tree reactor.now) (Named name.now) }
 {
-    if is_among(&reactor.variables, name) {
-        Expr::Variable(variable_number(before, reactor, name))
-    } else {
-        Expr::Value(readable(before, reactor, name))
+    match place_of(&reactor.variables, name) {
+        Some(place) => Expr::Variable((before.variables + place) as u32),
+        None => Expr::Value(readable(before, reactor, name)),
     }
 }
 

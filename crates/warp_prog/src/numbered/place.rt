@@ -1,5 +1,5 @@
 //! The numbers of names: what stands before a reactor, and the place of a name among those of its kind.
-ghost use Rattle.std.specs.Prelude.{◌≡◌, ◌≤◌, length, map, if◌then◌else◌};
+ghost use Rattle.std.specs.Prelude.{◌≡◌, ◌≤◌, length, map, is_some, IfSome, if◌then◌else◌};
 ghost use Rattle.warp_body.specs.declared.place.Target.TheVariants.{Startup, Timer, Action};
 ghost use Rattle.warp_prog.specs.Numbered.{nothing_before, past, place_among, variable_number, input_number};
 ghost use Rattle.warp_prog.specs.Numbered.{output_number, action_number, timer_number, readable, writable};
@@ -10,7 +10,7 @@ ghost use Rattle.warp_prog.specs.View.{reactor_tree};
 
 use crate::file::{PortName, Reactor};
 use crate::name::Name;
-use crate::named::{Named, is_among, is_same};
+use crate::named::{Named, is_same};
 use crate::scope::Before;
 use warp_body::Target;
 
@@ -38,6 +38,20 @@ pub(crate) fn past(before: &Before, reactor: &Reactor) -> Before
         ports: before.ports + (reactor.inputs.len() + reactor.outputs.len()),
         actions: before.actions + reactor.actions.len(),
         timers: before.timers + reactor.timers.len(),
+    }
+}
+
+/// The place of the first of these things that has this name, from 0, if one has it.
+pub(crate) fn place_of<T: Named>(things: &[T], name: &Name) -> Option<usize>
+    ensures among { is_some result ≡ is_among (map T.called things.now) name.now }
+    ensures place { IfSome result (λ place. place ≡ place_among (map T.called things.now) name.now) }
+    ensures within { IfSome result (λ place. place ≤ length things.now) }
+{
+    let place = place_among(things, name);
+    if place < things.len() {
+        Some(place)
+    } else {
+        None
     }
 }
 
@@ -86,23 +100,14 @@ pub(crate) fn action_number(before: &Before, reactor: &Reactor, name: &Name) -> 
     (before.actions + place_among(&reactor.actions, name)) as u32
 }
 
-/// The number of a timer of a reactor.
-fn timer_number(before: &Before, reactor: &Reactor, name: &Name) -> u32
-    requires { HasRoom before.now (reactor_tree reactor.now) }
-    ensures { result ≡ timer_number before.now (reactor_tree reactor.now) name.now }
-{
-    (before.timers + place_among(&reactor.timers, name)) as u32
-}
-
 /// What a name stands for where something is read: an input, an action, a timer, else startup.
 pub(crate) fn readable(before: &Before, reactor: &Reactor, name: &Name) -> Target
     requires { HasRoom before.now (reactor_tree reactor.now) }
     ensures { result ≡ readable before.now (reactor_tree reactor.now) name.now }
 {
-    if is_among(&reactor.inputs, name) {
-        Target::Port(input_number(before, reactor, name))
-    } else {
-        readable_cause(before, reactor, name)
+    match place_of(&reactor.inputs, name) {
+        Some(place) => Target::Port((before.ports + place) as u32),
+        None => readable_cause(before, reactor, name),
     }
 }
 
@@ -113,10 +118,9 @@ fn readable_cause(before: &Before, reactor: &Reactor, name: &Name) -> Target
         result ≡ (if is_among (action_names r) name.now then Action (action_number b r name.now)
         else (if is_among (timer_names r) name.now then Timer (timer_number b r name.now) else Startup)) }
 {
-    if is_among(&reactor.actions, name) {
-        Target::Action(action_number(before, reactor, name))
-    } else {
-        timer_or_startup(before, reactor, name)
+    match place_of(&reactor.actions, name) {
+        Some(place) => Target::Action((before.actions + place) as u32),
+        None => timer_or_startup(before, reactor, name),
     }
 }
 
@@ -126,10 +130,9 @@ fn timer_or_startup(before: &Before, reactor: &Reactor, name: &Name) -> Target
     ensures { let b = before.now in let r = reactor_tree reactor.now in
         result ≡ (if is_among (timer_names r) name.now then Timer (timer_number b r name.now) else Startup) }
 {
-    if is_among(&reactor.timers, name) {
-        Target::Timer(timer_number(before, reactor, name))
-    } else {
-        Target::Startup
+    match place_of(&reactor.timers, name) {
+        Some(place) => Target::Timer((before.timers + place) as u32),
+        None => Target::Startup,
     }
 }
 
@@ -138,10 +141,9 @@ pub(crate) fn writable(before: &Before, reactor: &Reactor, name: &Name) -> Targe
     requires { HasRoom before.now (reactor_tree reactor.now) }
     ensures { result ≡ writable before.now (reactor_tree reactor.now) name.now }
 {
-    if is_among(&reactor.outputs, name) {
-        Target::Port(output_number(before, reactor, name))
-    } else {
-        Target::Action(action_number(before, reactor, name))
+    match place_of(&reactor.outputs, name) {
+        Some(place) => Target::Port((before.ports + (reactor.inputs.len() + place)) as u32),
+        None => Target::Action(action_number(before, reactor, name)),
     }
 }
 

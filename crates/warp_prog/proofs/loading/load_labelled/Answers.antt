@@ -1,37 +1,19 @@
-use Rattle.std.proofs.Common.{◌≡◌, subst, sym, ◌∙◌}
-use Rattle.std.proofs.lemmas.Result.{err_from_is_err_and, IfErr-weaker, IfOk-weaker}
-use Rattle.std.specs.Bool.{IsTrue}
-use Rattle.warp_step.specs.Valid.{is_valid}
+use Rattle.std.proofs.Common.{◌≡◌, subst, sym}
+use Rattle.std.proofs.lemmas.Result.{IfErr-weaker, IfOk-weaker}
 use Rattle.warp_prog.specs.Load.{IsLoaded, IsRefused}
 use Rattle.warp_prog.specs.View.{file_tree}
 use Rattle.warp_prog.specs.declared.error.LoadError.TheVariants.{Memory}
-use Rattle.warp_prog.proofs.Fits.{fits-together}
-use Rattle.warp_prog.proofs.LoadLemmas.{not-read, read-file, first-fault, loaded}
+use Rattle.warp_prog.proofs.LoadLemmas.{read-file}
 use Rattle.warp_prog.proofs.loading.load_labelled.Goals as goal
-
-pub returns-in_err-file-clause-err : goal.returns-in_err-file-clause-err
-returns-in_err-file-clause-err c =
-    let p = err_from_is_err_and c.from_residual.result c.from_residual.ensures.1 in
-    rw (p.1, p.2) (not-read c.args.bytes.now c.in_err-file.field-0.0 c.in_err-file.ensures.err c.in_err-file.ensures.memory)
-
-pub returns-in_err-parts-clause-err : goal.returns-in_err-parts-clause-err
-returns-in_err-parts-clause-err c =
-    let p = err_from_is_err_and c.from_residual-in_err-parts.result c.from_residual-in_err-parts.ensures.1 in
-    rw (p.1, p.2) (first-fault c.args.bytes.now (file_tree c.in_ok-file.file) c.in_err-parts.field-0.0 c.in_ok-file.ensures.ok c.in_err-parts.ensures.err)
-
-pub new-requires : goal.new-requires
-new-requires c =
-    subst (λ P. IsTrue (is_valid P)) (sym c.in_ok-parts.ensures.parts) (fits-together (file_tree c.in_ok-file.file) c.in_ok-parts.ensures.faultless)
 
 pub returns-clause-program : goal.returns-clause-program
 returns-clause-program c =
-    IfOk-weaker c.with_labels.result (λ l. l.program ≡ c.new.result) (λ l. IsLoaded c.args.bytes.now l.program)
-    (λ l e. loaded c.args.bytes.now (file_tree c.in_ok-file.file) l.program c.in_ok-file.ensures.ok c.in_ok-parts.ensures.faultless
-    (e ∙ c.new.ensures ∙ c.in_ok-parts.ensures.parts))
+    IfOk-weaker c.with_labels.result (λ l. l.program ≡ c.in_ok-read.read.program) (λ l. IsLoaded c.args.bytes.now l.program)
+    (λ l e. subst (IsLoaded c.args.bytes.now) (sym e) c.in_ok-read.ensures.program)
     c.with_labels.ensures.program
 
 pub returns-clause-err : goal.returns-clause-err
 returns-clause-err c =
     IfErr-weaker c.with_labels.result (λ error. error ≡ Memory) (IsRefused c.args.bytes.now)
-    (λ error m. subst (IsRefused c.args.bytes.now) (sym m) (read-file c.args.bytes.now (file_tree c.in_ok-file.file) c.in_ok-file.ensures.ok).0)
+    (λ error m. subst (IsRefused c.args.bytes.now) (sym m) (read-file c.args.bytes.now (file_tree c.in_ok-read.read.file) c.in_ok-read.ensures.file).0)
     c.with_labels.ensures.err

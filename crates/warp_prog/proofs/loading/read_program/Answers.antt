@@ -5,7 +5,7 @@ use Rattle.warp_step.specs.Valid.{is_valid}
 use Rattle.warp_prog.specs.View.{file_tree}
 use Rattle.warp_prog.proofs.Fits.{fits-together}
 use Rattle.warp_prog.proofs.LoadLemmas.{not-read, first-fault, loaded}
-use Rattle.warp_prog.proofs.loading.load.Goals as goal
+use Rattle.warp_prog.proofs.loading.read_program.Goals as goal
 
 pub returns-in_err-file-clause-err : goal.returns-in_err-file-clause-err
 returns-in_err-file-clause-err c =
@@ -21,7 +21,7 @@ pub new-requires : goal.new-requires
 new-requires c =
     subst (λ P. IsTrue (is_valid P)) (sym c.in_ok-parts.ensures.parts) (fits-together (file_tree c.in_ok-file.file) c.in_ok-parts.ensures.faultless)
 
-pub returns-clause-ok : goal.returns-clause-ok
-returns-clause-ok c =
+pub returns-clause-program : goal.returns-clause-program
+returns-clause-program c =
     loaded c.args.bytes.now (file_tree c.in_ok-file.file) c.new.result c.in_ok-file.ensures.ok c.in_ok-parts.ensures.faultless
     (c.new.ensures ∙ c.in_ok-parts.ensures.parts)

@@ -4,7 +4,7 @@ use Rattle.warp_step.specs.Program.{rule_of}
 use Rattle.warp_step.specs.View.{program_of}
 use Rattle.warp_prog.specs.inner.Placing.{numbers_of, placed_behind}
 use Rattle.warp_prog.proofs.PlacingLemmas.{lists-many, loader-order-is}
-use Rattle.warp_prog.proofs.order.loader_order.Goals as goal
+use Rattle.warp_prog.proofs.order.place_reactions.Goals as goal
 
 pub place_all-requires-clause-few : goal.place_all-requires-clause-few
 place_all-requires-clause-few c =
@@ -13,8 +13,8 @@ place_all-requires-clause-few c =
     let few = c.requires in
     rw c.deref.ensures.value (omega (arith, many, size, few))
 
-pub returns : goal.returns
-returns c =
+pub returns-clause-order : goal.returns-clause-order
+returns-clause-order c =
     let its = c.in_ok-before.before.items in
     let P = program_of c.args.parts.now in
     let many = lists-many numbers_of its P c.in_ok-before.ensures in
