@@ -1,8 +1,8 @@
 //! The words of the command line.
 ghost use Rattle.std.specs.Prelude.{◌≡◌, ◌≤◌, [], IfErr, IfOk, IfSome, Some, codes, map, option_map};
 ghost use Rattle.std.specs.Prelude.{false};
-ghost use Rattle.clap.specs.Words.{app_of, fault_of, first_of, found_of, HasKind, rows_of, rule_of, subcommand_of};
-ghost use Rattle.clap.specs.Words.{subcommand_rows_of};
+ghost use Rattle.clap.specs.Words.{App, HasKind, app_of, fault_of, first_of, found_of, rows_of, rule_of};
+ghost use Rattle.clap.specs.Words.{subcommand_of, subcommand_rows_of};
 ghost use Rattle.clap.specs.Words.{with_rule, with_subcommand};
 ghost use Rattle.clap.specs.declared.builder.command.Command.TheViews.{out-Command as fields_of};
 ghost use Rattle.warp_words.specs.Words.{play_command, play_task, run_command, run_task, task_found, task_in, task_of};
@@ -375,64 +375,23 @@ fn command<'a>(alloc: Global) -> Result<Command<'a>, AllocError>
     ensures { IfOk result (λ c. app_of c ≡ warpd_command) }
 {
     let command = with_run(alloc)?;
-    let command = with_play(command, play(alloc))?;
-    let command = with_serve(command, serve(alloc))?;
-    let command = with_check(command, check(alloc))?;
-    with_trace(command, trace(alloc))
+    let command = with_more(command, play(alloc))?;
+    let command = with_more(command, serve(alloc))?;
+    let command = with_more(command, check(alloc))?;
+    with_more(command, trace(alloc))
 }
 
-/// The command with this subcommand `trace` too, if there was memory for it.
-fn with_trace<'a>(
+/// The command with one subcommand more, if there was memory for it.
+fn with_more<'a>(
     command: Command<'a>,
-    trace: Result<Command<'a>, AllocError>,
+    more: Result<Command<'a>, AllocError>,
 ) -> Result<Command<'a>, AllocError>
-    requires { IfOk trace (λ c. (app_of c ≡ trace_command) × ((fields_of c).has_globals ≡ false)) }
-    ensures { IfOk result (λ c. app_of c ≡ with_subcommand (app_of command.entry) trace_command.top) }
+    requires { IfOk more (λ c. (fields_of c).has_globals ≡ false) }
+    ensures { (shape : App) → IfOk more.entry (λ c. app_of c ≡ shape) →
+        IfOk result (λ c. app_of c ≡ with_subcommand (app_of command.entry) shape.top) }
 {
-    match trace {
-        Ok(trace) => command.subcommand(trace),
-        Err(error) => Err(error),
-    }
-}
-
-/// The command with this subcommand `check` too, if there was memory for it.
-fn with_check<'a>(
-    command: Command<'a>,
-    check: Result<Command<'a>, AllocError>,
-) -> Result<Command<'a>, AllocError>
-    requires { IfOk check (λ c. (app_of c ≡ check_command) × ((fields_of c).has_globals ≡ false)) }
-    ensures { IfOk result (λ c. app_of c ≡ with_subcommand (app_of command.entry) check_command.top) }
-{
-    match check {
-        Ok(check) => command.subcommand(check),
-        Err(error) => Err(error),
-    }
-}
-
-/// The command with this subcommand `serve` too, if there was memory for it.
-fn with_serve<'a>(
-    command: Command<'a>,
-    serve: Result<Command<'a>, AllocError>,
-) -> Result<Command<'a>, AllocError>
-    requires { IfOk serve (λ c. (app_of c ≡ serve_command) × ((fields_of c).has_globals ≡ false)) }
-    ensures { IfOk result (λ c. app_of c ≡ with_subcommand (app_of command.entry) serve_command.top) }
-{
-    match serve {
-        Ok(serve) => command.subcommand(serve),
-        Err(error) => Err(error),
-    }
-}
-
-/// The command with this subcommand `play` too, if there was memory for it.
-fn with_play<'a>(
-    command: Command<'a>,
-    play: Result<Command<'a>, AllocError>,
-) -> Result<Command<'a>, AllocError>
-    requires { IfOk play (λ c. (app_of c ≡ play_command) × ((fields_of c).has_globals ≡ false)) }
-    ensures { IfOk result (λ c. app_of c ≡ with_subcommand (app_of command.entry) play_command.top) }
-{
-    match play {
-        Ok(play) => command.subcommand(play),
+    match more {
+        Ok(more) => command.subcommand(more),
         Err(error) => Err(error),
     }
 }
