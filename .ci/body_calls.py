@@ -72,7 +72,7 @@ def leaf(dice):
     kind = dice.randrange(6)
     if kind == 0:
         return ["present", dice.choice(TARGETS)]
-    return dice.choice(VARIABLES) if kind < 3 else dice.choice(TARGETS if kind == 3 else NUMBERS + [dice.randint(-50, 50)])
+    return dice.choice(VARIABLES) if kind < 3 else dice.choice(INPUTS + ACTIONS if kind == 3 else NUMBERS + [dice.randint(-50, 50)])
 
 
 def term(dice, depth):
