@@ -8,14 +8,14 @@ mod make;
 mod notes;
 mod reader;
 mod rule;
+mod shared;
 mod spell;
 #[cfg(test)]
 mod tests;
-mod words;
 mod writer;
 
 pub use make::board;
 pub use reader::{Reader, join_readers, split_reader};
+pub use shared::{Board, MAX_ROWS};
 pub use spell::{PORTS, read_row, spell_row};
-pub use words::{Board, MAX_ROWS};
 pub use writer::{Full, Writer, meet};

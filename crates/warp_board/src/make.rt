@@ -5,7 +5,7 @@ ghost use Rattle.warp_board.specs.Board.{room_of};
 
 use crate::reader::Reader;
 use crate::rule::Copies;
-use crate::words::Board;
+use crate::shared::Board;
 use crate::writer::Writer;
 use atomic_table::Table;
 use std::alloc::Global;

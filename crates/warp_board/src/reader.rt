@@ -6,8 +6,8 @@ ghost use Rattle.warp_tag.specs.Lists.{StartsWith};
 ghost use Rattle.warp_board.specs.Board.{room_of};
 
 use crate::rule::{Copies, LoadCount, LoadFlag, LoadWord, TakesIn};
+use crate::shared::{Board, Seat};
 use crate::spell::read_row;
-use crate::words::{Board, Seat};
 use std::marker::Model;
 use warp_tag::Out;
 

@@ -7,8 +7,8 @@ ghost use Rattle.warp_board.specs.Notes.{at_rest};
 
 use crate::reader::Reader;
 use crate::rule::{Copies, LoadCount, StoreCount, StoreFlag, StoreWord, TakesIn};
+use crate::shared::{Board, Seat};
 use crate::spell::spell_row;
-use crate::words::{Board, Seat};
 use std::marker::Model;
 use std::mem;
 use warp_tag::{Out, OutOfMemory};

@@ -10,7 +10,7 @@ use Rattle.warp_record.specs.declared.record.Record.{Record}
 use Rattle.warp_record.specs.declared.record.Record.TheVariants.{Event, Withdraw, Announce}
 use Rattle.warp_line.specs.Timeline.{Standing, NowStands}
 use Rattle.warp_table.specs.Check.{refusal_of}
-use Rattle.warp_table.specs.Table.{with_record}
+use Rattle.warp_table.specs.LogNames.{with_record}
 use Rattle.warp_cases.specs.Timelines.{StandsFew}
 
 -- a record names one name more at most

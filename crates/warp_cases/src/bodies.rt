@@ -3,8 +3,8 @@
 //!
 //! - `set NUMBER VALUE` sets a variable; `timer`, `action` and `port`, with a number and a value, make this target
 //!   present; `clear` makes all absent;
-//! - `run NUMBER` runs the body of the reaction with this number in both ways: it tells the variables, the ports and the
-//!   wishes behind the compiled one, and whether the other one has the same.
+//! - `run NUMBER` runs the body of the reaction with this number in both ways: it tells the variables, the ports and
+//!   the wishes behind the compiled one, and whether the other one has the same.
 ghost use Rattle.std.specs.Prelude.{◌≡◌};
 ghost use Rattle.warp_body.specs.Term.{sizes_of};
 

@@ -11,7 +11,7 @@ ghost use Rattle.warp_replica.specs.Floor.{comes_behind};
 ghost use Rattle.warp_replica.specs.Gives.{tag_of};
 ghost use Rattle.warp_step.specs.Counter.{IsUnused};
 ghost use Rattle.warp_table.specs.Check.{refusal_of};
-ghost use Rattle.warp_table.specs.Table.{with_record};
+ghost use Rattle.warp_table.specs.LogNames.{with_record};
 ghost use Rattle.warp_tag.specs.Limits.{most_names};
 ghost use Rattle.warp_cases.specs.Timelines.{StandsFew};
 
@@ -123,7 +123,8 @@ fn take<T: Timeline, P: Print>(
     timeline: &mut T,
     text: &str,
 ) -> io::Result<()>
-    requires { (m : Standing) × T.stands_for timeline.old m × (length m.table < most_names) × (m.program ≡ program.now) }
+    requires { (m : Standing) × T.stands_for timeline.old m × (length m.table < most_names)
+        × (m.program ≡ program.now) }
     ensures { (calls : ℕ) → StandsFew T.stands_for timeline.old program.now calls →
         StandsFew T.stands_for timeline.new program.now (calls + 1) }
 {

@@ -10,7 +10,7 @@ use Rattle.warp_record.specs.declared.line.Line.TheVariants.{Collect}
 use Rattle.warp_record.specs.declared.reply.Refusal.TheVariants.{NoMemory}
 use Rattle.warp_record.specs.declared.reply.Reply.{Reply}
 use Rattle.warp_record.specs.declared.reply.Reply.TheVariants.{Refused}
-use Rattle.warp_table.specs.Table.{table_of}
+use Rattle.warp_table.specs.LogNames.{table_of}
 use Rattle.warp_replica.specs.Replica.{ReplicaState}
 use Rattle.warp_replica.specs.Floor.{CollectsTo, brings_behind}
 use Rattle.warp_replica.specs.Gives.{Gives}

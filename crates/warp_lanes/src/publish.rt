@@ -96,12 +96,12 @@ pub(crate) fn rows_before(rows: &[Out], sure: usize, news: Option<Tag>) -> usize
     let Some(tag) = news else {
         return sure;
     };
-    let known = front(rows, sure);
+    let known = first_of(rows, sure);
     known.partition_point(|row| row.tag.is_before(tag))
 }
 
 /// The first so many of the list.
-fn front(list: &[Out], count: usize) -> &[Out]
+fn first_of(list: &[Out], count: usize) -> &[Out]
     requires { count ≤ length list.now }
     ensures { result.now ≡ take count list.now }
 {

@@ -168,7 +168,7 @@ fn predecessors(alloc: Global, parts: &Parts, n: usize) -> Result<Vec<u32>, OutO
 {
     let reaction = &parts.reactions[n];
     let sources = sources_read(alloc, reaction, &parts.links)?;
-    let marks = marks_of(alloc, &sources, parts.ports.len())?;
+    let marks = marked_ports(alloc, &sources, parts.ports.len())?;
     let mut before = Vec::new(alloc);
     for (m, first) in parts.reactions.iter().enumerate() {
         let is_before = comes_before(first, m, reaction, n, &sources, &marks);
@@ -178,7 +178,7 @@ fn predecessors(alloc: Global, parts: &Parts, n: usize) -> Result<Vec<u32>, OutO
 }
 
 /// Marks for so many ports: whether each is among these.
-fn marks_of(alloc: Global, ports: &[u32], count: usize) -> Result<Vec<bool>, OutOfMemory>
+fn marked_ports(alloc: Global, ports: &[u32], count: usize) -> Result<Vec<bool>, OutOfMemory>
     ensures { IfOk result (λ marks. AreMarks marks.items ports.now) }
 {
     let mut marks = none_placed(alloc, count)?;

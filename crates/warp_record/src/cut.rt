@@ -125,8 +125,8 @@ fn front_number(bytes: &[u8], max: u64) -> Option<(u64, usize)>
     Some((number, count))
 }
 
-/// The number up to `max` that is the next word, and what is left behind it: for numbers that have more than one digit as
-/// a rule.
+/// The number up to `max` that is the next word, and what is left behind it: for numbers that have more than one digit
+/// as a rule.
 #[inline(always)]
 pub(crate) fn cut_number(text: &[u8], max: u64) -> Option<(u64, &[u8])>
     requires { max < 10 ^ FEW_DIGITS }

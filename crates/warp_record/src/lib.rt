@@ -16,7 +16,7 @@ mod record;
 mod record_text;
 mod reply;
 mod room;
-mod words;
+mod split;
 
 pub use count::{Count, MAX_COUNT};
 pub use feed::{Fed, Feed, MAX_LINE};
@@ -26,4 +26,4 @@ pub use number::read_u32;
 pub use record::{LAST_INPUT, Record, read_record, write_record};
 pub use reply::{Refusal, Reply, read_reply, write_reply};
 pub use room::REPLY_ROOM;
-pub use words::{MOST_WORDS, is_keyword, split_words};
+pub use split::{MOST_WORDS, is_keyword, split_words};

@@ -15,7 +15,7 @@ use crate::record::{Record, last_origin};
 use crate::record_text::{
     behind_announce, behind_event, behind_withdraw, read_announcement, read_event, read_withdrawal,
 };
-use crate::words::{is_keyword, split_words};
+use crate::split::{is_keyword, split_words};
 use warp_tag::Form;
 
 /// The first word of a query for a variable.

@@ -12,7 +12,7 @@ ghost use Rattle.warp_record.specs.Record.{IsRecord, record_words, record_spelli
 use crate::count::{Count, MAX_COUNT};
 use crate::number::{append, append_number, append_u32, read_int, read_number, read_u32};
 use crate::room::{RECORD_ROOM, REPLY_ROOM};
-use crate::words::is_keyword;
+use crate::split::is_keyword;
 use warp_tag::{Form, Tag};
 
 /// The last program input that a line can name.

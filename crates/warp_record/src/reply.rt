@@ -22,7 +22,7 @@ use crate::number::{
 };
 use crate::record::{Record, append_record, append_tag, read_record, read_tag};
 use crate::room::REPLY_ROOM;
-use crate::words::{is_keyword, split_words};
+use crate::split::{is_keyword, split_words};
 use itoa::write_digits;
 use warp_tag::{Form, Out, Tag};
 

@@ -14,7 +14,7 @@ use Rattle.warp_step.specs.Program.{Program}
 use Rattle.warp_line.specs.Timeline.{Standing}
 use Rattle.warp_table.specs.Names.{Tells}
 use Rattle.warp_table.specs.Records.{set_of}
-use Rattle.warp_table.specs.Table.{is_other, names_of}
+use Rattle.warp_table.specs.LogNames.{is_other, names_of}
 use Rattle.warp_table.proofs.ListedNames.{names_each}
 use Rattle.warp_table.proofs.Members.{Contains-from_map}
 use Rattle.warp_table.proofs.Told.{told_once}

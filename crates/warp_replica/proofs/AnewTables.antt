@@ -17,7 +17,7 @@ use Rattle.warp_step.specs.Program.{Program}
 use Rattle.warp_table.specs.Check.{refusal_of}
 use Rattle.warp_table.specs.Names.{IsOf, Tells, TellsPayload}
 use Rattle.warp_table.specs.Records.{IsIn, Records, set_of}
-use Rattle.warp_table.specs.Table.{table_of, with_record}
+use Rattle.warp_table.specs.LogNames.{table_of, with_record}
 use Rattle.warp_table.proofs.Members.{Contains-cases, Contains-here, Contains-there}
 use Rattle.warp_table.proofs.Sets.{in_set}
 use Rattle.warp_table.proofs.Told.{is_table, known_by_set, told_once, with_withdrawal_names}

@@ -24,7 +24,7 @@ use Rattle.warp_record.specs.declared.reply.Reply.TheVariants as reply
 use Rattle.warp_table.specs.Announced.{IsBroken, IsHorizon}
 use Rattle.warp_table.specs.Log.{EachOnce, IsAt}
 use Rattle.warp_table.specs.Records.{set_of}
-use Rattle.warp_table.specs.Table.{table_of}
+use Rattle.warp_table.specs.LogNames.{table_of}
 use Rattle.warp_table.specs.Check.{refusal_of}
 use Rattle.warp_replica.specs.Replica.{AreAllowed}
 use Rattle.warp_replica.specs.Answers.{Answers, AreAnswers, IsReleased, released_of}

@@ -11,7 +11,7 @@ use Rattle.warp_line.specs.Rework.{Change, Follow, AreAfter, AreNotBefore, Chang
 use Rattle.warp_line.proofs.ReworkLemmas.{few_ticks, new_ticks, no_ticks}
 use Rattle.warp_record.specs.declared.record.Record.{Record}
 use Rattle.warp_record.specs.declared.reply.Refusal.{Refusal}
-use Rattle.warp_table.specs.Table.{table_of}
+use Rattle.warp_table.specs.LogNames.{table_of}
 use Rattle.warp_step.specs.Program.{Program}
 use Rattle.warp_replica.specs.Floor.{comes_behind}
 use Rattle.warp_replica.specs.Gives.{Takes, came_in, tag_of}

@@ -13,7 +13,7 @@ use Rattle.warp_record.specs.declared.record.Record.{Record}
 use Rattle.warp_record.specs.declared.reply.Reply.{Reply}
 use Rattle.warp_table.specs.Log.{EachOnce}
 use Rattle.warp_table.specs.Records.{Records, set_of}
-use Rattle.warp_table.specs.Table.{table_of}
+use Rattle.warp_table.specs.LogNames.{table_of}
 use Rattle.warp_table.proofs.LiveEvents.{live_by_set, live_once}
 use Rattle.warp_table.proofs.Horizons.{one_horizon}
 use Rattle.warp_table.proofs.Sets.{one_size}

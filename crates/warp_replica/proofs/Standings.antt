@@ -12,7 +12,7 @@ use Rattle.warp_step.specs.Run.{Row}
 use Rattle.warp_step.proofs.TraceLemmas.{one_rest}
 use Rattle.warp_record.specs.declared.record.Record.{Record}
 use Rattle.warp_line.specs.Timeline.{Standing, KeepsDone, NowStands, lesser, rows_before}
-use Rattle.warp_table.specs.Table.{table_of, with_record}
+use Rattle.warp_table.specs.LogNames.{table_of, with_record}
 use Rattle.warp_table.proofs.Sizes.{table_more}
 use Rattle.warp_replica.specs.Gives.{tag_of}
 use Rattle.warp_replica.specs.Replica.{ReplicaState, standing_of, Stands}

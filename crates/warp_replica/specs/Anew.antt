@@ -8,7 +8,7 @@ use Rattle.warp_record.specs.declared.record.Record.{Record}
 use Rattle.warp_record.specs.declared.record.Record.TheVariants.{Event, Withdraw}
 use Rattle.warp_line.specs.Timeline.{Standing}
 use Rattle.warp_table.specs.Check.{refusal_of}
-use Rattle.warp_table.specs.Table.{with_record}
+use Rattle.warp_table.specs.LogNames.{with_record}
 
 -- the event of a name that has this payload
 abbrev pub event_of : Entry → ℕ × ℤ → Record

@@ -7,7 +7,7 @@ use Rattle.warp_step.specs.Run.{Row, is_after}
 use Rattle.warp_record.specs.declared.record.Record.{Record}
 use Rattle.warp_record.specs.declared.reply.Refusal.{Refusal}
 use Rattle.warp_line.specs.Timeline.{Standing, IsDone, KeepsDone, Settles}
-use Rattle.warp_table.specs.Table.{table_of}
+use Rattle.warp_table.specs.LogNames.{table_of}
 use Rattle.warp_replica.specs.Floor.{comes_behind, floor_after}
 use Rattle.warp_replica.specs.Gives.{Takes, came_in, tag_of}
 use Rattle.warp_replica.specs.Replica.{ReplicaState, standing_of, Stands}

@@ -12,7 +12,7 @@ use Rattle.warp_record.specs.declared.reply.Refusal.{Refusal}
 use Rattle.warp_line.specs.Timeline.{MovesFloor, is_behind, rows_before, rows_behind}
 use Rattle.warp_table.specs.Announced.{IsHorizon}
 use Rattle.warp_table.specs.Records.{set_of}
-use Rattle.warp_table.specs.Table.{table_of}
+use Rattle.warp_table.specs.LogNames.{table_of}
 use Rattle.warp_replica.specs.Gives.{came_in}
 use Rattle.warp_replica.specs.declared.took.Took.{Took}
 

@@ -5,7 +5,7 @@ use Rattle.warp_step.specs.Codes.{program_code}
 use Rattle.warp_step.specs.Program.{Program}
 use Rattle.warp_step.specs.Run.{Row}
 use Rattle.warp_record.specs.declared.record.Record.{Record}
-use Rattle.warp_table.specs.Table.{table_of}
+use Rattle.warp_table.specs.LogNames.{table_of}
 use Rattle.warp_table.specs.Check.{refusal_of}
 use Rattle.warp_line.specs.Timeline.{Standing}
 use Rattle.warp_record.specs.Codes.{record_code}

@@ -10,7 +10,7 @@ ghost use Rattle.warp_line.specs.Timeline.{Standing, NowStands};
 ghost use Rattle.warp_table.specs.Check.{refusal_of};
 ghost use Rattle.warp_table.specs.Names.{Tells};
 ghost use Rattle.warp_table.specs.Records.{set_of};
-ghost use Rattle.warp_table.specs.Table.{table_of, with_record};
+ghost use Rattle.warp_table.specs.LogNames.{table_of, with_record};
 ghost use Rattle.warp_replica.specs.Anew.{IsAllowedName, StandsWith, event_of, with_mark, with_name, with_payload};
 ghost use Rattle.warp_replica.specs.Anew.{withdrawal_of};
 ghost use Rattle.warp_replica.specs.Floor.{comes_behind};

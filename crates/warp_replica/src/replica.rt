@@ -14,7 +14,7 @@ ghost use Rattle.warp_table.specs.Log.{EachOnce, IsAt};
 ghost use Rattle.warp_table.specs.Check.{refusal_of};
 ghost use Rattle.warp_table.specs.Names.{origin_of};
 ghost use Rattle.warp_table.specs.Records.{set_of};
-ghost use Rattle.warp_table.specs.Table.{table_of};
+ghost use Rattle.warp_table.specs.LogNames.{table_of};
 ghost use Rattle.warp_replica.specs.Answers.{IsReleased};
 ghost use Rattle.warp_replica.specs.Chain.{TakeFirst};
 ghost use Rattle.warp_replica.specs.Floor.{CollectsTo, comes_behind, floor_after};

@@ -5,7 +5,7 @@ ghost use Rattle.warp_tag.specs.Table.{live};
 ghost use Rattle.warp_step.specs.Run.{Row, Run};
 ghost use Rattle.warp_line.specs.Begin.{last_after};
 ghost use Rattle.warp_line.specs.Rework.{rework};
-ghost use Rattle.warp_table.specs.Table.{table_of};
+ghost use Rattle.warp_table.specs.LogNames.{table_of};
 ghost use Rattle.warp_replica.specs.Chain.{Taking, TakeAll, ComeAhead, ChangeAfter, ChangeFrom, ChangeNone};
 ghost use Rattle.warp_replica.specs.Chain.{IsAllDone, SettlesWith};
 ghost use Rattle.warp_replica.specs.Replica.{ReplicaState, Stands};

@@ -5,8 +5,8 @@ use denote.Struct.Field.{row_field}
 use denote.Param.Send.{IsSend, shr_send}
 use denote.Param.SendFields.{declared_send, as_row_send}
 use Rattle.warp_line.specs.declared.timeline.Timeline as timeline
-use Rattle.warp_board.specs.contracts.words.Board as board
-use Rattle.warp_board.proofs.words.Board.TheSendSync as board_crosses
+use Rattle.warp_board.specs.contracts.shared.Board as board
+use Rattle.warp_board.proofs.shared.Board.TheSendSync as board_crosses
 use Rattle.warp_lanes.proofs.SentEngines.{engine_send}
 use Rattle.warp_session.specs.contracts.executor.Executor as executor
 

@@ -358,9 +358,9 @@ fn serve_beside<
     )
 }
 
-/// Serves so many sessions of a replica of this program that has taken no record yet, over a timeline of this type. They
-/// come to the door, and each has a thread of its own, as has each pull from a peer. One thread holds the replica and
-/// answers all their lines. It returns when all have ended, and gives back the engine that served them.
+/// Serves so many sessions of a replica of this program that has taken no record yet, over a timeline of this type.
+/// They come to the door, and each has a thread of its own, as has each pull from a peer. One thread holds the replica
+/// and answers all their lines. It returns when all have ended, and gives back the engine that served them.
 pub fn serve_sessions<
     X: Threads + Wait + Clock + Sync,
     T: Timeline + Send + Drop,

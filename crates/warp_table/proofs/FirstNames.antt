@@ -10,7 +10,7 @@ use Rattle.warp_tag.specs.Moment.{Moment, is_same}
 use Rattle.warp_tag.proofs.Lists.{filter-here, filter-past}
 use Rattle.warp_record.specs.declared.record.Record.{Record}
 use Rattle.warp_record.specs.declared.record.Record.TheVariants.{Event, Withdraw, Announce}
-use Rattle.warp_table.specs.Table.{is_other, names_of}
+use Rattle.warp_table.specs.LogNames.{is_other, names_of}
 use Rattle.warp_table.specs.declared.names.Name.{Name}
 use Rattle.warp_table.specs.inner.Kept.{is_named}
 use Rattle.warp_table.proofs.Sets.{same_name}

@@ -12,7 +12,7 @@ use Rattle.warp_record.specs.declared.record.Record.{Record}
 use Rattle.warp_record.specs.declared.record.Record.TheVariants.{Event, Withdraw, Announce}
 use Rattle.warp_table.specs.Names.{IsOf, Tells, TellsEntry}
 use Rattle.warp_table.specs.Records.{set_of}
-use Rattle.warp_table.specs.Table.{is_other, names_of}
+use Rattle.warp_table.specs.LogNames.{is_other, names_of}
 use Rattle.warp_table.specs.declared.names.Name.{Name}
 use Rattle.warp_table.specs.inner.Kept.{KeepsNames, is_named, kept_of, put}
 use Rattle.warp_table.proofs.FirstNames.{is_one, is_one-Decides, named-Decides, names_announce, names_event, with_name}

@@ -10,7 +10,7 @@ use Rattle.warp_record.specs.declared.record.Record.{Record}
 use Rattle.warp_record.specs.declared.record.Record.TheVariants.{Event, Withdraw, Announce}
 use Rattle.warp_table.specs.Names.{IsOf}
 use Rattle.warp_table.specs.Records.{IsIn, set_of}
-use Rattle.warp_table.specs.Table.{is_other, names_of}
+use Rattle.warp_table.specs.LogNames.{is_other, names_of}
 use Rattle.warp_table.proofs.FirstNames.{is_one, is_one-Decides}
 use Rattle.warp_table.proofs.Members.{Contains-cases, Contains-here, Contains-nil, Contains-there, kept_passes, passes_kept}
 use Rattle.warp_table.proofs.Sets.{in_set}

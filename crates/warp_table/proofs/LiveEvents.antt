@@ -13,7 +13,7 @@ use Rattle.warp_record.specs.declared.record.Record.{Record}
 use Rattle.warp_record.specs.declared.record.Record.TheVariants as said
 use Rattle.warp_table.specs.Names.{IsLive, IsLiveEvent, Tells, TellsPayload, event_before}
 use Rattle.warp_table.specs.Records.{Records, set_of}
-use Rattle.warp_table.specs.Table.{table_of}
+use Rattle.warp_table.specs.LogNames.{table_of}
 use Rattle.warp_table.proofs.Orders.{All-cons_option, AllPairs-cons_option, Contains-cons_option, cons_option-here, cons_option-there, one_order}
 use Rattle.warp_table.proofs.Told.{is_table, known_by_set, one_payload}
 

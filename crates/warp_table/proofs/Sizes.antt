@@ -6,7 +6,7 @@ use Rattle.warp_tag.specs.declared.entry.Entry.{Entry}
 use Rattle.warp_tag.proofs.Tables.{length-changed}
 use Rattle.warp_record.specs.declared.record.Record.{Record}
 use Rattle.warp_record.specs.declared.record.Record.TheVariants.{Event, Withdraw, Announce}
-use Rattle.warp_table.specs.Table.{with_record, table_of}
+use Rattle.warp_table.specs.LogNames.{with_record, table_of}
 
 -- one more record changes its one name
 pub table_more : (records : List Record) (said : Record) → table_of (records ++ said ∷ []) ≡ with_record (table_of records) said

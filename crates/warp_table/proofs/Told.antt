@@ -15,7 +15,7 @@ use Rattle.warp_record.specs.declared.record.Record.{Record}
 use Rattle.warp_record.specs.declared.record.Record.TheVariants.{Event, Withdraw, Announce}
 use Rattle.warp_table.specs.Names.{IsOf, HasEvent, HasWithdrawal, TellsPayload, Tells}
 use Rattle.warp_table.specs.Records.{IsIn, Records, same_record, set_of, union}
-use Rattle.warp_table.specs.Table.{with_record, table_of}
+use Rattle.warp_table.specs.LogNames.{with_record, table_of}
 use Rattle.warp_table.proofs.Sets.{same_record-Decides, set_append}
 
 -- sets that have the same records of a name tell the same of it

@@ -1,7 +1,7 @@
 pub mod Log
 pub mod Records
 pub mod Names
-pub mod Table
+pub mod LogNames
 pub mod Check
 pub mod Announced
 pub mod inner

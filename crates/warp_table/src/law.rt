@@ -6,7 +6,7 @@ ghost use Rattle.warp_tag.specs.declared.entry.Entry.{Entry};
 ghost use Rattle.warp_record.specs.declared.record.Record.{Record};
 ghost use Rattle.warp_table.specs.Names.{IsLive, IsOf, Tells};
 ghost use Rattle.warp_table.specs.Records.{HasSize, IsIn, Records, set_of, union};
-ghost use Rattle.warp_table.specs.Table.{names_of, table_of};
+ghost use Rattle.warp_table.specs.LogNames.{names_of, table_of};
 
 /// The set of a list has just the list's records.
 pub fn in_set()

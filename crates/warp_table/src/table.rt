@@ -19,7 +19,7 @@ ghost use Rattle.warp_table.specs.Check.{refusal_of};
 ghost use Rattle.warp_table.specs.Log.{IsAt};
 ghost use Rattle.warp_table.specs.Names.{Tells, origin_of};
 ghost use Rattle.warp_table.specs.Records.{set_of};
-ghost use Rattle.warp_table.specs.Table.{names_of};
+ghost use Rattle.warp_table.specs.LogNames.{names_of};
 ghost use Rattle.warp_table.specs.inner.Heard.{Announced, AreHeard, IsHeard, heard_at, with_tag};
 ghost use Rattle.warp_table.specs.inner.Kept.{HoldsEvent, IsAdded, Keeps, NotesEvent, counts_less, entry_of};
 ghost use Rattle.warp_table.specs.inner.Kept.{event_place, is_named, known_of, other_place, parted_of, payload_at};

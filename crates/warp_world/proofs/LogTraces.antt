@@ -16,7 +16,7 @@ use Rattle.warp_record.specs.declared.record.Record.TheVariants.{Event, Withdraw
 use Rattle.warp_table.specs.Announced.{IsHorizon}
 use Rattle.warp_table.specs.Check.{refusal_of}
 use Rattle.warp_table.specs.Records.{set_of}
-use Rattle.warp_table.specs.Table.{table_of, with_record}
+use Rattle.warp_table.specs.LogNames.{table_of, with_record}
 use Rattle.warp_table.proofs.Allowed.{allowed_takes}
 use Rattle.warp_table.proofs.LiveEvents.{live_by_set}
 use Rattle.warp_replica.specs.Replica.{AreAllowed}

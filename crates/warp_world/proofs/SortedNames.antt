@@ -16,7 +16,7 @@ use Rattle.warp_tag.proofs.Names.{Above, behind, name_before_trans, named_is}
 use Rattle.warp_record.specs.declared.record.Record.{Record}
 use Rattle.warp_table.specs.Names.{Tells}
 use Rattle.warp_table.specs.Records.{set_of}
-use Rattle.warp_table.specs.Table.{names_of, table_of}
+use Rattle.warp_table.specs.LogNames.{names_of, table_of}
 use Rattle.warp_table.proofs.ListedNames.{names_each}
 use Rattle.warp_table.proofs.Members.{AllPairs-tail, Contains-cases, Contains-from_map, Contains-here, Contains-map, Contains-nil, Contains-there}
 use Rattle.warp_table.proofs.Orders.{AllPairs-head}

@@ -2,7 +2,7 @@
 ghost use Rattle.std.specs.Prelude.{◌≡◌, All, IfOk, Some, map};
 ghost use Rattle.warp_table.specs.Names.{Tells};
 ghost use Rattle.warp_table.specs.Records.{set_of};
-ghost use Rattle.warp_table.specs.Table.{names_of, table_of};
+ghost use Rattle.warp_table.specs.LogNames.{names_of, table_of};
 
 use std::alloc::Global;
 use warp_table::Table;

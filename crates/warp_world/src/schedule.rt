@@ -1,5 +1,5 @@
-//! Schedule files, read: a line with the number of replicas, and a line for each move, whose ranges are those of a form.
-//! Each schedule has one text.
+//! Schedule files, read: a line with the number of replicas, and a line for each move, whose ranges are those of a
+//! form. Each schedule has one text.
 ghost use Rattle.std.specs.Prelude.{◌≡◌, ◌≢◌, ℕ, ◌<◌, List, [], ◌∷◌, ◌++◌, IfSome, IfNone, IfOk, IfErr, codes, decimal};
 ghost use Rattle.std.specs.Prelude.{length, map};
 ghost use Rattle.std.specs.List.{slice_split};
@@ -111,7 +111,8 @@ fn read_carry(form: Form, words: &[&[u8]]) -> Option<Move>
     Some(Move::Carry { from, place, to })
 }
 
-/// The move in range in this form whose words are this one and these, which are two or more; `None` where there is none.
+/// The move in range in this form whose words are this one and these, which are two or more; `None` where there is
+/// none.
 fn read_long(form: Form, word: &[u8], fields: &[&[u8]]) -> Option<Move>
     requires { 1 < length fields.now }
     ensures found { IfSome result
@@ -150,7 +151,8 @@ fn read_short(form: Form, word: &[u8], replica: &[u8]) -> Option<Move>
 /// The move in range in this form whose words these are; `None` where there is none.
 fn move_of(form: Form, words: &[&[u8]]) -> Option<Move>
     ensures found { IfSome result (λ next. IsMove form next × (map (λ word. word.now) words.now ≡ move_words next)) }
-    ensures none { IfNone result ((next : Move) → IsMove form next → map (λ word. word.now) words.now ≢ move_words next) }
+    ensures none { IfNone result
+        ((next : Move) → IsMove form next → map (λ word. word.now) words.now ≢ move_words next) }
 {
     match words {
         [] | [_] => None,
@@ -188,7 +190,8 @@ fn read_count(bytes: &[u8]) -> Option<(usize, &[u8])>
     Some((count, rest))
 }
 
-/// The move in range in this form that the first line spells, and the bytes behind the line; `None` where it spells none.
+/// The move in range in this form that the first line spells, and the bytes behind the line; `None` where it spells
+/// none.
 fn read_move(form: Form, bytes: &[u8]) -> Option<(Move, &[u8])>
     ensures found { IfSome result (λ read. IsMove form read.0 × (bytes.now ≡ line (move_words read.0) ++ read.1.now)) }
     ensures none { IfNone result

@@ -4,8 +4,8 @@ ghost use Rattle.warp_tag.specs.declared.form.Form.{Form};
 ghost use Rattle.warp_world.specs.Schedule.{IsRefusedAt, SpellsSchedule};
 ghost use Rattle.warp_world.specs.declared.moves.Move.{Move};
 
-/// No file spells two schedules, also in two forms; in one form it is not refused at two lines, nor does it both spell a
-/// schedule and get refused.
+/// No file spells two schedules, also in two forms; in one form it is not refused at two lines, nor does it both spell
+/// a schedule and get refused.
 pub fn one_schedule()
     ensures schedule { (f g : Form) (bytes : List ℕ) (count other : ℕ) (moves others : List Move) →
         SpellsSchedule f bytes count moves → SpellsSchedule g bytes other others → (count ≡ other) × (moves ≡ others) }

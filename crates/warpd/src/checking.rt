@@ -95,8 +95,8 @@ fn bytes_account(
     }
 }
 
-/// How the run ends where these bytes were refused; where and why goes to the remark, if there is memory for it. Want of
-/// memory is no fault of the bytes, and has no reason in them.
+/// How the run ends where these bytes were refused; where and why goes to the remark, if there is memory for it. Want
+/// of memory is no fault of the bytes, and has no reason in them.
 fn explained(alloc: Global, bytes: &[u8], error: LoadError, remark: &mut String) -> Outcome
     ensures { result ≡ refused_outcome error }
 {

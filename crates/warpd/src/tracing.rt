@@ -1,5 +1,5 @@
-//! What `warpd trace` does: it takes the records that lines bring, and then prints the rows of the run over them, or has a
-//! replica take them one by one, and prints its steps.
+//! What `warpd trace` does: it takes the records that lines bring, and then prints the rows of the run over them, or
+//! has a replica take them one by one, and prints its steps.
 ghost use Rattle.std.specs.Prelude.{◌≡◌, ◌≢◌, ◌≤◌, ◌⊎◌, [], false, true, IfSome, None, length};
 ghost use Rattle.warp_tag.specs.Limits.{most_reads};
 ghost use Rattle.warp_table.specs.Records.{set_of};
@@ -45,7 +45,8 @@ fn trace_at<R: Source, W: Sink>(
     }
 }
 
-/// Puts the lines of the source to the desk. What it replies is not written, but the remark tells which lines it refused.
+/// Puts the lines of the source to the desk. What it replies is not written, but the remark tells which lines it
+/// refused.
 fn read_lines<R: Source, W: Sink>(
     alloc: Global,
     desk: &mut Gatherer,

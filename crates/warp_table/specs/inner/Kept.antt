@@ -12,7 +12,7 @@ use Rattle.warp_record.specs.declared.record.Record.TheVariants.{Event, Withdraw
 use Rattle.warp_table.specs.Log.{IsAt}
 use Rattle.warp_table.specs.Names.{Tells}
 use Rattle.warp_table.specs.Records.{same_record, set_of}
-use Rattle.warp_table.specs.Table.{names_of}
+use Rattle.warp_table.specs.LogNames.{names_of}
 use Rattle.warp_table.specs.declared.rows.Known.{Known}
 use Rattle.warp_table.specs.declared.names.Name.{Name}
 use Rattle.warp_table.specs.declared.table.Parted.{Parted}

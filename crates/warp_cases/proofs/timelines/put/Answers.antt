@@ -1,5 +1,5 @@
 use Rattle.std.proofs.Common.{ap}
-use Rattle.warp_table.specs.Table.{with_record}
+use Rattle.warp_table.specs.LogNames.{with_record}
 use Rattle.warp_replica.specs.Gives.{tag_of}
 use Rattle.warp_replica.proofs.Standings.{no_name}
 use Rattle.warp_cases.proofs.timelines.put.Goals as goal

@@ -26,8 +26,8 @@ same_out a b =
 pub behind-missing-requires : goal.behind-missing-requires
 behind-missing-requires c =
     let s = c.requires.sure in
-    let front : length (take c.args.sure c.args.rows.now) ≡ c.args.sure = length-take-le c.args.sure c.args.rows.now c.requires.within in
-    omega (arith, front, ap length s.1, length-append (take c.args.sure c.args.rows.now) s.0)
+    let first_of : length (take c.args.sure c.args.rows.now) ≡ c.args.sure = length-take-le c.args.sure c.args.rows.now c.requires.within in
+    omega (arith, first_of, ap length s.1, length-append (take c.args.sure c.args.rows.now) s.0)
 
 pub returns : goal.returns
 returns c =

@@ -1,6 +1,6 @@
 -- the names give the table of the log, and the record comes behind them
 use Rattle.std.proofs.Common.{[], fold, All, sym, ap, subst, ◌∙◌, arith}
-use Rattle.warp_table.specs.Table.{table_of}
+use Rattle.warp_table.specs.LogNames.{table_of}
 use Rattle.warp_table.proofs.Sizes.{length-table_of}
 use Rattle.warp_replica.specs.Anew.{IsAllowedName, StandsWith, with_name}
 use Rattle.warp_replica.proofs.AnewTables.{names_allowed, names_give}

@@ -1,6 +1,6 @@
 -- one name more, or all
 use Rattle.std.proofs.Common.{◌∙◌, ◌+◌, sym, subst, arith, take_all}
-use Rattle.warp_table.specs.Table.{names_of}
+use Rattle.warp_table.specs.LogNames.{names_of}
 use Rattle.warp_replica.proofs.AnewNames.{AreFirst, few_names, first_more}
 use Rattle.warp_world.proofs.names.all_names.Goals as goal
 

@@ -9,7 +9,7 @@ use Rattle.warp_step.specs.Run.{Row, Run}
 use Rattle.warp_step.specs.Snapshot.{start_state}
 use Rattle.warp_table.specs.Announced.{IsHorizon}
 use Rattle.warp_table.specs.Records.{set_of}
-use Rattle.warp_table.specs.Table.{table_of}
+use Rattle.warp_table.specs.LogNames.{table_of}
 use Rattle.warp_world.specs.Printed.{PrintsText}
 use Rattle.warp_world.specs.Trace.{row_lines}
 use Rattle.warp_world.specs.declared.printer.TraceFault.TheVariants.{NoMemory}

@@ -7,7 +7,7 @@ use Rattle.warp_record.specs.declared.record.Record.{Record}
 use Rattle.warp_line.specs.Timeline.{KeepsDone}
 use Rattle.warp_table.specs.Check.{refusal_of}
 use Rattle.warp_table.proofs.BlockLists.{not_false, not_true}
-use Rattle.warp_table.specs.Table.{table_of, with_record}
+use Rattle.warp_table.specs.LogNames.{table_of, with_record}
 use Rattle.warp_table.proofs.Sizes.{length-table_of, table_more}
 use Rattle.warp_replica.specs.Replica.{AreAllowed, ReplicaState, standing_of, Stands}
 use Rattle.warp_replica.specs.Floor.{comes_behind}

@@ -4,7 +4,7 @@ use Rattle.warp_step.proofs.TraceExists.{exists}
 use Rattle.warp_record.specs.declared.line.Query.TheVariants.{Breach}
 use Rattle.warp_record.specs.declared.reply.Refusal.TheVariants.{NoOrigin}
 use Rattle.warp_record.specs.declared.reply.Reply.TheVariants as reply
-use Rattle.warp_table.specs.Table.{table_of}
+use Rattle.warp_table.specs.LogNames.{table_of}
 use Rattle.warp_replica.specs.Gives.{GivesQuery}
 use Rattle.warp_replica.proofs.Answering.{gives_breach, gives_no_origin}
 use Rattle.warp_replica.proofs.SomeHorizon.{announced_to}

@@ -6,7 +6,7 @@ use Rattle.warp_step.specs.Snapshot.{start_state}
 use Rattle.warp_step.proofs.TraceLemmas.{one_rest}
 use Rattle.warp_line.specs.Timeline.{MovesFloor, rows_before, rows_behind}
 use Rattle.warp_table.specs.Records.{set_of}
-use Rattle.warp_table.specs.Table.{table_of}
+use Rattle.warp_table.specs.LogNames.{table_of}
 use Rattle.warp_table.proofs.Horizons.{one_horizon}
 use Rattle.warp_replica.specs.Floor.{CollectsTo}
 use Rattle.warp_replica.proofs.replica.Replica.collect.Goals as goal

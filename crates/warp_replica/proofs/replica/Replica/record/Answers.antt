@@ -3,7 +3,7 @@ use Rattle.warp_tag.specs.Table.{live}
 use Rattle.warp_step.proofs.TraceExists.{exists}
 use Rattle.warp_record.specs.declared.line.Query.TheVariants.{Log}
 use Rattle.warp_record.specs.declared.reply.Reply.TheVariants as reply
-use Rattle.warp_table.specs.Table.{table_of}
+use Rattle.warp_table.specs.LogNames.{table_of}
 use Rattle.warp_replica.specs.Gives.{GivesQuery}
 use Rattle.warp_replica.proofs.Answering.{allowed_at, at_place, at_none, gives_log}
 use Rattle.warp_replica.proofs.SomeHorizon.{announced_to}

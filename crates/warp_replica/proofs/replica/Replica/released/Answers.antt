@@ -10,7 +10,7 @@ use Rattle.warp_step.specs.Run.{outputs_until}
 use Rattle.warp_step.proofs.OutputsBefore.{outputs_partitioned, outputs_point}
 use Rattle.warp_table.specs.Log.{EachOnce}
 use Rattle.warp_table.specs.Records.{set_of}
-use Rattle.warp_table.specs.Table.{table_of}
+use Rattle.warp_table.specs.LogNames.{table_of}
 use Rattle.warp_replica.specs.Answers.{IsReleased}
 use Rattle.warp_replica.proofs.Answering.{few_ports, released_before}
 use Rattle.warp_replica.proofs.SomeHorizon.{announced_before}

@@ -1,9 +1,9 @@
--- proofs/order/marks_of/Answers.antt
+-- proofs/order/marked_ports/Answers.antt
 use Rattle.std.proofs.Common.{ap, get_or, take, ◌+◌, ◌∙◌}
 use Rattle.std.proofs.lemmas.List.{take_more, take_all}
 use Rattle.warp_prog.specs.Order.{stands_in}
 use Rattle.warp_prog.proofs.MarkLemmas.{no-marks, marks-more}
-use Rattle.warp_prog.proofs.order.marks_of.Goals as goal
+use Rattle.warp_prog.proofs.order.marked_ports.Goals as goal
 
 pub loop-port-init : goal.loop-port-init
 loop-port-init c = no-marks c.in_ok-marks.marks.items c.args.count c.in_ok-marks.ensures

@@ -5,8 +5,8 @@ use Rattle.std.proofs.lemmas.List.{length-append, length-map, length-take, take_
 use Rattle.std.proofs.lemmas.List.Splits.{slice_split_none}
 use Rattle.warp_record.specs.Number.{is_space, IsOneWord}
 use Rattle.warp_record.proofs.WordCuts.{some_word, word_goes_on, word_ends}
-use Rattle.warp_record.proofs.words.split_words.Goals as goal
-use Rattle.warp_record.proofs.words.split_words.Goals.{then-byte-eq32+in_ok-push_word, else-byte-eq32}
+use Rattle.warp_record.proofs.split.split_words.Goals as goal
+use Rattle.warp_record.proofs.split.split_words.Goals.{then-byte-eq32+in_ok-push_word, else-byte-eq32}
 
 pub returns-in_err-push_word-clause-none : goal.returns-in_err-push_word-clause-none
 returns-in_err-push_word-clause-none c =

@@ -2,7 +2,7 @@
 use Rattle.std.proofs.Common.{◌≡◌, ◌≤◌, ◌-◌, ◌++◌, map, take, drop}
 use Rattle.std.specs.List.{slice_split}
 use Rattle.warp_record.specs.Number.{is_space, IsOneWord}
-use Rattle.warp_record.proofs.words.split_words.Given as goal
+use Rattle.warp_record.proofs.split.split_words.Given as goal
 
 abbrev pub invariant-loop-place : goal.invariant-loop-place
 invariant-loop-place l = record {
