@@ -1,9 +1,13 @@
 -- A timeline with rollback may go to another thread.
 use denote.Param.Send.{IsSend, sendable}
-use denote.Param.SendFields.{declared_send}
+use denote.Param.SendFields.{declared_send, variants_send}
 use Rattle.std.proofs.Crossing.{crosses}
 use Rattle.warp_body.proofs.expr.Expr.TheLaws.TheKnot as expr
 use Rattle.warp_body.proofs.stmt.Stmt.TheLaws.TheKnot as stmt
+use Rattle.warp_body.specs.contracts.instruction.Operand as operand
+use Rattle.warp_body.specs.contracts.instruction.Place as place
+use Rattle.warp_body.specs.contracts.instruction.Instruction as instruction
+use Rattle.warp_body.specs.contracts.code.Code as code
 use Rattle.warp_step.specs.contracts.one_step.Scratch as scratch
 use Rattle.warp_step.proofs.state.State.TheSendSync as state
 use Rattle.warp_arena.proofs.arena.Arena.TheSendSync as arena
@@ -12,9 +16,23 @@ use Rattle.warp_run.proofs.aside.Aside.TheSendSync as aside
 use Rattle.warp_run.specs.contracts.front.Front as front
 use Rattle.warp_run.specs.contracts.warp.Warp as warp
 
--- what wishes hold are expressions, which hold themselves
+operand_send : IsSend operand.the_row
+operand_send = search sendable depth 60
+
+place_send : IsSend place.the_row
+place_send = search sendable depth 60
+
+-- an instruction may hold an expression
+instruction_send : IsSend instruction.the_row
+instruction_send = variants_send instruction.enum ((place_send, (operand_send, tt)), ((search sendable depth 60, (place_send, (operand_send, tt))), ((search sendable depth 60, (place_send, (operand_send, (operand_send, tt)))), ((place_send, (operand_send, (operand_send, (operand_send, tt)))), ((search sendable, (search sendable, (search sendable, (operand_send, tt)))), ((search sendable, (search sendable, tt)), ((search sendable, (search sendable, (operand_send, tt))), ((place_send, (search (crosses, expr.crosses, sendable) depth 60 fits 20000, tt)), ((search sendable, tt), ((operand_send, (search sendable, (search sendable, tt))), ((operand_send, (operand_send, (search sendable, (search sendable, tt)))), ((operand_send, (operand_send, (search sendable, (search sendable, tt)))), tt))))))))))))
+
+-- and a body's code holds its statements
+code_send : IsSend code.the_row
+code_send = search (crosses, expr.crosses, stmt.crosses, instruction_send, sendable) depth 60 fits 20000
+
+-- what a plan holds is code
 scratch_send : IsSend scratch.the_row
-scratch_send = search (crosses, expr.crosses, stmt.crosses, sendable) depth 60 fits 20000
+scratch_send = search (crosses, code_send, sendable) depth 60 fits 20000
 
 front_send : IsSend front.the_row
 front_send = declared_send front.the_type (
