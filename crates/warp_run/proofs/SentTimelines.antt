@@ -22,9 +22,42 @@ operand_send = search sendable depth 60
 place_send : IsSend place.the_row
 place_send = search sendable depth 60
 
--- an instruction may hold an expression
+-- an instruction, variant after variant: one may hold an expression
 instruction_send : IsSend instruction.the_row
-instruction_send = variants_send instruction.enum ((place_send, (operand_send, tt)), ((search sendable depth 60, (place_send, (operand_send, tt))), ((search sendable depth 60, (place_send, (operand_send, (operand_send, tt)))), ((place_send, (operand_send, (operand_send, (operand_send, tt)))), ((search sendable, (search sendable, (search sendable, (operand_send, tt)))), ((search sendable, (search sendable, tt)), ((search sendable, (search sendable, (operand_send, tt))), ((place_send, (search (crosses, expr.crosses, sendable) depth 60 fits 20000, tt)), ((search sendable, tt), ((operand_send, (search sendable, (search sendable, tt))), ((operand_send, (operand_send, (search sendable, (search sendable, tt)))), ((operand_send, (operand_send, (search sendable, (search sendable, tt)))), tt))))))))))))
+instruction_send = variants_send instruction.enum (
+  (place_send, (operand_send, tt)),
+  (
+    (search sendable depth 60, (place_send, (operand_send, tt))),
+    (
+      (search sendable depth 60, (place_send, (operand_send, (operand_send, tt)))),
+      (
+        (place_send, (operand_send, (operand_send, (operand_send, tt)))),
+        (
+          (search sendable, (search sendable, (search sendable, (operand_send, tt)))),
+          (
+            (search sendable, (search sendable, tt)),
+            (
+              (search sendable, (search sendable, (operand_send, tt))),
+              (
+                (place_send, (search (crosses, expr.crosses, sendable) depth 60 fits 20000, tt)),
+                (
+                  (search sendable, tt),
+                  (
+                    (operand_send, (search sendable, (search sendable, tt))),
+                    (
+                      (operand_send, (operand_send, (search sendable, (search sendable, tt)))),
+                      ((operand_send, (operand_send, (search sendable, (search sendable, tt)))), tt),
+                    ),
+                  ),
+                ),
+              ),
+            ),
+          ),
+        ),
+      ),
+    ),
+  ),
+)
 
 -- and a body's code holds its statements
 code_send : IsSend code.the_row
