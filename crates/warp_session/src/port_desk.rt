@@ -40,8 +40,8 @@ impl<'a, X: Wait + Clock> Model for PortDesk<'a, X> {
 }
 
 impl<'a, X: Wait + Clock> PortDesk<'a, X> {
-    /// The desk of this port, whose lane an engine serves, of this reader of the board, and of lines of this form, which
-    /// the engine's program has. It waits by `rt`.
+    /// The desk of this port, whose lane an engine serves, of this reader of the board, and of lines of this form,
+    /// which the engine's program has. It waits by `rt`.
     pub fn new(
         rt: &'a X,
         board: &'a Board,

@@ -291,9 +291,9 @@ impl Conversation {
 }
 
 /// Asks the other replica, whose replies come by `source` and whose lines go by `sink`, for its log, place after place,
-/// and puts its records to `desk`. It reads the replies in the form of the desk's program: one that is none of that form
-/// ends it as any other that does not read. It ends where so many replies in a row, `quiet`, were that the other log has
-/// no more, at least one; behind each of these, and behind a refusal that passes, it sleeps for `pause`.
+/// and puts its records to `desk`. It reads the replies in the form of the desk's program: one that is none of that
+/// form ends it as any other that does not read. It ends where so many replies in a row, `quiet`, were that the other
+/// log has no more, at least one; behind each of these, and behind a refusal that passes, it sleeps for `pause`.
 pub fn pull<X: Clock, R: Source, W: Sink, D: Desk>(
     rt: &X,
     alloc: Global,
