@@ -1,5 +1,5 @@
 //! The thread that holds the replica: it serves the lanes of all desks, and publishes what is released.
-ghost use Rattle.std.specs.Prelude.{◌<◌, IsTrue, length};
+ghost use Rattle.std.specs.Prelude.{◌≡◌, ◌<◌, IsTrue, length};
 ghost use Rattle.warp_session.specs.Serve.{HasServed, KeepsEngine, Shows};
 
 use crate::patience::Patience;

@@ -5,5 +5,5 @@ use Rattle.warp_session.proofs.executor.Executor.publish.Goals as goal
 
 pub returns-clause-shows : goal.returns-clause-shows
 returns-clause-shows g c _ =
-    published_shows _ _ c.publish.result c.publish.ensures.published
+    published_shows c.args.self.now.engine c.publish.new.self c.publish.result c.publish.ensures.published
     (ap (λ (e : EngineState g.row.T.Denot). e.replica) c.publish.ensures.others)
