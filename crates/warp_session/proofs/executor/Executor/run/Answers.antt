@@ -14,8 +14,11 @@ loop-preserved g c =
     served_later g.T.Timeline.settled c.args.self.engine c.loop.self.engine c.serve_all.new.self.engine c.loop.invariant c.serve_all.ensures.serves
 
 pub returns : goal.returns
-returns g c = elim c.match-next.branch [
-  in-None w ↦ rw w.self-is c.loop.invariant
-| in-Some+else-serve_all+then-last w ↦
-    rw w.self-is (served_later g.T.Timeline.settled c.args.self.engine c.loop.self.engine w.serve_all.new.self.engine c.loop.invariant w.serve_all.ensures.serves)
-]
+returns g c =
+    elim c.match-next.branch [
+      | in-None w ↦ rw w.self-is c.loop.invariant
+      | in-Some+else-serve_all+then-last w ↦
+          rw w.self-is
+          (served_later g.T.Timeline.settled c.args.self.engine c.loop.self.engine w.serve_all.new.self.engine c.loop.invariant
+          w.serve_all.ensures.serves)
+    ]
