@@ -11,7 +11,7 @@ use Rattle.warp_lanes.specs.declared.turn.Turn.{Turn}
 use Rattle.warp_lanes.specs.declared.turn.Turn.TheVariants.{Served, Empty, Stalled}
 use Rattle.warp_lanes.specs.Engine.{EngineState, TimelineFacts, Turns}
 use Rattle.warp_lanes.specs.Publish.{Publishes}
-use Rattle.warp_session.specs.Serve.{HasServed, IsPublished, KeepsEngine, Shows}
+use Rattle.warp_session.specs.Serve.{HasServed, IsPublished, Shows}
 
 -- the board shows this
 abbrev is_shown : List Out → WriterState → Type 0
