@@ -8,4 +8,4 @@ invariant-loop g l =
     × (length l.desks.items ≡ l.counter)
     × (length l.lanes.items ≡ l.counter)
     × AreFresh l.lanes.items
-    × All (λ desk. desk.form ≡ l.form) l.desks.items
+    × All (λ desk. desk.form ≡ l.fn.form) l.desks.items
