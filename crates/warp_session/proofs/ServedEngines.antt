@@ -1,5 +1,6 @@
 -- Lemmas on what serving makes of an engine.
-use Rattle.std.proofs.Common.{◌≡◌, ℕ, ◌⊎◌, inl, inr, Bool, IsTrue, List, [], length, min, take, true, ap, refl, subst, sym, ◌∙◌}
+use Rattle.std.proofs.Common.{◌≡◌, ℕ, ◌⊎◌, inl, inr, Bool, IsTrue, List, [], length, min, take, true}
+use Rattle.std.proofs.Common.{ap, refl, subst, sym, ◌∙◌}
 use Rattle.warp_tag.specs.declared.out.Out.{Out}
 use Rattle.warp_table.specs.Records.{set_of}
 use Rattle.warp_replica.specs.Answers.{IsReleased}
@@ -7,9 +8,7 @@ use Rattle.warp_replica.specs.Replica.{ReplicaState}
 use Rattle.warp_board.specs.Board.{WriterState, room_of}
 use Rattle.warp_lanes.specs.declared.publish.Published.{Published}
 use Rattle.warp_lanes.specs.declared.publish.Published.TheVariants.{Rows, Frozen}
-use Rattle.warp_lanes.specs.declared.turn.Turn.{Turn}
-use Rattle.warp_lanes.specs.declared.turn.Turn.TheVariants.{Served, Empty, Stalled}
-use Rattle.warp_lanes.specs.Engine.{EngineState, TimelineFacts, Turns}
+use Rattle.warp_lanes.specs.Engine.{EngineState}
 use Rattle.warp_lanes.specs.Publish.{Publishes}
 use Rattle.warp_session.specs.Serve.{HasServed, IsPublished, Shows}
 
@@ -17,11 +16,13 @@ use Rattle.warp_session.specs.Serve.{HasServed, IsPublished, Shows}
 abbrev is_shown : List Out → WriterState → Type 0
 is_shown released w = (w.frozen ≡ true) ⊎ (w.rows ≡ take (min (length released) (room_of w.board)) released)
 
-shown : (released : List Out) (w w' : WriterState) (result : Published) → Publishes released w result w' → is_shown released w'
+shown : (released : List Out) (w w' : WriterState) (result : Published) → Publishes released w result w'
+    → is_shown released w'
 shown released w w' (Rows count) p =
     inr
     (ap (λ (x : WriterState). x.rows) p.3
-    ∙ ap (λ (n : ℕ). take n released) (p.2 ∙ ap (λ (x : WriterState). min (length released) (room_of x.board)) (sym p.3)))
+    ∙ ap (λ (n : ℕ). take n released)
+    (p.2 ∙ ap (λ (x : WriterState). min (length released) (room_of x.board)) (sym p.3)))
 shown released w w' Frozen p = inl (ap (λ (x : WriterState). x.frozen) p.1)
 
 module _ {T : Type 0} where
@@ -38,21 +39,17 @@ module _ {T : Type 0} where
       (p.0, subst (is_released p.0) (sym same) p.1, shown p.0 e.writer e'.writer result p.2)
 
   same_shows : (b c : EngineState T) → c.replica ≡ b.replica → c.writer ≡ b.writer → Shows b → Shows c
-  same_shows b c replica writer h = (h.0, subst (is_released h.0) (sym replica) h.1, subst (is_shown h.0) (sym writer) h.2)
+  same_shows b c replica writer h =
+      (h.0, subst (is_released h.0) (sym replica) h.1, subst (is_shown h.0) (sym writer) h.2)
 
 module _ {T : Type 0} (settled : T → Bool) where
-  published_later : (a b c : EngineState T) → IsPublished settled a b → IsPublished settled b c → IsPublished settled a c
+  published_later : (a b c : EngineState T) → IsPublished settled a b → IsPublished settled b c
+      → IsPublished settled a c
   published_later a b c first (inr shows) = inr shows
   published_later a b c (inl same) (inl next) = inl (next.0 ∙ same.0, next.1 ∙ same.1)
   published_later a b c (inr shows) (inl next) =
-      inr (λ is. same_shows b c next.0 next.1 (shows (subst (λ (r : ReplicaState T). IsTrue (settled r.timeline)) next.0 is)))
-
-  -- a turn that found no command changed nothing of it
-  pub idle : (facts : TimelineFacts T) (a b : EngineState T) (lane : ℕ) (turn : Turn) → (turn ≡ Served → ⊥)
-      → Turns facts a lane turn b → IsPublished settled a b
-  idle facts a b lane Served other t = absurd (other refl)
-  idle facts a b lane Empty other t = inl (t.3.0, t.5)
-  idle facts a b lane Stalled other t = inl (t.3.0, t.5)
+      inr (λ is. same_shows b c next.0 next.1
+      (shows (subst (λ (r : ReplicaState T). IsTrue (settled r.timeline)) next.0 is)))
 
   -- an engine that did not serve yet
   pub served_none : (a : EngineState T) → HasServed settled a a
@@ -74,7 +71,7 @@ module _ {T : Type 0} (settled : T → Bool) where
   }
 
   -- behind an empty log, the log is empty yet, or the board shows what is released
-  pub shown_or_none : (a b : EngineState T) → a.replica.records ≡ [] → IsPublished settled a b → IsTrue (settled b.replica.timeline)
-      → (b.replica.records ≡ []) ⊎ Shows b
+  pub shown_or_none : (a b : EngineState T) → a.replica.records ≡ [] → IsPublished settled a b
+      → IsTrue (settled b.replica.timeline) → (b.replica.records ≡ []) ⊎ Shows b
   shown_or_none a b none (inl same) is = inl (ap (λ (r : ReplicaState T). r.records) same.0 ∙ none)
   shown_or_none a b none (inr shows) is = inr (shows is)

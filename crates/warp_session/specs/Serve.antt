@@ -13,7 +13,8 @@ pub record KeepsEngine {T : Type 0} (old new : EngineState T) : Type 0 where
   pub board : new.writer.board ≡ old.writer.board
   pub lanes : length new.lanes ≡ length old.lanes
 
--- the board shows what is released over the log: its rows are the first of that, as many as it has room for; or it is frozen
+-- the board shows what is released over the log: its rows are the first of that, as many as it has room for; or it is
+-- frozen
 abbrev pub Shows : {T : Type 0} → EngineState T → Type 0
 Shows e =
     (released : List Out) × IsReleased e.replica.program (set_of e.replica.records) released

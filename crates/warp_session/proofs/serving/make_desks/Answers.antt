@@ -11,8 +11,8 @@ loop-preserved g c = (
   grind arith,
   grind arith,
   rw c.in_ok-push-2.ensures.items
-  (All-append IsFresh c.loop.lanes.items _ c.loop.invariant.3 (grind arith, tt)),
+      (All-append IsFresh c.loop.lanes.items _ c.loop.invariant.3 (grind arith, tt)),
   rw c.in_ok-push.ensures.items
-  (All-push (λ (desk : PortDeskState). desk.form ≡ c.args.form) c.loop.desks.items c.new.result c.loop.invariant.4
-  (ap (λ (desk : PortDeskState). desk.form) c.new.ensures)),
+      (All-push (λ (desk : PortDeskState). desk.form ≡ c.args.form) c.loop.desks.items c.new.result c.loop.invariant.4
+      (ap (λ (desk : PortDeskState). desk.form) c.new.ensures)),
 )

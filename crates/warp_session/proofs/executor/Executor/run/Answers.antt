@@ -7,11 +7,13 @@ loop-init g c = served_none g.T.Timeline.settled _
 
 pub loop-preserved-then-serve_all : goal.loop-preserved-then-serve_all
 loop-preserved-then-serve_all g c =
-    served_later g.T.Timeline.settled c.args.self.engine c.loop.self.engine c.serve_all.new.self.engine c.loop.invariant c.serve_all.ensures.serves
+    served_later g.T.Timeline.settled c.args.self.engine c.loop.self.engine c.serve_all.new.self.engine c.loop.invariant
+    c.serve_all.ensures.serves
 
 pub loop-preserved : goal.loop-preserved
 loop-preserved g c =
-    served_later g.T.Timeline.settled c.args.self.engine c.loop.self.engine c.serve_all.new.self.engine c.loop.invariant c.serve_all.ensures.serves
+    served_later g.T.Timeline.settled c.args.self.engine c.loop.self.engine c.serve_all.new.self.engine c.loop.invariant
+    c.serve_all.ensures.serves
 
 pub returns : goal.returns
 returns g c =
@@ -19,6 +21,6 @@ returns g c =
       | in-None w ↦ rw w.self-is c.loop.invariant
       | in-Some+else-serve_all+then-last w ↦
           rw w.self-is
-          (served_later g.T.Timeline.settled c.args.self.engine c.loop.self.engine w.serve_all.new.self.engine c.loop.invariant
-          w.serve_all.ensures.serves)
+          (served_later g.T.Timeline.settled c.args.self.engine c.loop.self.engine w.serve_all.new.self.engine
+          c.loop.invariant w.serve_all.ensures.serves)
     ]

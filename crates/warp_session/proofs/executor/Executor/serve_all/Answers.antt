@@ -6,4 +6,5 @@ loop-lane-init g c = served_none g.T.Timeline.settled _
 
 pub loop-lane-preserved : goal.loop-lane-preserved
 loop-lane-preserved g c =
-    served_later g.T.Timeline.settled _ _ c.serve-found.new.self.engine c.loop-lane.invariant c.serve-found.ensures.serves
+    served_later g.T.Timeline.settled _ _ c.serve-found.new.self.engine c.loop-lane.invariant
+    c.serve-found.ensures.serves
