@@ -6,3 +6,4 @@ pub mod LocalSessions
 pub mod PullsLemmas
 pub mod WentLemmas
 pub mod SentExecutors
+pub mod ServedEngines

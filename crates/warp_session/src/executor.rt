@@ -1,6 +1,6 @@
 //! The thread that holds the replica: it serves the lanes of all desks, and publishes what is released.
-ghost use Rattle.std.specs.Prelude.{◌≡◌, ◌<◌, length};
-ghost use Rattle.warp_session.specs.Serve.{KeepsEngine};
+ghost use Rattle.std.specs.Prelude.{◌≡◌, ◌<◌, IsTrue, length};
+ghost use Rattle.warp_session.specs.Serve.{HasServed, KeepsEngine, Shows};
 
 use crate::patience::Patience;
 use std::alloc::Global;
@@ -20,23 +20,32 @@ pub(crate) struct Executor<'a, T: Timeline> {
 }
 
 impl<'a, T: Timeline> Executor<'a, T> {
-    /// Serves a lane, and publishes where that leaves the replica settled; whether a command was found.
+    /// Publishes what is released, where the replica is settled.
+    fn publish(&mut self)
+        ensures keeps { KeepsEngine self.old.engine self.new.engine }
+        ensures shows { IsTrue (T.settled self.new.engine.replica.timeline) → Shows self.new.engine }
+    {
+        if !self.engine.replica().is_settled() {
+            return;
+        }
+        self.engine.publish(self.board);
+    }
+
+    /// Serves a lane, and publishes what that releases; whether a command was found.
     fn serve(&mut self, alloc: Global, lane: usize) -> bool
         requires { lane < length self.old.engine.lanes }
-        ensures serves { KeepsEngine self.old.engine self.new.engine }
+        ensures serves { HasServed T.settled self.old.engine self.new.engine }
     {
-        if self.engine.turn(alloc, lane) != Turn::Served {
+        let Turn::Served = self.engine.turn(alloc, lane) else {
             return false;
-        }
-        if self.engine.replica().is_settled() {
-            self.engine.publish(self.board);
-        }
+        };
+        self.publish();
         true
     }
 
     /// One turn at each lane; whether a command was found.
     fn serve_all(&mut self, alloc: Global) -> bool
-        ensures serves { KeepsEngine self.old.engine self.new.engine }
+        ensures serves { HasServed T.settled self.old.engine self.new.engine }
     {
         let mut found = false;
         for lane in 0..self.engine.lane_count() {
@@ -52,7 +61,7 @@ impl<'a, T: Timeline> Executor<'a, T> {
         alloc: Global,
         ended: &AtomicBool,
     ) -> Engine<T>
-        ensures { KeepsEngine self.entry.engine result }
+        ensures { HasServed T.settled self.entry.engine result }
     {
         let mut patience = Patience::new();
         for _ in rt.forever() {

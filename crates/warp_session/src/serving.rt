@@ -1,9 +1,9 @@
 //! Serving many sessions at once: a thread for the replica, one for each session, and one for each pull from a peer.
-ghost use Rattle.std.specs.Prelude.{◌≡◌, ◌+◌, ◌≤◌, IfOk, length, vec_len};
+ghost use Rattle.std.specs.Prelude.{◌≡◌, ◌⊎◌, ◌+◌, ◌≤◌, [], All, IfOk, IsTrue, length, vec_len};
 ghost use Rattle.warp_tag.specs.Limits.{most_rows};
 ghost use Rattle.warp_board.specs.Board.{room_of};
 ghost use Rattle.warp_lanes.specs.Engine.{AreFresh, most_lanes};
-ghost use Rattle.warp_session.specs.Serve.{KeepsEngine};
+ghost use Rattle.warp_session.specs.Serve.{HasServed, Shows};
 
 use crate::desk_session::session;
 use crate::door::{Door, Gate, Peer, ServeFault};
@@ -34,7 +34,7 @@ struct ServesOf<T: Timeline> {
 }
 
 impl<T: Timeline> Promise<Engine<T>> for ServesOf<T> {
-    ghost kept_by = { λ p e. KeepsEngine p.given.value e };
+    ghost kept_by = { λ p e. HasServed T.settled p.given.value e };
 }
 
 /// So many lanes, and a desk at each, whose lines are of this form.
@@ -50,6 +50,7 @@ fn make_desks<'a, X: Wait + Clock>(
     ensures desks { IfOk result (λ made. vec_len made.0 ≡ count) }
     ensures lanes { IfOk result (λ made. vec_len made.1 ≡ count) }
     ensures fresh { IfOk result (λ made. AreFresh made.1.items) }
+    ensures form { IfOk result (λ made. All (λ desk. desk.form ≡ form) made.0.items) }
 {
     let mut desks = Vec::with_capacity(alloc, count)?;
     let mut lanes = Vec::with_capacity(alloc, count)?;
@@ -312,7 +313,7 @@ fn start_executor<'s, E, X: Wait + Clock + Sync + 's, T: Timeline + Send + Drop 
     let started = scope.spawn_with(
         promise,
         move || -> Engine<T>
-            ensures { KeepsEngine executor.entry.engine result }
+            ensures { HasServed T.settled executor.entry.engine result }
         { executor.run(rt, alloc, ended) },
     );
     match started {
@@ -321,7 +322,8 @@ fn start_executor<'s, E, X: Wait + Clock + Sync + 's, T: Timeline + Send + Drop 
     }
 }
 
-/// Runs the executor beside the sessions and pulls, and gives its engine back once all have ended.
+/// Runs the executor beside the sessions and pulls, and gives its engine back once all have ended. The desks take lines
+/// of the form of its program.
 fn serve_beside<
     X: Threads + Wait + Clock + Sync,
     T: Timeline + Send + Drop,
@@ -338,7 +340,8 @@ fn serve_beside<
     gate: &G,
     room: Room,
 ) -> Result<Engine<T>, ServeFault>
-    ensures { IfOk result (λ engine. KeepsEngine executor.entry.engine engine) }
+    requires { All (λ desk. K.form_of (K.state desk) ≡ executor.engine.replica.program.form) desks.items }
+    ensures { IfOk result (λ engine. HasServed T.settled executor.entry.engine engine) }
 {
     let ended = AtomicBool::new(false);
     let ended = &ended;
@@ -346,7 +349,7 @@ fn serve_beside<
         thread::scope_env(),
         rt,
         move |scope| -> Result<Engine<T>, ServeFault>
-            ensures { IfOk result (λ engine. KeepsEngine executor.entry.engine engine) }
+            ensures { IfOk result (λ engine. HasServed T.settled executor.entry.engine engine) }
         {
             let handle = start_executor(scope, rt, alloc, ended, executor)?;
             let served = call_all(rt, alloc, desks, door, peers, gate, room);
@@ -382,6 +385,9 @@ pub fn serve_sessions<
     // It had a lane for each session and each peer, and a board with room for so many rows.
     ensures lanes { IfOk result (λ engine. length engine.lanes ≡ sessions + vec_len peers) }
     ensures room { IfOk result (λ engine. room_of engine.writer.board ≡ most_rows) }
+    // Where the replica is settled, the board shows what is released; or there was no record to show anything of.
+    ensures shown { IfOk result (λ engine. IsTrue (T.settled engine.replica.timeline) →
+        (engine.replica.records ≡ []) ⊎ Shows engine) }
 {
     let room = Room::new(alloc, peers.len())?;
     let form = program.form();

@@ -1,4 +1,4 @@
-use Rattle.std.proofs.Common.{◌≡◌, length}
+use Rattle.std.proofs.Common.{◌≡◌, All, length}
 use Rattle.warp_lanes.specs.Engine.{AreFresh}
 use Rattle.warp_session.proofs.serving.make_desks.Given as goal
 
@@ -8,3 +8,4 @@ invariant-loop g l =
     × (length l.desks.items ≡ l.counter)
     × (length l.lanes.items ≡ l.counter)
     × AreFresh l.lanes.items
+    × All (λ desk. desk.form ≡ l.fn.form) l.desks.items
