@@ -155,7 +155,24 @@ def calls(dice, bodies):
     return lines, said
 
 
+LONG = 20_000
+
+
+def long_file():
+    """Bodies of many statements, alone and in both lists of an `if`: a branch passes over as many instructions."""
+    more = [["set", "v0", ["+", "v0", 1]]] * (LONG // 2)
+    bodies = [more, [["if", "i0", more, [["set", "v1", 7]]]], [["if", "i0", [["set", "v1", 8]], more]]]
+    reactor = {"name": "r", "vars": [["v0", 0], ["v1", 0]], "inputs": ["i0"],
+               "reactions": [{"on": ["i0"], "body": one} for one in bodies]}
+    lines = ["run 0", "port 0 1", "run 1", "run 2", "clear", "run 1", "run 2"]
+    ran = [(1, 0, "-"), (2, 0, "1"), (2, 8, "1"), (2, 7, "-"), (3, 7, "-")]
+    said = [line for count, v1, port in ran for line in (str(count * LONG // 2), str(v1), port, "same true")]
+    return json.dumps({"version": 1, "stop": 100, "origins": 1, "reactors": [reactor]}, separators=(",", ":")), lines, said
+
+
 def cases(flat):
+    text, lines, said = long_file()
+    yield flat(f"bodies of {LONG // 2:,} statements", "bodies", text, lines, said)
     for number in range(FILES):
         dice = random.Random(f"bodies {number}")
         text, bodies = file(dice)
