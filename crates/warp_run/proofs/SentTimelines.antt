@@ -35,18 +35,27 @@ instruction_send = variants_send instruction.enum (
         (
           (search sendable, (search sendable, (search sendable, (operand_send, tt)))),
           (
-            (search sendable, (search sendable, tt)),
+            (search sendable, (search sendable, (operand_send, tt))),
             (
               (search sendable, (search sendable, (operand_send, tt))),
               (
-                (place_send, (search (crosses, expr.crosses, sendable) depth 60 fits 20000, tt)),
+                (search sendable, (search sendable, (search sendable, (operand_send, tt)))),
                 (
-                  (search sendable, tt),
+                  (search sendable, (search sendable, tt)),
                   (
-                    (operand_send, (search sendable, (search sendable, tt))),
+                    (search sendable, (search sendable, (operand_send, tt))),
                     (
-                      (operand_send, (operand_send, (search sendable, (search sendable, tt)))),
-                      ((operand_send, (operand_send, (search sendable, (search sendable, tt)))), tt),
+                      (place_send, (search (crosses, expr.crosses, sendable) depth 60 fits 20000, tt)),
+                      (
+                        (search sendable, tt),
+                        (
+                          (operand_send, (search sendable, (search sendable, tt))),
+                          (
+                            (operand_send, (operand_send, (search sendable, (search sendable, tt)))),
+                            ((operand_send, (operand_send, (search sendable, (search sendable, tt)))), tt),
+                          ),
+                        ),
+                      ),
                     ),
                   ),
                 ),
