@@ -5,7 +5,8 @@
 //!   present; `clear` makes all absent;
 //! - `run NUMBER` runs the body of the reaction with this number in both ways: it tells the variables, the ports and
 //!   the wishes behind the compiled one, and whether the other one has the same.
-ghost use Rattle.std.specs.Prelude.{◌≡◌};
+ghost use Rattle.std.specs.Prelude.{◌≡◌, nat_lt};
+ghost use Rattle.std.specs.List.{list_all};
 ghost use Rattle.warp_body.specs.Term.{sizes_of};
 
 use crate::lines::number_of;
@@ -17,6 +18,9 @@ use warp_step::Program;
 
 /// The most wishes of one body.
 const MOST_WISHES: usize = 16;
+
+/// How many ports a program has at most.
+const MOST_PORTS: u32 = 256;
 
 /// Variables, and what is present.
 #[derive(Drop)]
@@ -93,14 +97,19 @@ impl Side {
             values.push(variable.start)?;
         }
         let mut sources = Vec::new(alloc);
-        for port in 0..program.ports().len() {
-            sources.push(port as u32)?;
+        for port in 0..MOST_PORTS {
+            if (port as usize) < program.ports().len() {
+                sources.push(port)?;
+            }
         }
         let places = Places {
             timers: program.timers().len(),
             actions: program.actions().len(),
             ports: program.ports().len(),
         };
+        if sources.len() != places.ports || !are_below(&sources, places.ports) {
+            return Err(ErrorKind::InvalidData.into());
+        }
         let present = Present::new(alloc, places, sources)?;
         let vars = Vars::from_vec(values);
         Ok(Side { vars, present })
@@ -172,13 +181,20 @@ impl Side {
         for value in self.vars.as_slice() {
             println!(rt; "{value}")?;
         }
-        for port in 0..self.present.places().ports {
-            match self.port(port as u32) {
-                Some(value) => println!(rt; "{value}")?,
-                None => rt.println("-")?,
+        for port in 0..MOST_PORTS {
+            if (port as usize) < self.present.places().ports {
+                self.tell_port(rt, port)?;
             }
         }
         Ok(())
+    }
+
+    /// Tells what a port is present with.
+    fn tell_port<P: Print>(&self, rt: &P, number: u32) -> io::Result<()> {
+        match self.port(number) {
+            Some(value) => println!(rt; "{value}"),
+            None => rt.println("-"),
+        }
     }
 
     /// What a port is present with.
@@ -193,11 +209,23 @@ impl Side {
 
     /// Whether the variables and the ports are those of another side.
     fn is_same(&self, other: &Side) -> bool {
-        for port in 0..self.present.places().ports {
-            if self.port(port as u32) != other.port(port as u32) {
+        for port in 0..MOST_PORTS {
+            if self.port(port) != other.port(port) {
                 return false;
             }
         }
         self.vars.as_slice() == other.vars.as_slice()
     }
+}
+
+/// Whether all numbers are below a count.
+fn are_below(numbers: &[u32], count: usize) -> bool
+    ensures { result ≡ list_all (λ n. nat_lt n count) numbers.now }
+{
+    for number in numbers {
+        if *number as usize >= count {
+            return false;
+        }
+    }
+    true
 }
