@@ -9,8 +9,8 @@ pub const MAX_USED: usize = 4_000_000_000;
 /// Stands in a link for "no node": an end of a list.
 pub(crate) const NO_NODE: u32 = u32::MAX;
 
-/// A node is a hint where its index is a multiple of this. A prime above the most origins, so that origins which come
-/// in turn have hints alike.
+/// A node is a hint where its index is a multiple of this. A prime, so that of origins which come in turn each has hints,
+/// unless they are just so many.
 pub(crate) const HINTED: u32 = 37;
 
 /// Among so many hints at most one of an origin is looked for.

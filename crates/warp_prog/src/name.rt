@@ -79,7 +79,7 @@ fn fingerprint_of(text: &[u8]) -> u64
     fingerprint
 }
 
-/// The number after one more byte: those of texts of at most seven bytes all differ.
+/// The number after one more byte: those of names of at most seven bytes all differ.
 fn with_byte(fingerprint: u64, byte: u8) -> u64
     ensures { result ≡ with_byte fingerprint byte }
 {
