@@ -3,6 +3,7 @@
 import json
 
 from calls import EXAMPLES, NO_MEMORY, REFUSED, Calls, Step, before, made
+from flat_calls import end_records, end_replies
 
 
 def quiet(line, *said):
@@ -140,6 +141,11 @@ def large_arena():
     return Calls("an arena of 70 names", "arenas", "twice", [*steps, quiet("walk", *lines)])
 
 
+def written(word, rows):
+    """Records or replies, each written into a list that has just the room for the longest."""
+    return Calls(f"{word} that are written where there is room", word, "twice", [quiet(line, told, line) for line, told in rows])
+
+
 def looked(count, frozen, rows):
     return [f"{count} rows, frozen {frozen}", *rows, *["no row"] * (2 - len(rows))]
 
@@ -227,6 +233,8 @@ def cases():
     yield timeline("plain")
     yield arena()
     yield large_arena()
+    yield written("records", end_records())
+    yield written("replies", end_replies())
     yield board()
     yield publishing()
     yield full_board()

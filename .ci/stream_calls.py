@@ -84,6 +84,7 @@ TAKEN = "event 0 5 0 0 3"
 PEERS = [
     ([("log 1 event 9 5 0 0 3", OVER, 0)], "", "held 2", None),
     ([("log 1 event 40 5 0 0 3", OVER, 0)], "", "strange", None),
+    ([("log 1 event 0 5 16 0 3", OVER, 0)], "", "strange", None),
     ([("log 0 event 0 5 0 0 3", OVER, 0)], "", "strange", None),
     ([("taken 1", OVER, 0)], "", "strange", None),
     ([("refused 8", HELD, 0), ("none 0", OVER, 0)], "", "quiet", None),

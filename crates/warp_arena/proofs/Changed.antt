@@ -1,5 +1,5 @@
 -- The arena after a change of one entry that keeps its name.
-use Rattle.std.proofs.Common.{◌≡◌, ◌≢◌, ℕ, ◌-◌, ◌<◌, Bool, cond, eqb, ltb, ◌&&◌, ◌||◌, List, [], ◌∷◌, length, refl, sym, ap, ◌∙◌, subst, inl, inr, arith, map, get_or, set, IsSome}
+use Rattle.std.proofs.Common.{◌≡◌, ◌≢◌, ℕ, ◌-◌, ◌<◌, ◌≤◌, Bool, cond, eqb, ltb, ◌&&◌, ◌||◌, List, [], ◌∷◌, length, refl, sym, ap, ◌∙◌, subst, inl, inr, arith, map, get_or, set, IsSome}
 use Rattle.std.specs.Vec.{vec_capacity}
 use Rattle.std.proofs.lemmas.Bool.{cases_eq, eq-eqb, ne_eqb}
 use Rattle.std.proofs.lemmas.List.{length-set, get_or-set_same, get_or-set_other}
@@ -161,6 +161,8 @@ pub record Changing (a : Inside) (i : ℕ) (change : Entry → Entry) (nodes : L
   pub whole : IsWhole (threads_of nodes a.by_origin.items a.ends a.free) a.used
   pub contents : contents_of (threads_of nodes a.by_origin.items a.ends a.free) a.used (vec_capacity a.nodes)
       ≡ record { origins = length a.by_origin.items; places = with_change change i (places a); free = length a.nodes.items - a.used; room = vec_capacity a.nodes }
+  pub size : length a.nodes.items ≤ length nodes
+  pub others : (j : ℕ) → j ≢ i → entry_at nodes j ≡ entry_at a.nodes.items j
 
 pub changing : (a : Inside) → IsWhole (threads a) a.used → (i j : ℕ) → j ≡ i → IsSome (entry_of i (places a)) → (m : Node) → m ≡ get_or a.nodes.items j m → (change : Entry → Entry) → ((e : Entry) → (change e).origin ≡ e.origin) → ((e : Entry) → (change e).tag ≡ e.tag) → (e : Entry) → e ≡ change m.entry → Changing a i change (set a.nodes.items j (record { entry = e; by_tag = m.by_tag; of_origin = m.of_origin }))
 changing a w i j at found m read change origins moments e made =
@@ -169,4 +171,6 @@ changing a w i j at found m read change origins moments e made =
     subst (λ k. C k e) (sym at) (subst (λ x. C i x) (sym made) (record {
       whole = whole_changed a w i found m is change origins moments;
       contents = contents_changed a w i found m is change origins moments;
+      size = omega (arith, length-set a.nodes.items i (record { entry = change m.entry; by_tag = m.by_tag; of_origin = m.of_origin }));
+      others = λ j n. ap (λ k. k.entry) (node_other a.nodes.items i (record { entry = change m.entry; by_tag = m.by_tag; of_origin = m.of_origin }) j n);
     }))

@@ -1,7 +1,7 @@
 -- The arena at its start, and after it grew by one unused node.
 use Rattle.std.proofs.Common.{◌≡◌, ◌≢◌, ℕ, ◌+◌, ◌-◌, ◌<◌, cond, eqb, ltb, List, [], ◌∷◌, ◌++◌, length, refl, sym, ap, ◌∙◌, subst, inl, inr, arith, map, get_or, replicate}
 use Rattle.std.specs.List.{AllByRecursion}
-use Rattle.std.proofs.lemmas.Bool.{cases_lt, le-ltb}
+use Rattle.std.proofs.lemmas.Bool.{cases_eq, cases_lt, le-ltb}
 use Rattle.std.proofs.lemmas.Bool.Decides.{nat_tests}
 use Rattle.std.proofs.lemmas.List.{length-append, get_or_append_left, get_or_push, get_or_past, get_or-replicate, length-replicate}
 use Rattle.warp_tag.specs.Limits.{most_names}
@@ -58,6 +58,15 @@ node_pushed nodes i other =
     ]
 
 -- no node is free where the free list is empty
+pub entry_pushed : (nodes : List Node) (i : ℕ) → entry_at (nodes ++ no_node ∷ []) i ≡ entry_at nodes i
+entry_pushed nodes i =
+    elim (cases_eq i (length nodes)) [
+      | inl same ↦
+          ap (λ k. entry_at (nodes ++ no_node ∷ []) k) same ∙ ap (λ n. n.entry) (get_or_push nodes no_node no_node (length nodes) refl)
+          ∙ sym (ap (λ k. entry_at nodes k) same ∙ ap (λ n. n.entry) (get_or_past nodes (length nodes) no_node (omega arith)))
+      | inr other ↦ ap (λ n. n.entry) (node_pushed nodes i other)
+    ]
+
 pub none_free : (a : Inside) → IsWhole (threads a) a.used → a.free ≡ NO_NODE → a.used ≡ length a.nodes.items
 none_free a w e =
     elim (cases_lt a.used (length a.nodes.items)) [

@@ -1,5 +1,5 @@
 -- The arena after its first node is freed.
-use Rattle.std.proofs.Common.{◌≡◌, ℕ, zero, suc, ◌+◌, ◌-◌, ◌<◌, cond, eqb, List, [], ◌∷◌, length, refl, sym, ap, ◌∙◌, subst, arith, map, get_or, set, drop}
+use Rattle.std.proofs.Common.{◌≡◌, ◌≢◌, ℕ, zero, suc, ◌+◌, ◌-◌, ◌<◌, cond, eqb, List, [], ◌∷◌, length, refl, sym, ap, ◌∙◌, subst, arith, map, get_or, set, drop}
 use Rattle.std.specs.List.{AllByRecursion}
 use Rattle.std.specs.Vec.{vec_capacity}
 use Rattle.std.proofs.lemmas.List.{length-set, length-map}
@@ -16,9 +16,9 @@ use Rattle.warp_arena.specs.Shape.{IsArena, IsWhole, threads_of, contents_of, un
 use Rattle.warp_arena.proofs.Rings.{first_holds, IsChain-split, length-walk}
 use Rattle.warp_arena.proofs.Tables.{map_agree}
 use Rattle.warp_arena.proofs.Shapes.{all_used_below, none_used, members_here}
-use Rattle.warp_arena.proofs.Walks.{threads, used, node_read, origin_read}
+use Rattle.warp_arena.proofs.Walks.{threads, used, Listed-used, node_read, origin_read}
 use Rattle.warp_arena.proofs.Reading.{places}
-use Rattle.warp_arena.proofs.Removing.{IsArena-remove, All-same}
+use Rattle.warp_arena.proofs.Removing.{IsArena-remove}
 use Rattle.warp_arena.proofs.Wholes.{IsWhole-from, used_is}
 use Rattle.warp_arena.proofs.Inserted.{same_contents}
 
@@ -140,7 +140,8 @@ module _ (a : Inside) (l : Leaving a) (new : List Node) (own : Origin) (ends' e'
         let place' : ℕ → Place = place_at (entry_at new) in
         let same : map place' l.rest ≡ map place l.rest =
         map_agree place place' l.rest
-        (All-same place place' l.rest (λ i. ap (λ (e : Entry). let q : Place = record { node = i; entry = e } in q) (change.entries i))) in
+        (All-weaker (λ i. i ≢ a.ends.next) (λ i. place' i ≡ place i) (λ i n. ap (λ (e : Entry). let q : Place = record { node = i; entry = e } in q) (change.entries i n)) l.rest
+        (Listed-used (threads a) (a.ends.next ∷ l.rest) l.fs l.shape).apart.0) in
         same_contents (length-set a.by_origin.items o (record { ends = e'; touched = k }))
         (ap (map place') (used_is t' l.rest (a.ends.next ∷ l.fs) (a.used - 1) shape' (omega (arith, l.len))) ∙ same
         ∙ sym (ap (λ is. drop 1 (map place is)) l.parts))

@@ -1,10 +1,10 @@
 -- The shape of an arena after its first node went into the free list.
-use Rattle.std.proofs.Common.{◌≡◌, ◌≢◌, ℕ, ◌+◌, ◌<◌, cond, eqb, ltb, List, [], ◌∷◌, length, refl, sym, ap, ◌∙◌, subst, inl, inr, arith, get_or, set}
+use Rattle.std.proofs.Common.{◌≡◌, ◌≢◌, ℕ, ◌+◌, ◌<◌, cond, eqb, ltb, List, ◌∷◌, length, refl, sym, ap, ◌∙◌, subst, inl, inr, arith, get_or, set}
 use Rattle.std.specs.List.{AllByRecursion}
 use Rattle.std.proofs.lemmas.Bool.{cases_eq, eq-eqb, ne_eqb}
 use Rattle.std.proofs.lemmas.List.{length-set}
 use Rattle.warp_tag.specs.Table.{IsTable}
-use Rattle.warp_tag.proofs.Lists.{All-weaker}
+use Rattle.warp_tag.proofs.Lists.{All-weaker, All-both}
 use Rattle.warp_arena.specs.declared.node.Links.{Links}
 use Rattle.warp_arena.specs.declared.node.Node.{Node}
 use Rattle.warp_arena.specs.declared.node.Origin.{Origin}
@@ -16,10 +16,6 @@ use Rattle.warp_arena.proofs.Tables.{map_agree}
 use Rattle.warp_arena.proofs.Shapes.{none_unused, unused_off, members_agree, members_here, members_past, members_not, kept_others}
 use Rattle.warp_arena.proofs.Listing.{Listed, next_in-at, kept_next, Spells-frame, Spells-remove, Keeps-remove, each_origin}
 use Rattle.warp_arena.proofs.Walks.{Listed-used, Listed-own}
-
-pub All-same : {X Y : Type 0} (f g : X → Y) (xs : List X) → ((x : X) → g x ≡ f x) → AllByRecursion (λ x. g x ≡ f x) xs
-All-same f g [] h = tt
-All-same f g (x ∷ xs) h = (h x, All-same f g xs h)
 
 module _ (old new : List Node) (own : List Origin) (ends ends' e' : Links) (free o x : ℕ) (rest fs : List ℕ)
     (shape : IsArena (threads_of old own ends free) (x ∷ rest) fs)
@@ -38,13 +34,16 @@ module _ (old new : List Node) (own : List Origin) (ends ends' e' : Links) (free
         subst (Listed (length old) (get_or own o no_origin).ends (of_origin old)) (members_here (entry_at old) o x rest is_own)
         (Listed-own (threads_of old own ends free) (x ∷ rest) fs shape o declared)
 
-    same_members : (q : ℕ) (is : List ℕ) → members (entry_at new) q is ≡ members (entry_at old) q is
-    same_members q is = members_agree (entry_at old) (entry_at new) q is (All-same (entry_at old) (entry_at new) is change.entries)
+    same_entries : AllByRecursion (λ i. entry_at new i ≡ entry_at old i) rest
+    same_entries = All-weaker (λ i. i ≢ x) (λ i. entry_at new i ≡ entry_at old i) change.entries rest tags.apart.0
+
+    same_members : (q : ℕ) → members (entry_at new) q rest ≡ members (entry_at old) q rest
+    same_members q = members_agree (entry_at old) (entry_at new) q rest same_entries
 
     -- and after
     own_remove : Spells e' (of_origin new) (members (entry_at new) o rest)
     own_remove =
-        subst (Spells e' (of_origin new)) (sym (same_members o rest))
+        subst (Spells e' (of_origin new)) (sym (same_members o))
         (Spells-remove (length old) (get_or own o no_origin).ends e' (of_origin old) (of_origin new) x (members (entry_at old) o rest) owns change.owns)
 
     -- the node touched last is still one of its origin's, where it is not the one that went
@@ -56,18 +55,18 @@ module _ (old new : List Node) (own : List Origin) (ends ends' e' : Links) (free
           | inl same ↦ λ n. absurd (n (e ∙ ap (λ b. cond b NO_NODE was) (eq-eqb was x same)))
           | inr other ↦
               let here : k ≡ was = e ∙ ap (λ b. cond b NO_NODE was) (ne_eqb was x other) in
-              subst (λ is. IsOneOf is k) (sym (same_members o rest))
+              subst (λ is. IsOneOf is k) (sym (same_members o))
               (subst (IsOneOf (members (entry_at old) o rest)) (sym here)
               (λ n. omega (arith, one n, count_of-other was x (members (entry_at old) o rest) (λ r. other (sym r)))))
         ]
 
     -- the list of another origin
     other_members : (q : ℕ) → q ≢ o → members (entry_at old) q (x ∷ rest) ≡ members (entry_at new) q rest
-    other_members q n = members_past (entry_at old) q x rest (λ r. n (sym r ∙ is_own)) ∙ sym (same_members q rest)
+    other_members q n = members_past (entry_at old) q x rest (λ r. n (sym r ∙ is_own)) ∙ sym (same_members q)
 
     other_remove : (q : ℕ) → q ≢ o → q < length own → Spells (get_or own q no_origin).ends (of_origin new) (members (entry_at new) q rest)
     other_remove q n h =
-        subst (Spells (get_or own q no_origin).ends (of_origin new)) (sym (same_members q rest))
+        subst (Spells (get_or own q no_origin).ends (of_origin new)) (sym (same_members q))
         (Spells-frame (get_or own q no_origin).ends (of_origin old) (of_origin new) (members (entry_at old) q rest)
         (kept_others (entry_at old) (of_origin old) (of_origin new) o q x rest n tags.none.1 tags.apart.0
         (λ i node other r. Keeps-remove (length old) (get_or own o no_origin).ends e' (of_origin old) (of_origin new) x (members (entry_at old) o rest)
@@ -92,11 +91,11 @@ module _ (old new : List Node) (own : List Origin) (ends ends' e' : Links) (free
         let n' : Origin = record { ends = e'; touched = k } in
         record {
           small = omega (arith, shape.small, change.len);
-          sorted = subst IsTable (sym (map_agree (entry_at old) (entry_at new) rest (All-same (entry_at old) (entry_at new) rest change.entries))) shape.sorted.1;
+          sorted = subst IsTable (sym (map_agree (entry_at old) (entry_at new) rest same_entries)) shape.sorted.1;
           declared =
               subst (λ n. AllByRecursion (λ i. (entry_at new i).origin < n) rest) (sym (length-set own o n'))
-              (All-weaker (λ i. (entry_at old i).origin < length own) (λ i. (entry_at new i).origin < length own)
-              (λ i p. subst (λ d. d.origin < length own) (sym (change.entries i)) p) rest shape.declared.1);
+              (All-both (λ i. entry_at new i ≡ entry_at old i) (λ i. (entry_at old i).origin < length own) (λ i. (entry_at new i).origin < length own)
+              (λ i e p. subst (λ d. d.origin < length own) (sym e) p) rest same_entries shape.declared.1);
           spelled = Spells-remove (length old) ends ends' (by_tag old) (by_tag new) x rest tags change.tags;
           own = each_origin own o n' (λ n q. Spells n.ends (of_origin new) (members (entry_at new) q rest)) declared own_remove other_remove;
           touched =

@@ -1,12 +1,12 @@
 -- What the private calls on nodes do to their links. No public clause cites this module.
-use Rattle.std.specs.Prelude.{◌%◌, ◌==◌, not, filter, if◌then◌else◌, ◌≡◌, ◌≢◌, true, ℕ, ◌<◌, List, length}
+use Rattle.std.specs.Prelude.{◌≡◌, ◌≢◌, true, ℕ, ◌<◌, List, length}
 use Rattle.warp_tag.specs.Moment.{Moment}
 use Rattle.warp_tag.specs.Table.{fresh, name_before}
 use Rattle.warp_tag.specs.declared.entry.Entry.{Entry}
 use Rattle.warp_arena.specs.declared.node.Links.{Links}
 use Rattle.warp_arena.specs.declared.node.Node.{Node}
-use Rattle.warp_arena.specs.declared.node.TheConstants.{NO_NODE, HINTED}
-use Rattle.warp_arena.specs.Shape.{entry_at, by_tag, of_origin, next_in, prev_in}
+use Rattle.warp_arena.specs.declared.node.TheConstants.{NO_NODE}
+use Rattle.warp_arena.specs.Shape.{no_node, entry_at, by_tag, of_origin, next_in, prev_in}
 
 -- the place is an end of a list, or one of so many nodes
 abbrev pub IsPlace : ℕ → ℕ → Type 0
@@ -83,16 +83,14 @@ pub record Threaded (old new : List Node) (ends ends' own own' : Links) (before 
       Inserts (next_in own (of_origin old)) (prev_in own (of_origin old)) (next_in own' (of_origin new)) (prev_in own' (of_origin new))
       own_before at (next_in own (of_origin old) own_before)
 
--- the first node of the tag list and of the origin's list is in neither, and leads to the first unused node
+-- the first node of the tag list and of the origin's list is in neither, leads to the first unused node, and has the
+-- least of all names
 pub record Unthreaded (old new : List Node) (ends ends' own own' : Links) (at free : ℕ) : Type 0 where
   pub len : length new ≡ length old
-  pub entries : (i : ℕ) → entry_at new i ≡ entry_at old i
+  pub here : entry_at new at ≡ no_node.entry
+  pub entries : (i : ℕ) → i ≢ at → entry_at new i ≡ entry_at old i
   pub tags :
       Skips (next_in ends (by_tag old)) (prev_in ends (by_tag old)) (next_in ends' (by_tag new)) (prev_in ends' (by_tag new)) NO_NODE at
   pub owns :
       Skips (next_in own (of_origin old)) (prev_in own (of_origin old)) (next_in own' (of_origin new)) (prev_in own' (of_origin new)) NO_NODE at
   pub freed : (by_tag new at).next ≡ free
-
--- the hints without this node, where it may be one
-abbrev pub WithoutHint : ℕ → List ℕ → List ℕ → Type 0
-WithoutHint at old new = new ≡ (if at % HINTED == 0 then filter (λ h. not (h == at)) old else old)

@@ -1,5 +1,5 @@
 -- The shape of an arena: how its links spell its lists. No public clause cites this module.
-use Rattle.std.specs.Prelude.{not, ◌≡◌, ◌≢◌, true, IsSome, IsSomeAnd, ◌%◌, ℕ, zero, suc, ◌+◌, ◌-◌, ◌<◌, ◌≤◌, ◌==◌, nat_lt, List, [], ◌∷◌, if◌then◌else◌, map, filter, length, slice_index_or}
+use Rattle.std.specs.Prelude.{not, ◌≡◌, ◌≢◌, true, IsSome, IsSomeAnd, ℕ, zero, suc, ◌+◌, ◌-◌, ◌<◌, ◌≤◌, ◌==◌, nat_lt, List, [], ◌∷◌, if◌then◌else◌, map, filter, length, slice_index_or}
 use Rattle.std.specs.List.{AllByRecursion}
 use Rattle.warp_tag.specs.Moment.{Moment}
 use Rattle.warp_tag.specs.Limits.{most_names}
@@ -9,7 +9,7 @@ use Rattle.warp_arena.specs.declared.node.Gap.{Gap}
 use Rattle.warp_arena.specs.declared.node.Links.{Links}
 use Rattle.warp_arena.specs.declared.node.Node.{Node}
 use Rattle.warp_arena.specs.declared.node.Origin.{Origin}
-use Rattle.warp_arena.specs.declared.node.TheConstants.{NO_NODE, HINTED}
+use Rattle.warp_arena.specs.declared.node.TheConstants.{NO_NODE}
 use Rattle.warp_arena.specs.Places.{Place, Contents, entry_of, places_of}
 
 -- the links of a list without a node
@@ -164,14 +164,20 @@ pub record IsWhole (t : Threads) (count : ℕ) : Type 0 where
   pub fits : count ≤ t.size
   pub shape : IsArena t (used_of t count) (unused_of t (t.size - count))
 
--- each hint names a place, and its index is a multiple of HINTED
-abbrev pub AreHints : List ℕ → List Place → Type 0
-AreHints hints places = AllByRecursion (λ h. (h % HINTED ≡ 0) × IsSome (entry_of h places)) hints
+-- an entry whose name is after another names a place: an unused node has the least of all names
+abbrev pub AreUsed : (ℕ → Entry) → List Place → Type 0
+AreUsed entry places = (i origin : ℕ) (tag : Moment) → name_before origin tag (entry i) ≡ true → IsSome (entry_of i places)
 
--- the links have the shape of an arena, and each hint is a used node
-pub record IsHinted (t : Threads) (count : ℕ) (hints : List ℕ) : Type 0 where
+-- each hint is the index of a node
+abbrev pub AreHints : ℕ → List ℕ → Type 0
+AreHints size hints = AllByRecursion (λ h. h < size) hints
+
+-- the links have the shape of an arena, unused nodes have the least of all names, and each hint is a node
+pub record IsHinted (t : Threads) (count : ℕ) (hints own : List ℕ) : Type 0 where
   pub whole : IsWhole t count
-  pub named : AreHints hints (map (place_at t.entry) (used_of t count))
+  pub used : AreUsed t.entry (map (place_at t.entry) (used_of t count))
+  pub hinted : AreHints t.size hints
+  pub own_hinted : AreHints t.size own
 
 -- the handle of the last of these places whose name is not after this one, or NO_NODE where all names are
 abbrev pub last_not_after : ℕ → Moment → List Place → ℕ

@@ -1,9 +1,12 @@
 //! The arena: entries of names, in order, each at a handle.
-use crate::links::{
-    add_node, forget_hint, handle, is_passed, leads_back, next_by_tag, next_of_origin, own_hint,
-    place_of_hint, reserve_hints, stands_behind, tag_hint, thread_node, unthread_node,
+use crate::hints::{
+    back_by_tag, back_of_origin, forget_hint, forget_own_hint, leads_back, near_hint, own_hint,
+    place_of_hint, place_of_own_hint, reserve_hints, stands_behind, tag_hint,
 };
-use crate::node::{Gap, HINTED, Links, MAX_USED, NO_NODE, Node, NodeId, Origin};
+use crate::links::{
+    add_node, handle, is_passed, next_by_tag, next_of_origin, thread_node, unthread_node,
+};
+use crate::node::{Gap, HINTED, Links, MOST_PASSED, NO_NODE, Node, NodeId, Origin, Walk};
 use crate::packed::Packed;
 use std::alloc::Global;
 use std::marker::Model;
@@ -16,11 +19,18 @@ use warp_tag::{Entry, OutOfMemory, Tag};
 /// `reserve_one` alone changes the room.
 ///
 /// How it seeks a name, of which no clause speaks: `find`, `insert` and `enter` walk back along the list of its origin,
-/// from the entry of the origin that was touched last (that came in, or got an event or a withdrawal), where that is
+/// from the entry of the origin that was touched last (that came in, or that `enter` found), where that is
 /// after the name, and else from the list's end; but where a hint of the origin is nearer, from there. Where the name
 /// comes in, a walk back along the tag list follows, from the origin's first entry after the name or from the end, or
-/// from a hint that is nearer. Hints are the entries at each `HINTED`th node, in order as they were put in, so that one
-/// is found by halving. No proof asks of them more than that they are used nodes: each is looked at before it is used.
+/// from a hint that is nearer.
+///
+/// Hints are found by halving. The entry at each `HINTED`th node is one; and `insert` and `enter`, where a walk of
+/// theirs passed more than `MOST_PASSED` entries, make the one in its middle a hint. So a walk may be long where no
+/// hint is near, as among names that were put in one behind the other before some that are far ahead; but it halves
+/// the stretch that the next one there passes. Among the next `MOST_SEEN` hints one of the origin is looked for; where
+/// there is none, the middle goes into the list of origins' own hints. `find` leaves none. A hint that finds no room is
+/// left out. No proof asks of hints more than that they are nodes: an unused node has the least of all names, so that
+/// each hint whose name is after another's is used.
 #[derive(Drop)]
 pub struct Arena {
     nodes: Vec<Node>,
@@ -28,8 +38,10 @@ pub struct Arena {
     ends: Links,
     free: u32,
     used: usize,
-    /// Used nodes from which a walk may start, in order.
+    /// Nodes from which a walk may start, in order.
     hints: Vec<u32>,
+    /// Nodes from which a walk along the list of their origin may start, in order of origin, then of tag.
+    own_hints: Vec<u32>,
 }
 
 impl Model for Arena {
@@ -44,13 +56,13 @@ impl Model for Arena {
         contents_of (threads_of a.nodes.items a.by_origin.items a.ends a.free) a.used (vec_capacity a.nodes) };
 
     ghost invariant = { λ a.
-        IsHinted (threads_of a.nodes.items a.by_origin.items a.ends a.free) a.used a.hints.items };
+        IsHinted (threads_of a.nodes.items a.by_origin.items a.ends a.free) a.used a.hints.items a.own_hints.items };
 }
 
 impl Arena {
     ghost use Rattle.std.specs.Prelude.{◌≡◌, ◌≢◌, ℕ, true, ◌↔◌, ◌<◌, ◌≤◌, ◌+◌, ◌-◌, [], ◌∷◌, IsTrue, IsOk, IsSome};
     ghost use Rattle.std.specs.Prelude.{MatchOption, IfSome, IsSomeAnd, IfOk, OnOk, OnErr, None, Some, length, map};
-    ghost use Rattle.std.specs.Prelude.{drop, ◌==◌, filter};
+    ghost use Rattle.std.specs.Prelude.{drop, ◌==◌, ◌%◌, filter};
     ghost use Rattle.std.specs.Option.{option_map};
     ghost use Rattle.warp_tag.specs.Limits.{most_names};
     ghost use Rattle.warp_tag.specs.Moment.{is_before};
@@ -76,6 +88,7 @@ impl Arena {
             free: NO_NODE,
             used: 0,
             hints: Vec::new(alloc),
+            own_hints: Vec::new(alloc),
         })
     }
 
@@ -90,7 +103,7 @@ impl Arena {
         ensures room { length self.old.places < self.old.room → IsOk result }
     {
         if self.free == NO_NODE {
-            reserve_hints(&mut self.hints, &self.nodes)?;
+            reserve_hints(&mut self.hints, &mut self.own_hints, &self.nodes)?;
             let index = self.nodes.len() as u32;
             add_node(&mut self.nodes)?;
             self.free = index;
@@ -107,8 +120,8 @@ impl Arena {
         if origin as usize >= self.by_origin.len() {
             return None;
         }
-        let at = self.last_of_origin_through(origin, tag);
-        self.named_at(origin, tag, at)
+        let found = self.last_of_origin_through(origin, tag);
+        self.named_at(origin, tag, found.at)
     }
 
     /// The handle of this name, where it is known which of its origin's nodes is the last that is not after it.
@@ -140,7 +153,7 @@ impl Arena {
         ensures entry { entry_of result self.new.places ≡ Some (fresh origin tag) }
         ensures others { (node : ℕ) → node ≢ result → entry_of node self.new.places ≡ entry_of node self.old.places }
     {
-        let own_before = self.last_of_origin_through(origin, tag);
+        let own_before = self.seek_own(origin, tag);
         self.insert_behind(origin, tag, own_before)
     }
 
@@ -186,8 +199,9 @@ impl Arena {
             → (node : ℕ) → node ≢ result → entry_of node self.new.places ≡ entry_of node self.old.places }
         ensures named { IsSomeAnd (entry_of result self.new.places) (λ e. IsTrue (has_name origin tag e)) }
     {
-        let own_before = self.last_of_origin_through(origin, tag);
+        let own_before = self.seek_own(origin, tag);
         if let Some(node) = self.named_at(origin, tag, own_before) {
+            self.touch(node);
             return node;
         }
         self.insert_behind(origin, tag, own_before)
@@ -227,17 +241,19 @@ impl Arena {
         ensures entry { entry_of result self.new.places ≡ Some (fresh origin tag) }
         ensures others { (node : ℕ) → node ≢ result → entry_of node self.new.places ≡ entry_of node self.old.places }
     {
-        let gap = self.gap_behind(origin, tag, own_before);
+        let before = self.seek_by_tag(origin, tag, own_before);
+        let gap = self.gap_behind(origin, tag, before, own_before);
         self.insert_into(origin, tag, &gap)
     }
 
-    /// Where this name comes in, where it is known which of the origin's nodes is the last that is not after it.
-    fn gap_behind(&self, origin: u32, tag: Tag, own_before: u32) -> Gap
+    /// Where this name comes in, where it is known which of all nodes, and which of the origin's, is the last that is
+    /// not after it.
+    fn gap_behind(&self, origin: u32, tag: Tag, before: u32, own_before: u32) -> Gap
         requires origin { origin < self.now.origins }
+        requires before { before ≡ last_not_after origin tag self.now.places }
         requires own_before { own_before ≡ last_not_after origin tag (places_of origin self.now.places) }
         ensures { IsGap origin tag self.now.places result }
     {
-        let before = self.last_through(origin, tag, own_before);
         let own_ends = self.by_origin[origin as usize].ends;
         Gap {
             before,
@@ -248,6 +264,7 @@ impl Arena {
     }
 
     /// Takes in this name at this gap.
+    #[inline(always)]
     fn insert_into(&mut self, origin: u32, tag: Tag, gap: &Gap) -> NodeId
         requires origin { origin < self.old.origins }
         requires reserved { 0 < self.old.free }
@@ -262,11 +279,11 @@ impl Arena {
         ensures others { (node : ℕ) → node ≢ result → entry_of node self.new.places ≡ entry_of node self.old.places }
     {
         let node = self.thread_in(origin, tag, gap);
-        self.note_hint(node, origin, tag);
-        node
+        self.note_hint(node, origin, tag)
     }
 
     /// Takes in this name at this gap, and notes no hint.
+    #[inline(always)]
     fn thread_in(&mut self, origin: u32, tag: Tag, gap: &Gap) -> NodeId
         requires origin { origin < self.old.origins }
         requires reserved { 0 < self.old.free }
@@ -306,7 +323,6 @@ impl Arena {
             option_map (with_event input value) (entry_of node self.old.places) }
         ensures others { (other : ℕ) → other ≢ node → entry_of other self.new.places ≡ entry_of other self.old.places }
     {
-        self.touch(node);
         self.nodes[node.index() as usize]
             .entry
             .note_event(input, value);
@@ -319,7 +335,6 @@ impl Arena {
         ensures entry { entry_of node self.new.places ≡ option_map with_withdrawal (entry_of node self.old.places) }
         ensures others { (other : ℕ) → other ≢ node → entry_of other self.new.places ≡ entry_of other self.old.places }
     {
-        self.touch(node);
         self.nodes[node.index() as usize].entry.withdraw();
     }
 
@@ -386,22 +401,8 @@ impl Arena {
         let _ = &self.used;
     }
 
-    /// Whether the arena holds no entry.
-    pub fn is_empty(&self) -> bool
-        ensures { IsTrue result ↔ (self.now.places ≡ []) }
-    {
-        self.used == 0
-    }
-
-    /// Whether the arena holds as many entries as it can, so that no further node can be reserved.
-    pub fn is_full(&self) -> bool
-        ensures { IsTrue result ↔ (most_names ≤ length self.now.places) }
-    {
-        self.len() >= MAX_USED
-    }
-
     /// Frees every node whose tag is not after this one, and says how many they were. Every handle of an entry
-    /// that stays keeps naming it. The work is that of what it frees.
+    /// that stays keeps naming it.
     pub fn free_through(&mut self, tag: Tag) -> usize
         ensures places { self.new ≡ record self.old {
           places = places_past tag self.old.places;
@@ -435,6 +436,8 @@ impl Arena {
         let own = self.by_origin[origin];
         let mut own_ends = own.ends;
         let free = self.free;
+        forget_hint(&mut self.hints, at);
+        forget_own_hint(&mut self.own_hints, &self.nodes, at);
         unthread_node(&mut self.nodes, &mut self.ends, &mut own_ends, at, free);
         self.by_origin[origin] = Origin {
             ends: own_ends,
@@ -442,7 +445,6 @@ impl Arena {
         };
         self.free = at;
         self.used -= 1;
-        forget_hint(&mut self.hints, at);
     }
 
     /// Notes that the handle's node is the one of its origin that was touched last.
@@ -455,20 +457,87 @@ impl Arena {
         self.by_origin[origin].touched = at;
     }
 
-    /// Notes that the node of this name is a hint, where its index says so and there is room.
-    fn note_hint(&mut self, node: NodeId, origin: u32, tag: Tag)
+    /// Notes that the node of this name is a hint, where its index says so and there is room, and gives its handle
+    /// back.
+    #[inline(always)]
+    fn note_hint(&mut self, node: NodeId, origin: u32, tag: Tag) -> NodeId
         requires { IsSome (entry_of node self.old.places) }
+        ensures same { self.new ≡ self.old }
+        ensures node { result ≡ node }
+    {
+        if node.index() % HINTED == 0 {
+            return self.put_hint(node, origin, tag);
+        }
+        node
+    }
+
+    /// Puts the handle's node, which has this name, among the hints where there is room, and gives its handle back.
+    #[inline(never)]
+    fn put_hint(&mut self, node: NodeId, origin: u32, tag: Tag) -> NodeId
+        ensures same { self.new ≡ self.old }
+        ensures node { result ≡ node }
+    {
+        if self.hints.len() < self.hints.capacity() && (node.index() as usize) < self.nodes.len() {
+            let place = place_of_hint(&self.hints, &self.nodes, origin, tag);
+            let _ = self.hints.insert(place, node.index());
+        }
+        node
+    }
+
+    /// Puts the handle's node, which has this name, among its origin's hints where there is room.
+    #[inline(never)]
+    fn put_own_hint(&mut self, node: NodeId, origin: u32, tag: Tag)
         ensures { self.new ≡ self.old }
     {
-        let at = node.index();
-        if at % HINTED == 0 && self.hints.len() < self.hints.capacity() {
-            let place = place_of_hint(&self.hints, &self.nodes, origin, tag);
-            let _ = self.hints.insert(place, at);
+        if self.own_hints.len() < self.own_hints.capacity()
+            && (node.index() as usize) < self.nodes.len()
+        {
+            let place = place_of_own_hint(&self.own_hints, &self.nodes, origin, tag);
+            let _ = self.own_hints.insert(place, node.index());
         }
+    }
+
+    /// After a long walk back to this name along the list of its origin: notes the node that is so many before its
+    /// start.
+    #[inline(never)]
+    fn note_on_own_way(&mut self, origin: u32, tag: Tag, back: u32)
+        requires { origin < self.old.origins }
+        ensures { self.new ≡ self.old }
+    {
+        let last = self.by_origin[origin as usize].ends.prev;
+        let start = self.start_near(origin, tag, last);
+        let at = back_of_origin(&self.nodes, start, back);
+        let is_hinted = own_hint(&self.hints, &self.nodes, origin, tag) != NO_NODE;
+        let Some(node) = self.nodes.get(at as usize) else {
+            return;
+        };
+        let tag = node.entry.tag();
+        if is_hinted {
+            self.put_hint(NodeId::new(at), origin, tag);
+        } else {
+            self.put_own_hint(NodeId::new(at), origin, tag);
+        }
+    }
+
+    /// After a long walk back to this name along the tag list: notes the node that is so many before its start.
+    #[inline(never)]
+    fn note_on_way(&mut self, origin: u32, tag: Tag, own_before: u32, back: u32)
+        requires origin { origin < self.old.origins }
+        requires own_before { own_before ≡ last_not_after origin tag (places_of origin self.old.places) }
+        ensures { self.new ≡ self.old }
+    {
+        let start = self.start_near_beside(origin, tag, own_before, self.ends.prev);
+        let at = back_by_tag(&self.nodes, start, back);
+        let Some(node) = self.nodes.get(at as usize) else {
+            return;
+        };
+        let (origin, tag) = (node.entry.origin(), node.entry.tag());
+        self.put_hint(NodeId::new(at), origin, tag);
     }
 
     /// Where a walk back to this name starts: where `start_of_walk` says, where the name is next to that, or at a hint
     /// that is nearer.
+    #[inline(always)]
     fn start_near(&self, origin: u32, tag: Tag, end: u32) -> u32
         requires { origin < self.now.origins }
         ensures { result ≢ end → IsAfter origin tag result self.now.places }
@@ -477,7 +546,7 @@ impl Arena {
         if leads_back(&self.nodes, near, origin, tag) {
             return near;
         }
-        let hint = own_hint(&self.hints, &self.nodes, origin, tag);
+        let hint = near_hint(&self.hints, &self.own_hints, &self.nodes, origin, tag);
         if hint == NO_NODE {
             return near;
         }
@@ -519,6 +588,7 @@ impl Arena {
 
     /// Where the walk back along the tag list starts: where `start_beside` says, where that is next to the origin's
     /// node before the name, or at a hint that is nearer.
+    #[inline(always)]
     fn start_near_beside(&self, origin: u32, tag: Tag, own_before: u32, end: u32) -> u32
         requires origin { origin < self.now.origins }
         requires own_before { own_before ≡ last_not_after origin tag (places_of origin self.now.places) }
@@ -542,29 +612,62 @@ impl Arena {
     }
 
     /// The last node of the tag list whose name is not after this one, or `NO_NODE`, where it is known which of the
+    /// origin's nodes is. Where the walk was long, it leaves a hint in its middle.
+    fn seek_by_tag(&mut self, origin: u32, tag: Tag, own_before: u32) -> u32
+        requires origin { origin < self.old.origins }
+        requires own_before { own_before ≡ last_not_after origin tag (places_of origin self.old.places) }
+        ensures same { self.new ≡ self.old }
+        ensures last { result ≡ last_not_after origin tag self.old.places }
+    {
+        let walk = self.last_through(origin, tag, own_before);
+        if walk.passed > MOST_PASSED {
+            self.note_on_way(origin, tag, own_before, walk.passed / 2);
+        }
+        walk.at
+    }
+
+    /// The last node of the origin's list whose name is not after this one, or `NO_NODE`. Where the walk was long, it
+    /// leaves a hint in its middle.
+    fn seek_own(&mut self, origin: u32, tag: Tag) -> u32
+        requires { origin < self.old.origins }
+        ensures same { self.new ≡ self.old }
+        ensures last { result ≡ last_not_after origin tag (places_of origin self.old.places) }
+    {
+        let walk = self.last_of_origin_through(origin, tag);
+        if walk.passed > MOST_PASSED {
+            self.note_on_own_way(origin, tag, walk.passed / 2);
+        }
+        walk.at
+    }
+
+    /// The last node of the tag list whose name is not after this one, or `NO_NODE`, where it is known which of the
     /// origin's nodes is.
-    fn last_through(&self, origin: u32, tag: Tag, own_before: u32) -> u32
+    fn last_through(&self, origin: u32, tag: Tag, own_before: u32) -> Walk
         requires origin { origin < self.now.origins }
         requires own_before { own_before ≡ last_not_after origin tag (places_of origin self.now.places) }
-        ensures { result ≡ last_not_after origin tag self.now.places }
+        ensures { result.at ≡ last_not_after origin tag self.now.places }
     {
         let mut at = self.start_near_beside(origin, tag, own_before, self.ends.prev);
+        let mut passed = 0_u32;
         while at != NO_NODE && self.nodes[at as usize].entry.comes_after(origin, tag) {
             at = self.nodes[at as usize].by_tag.prev;
+            passed = passed.wrapping_add(1);
         }
-        at
+        Walk { at, passed }
     }
 
     /// The last node of the origin's list whose name is not after this one, or `NO_NODE`.
-    fn last_of_origin_through(&self, origin: u32, tag: Tag) -> u32
+    fn last_of_origin_through(&self, origin: u32, tag: Tag) -> Walk
         requires { origin < self.now.origins }
-        ensures { result ≡ last_not_after origin tag (places_of origin self.now.places) }
+        ensures { result.at ≡ last_not_after origin tag (places_of origin self.now.places) }
     {
         let last = self.by_origin[origin as usize].ends.prev;
         let mut at = self.start_near(origin, tag, last);
+        let mut passed = 0_u32;
         while at != NO_NODE && self.nodes[at as usize].entry.comes_after(origin, tag) {
             at = self.nodes[at as usize].of_origin.prev;
+            passed = passed.wrapping_add(1);
         }
-        at
+        Walk { at, passed }
     }
 }

@@ -7,10 +7,12 @@
 //!
 //! A name is looked for from the end of a list back. For names that come newest first the arena keeps for each origin
 //! the node touched last: the walk along the origin's list starts there where that is after the name, and the walk
-//! along the tag list at the origin's next node. No clause speaks of that.
+//! along the tag list at the origin's next node. A late name is sought from a hint: each 37th node is one, and the
+//! middle of each walk that was long. No clause speaks of that.
 #![tactic(auto)]
 
 mod arena;
+mod hints;
 pub mod law;
 mod links;
 mod node;

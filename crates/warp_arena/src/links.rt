@@ -4,11 +4,11 @@ ghost use Rattle.std.specs.Prelude.{◌≢◌, ◌≤◌, All, Contains, is_ok, 
 ghost use Rattle.std.specs.Vec.{vec_capacity};
 ghost use Rattle.warp_tag.specs.Table.{name_before};
 ghost use Rattle.warp_arena.specs.Places.{room_after};
-ghost use Rattle.warp_arena.specs.Shape.{IsOwnAfter, by_tag, entry_at, of_origin, next_in, prev_in, no_node};
+ghost use Rattle.warp_arena.specs.Shape.{by_tag, entry_at, of_origin, next_in, prev_in, no_node};
 ghost use Rattle.warp_arena.specs.Changes.{IsPassed, IsPlace, CanThread, CanUnthread, SetsNext, SetsPrev, KeepsButTags};
-ghost use Rattle.warp_arena.specs.Changes.{WithoutHint, KeepsButOwn, Inserts, Skips, Threaded, Unthreaded};
+ghost use Rattle.warp_arena.specs.Changes.{KeepsButOwn, Inserts, Skips, Threaded, Unthreaded};
 
-use crate::node::{Gap, HINTED, Links, MOST_SEEN, NO_NODE, Node, NodeId};
+use crate::node::{Gap, Links, NO_NODE, Node, NodeId};
 use crate::packed::Packed;
 use warp_tag::{OutOfMemory, Tag};
 
@@ -54,123 +54,6 @@ fn add_with_room(nodes: &mut Vec<Node>) -> Result<(), OutOfMemory>
     nodes.reserve_exact(count.max(4))?;
     nodes.push_reserved(Node::unused());
     Ok(())
-}
-
-/// Makes room for more hints, where there is no room for a node more, so that room for hints grows with that for nodes.
-/// The only error is want of memory. The hints stay.
-pub(crate) fn reserve_hints(hints: &mut Vec<u32>, nodes: &Vec<Node>) -> Result<(), OutOfMemory>
-    ensures items { hints.new.items ≡ hints.old.items }
-    ensures spare { length nodes.now.items < vec_capacity nodes.now → IsOk result }
-{
-    if nodes.len() < nodes.capacity() {
-        return Ok(());
-    }
-    hints.reserve(nodes.len() / 32 + 4)?;
-    Ok(())
-}
-
-/// The place of the first hint whose name is after this one, sought by halves, where hints stand in order.
-pub(crate) fn place_of_hint(hints: &[u32], nodes: &[Node], origin: u32, tag: Tag) -> usize
-    requires { All (λ h. h < length nodes.now) hints.now }
-    ensures { result ≤ length hints.now }
-{
-    let mut low = 0;
-    let mut high = hints.len();
-    while low < high {
-        let middle = low + (high - low) / 2;
-        if nodes[hints[middle] as usize].entry.comes_after(origin, tag) {
-            high = middle;
-        } else {
-            low = middle + 1;
-        }
-    }
-    low
-}
-
-/// Whether the name is before the last few hints, so that a walk from the end may be long. On this hangs what a walk
-/// costs, and nothing else.
-fn is_far(hints: &[u32], nodes: &[Node], origin: u32, tag: Tag) -> bool
-    requires { All (λ h. h < length nodes.now) hints.now }
-{
-    hints.len() > 3
-        && nodes[hints[hints.len() - 3] as usize]
-            .entry
-            .comes_after(origin, tag)
-}
-
-/// The first of these nodes that is of the origin, and whose name is after this one, or `NO_NODE`.
-fn first_own(hints: &[u32], nodes: &[Node], origin: u32, tag: Tag) -> u32
-    requires { All (λ h. h < length nodes.now) hints.now }
-    ensures { result ≢ NO_NODE → Contains hints.now result × IsOwnAfter origin tag (entry_at nodes.now result) }
-{
-    for hint in hints {
-        let entry = &nodes[*hint as usize].entry;
-        if entry.origin() == origin && entry.comes_after(origin, tag) {
-            return *hint;
-        }
-    }
-    NO_NODE
-}
-
-/// Where this name is far from the end, a hint of its origin that is after it, the nearest one if it is among the next
-/// few hints; else `NO_NODE`.
-#[inline(never)]
-pub(crate) fn own_hint(hints: &[u32], nodes: &[Node], origin: u32, tag: Tag) -> u32
-    requires { All (λ h. h < length nodes.now) hints.now }
-    ensures { result ≢ NO_NODE → Contains hints.now result × IsOwnAfter origin tag (entry_at nodes.now result) }
-{
-    if !is_far(hints, nodes, origin, tag) {
-        return NO_NODE;
-    }
-    let first = place_of_hint(hints, nodes, origin, tag);
-    let next = &hints[first..];
-    first_own(&next[..next.len().min(MOST_SEEN)], nodes, origin, tag)
-}
-
-/// Where this name is far from the end, the first hint that is after it; else `NO_NODE`.
-pub(crate) fn tag_hint(hints: &[u32], nodes: &[Node], origin: u32, tag: Tag) -> u32
-    requires { All (λ h. h < length nodes.now) hints.now }
-    ensures { result ≢ NO_NODE → Contains hints.now result
-        × IsTrue (name_before origin tag (entry_at nodes.now result)) }
-{
-    if !is_far(hints, nodes, origin, tag) {
-        return NO_NODE;
-    }
-    let first = place_of_hint(hints, nodes, origin, tag);
-    match hints.get(first) {
-        Some(hint) if nodes[*hint as usize].entry.comes_after(origin, tag) => *hint,
-        _ => NO_NODE,
-    }
-}
-
-/// Whether the node before the one at this index in its origin's list is not after the name. On this hangs what a walk
-/// costs, and nothing else.
-pub(crate) fn leads_back(nodes: &[Node], at: u32, origin: u32, tag: Tag) -> bool {
-    let Some(node) = nodes.get(at as usize) else {
-        return true;
-    };
-    match nodes.get(node.of_origin.prev as usize) {
-        Some(before) => !before.entry.comes_after(origin, tag),
-        None => true,
-    }
-}
-
-/// Whether the node at this index is the next one by tag behind another. On this hangs what a walk costs, and nothing
-/// else.
-pub(crate) fn stands_behind(nodes: &[Node], at: u32, before: u32) -> bool {
-    match nodes.get(at as usize) {
-        Some(node) => node.by_tag.prev == before,
-        None => false,
-    }
-}
-
-/// Takes the node, which is freed, out of the hints. It stands there only where its index is a multiple of `HINTED`.
-pub(crate) fn forget_hint(hints: &mut Vec<u32>, at: u32)
-    ensures { WithoutHint at hints.old.items hints.new.items }
-{
-    if at % HINTED == 0 {
-        hints.retain(move |hint| *hint != at);
-    }
 }
 
 /// Whether the place is a list's end, or the name of its entry comes before this one.
@@ -343,7 +226,7 @@ pub(crate) fn unthread_of_origin(nodes: &mut [Node], ends: &mut Links, at: u32)
 }
 
 /// Takes the node, the first of the tag list and of its origin's list, out of both, and makes it lead to this
-/// first unused node.
+/// first unused node. It has the least of all names then.
 pub(crate) fn unthread_node(
     nodes: &mut [Node],
     ends: &mut Links,
@@ -357,5 +240,6 @@ pub(crate) fn unthread_node(
 {
     unthread_by_tag(nodes, ends, at);
     unthread_of_origin(nodes, own_ends, at);
+    nodes[at as usize].entry = Packed::blank();
     nodes[at as usize].by_tag.next = free;
 }

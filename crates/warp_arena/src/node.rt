@@ -1,7 +1,6 @@
 //! The nodes of an arena: their entries, their links, and the handles that name them.
 use crate::packed::Packed;
 use std::marker::Model;
-use warp_tag::Tag;
 
 /// The most entries that an arena holds.
 pub const MAX_USED: usize = 4_000_000_000;
@@ -9,12 +8,15 @@ pub const MAX_USED: usize = 4_000_000_000;
 /// Stands in a link for "no node": an end of a list.
 pub(crate) const NO_NODE: u32 = u32::MAX;
 
-/// A node is a hint where its index is a multiple of this. A prime, so that of origins which come in turn each has hints,
-/// unless they are just so many.
+/// A node is a hint where its index is a multiple of this. A prime, so that of origins which come in turn each has
+/// hints, unless they are just so many.
 pub(crate) const HINTED: u32 = 37;
 
 /// Among so many hints at most one of an origin is looked for.
 pub(crate) const MOST_SEEN: usize = 64;
+
+/// A walk that passed more nodes than this leaves a hint in its middle.
+pub(crate) const MOST_PASSED: u32 = 64;
 
 /// The handle of a node of an arena. It names the same entry until the node is freed.
 #[derive(Clone, Copy, Debug, PartialEq, Eq)]
@@ -75,6 +77,13 @@ pub(crate) struct Gap {
     pub own_after: u32,
 }
 
+/// The end of a walk back along a list: the node where it stopped, or `NO_NODE`, and how many nodes it passed.
+#[derive(Clone, Copy)]
+pub(crate) struct Walk {
+    pub at: u32,
+    pub passed: u32,
+}
+
 /// What the arena keeps of an origin: the ends of its list, and the node of it that was touched last, or `NO_NODE`.
 #[derive(Clone, Copy, Debug, PartialEq, Eq)]
 pub(crate) struct Origin {
@@ -123,7 +132,7 @@ impl Node {
     {
         // Inlined, so that a node that is pushed is written at its place and not on the stack first.
         Node {
-            entry: Packed::fresh(0, Tag::new(0, 0).unwrap()),
+            entry: Packed::blank(),
             by_tag: Links::EMPTY,
             of_origin: Links::EMPTY,
         }

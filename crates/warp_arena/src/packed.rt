@@ -30,6 +30,7 @@ impl Model for Packed {
 }
 
 impl Packed {
+    ghost use Rattle.warp_arena.specs.Shape.{no_node};
     ghost use Rattle.warp_tag.specs.Table.{fresh, has_name, name_before, with_event, with_withdrawal};
 
     /// The name of this origin and tag, of which nothing is known yet.
@@ -44,6 +45,14 @@ impl Packed {
             has_event: false,
             withdrawn: false,
         }
+    }
+
+    /// The entry of a node that no list holds, whose name is the least of all.
+    #[inline(always)]
+    pub fn blank() -> Packed
+        ensures { result ≡ no_node.entry }
+    {
+        Packed::fresh(0, Tag::new(0, 0).unwrap())
     }
 
     /// The entry.

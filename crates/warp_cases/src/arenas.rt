@@ -14,7 +14,7 @@ use crate::lines::{number_of, record_of, tag_of};
 use crate::mark::{begin, end, say_made};
 use std::alloc::Global;
 use std::io::{self, ErrorKind};
-use warp_arena::{Arena, Entry, NodeId};
+use warp_arena::{Arena, Entry, MAX_USED, NodeId};
 use warp_record::Record;
 use warp_tag::Tag;
 
@@ -72,7 +72,7 @@ fn start<P: Print>(rt: &P, alloc: Global) -> io::Result<()> {
 fn reserve<P: Print>(rt: &P, alloc: Global, arena: &mut Arena) -> io::Result<()>
     ensures { arena.new.origins ≡ arena.old.origins }
 {
-    if arena.is_full() {
+    if arena.len() >= MAX_USED {
         return rt.println("full");
     }
     let _begin = begin(alloc)?;
@@ -123,7 +123,7 @@ fn take_name<P: Print>(
     requires { arena.old.origins ≡ 3 }
     ensures { arena.new.origins ≡ 3 }
 {
-    if origin >= ORIGINS || arena.is_full() {
+    if origin >= ORIGINS || arena.len() >= MAX_USED {
         return Err(ErrorKind::InvalidInput.into());
     }
     // Where room was made before, this changes nothing.
@@ -204,7 +204,8 @@ fn walk<P: Print>(rt: &P, alloc: Global, arena: &Arena) -> io::Result<()> {
 /// Tells whether each name's links lead to the one before it and to the next one of its origin.
 fn say_links<P: Print>(rt: &P, arena: &Arena) -> io::Result<()> {
     if are_linked(arena) {
-        let (count, is_empty, is_full) = (arena.len(), arena.is_empty(), arena.is_full());
+        let count = arena.len();
+        let (is_empty, is_full) = (count == 0, count >= MAX_USED);
         println!(rt; "{count} linked, empty {is_empty}, full {is_full}")
     } else {
         rt.println("a link leads elsewhere")

@@ -1,10 +1,12 @@
 //! Bytes that come in two pieces and are cut into lines; records and replies, read and written.
+ghost use Rattle.warp_tag.specs.Limits.{widest};
+ghost use Rattle.warp_record.specs.Reply.{IsReply};
 
 use crate::lines::record_of;
-use crate::mark::{say, say_bytes};
+use crate::mark::{begin, end, say_bytes};
 use std::alloc::{AllocError, Global};
 use std::io;
-use warp_record::{Fed, Feed, REPLY_ROOM, Record, read_reply, write_record};
+use warp_record::{Fed, Feed, REPLY_ROOM, Record, Reply, read_reply, write_record, write_reply};
 use warp_tag::Form;
 
 /// Feeds these bytes in two pieces, cut at each place in turn, and tells what lines that gives.
@@ -61,10 +63,12 @@ pub(crate) fn read_records<P: Print>(rt: &P, alloc: Global, lines: &str) -> io::
     Ok(())
 }
 
-/// Writes a record.
+/// Writes a record, where there is room.
 fn say_record<P: Print>(rt: &P, alloc: Global, record: &Record) -> io::Result<()> {
     let mut text = Vec::with_capacity(alloc, REPLY_ROOM)?;
+    let _begin = begin(alloc)?;
     write_record(&mut text, record);
+    let _end = end(alloc)?;
     say_bytes(rt, text)
 }
 
@@ -81,8 +85,19 @@ fn read_once<P: Print>(rt: &P, alloc: Global, line: &str) -> io::Result<()> {
     match read_reply(Form::Two, line.as_bytes()) {
         Some(reply) => {
             println!(rt; "{reply:?}")?;
-            say(rt, alloc, &reply)
+            say_reply(rt, alloc, &reply)
         }
         None => rt.println("no reply"),
     }
+}
+
+/// Writes a reply, where there is room.
+fn say_reply<P: Print>(rt: &P, alloc: Global, reply: &Reply) -> io::Result<()>
+    requires { IsReply widest reply.now }
+{
+    let mut text = Vec::with_capacity(alloc, REPLY_ROOM)?;
+    let _begin = begin(alloc)?;
+    write_reply(&mut text, reply);
+    let _end = end(alloc)?;
+    say_bytes(rt, text)
 }

@@ -1,6 +1,6 @@
 -- Labels: one reactor more, and one text more.
-use Rattle.std.proofs.Common.{◌≡◌, List, [], ◌∷◌, ◌++◌, ℕ, ◌+◌, ◌<◌, length, map, drop, take, get_or, ap, sym, ◌∙◌}
-use Rattle.std.proofs.lemmas.List.{append_assoc, at_drop_more, map-append, map_more}
+use Rattle.std.proofs.Common.{◌≡◌, List, [], ◌∷◌, ◌++◌, ℕ, ◌+◌, ◌<◌, ◌≤◌, length, map, drop, take, get_or, ap, sym, ◌∙◌, Result, Ok, Err, OnOk}
+use Rattle.std.proofs.lemmas.List.{append_assoc, append-nil, at_drop_more, drop_all, map-append, map_more}
 use Rattle.warp_prog.specs.Explain.{labelled, labels_in}
 use Rattle.warp_prog.specs.File.{Word, ReactorPart}
 use Rattle.warp_prog.specs.View.{reactor_tree}
@@ -16,6 +16,11 @@ labels_more its done new rs i r within here e =
     ∙ ap (λ s. done ++ (labelled its (reactor_tree s) ++ rest)) here
     ∙ sym (at_drop_more (λ ss. done ++ labels_in its (map reactor_tree ss)) rs i r within)
 
+-- no reactor more
+pub labels_all : (its : ReactorPart → List Word) (done : List Word) (rs : List Reactor) (i : ℕ) → length rs ≤ i
+    → done ++ labels_in its (map reactor_tree (drop i rs)) ≡ done
+labels_all its done rs i past = ap (λ ss. done ++ labels_in its (map reactor_tree ss)) (drop_all i rs past) ∙ append-nil done
+
 -- one text more, which is that of one thing more
 pub texts_more : {S X : Type 0} (bytes : S → Word) (f : X → Word) (done new : List S) (text : S) (xs : List X) (i : ℕ) (x : X)
     → i < length xs → x ≡ get_or xs i x → new ≡ done ++ text ∷ [] → bytes text ≡ f x → map bytes done ≡ map f (take i xs)
@@ -23,3 +28,8 @@ pub texts_more : {S X : Type 0} (bytes : S → Word) (f : X → Word) (done new 
 texts_more bytes f done new text xs i x within here e shown so =
     ap (map bytes) e ∙ map-append bytes done (text ∷ []) ∙ ap (λ ts. ts ++ bytes text ∷ []) so
     ∙ ap (λ t. map f (take i xs) ++ t ∷ []) (shown ∙ ap f here) ∙ sym (map_more f xs i x within)
+
+-- what holds anyway holds where a call succeeds
+pub on_ok : {T E P : Type 0} (r : Result T E) → P → OnOk r P
+on_ok (Ok v) h = h
+on_ok (Err e) h = tt

@@ -1,7 +1,8 @@
 //! Why a file is no program, in words for who wrote it: where its first fault stands, and what is wrong there.
 //!
 //! `load` says which fault is the first. Here it is looked for a second time, with its place: a walk goes down the
-//! file, and on its way back each level adds its step to the trail.
+//! file, notes what is wrong, and on its way back each level adds its step to the trail. So each function of a walk says
+//! whether it found a fault, and which and where stands in the trail then.
 
 mod account;
 mod circle;
@@ -14,19 +15,20 @@ mod reason;
 mod role;
 mod shape;
 mod terms;
+mod text;
 mod trail;
 mod twice;
 
 use crate::error::LoadError;
 use crate::explain::circle::{circle_of, seat_of};
-use crate::explain::limits::check_limits;
-use crate::explain::links::check_order;
-use crate::explain::names::{check_declared, check_names};
+use crate::explain::limits::limits_fail;
+use crate::explain::links::order_fails;
+use crate::explain::names::{declared_fail, names_fail};
 use crate::explain::reason::{Reason, write_reason};
-use crate::explain::shape::check_shape;
+use crate::explain::shape::shape_fails;
 use crate::explain::trail::{Step, Trail};
-use crate::explain::twice::check_once;
-use crate::file::ProgramFile;
+use crate::explain::twice::once_fails;
+use crate::file::{ProgramFile, Reactor};
 use crate::limits::FIRST_VERSION;
 use crate::misread::Misread;
 use crate::shape::file;
@@ -89,10 +91,8 @@ fn of_value(alloc: Global, value: &Value, error: LoadError) -> Result<String, Al
 /// Where and why a JSON value has not the shape of a file.
 fn of_shape(alloc: Global, value: &Value) -> Result<String, AllocError> {
     let mut at = Trail::new();
-    match check_shape(value, &mut at) {
-        Err(reason) => written(alloc, value, &at, &reason),
-        Ok(()) => Ok(String::new(alloc)),
-    }
+    let _found = shape_fails(value, &mut at);
+    written(alloc, value, &at)
 }
 
 /// Where and why a file, which a value is, is no program.
@@ -106,49 +106,50 @@ fn of_file(
         return of_order(alloc, value, file);
     }
     let mut at = Trail::new();
-    match check_file(file, error.number(), &mut at) {
-        Err(reason) => written(alloc, value, &at, &reason),
-        Ok(()) => Ok(String::new(alloc)),
-    }
+    let _found = file_fails(file, error, &mut at);
+    written(alloc, value, &at)
 }
 
 /// Where and why the reactions of a file have no order.
 fn of_order(alloc: Global, value: &Value, file: &ProgramFile) -> Result<String, AllocError> {
     let circle = circle_of(alloc, file)?;
-    let Some(first) = circle.first() else {
-        return Ok(String::new(alloc));
-    };
     let mut at = Trail::new();
-    if let Some((reactor, reaction)) = seat_of(&file.reactors, *first) {
+    let _found = circle_fails(&circle, &file.reactors, &mut at);
+    written(alloc, value, &at)
+}
+
+/// Whether there are reactions in a circle.
+fn circle_fails<'f>(circle: &'f [u32], reactors: &'f [Reactor], at: &mut Trail<'f>) -> bool {
+    let Some(first) = circle.first() else {
+        return false;
+    };
+    if let Some((reactor, reaction)) = seat_of(reactors, *first) {
         at.back(Step::Of("reactions", reaction));
         at.back(Step::Of("reactors", reactor));
     }
-    written(alloc, value, &at, &Reason::Circle(&circle, &file.reactors))
+    at.fault(Reason::Circle(circle, reactors))
 }
 
-/// That a file has no fault of this number.
-fn check_file<'f>(file: &'f ProgramFile, number: u8, at: &mut Trail) -> Result<(), Reason<'f>> {
-    match number {
-        3 => check_limits(file, at),
-        4 => check_names(file, at),
-        5 => check_once(file, at),
-        6 => check_order(file, at),
-        7 => check_declared(file, at),
-        _ => Ok(()),
+/// Whether a file has the fault of this error.
+fn file_fails<'f>(file: &'f ProgramFile, error: LoadError, at: &mut Trail<'f>) -> bool {
+    match error {
+        LoadError::Limit => limits_fail(file, at),
+        LoadError::Name => names_fail(file, at),
+        LoadError::Twice => once_fails(file, at),
+        LoadError::Backward | LoadError::Causality => order_fails(file, at),
+        LoadError::Undeclared => declared_fail(file, at),
+        LoadError::Json | LoadError::Shape | LoadError::Memory => false,
     }
 }
 
-/// The place and the reason in a line.
-fn written(
-    alloc: Global,
-    value: &Value,
-    at: &Trail,
-    reason: &Reason<'_>,
-) -> Result<String, AllocError> {
+/// The place and the reason in a line; empty where no fault was found.
+fn written(alloc: Global, value: &Value, at: &Trail) -> Result<String, AllocError> {
     let mut text = String::new(alloc);
-    at.write(&mut text, value)?;
-    text.push_str(": ")?;
-    write_reason(alloc, &mut text, reason)?;
-    text.push('\n')?;
+    if let Some(reason) = at.reason() {
+        at.write(&mut text, value)?;
+        text.push_str(": ")?;
+        write_reason(alloc, &mut text, &reason)?;
+        text.push('\n')?;
+    }
     Ok(text)
 }

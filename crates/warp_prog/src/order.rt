@@ -75,11 +75,7 @@ pub(crate) fn place_reactions(alloc: Global, parts: &Parts) -> Result<Placing, O
 fn none_placed(alloc: Global, count: usize) -> Result<Vec<bool>, OutOfMemory>
     ensures { IfOk result (λ flags. flags.items ≡ replicate count false) }
 {
-    let mut flags = Vec::with_capacity(alloc, count)?;
-    for _n in 0..count {
-        flags.push(false)?;
-    }
-    Ok(flags)
+    vec![in alloc; false; count]
 }
 
 /// Puts reactions behind those that stand, each the least numbered that may follow, as long as one may.

@@ -8,12 +8,12 @@ ghost use Rattle.warp_prog.specs.Shape.{file_keys, file_of};
 ghost use Rattle.warp_prog.specs.View.{file_tree};
 
 mod expression;
-mod json;
+pub(crate) mod json;
 mod parts;
 mod reaction;
 mod reactor;
 mod statement;
-mod word;
+pub(crate) mod word;
 
 use crate::file::ProgramFile;
 use crate::misread::Misread;

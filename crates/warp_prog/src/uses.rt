@@ -10,7 +10,7 @@ use crate::names::is_known;
 use crate::undeclared::is_declared;
 
 /// What a body does with a name.
-#[derive(Drop)]
+#[derive(Clone, Copy)]
 pub(crate) enum Use<'f> {
     /// It reads its value.
     Reads(&'f Name),
@@ -25,7 +25,7 @@ pub(crate) enum Use<'f> {
 }
 
 /// What is asked of each use.
-#[derive(Drop)]
+#[derive(Clone, Copy)]
 pub(crate) enum Rule<'f> {
     /// It names a thing of the reactor, of its kind.
     Known(&'f Reactor),

@@ -16,10 +16,10 @@ use Rattle.warp_step.specs.Run.{is_after}
 use Rattle.warp_arena.specs.Places.{Contents, Place, Reaches, entries_of, entry_of, first_node, places_from}
 use Rattle.warp_arena.proofs.Tables.{filter-map_at}
 use Rattle.warp_line.specs.Timeline.{MovesFloor, Standing, is_behind}
-use Rattle.warp_run.specs.Front.{IsAt}
+use Rattle.warp_run.specs.Tip.{IsAt}
 use Rattle.warp_run.specs.Walk.{ahead}
 use Rattle.warp_run.specs.Warp.{StandsFor, ahead_of}
-use Rattle.warp_run.specs.declared.front.Front.{Front}
+use Rattle.warp_run.specs.declared.tip.Tip.{Tip}
 use Rattle.warp_run.specs.declared.warp.Warp.{Warp}
 use Rattle.warp_run.proofs.RowsFloor.{after_floor}
 use Rattle.warp_run.proofs.TurnsLive.{both_filters}
@@ -224,9 +224,9 @@ module _ (floor last : Option Moment) (narrow : (t : Moment) → is_after last t
 -- ---- a `Warp` that collects
 
 -- the nodes behind the floor are free, and what is executed is the same
-pub collected : (w : Warp) (a : Contents) (x : Front) (m : Standing) (below : Moment) → StandsFor w m
+pub collected : (w : Warp) (a : Contents) (x : Tip) (m : Standing) (below : Moment) → StandsFor w m
     → a ≡ record w.arena { places = ahead x.floor w.arena.places; free = a.free } → IsAt m.program (live m.table) x m.done
-    → MovesFloor below w.front.floor x.floor → x.last ≡ w.front.last → StandsFor (record w { arena = a; front = x }) m
+    → MovesFloor below w.tip.floor x.floor → x.last ≡ w.tip.last → StandsFor (record w { arena = a; tip = x }) m
 collected w a x m below h is at moves same =
     let places : a.places ≡ ahead x.floor w.arena.places = ap (λ (b : Contents). b.places) is in
     let narrow = after_floor m.program (live m.table) x m.done at in
@@ -236,10 +236,10 @@ collected w a x m below h is at moves same =
       program = h.program;
       origins = ap (λ (b : Contents). b.origins) is ∙ h.origins;
       table = ap entries_of places ∙ sym (filter-map_at (λ (d : Entry). is_after x.floor d.tag) (λ (q : Place). q.entry) w.arena.places)
-          ∙ ap (ahead_of x.floor) h.table ∙ ahead_entries w.front.floor x.floor (after_moved below w.front.floor x.floor moves) m.table;
+          ∙ ap (ahead_of x.floor) h.table ∙ ahead_entries w.tip.floor x.floor (after_moved below w.tip.floor x.floor moves) m.table;
       ordered = h.ordered;
       events = h.events;
-      front = at;
+      tip = at;
       cursor = subst (λ (ps : List Place). Reaches ps (ahead x.last ps) w.cursor) (sym places)
           (still_reaches x.floor x.last narrow w.arena.places w.cursor cursor);
       latest = h.latest;
@@ -251,8 +251,8 @@ collected w a x m below h is at moves same =
 -- it holds no more than the table has
 pub few_held : (w : Warp) (m : Standing) → StandsFor w m → length m.table < most_names → length w.arena.places < most_names
 few_held w m h few =
-    let lengths : length (entries_of w.arena.places) ≡ length (ahead_of w.front.floor m.table) = ap (λ (es : List Entry). length es) h.table in
+    let lengths : length (entries_of w.arena.places) ≡ length (ahead_of w.tip.floor m.table) = ap (λ (es : List Entry). length es) h.table in
     let held = length-map w.arena.places (λ (p : Place). p.entry) in
-    let count = length-filter (λ (e : Entry). is_after w.front.floor e.tag) m.table in
-    let most = count_by-le-length (λ (e : Entry). is_after w.front.floor e.tag) m.table in
+    let count = length-filter (λ (e : Entry). is_after w.tip.floor e.tag) m.table in
+    let most = count_by-le-length (λ (e : Entry). is_after w.tip.floor e.tag) m.table in
     omega arith

@@ -17,11 +17,11 @@ use Rattle.warp_step.specs.Events.{event_fits}
 use Rattle.warp_arena.specs.Places.{Contents, Reaches, entries_of, entry_of, with_change}
 use Rattle.warp_arena.proofs.Handles.{entry_of-with_change_same}
 use Rattle.warp_line.specs.Timeline.{Standing, NowStands}
-use Rattle.warp_run.specs.Front.{GoesBack, IsAt, KeepsRoom}
+use Rattle.warp_run.specs.Tip.{GoesBack, IsAt, KeepsRoom}
 use Rattle.warp_run.specs.History.{spacing}
 use Rattle.warp_run.specs.Walk.{AreThrough, ahead}
 use Rattle.warp_run.specs.Warp.{NamesAt, StandsFor, ahead_of, latest_with, room_in}
-use Rattle.warp_run.specs.declared.front.Front.{Front}
+use Rattle.warp_run.specs.declared.tip.Tip.{Tip}
 use Rattle.warp_run.specs.declared.warp.Warp.{Warp}
 use Rattle.warp_run.proofs.ChangesEvents.{early_stay, known_tag, late_stay}
 use Rattle.warp_run.proofs.ChangesFloor.{changed_ahead, known_ahead}
@@ -41,40 +41,40 @@ module _ (f : Entry → Entry) (names : KeepsNames f) {origin : ℕ} {tag : Mome
       subst (λ o. IsSomeAnd o (λ d. d.tag ≡ tag)) (sym there) ((names e).1 ∙ known_tag origin tag (entries_of old.arena.places))
 
   -- the cursor stays at the first place after the last row
-  cursor_stays : Reaches arena.places (ahead new.front.last arena.places) new.cursor
+  cursor_stays : Reaches arena.places (ahead new.tip.last arena.places) new.cursor
   cursor_stays =
-      subst (λ ps. Reaches ps (ahead new.front.last ps) new.cursor) (sym (ap (λ a. a.places) made))
-      (ahead_stays f node names new.front.last new.arena.places new.cursor is.cursor)
+      subst (λ ps. Reaches ps (ahead new.tip.last ps) new.cursor) (sym (ap (λ a. a.places) made))
+      (ahead_stays f node names new.tip.last new.arena.places new.cursor is.cursor)
 
   -- of what is known of the name, before and after the change
-  module _ (later : is_after old.front.floor tag ≡ true) {e d : Entry} (found : entry_of node new.arena.places ≡ Some e) (after : d ≡ f e)
+  module _ (later : is_after old.tip.floor tag ≡ true) {e d : Entry} (found : entry_of node new.arena.places ≡ Some e) (after : d ≡ f e)
       {m : Standing} (h : StandsFor old m) where
     origins_are : arena.origins ≡ m.program.origins
     origins_are = ap (λ a. a.origins) made ∙ is.origins ∙ h.origins
 
-    table_is : entries_of arena.places ≡ ahead_of old.front.floor (changed f origin tag m.table)
+    table_is : entries_of arena.places ≡ ahead_of old.tip.floor (changed f origin tag m.table)
     table_is =
         ap (λ a. entries_of a.places) made ∙ is.change f ∙ ap (changed f origin tag) h.table
-        ∙ changed_ahead old.front.floor origin tag later f names m.table
+        ∙ changed_ahead old.tip.floor origin tag later f names m.table
 
     ordered_is : IsTable (changed f origin tag m.table)
     ordered_is = table_changed f names origin tag m.table h.ordered
 
-    front_at : IsAt m.program (live m.table) new.front m.done
-    front_at = subst (λ x. IsAt m.program (live m.table) x m.done) (sym (ap (λ w. w.front) is.others)) h.front
+    front_at : IsAt m.program (live m.table) new.tip m.done
+    front_at = subst (λ x. IsAt m.program (live m.table) x m.done) (sym (ap (λ w. w.tip) is.others)) h.tip
 
     change_from : before_change origin tag m.table ≡ e
     change_from =
         before_change_known origin tag m.table h.ordered
-        ∙ ap (λ k. unwrap_or k (fresh origin tag)) (sym (known_ahead old.front.floor origin tag later m.table) ∙ ap (known origin tag) (sym h.table))
+        ∙ ap (λ k. unwrap_or k (fresh origin tag)) (sym (known_ahead old.tip.floor origin tag later m.table) ∙ ap (known origin tag) (sym h.table))
         ∙ same_some _ _ (sym is.entry ∙ found)
 
     -- where what counts of it changed, what a `Warp` that went back has left is done
     pub undone_stands : (live_event d ≡ live_event e → ⊥) → IsTrue (list_all (event_fits m.program) (live (changed f origin tag m.table)))
         → AreThrough (latest_with tag old.latest) (live (changed f origin tag m.table))
-        → (w : Warp) → w.arena ≡ arena → w.front.floor ≡ new.front.floor → w.latest ≡ latest_with tag new.latest → w.settled ≡ false
-        → ((P : Program) (E : List Event) (done : List Row) → IsAt P E new.front done → GoesBack P E tag done w.front)
-        → (Reaches arena.places (ahead new.front.last arena.places) new.cursor → Reaches w.arena.places (ahead w.front.last w.arena.places) w.cursor)
+        → (w : Warp) → w.arena ≡ arena → w.tip.floor ≡ new.tip.floor → w.latest ≡ latest_with tag new.latest → w.settled ≡ false
+        → ((P : Program) (E : List Event) (done : List Row) → IsAt P E new.tip done → GoesBack P E tag done w.tip)
+        → (Reaches arena.places (ahead new.tip.last arena.places) new.cursor → Reaches w.arena.places (ahead w.tip.last w.arena.places) w.cursor)
         → NowStands StandsFor spacing 0 tag w m (changed f origin tag m.table)
     undone_stands differs fits through w kept floor latest unsettled back cursor =
         let E : List Event = live (changed f origin tag m.table) in
@@ -86,10 +86,10 @@ module _ (f : Entry → Entry) (names : KeepsNames f) {origin : ℕ} {tag : Mome
             program = h.program;
             origins = ap (λ a. a.origins) kept ∙ origins_are;
             table = ap (λ a. entries_of a.places) kept ∙ table_is
-                ∙ ap (λ o. ahead_of o (changed f origin tag m.table)) (sym (floor ∙ ap (λ v. v.front.floor) is.others));
+                ∙ ap (λ o. ahead_of o (changed f origin tag m.table)) (sym (floor ∙ ap (λ v. v.tip.floor) is.others));
             ordered = ordered_is;
             events = fits;
-            front = moved m.program (live m.table) E tag w.front (take goes.left m.done) (early tag (not_before_self tag))
+            tip = moved m.program (live m.table) E tag w.tip (take goes.left m.done) (early tag (not_before_self tag))
                 (late_stay f names origin tag m.table) goes.before goes.aside goes.at;
             cursor = cursor cursor_stays;
             latest = subst (λ l. AreThrough l E) (sym (latest ∙ ap (λ v. latest_with tag v.latest) is.others)) through;
@@ -114,10 +114,10 @@ module _ (f : Entry → Entry) (names : KeepsNames f) {origin : ℕ} {tag : Mome
           record {
             program = h.program;
             origins = origins_are;
-            table = table_is ∙ ap (λ o. ahead_of o (changed f origin tag m.table)) (sym (ap (λ v. v.front.floor) is.others));
+            table = table_is ∙ ap (λ o. ahead_of o (changed f origin tag m.table)) (sym (ap (λ v. v.tip.floor) is.others));
             ordered = ordered_is;
             events = subst (λ E. IsTrue (list_all (event_fits m.program) E)) lives h.events;
-            front = subst (λ E. IsAt m.program E new.front m.done) lives front_at;
+            tip = subst (λ E. IsAt m.program E new.tip m.done) lives front_at;
             cursor = cursor_stays;
             latest = subst (AreThrough new.latest) lives (subst (λ l. AreThrough l (live m.table)) (sym (ap (λ w. w.latest) is.others)) h.latest);
             settled = λ yes. subst (λ E. Run m.program E m.done) lives (h.settled (sym (ap (λ w. w.settled) is.others) ∙ yes));
@@ -129,13 +129,13 @@ module _ (f : Entry → Entry) (names : KeepsNames f) {origin : ℕ} {tag : Mome
 -- ---- room
 
 -- nothing has other room than itself
-pub keeps_room : (x : Front) → KeepsRoom x x
+pub keeps_room : (x : Tip) → KeepsRoom x x
 keeps_room x = record { history = refl; outputs = refl; aside = refl; aside_outputs = refl }
 
 -- what has the same room in each part
-pub same_room : (w v : Warp) → v.arena.room ≡ w.arena.room → KeepsRoom w.front v.front → v.given ≡ w.given → room_in v ≡ room_in w
-same_room w v arena front given = λ i.
+pub same_room : (w v : Warp) → v.arena.room ≡ w.arena.room → KeepsRoom w.tip v.tip → v.given ≡ w.given → room_in v ≡ room_in w
+same_room w v arena tip given = λ i.
     arena i
-    ∷ (front.history i).marks ∷ (front.history i).values ∷ (front.history i).entries ∷ front.outputs i
-    ∷ (front.aside i).marks ∷ (front.aside i).values ∷ (front.aside i).entries ∷ front.aside_outputs i
+    ∷ (tip.history i).marks ∷ (tip.history i).values ∷ (tip.history i).entries ∷ tip.outputs i
+    ∷ (tip.aside i).marks ∷ (tip.aside i).values ∷ (tip.aside i).entries ∷ tip.aside_outputs i
     ∷ vec_capacity (given i) ∷ []

@@ -164,7 +164,7 @@ pub names_new : (old : Warp) (o : ℕ) (g : Moment) (node : ℕ) (a : Contents) 
     → entry_of node old.arena.places ≡ None → entry_of node a.places ≡ Some (fresh o g)
     → FindsKnown o g old.arena.places → node_of o g old.arena.places ≡ None
     → ((f : Entry → Entry) → ChangesNew f o g old.arena.places) → IsOrdered a
-    → to ≡ first_node (ahead old.front.last (with_place (place node (fresh o g)) old.arena.places))
+    → to ≡ first_node (ahead old.tip.last (with_place (place node (fresh o g)) old.arena.places))
     → NamesAt old (record old { arena = a; cursor = to }) o g node
 names_new old o g node a to is none here finds absent changes order handle =
     let new : a.places ≡ with_place (place node (fresh o g)) old.arena.places = ap (λ x. x.places) is in
@@ -174,6 +174,6 @@ names_new old o g node a to is none here finds absent changes order handle =
       entry = here ∙ ap (λ k. Some (unwrap_or k (fresh o g))) (sym (unknown o g old.arena.places finds absent));
       change = λ f. ap (λ qs. entries_of (with_change f node qs)) new ∙ changes f node absent none;
       cursor =
-          subst (Reaches a.places (ahead old.front.last a.places)) (ap (λ qs. first_node (ahead old.front.last qs)) new ∙ sym handle)
-          (reaches_ahead old.front.last a.places order.table order.handles);
+          subst (Reaches a.places (ahead old.tip.last a.places)) (ap (λ qs. first_node (ahead old.tip.last qs)) new ∙ sym handle)
+          (reaches_ahead old.tip.last a.places order.table order.handles);
     }

@@ -1,7 +1,8 @@
 -- Walks on along an arena's places.
-use Rattle.std.proofs.Common.{◌≡◌, ℕ, Bool, true, List, [], ◌∷◌, ◌++◌, refl, sym, ap, ◌∙◌, subst, inl, inr, Option, Some, None}
+use Rattle.std.proofs.Common.{◌≡◌, ℕ, Bool, true, false, arith, List, [], ◌∷◌, ◌++◌, refl, sym, ap, ◌∙◌, subst, inl, inr, Option, Some, None}
 use Rattle.std.specs.List.{AllByRecursion, cons_option}
 use Rattle.std.proofs.lemmas.Bool.{cases_eq, eq-eqb, ne_eqb, false≢true}
+use Rattle.std.proofs.lemmas.Bool.Decides.{nat_tests}
 use Rattle.std.proofs.lemmas.List.{append-nil}
 use Rattle.warp_tag.specs.Moment.{Moment, is_before}
 use Rattle.warp_tag.specs.Table.{Event, IsTable, fresh, live_event, name_before}
@@ -13,7 +14,7 @@ use Rattle.warp_step.specs.declared.given.Given.{Given}
 use Rattle.warp_arena.specs.Places.{Place, Reaches, entries_of, left_at, places_from, places_after}
 use Rattle.warp_arena.proofs.Tables.{Precedes, All-unmap, filter_front, filter_back}
 use Rattle.warp_line.proofs.ReplayLemmas.{live_name}
-use Rattle.warp_run.specs.Walk.{AreThrough, FindsFirst, ahead, given_by, live_of, through}
+use Rattle.warp_run.specs.Walk.{AreNotBefore, AreThrough, FindsBefore, FindsFirst, ahead, given_by, live_of, through}
 use Rattle.warp_run.specs.declared.walk.Live.{Live}
 
 -- the place of an entry at a handle
@@ -167,3 +168,53 @@ pub found_past_latest : (ps : List Place) (cursor at : Option ℕ) (latest : Opt
     → HasFound ps cursor latest None
 found_past_latest ps cursor at None node e t s is head h = found_none ps cursor None refl
 found_past_latest ps cursor at (Some latest) node e t s is head h = found_past ps cursor at latest node e t s is head h
+
+-- what a walk that seeks before a tag answers
+abbrev pub HasBefore : List Place → Option ℕ → Moment → Option Live → Type 0
+HasBefore ps cursor tag result = (rest : List Place) → Reaches ps rest cursor → FindsBefore ps rest tag result
+
+-- of places that are not before a tag no event is
+none_before_of : (tag : Moment) (ps : List Place) → AllByRecursion (λ p. is_before p.entry.tag tag ≡ false) ps → AreNotBefore tag (live_of ps)
+none_before_of tag [] later = refl
+none_before_of tag (p ∷ ps) later =
+    none (live_event p.entry) (live_of ps) (none_before_of tag ps later.1) (λ v k. ap (λ t. is_before t tag) (live_name p.entry v k).1 ∙ later.0)
+  where
+    none : (o : Option Event) (E : List Event) → AreNotBefore tag E → ((v : Event) → o ≡ Some v → is_before v.tag tag ≡ false)
+        → AreNotBefore tag (cons_option o E)
+    none None E rest tags = rest
+    none (Some v) E rest tags = let first = tags v refl in grind (arith, nat_tests)
+
+-- where the first place is not before it, no place is
+not_before_from : (ps : List Place) (node : ℕ) (e : Entry) (tag : Moment) → IsTable (entries_of ps) → Heads ps node e → is_before e.tag tag ≡ false
+    → AllByRecursion (λ p. is_before p.entry.tag tag ≡ false) (places_from node ps)
+not_before_from ps node e tag t head h =
+    subst (AllByRecursion (λ (p : Place). is_before p.entry.tag tag ≡ false)) (sym head) (
+      h,
+      All-weaker (λ (q : Place). Precedes e q.entry) (λ q. is_before q.entry.tag tag ≡ false)
+          (λ q k. not_before_name tag e q.entry h k) (places_after node ps)
+          (All-unmap (λ x. Precedes e x) (λ (q : Place). q.entry) (places_after node ps)
+          (subst (λ qs. IsTable (entries_of qs)) head (table_from node ps t)).0),
+    )
+  where
+    not_before_name : (u : Moment) (d x : Entry) → is_before d.tag u ≡ false → name_before d.origin d.tag x ≡ true → is_before x.tag u ≡ false
+    not_before_name u d x h k = grind (arith, nat_tests)
+
+-- nor has any from there on an event before it
+left_not_before : (ps : List Place) (at : Option ℕ) (tag : Moment) (node : ℕ) (e : Entry)
+    → IsTable (entries_of ps) → at ≡ Some node → Heads ps node e → is_before e.tag tag ≡ false → AreNotBefore tag (live_of (left_at at ps))
+left_not_before ps at tag node e t is head h =
+    none_before_of tag (left_at at ps)
+    (subst (λ o. AllByRecursion (λ (p : Place). is_before p.entry.tag tag ≡ false) (left_at o ps)) (sym is) (not_before_from ps node e tag t head h))
+
+-- so a walk that begins there finds none
+pub none_at_first : (ps : List Place) (cursor : Option ℕ) (tag : Moment) (node : ℕ) (e : Entry)
+    → IsTable (entries_of ps) → cursor ≡ Some node → Heads ps node e → is_before e.tag tag ≡ false → HasBefore ps cursor tag None
+none_at_first ps cursor tag node e t is head h rest r =
+    subst (λ qs. AreNotBefore tag (live_of qs)) r.left (left_not_before ps cursor tag node e t is head h)
+
+-- and one that comes there has found none
+pub none_on_the_way : (ps : List Place) (cursor at : Option ℕ) (tag : Moment) (node : ℕ) (e : Entry)
+    → IsTable (entries_of ps) → Seeks ps (left_at cursor ps) at → at ≡ Some node → Heads ps node e → is_before e.tag tag ≡ false
+    → HasBefore ps cursor tag None
+none_on_the_way ps cursor at tag node e t s is head h rest r =
+    subst (AreNotBefore tag) (s.events ∙ ap live_of r.left) (left_not_before ps at tag node e t is head h)

@@ -11,7 +11,7 @@ use Rattle.warp_step.specs.Run.{Row, is_after, state_at_end, outputs_of}
 use Rattle.warp_tag.specs.declared.out.Out.{Out}
 use Rattle.warp_line.specs.Begin.{Begin, BeginFrom, last_after}
 use Rattle.warp_run.specs.Aside.{AreAside, IsFrom, KeepsFrom, Leads, SetAside, set_aside, since}
-use Rattle.warp_run.specs.Front.{AreSaved, IsSaved}
+use Rattle.warp_run.specs.Tip.{AreSaved, IsSaved}
 use Rattle.warp_run.specs.History.{Saved, newest, spacing}
 use Rattle.warp_run.proofs.RowsBegun.{begin_behind, begin_take}
 use Rattle.warp_run.proofs.RowsSaved.{last_append, state_append}
@@ -21,26 +21,26 @@ use Rattle.warp_run.proofs.RowsSaved.{last_append, state_append}
 module _ (P : Program) (E : List Event) (done : List Row) (begin : Begin P E done) where
   -- up to a later checkpoint there are the rows up to the earlier one, and those between
   module _ (c d : Saved) (earlier : IsSaved P done c) (later : IsSaved P done d) (order : c.done.rows ≤ d.done.rows) where
-    abbrev Front : List Row
-    Front = take c.done.rows done
+    abbrev Tip : List Row
+    Tip = take c.done.rows done
 
     abbrev Between : List Row
     Between = drop c.done.rows (take d.done.rows done)
 
-    parts : take d.done.rows done ≡ Front ++ Between
+    parts : take d.done.rows done ≡ Tip ++ Between
     parts =
         sym (take-append-drop c.done.rows (take d.done.rows done))
         ∙ ap (λ (rows : List Row). rows ++ Between) (take-take c.done.rows d.done.rows done order)
 
-    outputs_parts : outputs_of (take d.done.rows done) ≡ outputs_of Front ++ outputs_of Between
-    outputs_parts = ap outputs_of parts ∙ flat_map-append (λ (r : Row). r.outputs) Front Between
+    outputs_parts : outputs_of (take d.done.rows done) ≡ outputs_of Tip ++ outputs_of Between
+    outputs_parts = ap outputs_of parts ∙ flat_map-append (λ (r : Row). r.outputs) Tip Between
 
-    all_parts : outputs_of done ≡ outputs_of Front ++ (outputs_of Between ++ outputs_of (drop d.done.rows done))
+    all_parts : outputs_of done ≡ outputs_of Tip ++ (outputs_of Between ++ outputs_of (drop d.done.rows done))
     all_parts =
         ap outputs_of (sym (take-append-drop d.done.rows done))
         ∙ flat_map-append (λ (r : Row). r.outputs) (take d.done.rows done) (drop d.done.rows done)
         ∙ ap (λ (os : List Out). os ++ outputs_of (drop d.done.rows done)) outputs_parts
-        ∙ append_assoc (outputs_of Front) (outputs_of Between) (outputs_of (drop d.done.rows done))
+        ∙ append_assoc (outputs_of Tip) (outputs_of Between) (outputs_of (drop d.done.rows done))
 
     -- the later has no fewer outputs
     outputs_grow : c.done.outputs ≤ d.done.outputs
@@ -48,7 +48,7 @@ module _ (P : Program) (E : List Event) (done : List Row) (begin : Begin P E don
         let here = earlier.outputs in
         let there = later.outputs in
         let more = ap (λ (os : List Out). length os) outputs_parts in
-        let lengths = length-append (outputs_of Front) (outputs_of Between) in
+        let lengths = length-append (outputs_of Tip) (outputs_of Between) in
         omega arith
 
     -- so the earlier leads to the later, where it is at most sixteen rows on, and the outputs are kept
@@ -58,16 +58,16 @@ module _ (P : Program) (E : List Event) (done : List Row) (begin : Begin P E don
         let s : Snapshot = start_state P in
         let long : length (take d.done.rows done) ≡ d.done.rows = length-take-le d.done.rows done later.within in
         let cut : length Between ≡ length (take d.done.rows done) - c.done.rows = length-drop c.done.rows (take d.done.rows done) in
-        let begins : BeginFrom P E (last_after None Front) (state_at_end s Front) Between =
-        begin_behind P E None s Front Between (subst (Begin P E) parts (begin_take P E None s d.done.rows done begin)) in
-        let at_last : BeginFrom P E c.done.last (state_at_end s Front) Between =
-        subst (λ (o : Option Moment). BeginFrom P E o (state_at_end s Front) Between) (sym earlier.last) begins in
+        let begins : BeginFrom P E (last_after None Tip) (state_at_end s Tip) Between =
+        begin_behind P E None s Tip Between (subst (Begin P E) parts (begin_take P E None s d.done.rows done begin)) in
+        let at_last : BeginFrom P E c.done.last (state_at_end s Tip) Between =
+        subst (λ (o : Option Moment). BeginFrom P E o (state_at_end s Tip) Between) (sym earlier.last) begins in
         let here = earlier.outputs in
         let there = later.outputs in
         let more = ap (λ (os : List Out). length os) outputs_parts in
-        let lengths = length-append (outputs_of Front) (outputs_of Between) in
+        let lengths = length-append (outputs_of Tip) (outputs_of Between) in
         let all = ap (λ (os : List Out). length os) all_parts in
-        let all_lengths = length-append (outputs_of Front) (outputs_of Between ++ outputs_of (drop d.done.rows done)) in
+        let all_lengths = length-append (outputs_of Tip) (outputs_of Between ++ outputs_of (drop d.done.rows done)) in
         let rest_lengths = length-append (outputs_of Between) (outputs_of (drop d.done.rows done)) in
         let kept_length = ap (λ (os : List Out). length os) kept in
         let kept_cut = length-drop first (outputs_of done) in
@@ -75,13 +75,13 @@ module _ (P : Program) (E : List Event) (done : List Row) (begin : Begin P E don
         ap (drop (c.done.outputs - first)) kept ∙ drop-drop (c.done.outputs - first) first (outputs_of done)
         ∙ ap (λ (n : ℕ). drop n (outputs_of done)) {x = first + (c.done.outputs - first)} {y = c.done.outputs} (omega arith)
         ∙ ap (drop c.done.outputs) all_parts
-        ∙ drop_at (outputs_of Front) (outputs_of Between ++ outputs_of (drop d.done.rows done)) c.done.outputs (sym earlier.outputs) in
+        ∙ drop_at (outputs_of Tip) (outputs_of Between ++ outputs_of (drop d.done.rows done)) c.done.outputs (sym earlier.outputs) in
         record {
           rows = Between;
           begin = subst (λ (t : Snapshot). BeginFrom P E c.done.last t Between) (sym earlier.state) at_last;
-          last = later.last ∙ ap (last_after None) parts ∙ last_append None Front Between
+          last = later.last ∙ ap (last_after None) parts ∙ last_append None Tip Between
               ∙ ap (λ (o : Option Moment). last_after o Between) (sym earlier.last);
-          state = later.state ∙ ap (state_at_end s) parts ∙ state_append s Front Between
+          state = later.state ∙ ap (state_at_end s) parts ∙ state_append s Tip Between
               ∙ ap (λ (t : Snapshot). state_at_end t Between) (sym earlier.state);
           count = omega arith;
           few = omega arith;

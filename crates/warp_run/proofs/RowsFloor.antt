@@ -15,15 +15,15 @@ use Rattle.warp_step.proofs.PartedLists.{filter_all}
 use Rattle.warp_step.proofs.TagsOfRun.{after_trans, waits_after}
 use Rattle.warp_line.specs.Begin.{Begin, BeginFrom, last_after}
 use Rattle.warp_line.specs.Timeline.{is_behind, rows_behind}
-use Rattle.warp_run.specs.Front.{IsAt}
+use Rattle.warp_run.specs.Tip.{IsAt}
 use Rattle.warp_run.specs.History.{Saves, reach}
-use Rattle.warp_run.specs.declared.front.Front.{Front}
+use Rattle.warp_run.specs.declared.tip.Tip.{Tip}
 use Rattle.warp_run.proofs.RowsBegun.{begin_behind, begin_take}
 use Rattle.warp_run.proofs.RowsSaved.{last_append}
 
--- ---- of a front with the same base
+-- ---- of a tip with the same base
 
-module _ (y x : Front) where
+module _ (y x : Tip) where
   pub few_more : (done more : List Row) → y.base ≡ x.base → x.base ≤ length done → y.base ≤ length (done ++ more)
   few_more done more same few = let all = length-append done more in omega arith
 
@@ -100,7 +100,7 @@ behind_base P E done n begin within =
     omega arith
 
 -- what is after the last row is after the floor
-pub after_floor : (P : Program) (E : List Event) (x : Front) (done : List Row) → IsAt P E x done → (t : Moment) → is_after x.last t ≡ true
+pub after_floor : (P : Program) (E : List Event) (x : Tip) (done : List Row) → IsAt P E x done → (t : Moment) → is_after x.last t ≡ true
     → is_after x.floor t ≡ true
 after_floor P E x done h t after =
     let all : is_after (last_after None (take (length done) done)) t ≡ true =

@@ -17,9 +17,9 @@ use Rattle.warp_tag.specs.declared.out.Out.{Out}
 use Rattle.warp_step.proofs.TagsOfRun.{after_trans, waits_after}
 use Rattle.warp_line.specs.Begin.{BeginFrom, last_after}
 use Rattle.warp_run.specs.Aside.{AreAside, IsFrom, Leads}
-use Rattle.warp_run.specs.Front.{IsAt}
+use Rattle.warp_run.specs.Tip.{IsAt}
 use Rattle.warp_run.specs.History.{Saved}
-use Rattle.warp_run.specs.declared.front.Front.{Front}
+use Rattle.warp_run.specs.declared.tip.Tip.{Tip}
 
 -- what passes a test is found among what passes a weaker one
 narrower : {X : Type 0} (p q : X → Bool) → ((x : X) → p x ≡ true → q x ≡ true) → (xs : List X) → filter p (filter q xs) ≡ filter p xs
@@ -166,7 +166,7 @@ module _ (tag : Moment) (D E : List Event) (same : events_past tag D ≡ events_
 
 -- What is executed before a tag stays where the events before it are the same, and what is aside and not before it where
 -- those after it are.
-pub moved : (P : Program) (D E : List Event) (tag : Moment) (x : Front) (done : List Row) → events_until tag D ≡ events_until tag E
+pub moved : (P : Program) (D E : List Event) (tag : Moment) (x : Tip) (done : List Row) → events_until tag D ≡ events_until tag E
     → events_past tag D ≡ events_past tag E
     → is_after x.last tag ≡ true → IsFrom tag x.aside.history.saves → IsAt P D x done → IsAt P E x done
 moved P D E tag x done same past before from h = record {

@@ -12,9 +12,9 @@ use Rattle.warp_step.specs.Run.{Row, is_after, state_at_end, outputs_of}
 use Rattle.warp_tag.specs.declared.out.Out.{Out}
 use Rattle.warp_line.specs.Begin.{BeginFrom, last_after}
 use Rattle.warp_run.specs.Aside.{AreAside, IsFrom, IsMet, IsSameAside, Leads, SetAside, outputs_between, since}
-use Rattle.warp_run.specs.Front.{AreSaved, GoesBack, GoesOn, IsAt}
+use Rattle.warp_run.specs.Tip.{AreSaved, GoesBack, GoesOn, IsAt}
 use Rattle.warp_run.specs.History.{IsOfState, IsReady, Saved, Saves, newest, reach, spacing}
-use Rattle.warp_run.specs.declared.front.Front.{Front}
+use Rattle.warp_run.specs.declared.tip.Tip.{Tip}
 use Rattle.warp_run.specs.declared.history.Done.{Done}
 use Rattle.warp_run.proofs.RowsAside.{aside_since, from_since}
 use Rattle.warp_run.proofs.RowsBegun.{begin_append}
@@ -37,7 +37,7 @@ leads_next P E first outputs saves c d cs ds h is next =
     (all.1, all.2.0)
 
 -- all but what is aside stays
-module _ (P : Program) (E : List Event) (x : Front) (done : List Row) (h : IsAt P E x done) (a : SetAside) where
+module _ (P : Program) (E : List Event) (x : Tip) (done : List Row) (h : IsAt P E x done) (a : SetAside) where
   with_aside : a.history.width ≡ x.aside.history.width → AreAside P E a.first a.outputs a.history.saves → IsAt P E (record x { aside = a }) done
   with_aside width aside = record {
     begin = h.begin;
@@ -85,7 +85,7 @@ is_met t s [] last state = absurd state
 is_met t s (c ∷ cs) last state = record { earliest = c; others = cs; aside = refl; last = sym last; state = state }
 
 -- so no row is gone over
-pub past_none : (x : Front) (a : SetAside) (tag : Moment)
+pub past_none : (x : Tip) (a : SetAside) (tag : Moment)
     → a ≡ record x.aside { history = record x.aside.history { saves = since tag x.aside.history.saves } } → GoesOn x (record x { aside = a })
 past_none x a tag is = record {
   floor = refl;
@@ -93,7 +93,7 @@ past_none x a tag is = record {
 }
 
 -- and what is executed is all kept at a tag after the last row
-pub lets_go : (P : Program) (E : List Event) (x : Front) (done : List Row) (a : SetAside) (tag : Moment) → is_after x.last tag ≡ true
+pub lets_go : (P : Program) (E : List Event) (x : Tip) (done : List Row) (a : SetAside) (tag : Moment) → is_after x.last tag ≡ true
     → a ≡ record x.aside { history = record x.aside.history { saves = since tag x.aside.history.saves } } → IsAt P E x done
     → GoesBack P E tag done (record x { aside = a })
 lets_go P E x done a tag after is h = record {
@@ -107,7 +107,7 @@ lets_go P E x done a tag after is h = record {
 }
 
 -- rows are gone over, and then more
-pub goes_further : (x y z : Front) → GoesOn x y → GoesOn y z → GoesOn x z
+pub goes_further : (x y z : Tip) → GoesOn x y → GoesOn y z → GoesOn x z
 goes_further x y z h k = record {
   floor = k.floor ∙ h.floor;
   rows = λ P E done at.
@@ -117,35 +117,35 @@ goes_further x y z h k = record {
 }
 
 -- a front that differs in room alone is of the same rows
-pub same_rows : (P : Program) (E : List Event) (x y : Front) (done : List Row)
+pub same_rows : (P : Program) (E : List Event) (x y : Tip) (done : List Row)
     → y ≡ record x { outputs = y.outputs; history = y.history; aside = y.aside } → y.outputs.items ≡ x.outputs.items
     → y.history ≡ record x.history { room = y.history.room } → IsSameAside x.aside y.aside → IsAt P E x done → IsAt P E y done
 same_rows P E x y done is same history aside h = record {
   begin = h.begin;
-  rows = ap (λ (f : Front). f.rows) is ∙ h.rows;
-  last = ap (λ (f : Front). f.last) is ∙ h.last;
-  state = ap (λ (f : Front). f.state) is ∙ h.state;
+  rows = ap (λ (f : Tip). f.rows) is ∙ h.rows;
+  last = ap (λ (f : Tip). f.last) is ∙ h.last;
+  state = ap (λ (f : Tip). f.state) is ∙ h.state;
   outputs = same ∙ h.outputs;
-  ready = subst (λ (f : Front). IsReady P f.last f.state) (sym is) h.ready;
+  ready = subst (λ (f : Tip). IsReady P f.last f.state) (sym is) h.ready;
   width = ap (λ (z : Saves). z.width) history ∙ h.width;
-  base = subst (λ (f : Front). f.base ≤ length done) (sym is) h.base;
-  floor = subst (λ (f : Front). f.floor ≡ last_after None (take f.base done)) (sym is) h.floor;
+  base = subst (λ (f : Tip). f.base ≤ length done) (sym is) h.base;
+  floor = subst (λ (f : Tip). f.floor ≡ last_after None (take f.base done)) (sym is) h.floor;
   from = subst (λ (z : Saves). AllByRecursion (λ c. y.base ≤ c.done.rows) z.saves) (sym history)
-      (subst (λ (f : Front). AllByRecursion (λ c. f.base ≤ c.done.rows) x.history.saves) (sym is) h.from);
+      (subst (λ (f : Tip). AllByRecursion (λ c. f.base ≤ c.done.rows) x.history.saves) (sym is) h.from);
   saved = subst (λ (z : Saves). AreSaved y.base P done z.saves) (sym history)
-      (subst (λ (f : Front). AreSaved f.base P done x.history.saves) (sym is) h.saved);
+      (subst (λ (f : Tip). AreSaved f.base P done x.history.saves) (sym is) h.saved);
   near = subst (λ (z : Saves). y.rows ≤ reach y.base z.saves) (sym history)
-      (subst (λ (f : Front). f.rows ≤ reach f.base x.history.saves) (sym is) h.near);
-  every = subst (λ (f : Front). f.every ≤ spacing) (sym is) h.every;
+      (subst (λ (f : Tip). f.rows ≤ reach f.base x.history.saves) (sym is) h.near);
+  every = subst (λ (f : Tip). f.every ≤ spacing) (sym is) h.every;
   due = subst (λ (z : Saves). y.due ≤ reach y.base z.saves) (sym history)
-      (subst (λ (f : Front). f.due ≤ reach f.base x.history.saves) (sym is) h.due);
+      (subst (λ (f : Tip). f.due ≤ reach f.base x.history.saves) (sym is) h.due);
   aside_width = ap (λ (a : SetAside). a.history.width) aside ∙ h.aside_width;
   aside = subst (λ (a : SetAside). AreAside P E a.first a.outputs a.history.saves) (sym aside) h.aside;
-  scratch = ap (λ (f : Front). f.scratch) is ∙ h.scratch;
+  scratch = ap (λ (f : Tip). f.scratch) is ∙ h.scratch;
 }
 
 -- so by it no row is gone over
-pub goes_none : (P : Program) (E : List Event) (x y : Front) (done : List Row)
+pub goes_none : (P : Program) (E : List Event) (x y : Tip) (done : List Row)
     → y ≡ record x { outputs = y.outputs; history = y.history; aside = y.aside } → y.outputs.items ≡ x.outputs.items
     → y.history ≡ record x.history { room = y.history.room } → IsSameAside x.aside y.aside → IsAt P E x done
     → (rows : List Row) × IsAt P E y (done ++ rows)
@@ -153,7 +153,7 @@ goes_none P E x y done is same history aside h =
     ([], subst (IsAt P E y) (sym (append-nil done)) (same_rows P E x y done is same history aside h))
 
 -- from a front that is at one checkpoint to one at the next
-pub record Jumps (x y : Front) (c d : Saved) : Type 0 where
+pub record Jumps (x y : Tip) (c d : Saved) : Type 0 where
   pub last : x.last ≡ c.done.last
   pub state : x.state ≡ c.state
   pub room : x.rows + (d.done.rows - c.done.rows) ≤ reach x.base x.history.saves
@@ -170,7 +170,7 @@ pub record Jumps (x y : Front) (c d : Saved) : Type 0 where
   pub scratch : y.scratch ≡ x.scratch
 
 -- then the rows between are executed
-pub jumps : (P : Program) (E : List Event) (x y : Front) (done : List Row) (c d : Saved) → Jumps x y c d → Leads P E x.aside.first x.aside.outputs c d
+pub jumps : (P : Program) (E : List Event) (x y : Tip) (done : List Row) (c d : Saved) → Jumps x y c d → Leads P E x.aside.first x.aside.outputs c d
     → IsReady P d.done.last d.state → IsAt P E x done → (rows : List Row) × IsAt P E y (done ++ rows)
 jumps P E x y done c d j on ready h =
     let s : Snapshot = start_state P in

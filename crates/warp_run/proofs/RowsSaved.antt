@@ -8,7 +8,7 @@ use Rattle.warp_step.specs.Snapshot.{Snapshot, start_state}
 use Rattle.warp_step.specs.Run.{Row, state_at_end, outputs_of}
 use Rattle.warp_line.specs.Begin.{last_after}
 use Rattle.warp_run.specs.History.{Saved}
-use Rattle.warp_run.specs.Front.{AreSaved, IsSaved}
+use Rattle.warp_run.specs.Tip.{AreSaved, IsSaved}
 
 -- the last tag and the state after one more row
 pub last_more : (last : Option Moment) (rows : List Row) (row : Row) → last_after last (rows ++ row ∷ []) ≡ Some row.tag

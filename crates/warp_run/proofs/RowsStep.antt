@@ -17,9 +17,9 @@ use Rattle.warp_step.proofs.TagsOfRun.{none_before}
 use Rattle.warp_line.specs.Begin.{BeginFrom, last_after}
 use Rattle.warp_line.proofs.ProgressLemmas.{turned}
 use Rattle.warp_run.specs.Aside.{AreAside}
-use Rattle.warp_run.specs.Front.{AreSaved, CanGive, IsAt}
+use Rattle.warp_run.specs.Tip.{AreSaved, CanGive, IsAt}
 use Rattle.warp_run.specs.History.{IsReady, reach, spacing}
-use Rattle.warp_run.specs.declared.front.Front.{Front}
+use Rattle.warp_run.specs.declared.tip.Tip.{Tip}
 use Rattle.warp_run.proofs.RowsFloor.{few_more, still_floor, still_from, still_near}
 use Rattle.warp_run.proofs.RowsSaved.{last_more, state_more, saved_more}
 
@@ -45,7 +45,7 @@ some_there E last s t next = elim (cases_Bool (list_any (λ e. is_same t e.tag) 
 ]
 
 -- a step can be made at the next tag, with what is given there
-pub can_step : (P : Program) (E : List Event) (x : Front) (done : List Row) (tag : Moment) (X : List Given) → IsAt P E x done
+pub can_step : (P : Program) (E : List Event) (x : Tip) (done : List Row) (tag : Moment) (X : List Given) → IsAt P E x done
     → IsNext E x.last x.state tag → X ≡ given_at tag E → CanGive P tag X → CanStep P x.state tag X
 can_step P E x done tag X h next is can = record {
   state = h.ready.of_program;
@@ -64,8 +64,8 @@ pub begin_more : (P : Program) (E : List Event) (last : Option Moment) (s : Snap
 begin_more P E last s [] row h next step = (next, step, tt)
 begin_more P E last s (r ∷ rows) row h next step = (h.0, h.1, begin_more P E (Some r.tag) r.state rows row h.2 next step)
 
--- from one front to the next by a step at a tag, where a checkpoint stands for the row
-pub record Steps (P : Program) (x y : Front) (tag : Moment) (X : List Given) (outs : List Out) : Type 0 where
+-- from one tip to the next by a step at a tag, where a checkpoint stands for the row
+pub record Steps (P : Program) (x y : Tip) (tag : Moment) (X : List Given) (outs : List Out) : Type 0 where
   pub step : Step P x.state tag X y.state outs
   pub outputs : y.outputs.items ≡ x.outputs.items ++ outs
   pub rows : y.rows ≡ x.rows + 1
@@ -81,7 +81,7 @@ pub record Steps (P : Program) (x y : Front) (tag : Moment) (X : List Given) (ou
   pub room : x.rows + 1 ≤ reach x.base x.history.saves
 
 -- then one more row is executed
-pub stepped : (P : Program) (E : List Event) (x y : Front) (done : List Row) (tag : Moment) (X : List Given) (outs : List Out)
+pub stepped : (P : Program) (E : List Event) (x y : Tip) (done : List Row) (tag : Moment) (X : List Given) (outs : List Out)
     → Steps P x y tag X outs → IsAt P E x done → IsNext E x.last x.state tag → X ≡ given_at tag E → (row : Row) × IsAt P E y (done ++ row ∷ [])
 stepped P E x y done tag X outs steps h next is =
     let row : Row = record { tag = tag; state = y.state; outputs = outs } in

@@ -13,7 +13,7 @@ use Rattle.warp_step.proofs.state.State.TheSendSync as state
 use Rattle.warp_arena.proofs.arena.Arena.TheSendSync as arena
 use Rattle.warp_run.proofs.history.History.TheSendSync as history
 use Rattle.warp_run.proofs.aside.Aside.TheSendSync as aside
-use Rattle.warp_run.specs.contracts.front.Front as front
+use Rattle.warp_run.specs.contracts.tip.Tip as tip
 use Rattle.warp_run.specs.contracts.warp.Warp as warp
 
 operand_send : IsSend operand.the_row
@@ -52,7 +52,10 @@ instruction_send = variants_send instruction.enum (
                           (operand_send, (search sendable, (search sendable, tt))),
                           (
                             (operand_send, (operand_send, (search sendable, (search sendable, tt)))),
-                            ((operand_send, (operand_send, (search sendable, (search sendable, tt)))), tt),
+                            (
+                              (operand_send, (operand_send, (search sendable, (search sendable, tt)))),
+                              ((operand_send, (search sendable, (search sendable, (search sendable, tt)))), tt),
+                            ),
                           ),
                         ),
                       ),
@@ -76,8 +79,8 @@ code_send = search (crosses, expr.crosses, stmt.crosses, instruction_send, senda
 scratch_send : IsSend scratch.the_row
 scratch_send = search (crosses, code_send, sendable) depth 60 fits 20000
 
-front_send : IsSend front.the_row
-front_send = declared_send front.the_type (
+tip_send : IsSend tip.the_row
+tip_send = declared_send tip.the_type (
   state.the_send,
   (
     search (crosses, sendable) depth 60,
@@ -97,5 +100,5 @@ front_send = declared_send front.the_type (
 pub warp_send : IsSend warp.the_row
 warp_send = declared_send warp.the_type (
   arena.the_send,
-  (search sendable depth 60, (search sendable depth 60, (front_send, (search (crosses, sendable) depth 60, (search sendable, tt))))),
+  (search sendable depth 60, (search sendable depth 60, (tip_send, (search (crosses, sendable) depth 60, (search sendable, tt))))),
 )

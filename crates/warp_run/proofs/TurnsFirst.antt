@@ -14,15 +14,15 @@ use Rattle.warp_arena.specs.Places.{Place, IsOrdered, entries_of, places_after, 
 use Rattle.warp_line.specs.Timeline.{Standing}
 use Rattle.warp_line.proofs.ReplayLemmas.{live_name}
 use Rattle.warp_line.proofs.RunLemmas.{past}
-use Rattle.warp_run.specs.Walk.{FindsFirst, IsAhead, IsFound, ahead, first_tag, given_by, live_of, through}
+use Rattle.warp_run.specs.Walk.{AreNotBefore, FindsBefore, FindsFirst, IsAhead, IsFound, ahead, first_tag, given_by, live_of, through}
 use Rattle.warp_run.specs.Warp.{StandsFor}
 use Rattle.warp_run.specs.declared.walk.Live.{Live}
 use Rattle.warp_run.specs.declared.warp.Warp.{Warp}
 use Rattle.warp_run.proofs.PlacesBack.{first_there, heads_at, not_later, split_at}
-use Rattle.warp_run.proofs.PlacesWalks.{HasFound, Heads, place}
+use Rattle.warp_run.proofs.PlacesWalks.{HasBefore, HasFound, Heads, place}
 use Rattle.warp_run.proofs.TurnsLive.{ahead_twice, live_places}
 use Rattle.warp_run.proofs.TurnsNext.{IsFirst}
-use Rattle.warp_run.proofs.TurnsWarp.{ahead_through, first_event, no_event}
+use Rattle.warp_run.proofs.TurnsWarp.{ahead_events, ahead_through, first_event, no_event}
 
 -- no tag is before itself
 not_itself : (t u : Moment) → t ≡ u → is_before t u ≡ false
@@ -75,27 +75,42 @@ is_ahead ps last l table after f =
     }
 
 -- what a walk from the cursor finds
-module _ (w : Warp) (m : Standing) (h : StandsFor w m) (o : Option Live) (has : HasFound w.arena.places w.cursor w.latest o) where
-  found : FindsFirst w.arena.places (ahead w.front.last w.arena.places) o
-  found = has (ahead w.front.last w.arena.places) h.cursor (ahead_through w m h)
-
-  found_at : (l : Live) → o ≡ Some l → IsFound w.arena.places (ahead w.front.last w.arena.places) l
-  found_at l is = subst (FindsFirst w.arena.places (ahead w.front.last w.arena.places)) is found
-
+module _ (w : Warp) (m : Standing) (h : StandsFor w m) (l : Live) (f : IsFound w.arena.places (ahead w.tip.last w.arena.places) l) where
   -- the tag of the first event after the last row
-  pub first_live : (l : Live) → IsOrdered w.arena → o ≡ Some l → IsFirst w.front.last (live m.table) l.tag
-  first_live l ordered is =
-      let f = found_at l is in
+  pub first_live : IsOrdered w.arena → IsFirst w.tip.last (live m.table) l.tag
+  first_live ordered =
       first_event w m h (Some l.tag) l.tag ordered
       (ap (λ (x : Live). Some x.tag) f.is
-      ∙ sym (ap first_tag (first_found w.arena.places (ahead w.front.last w.arena.places) l f))) refl
-
-  -- all are past, where there is none
-  pub no_live : o ≡ None → IsTrue (past w.front.last (live m.table))
-  no_live none =
-      no_event w m h None
-      (sym (ap first_tag (subst (FindsFirst w.arena.places (ahead w.front.last w.arena.places)) none found))) refl
+      ∙ sym (ap first_tag (first_found w.arena.places (ahead w.tip.last w.arena.places) l f))) refl
 
   -- its event is given first at its tag
-  pub live_ahead : (l : Live) → IsOrdered w.arena → o ≡ Some l → IsAhead w.arena.places (ahead w.front.last w.arena.places) l
-  live_ahead l ordered is = is_ahead w.arena.places w.front.last l ordered.table (first_live l ordered is).after (found_at l is)
+  pub live_ahead : IsOrdered w.arena → IsAhead w.arena.places (ahead w.tip.last w.arena.places) l
+  live_ahead ordered = is_ahead w.arena.places w.tip.last l ordered.table (first_live ordered).after f
+
+-- what a walk along all of them finds
+module _ (w : Warp) (m : Standing) (h : StandsFor w m) (o : Option Live) (has : HasFound w.arena.places w.cursor w.latest o) where
+  found : FindsFirst w.arena.places (ahead w.tip.last w.arena.places) o
+  found = has (ahead w.tip.last w.arena.places) h.cursor (ahead_through w m h)
+
+  pub found_at : (l : Live) → o ≡ Some l → IsFound w.arena.places (ahead w.tip.last w.arena.places) l
+  found_at l is = subst (FindsFirst w.arena.places (ahead w.tip.last w.arena.places)) is found
+
+  -- all are past, where there is none
+  pub no_live : o ≡ None → IsTrue (past w.tip.last (live m.table))
+  no_live none =
+      no_event w m h None
+      (sym (ap first_tag (subst (FindsFirst w.arena.places (ahead w.tip.last w.arena.places)) none found))) refl
+
+-- what a walk along those before a tag finds
+module _ (w : Warp) (m : Standing) (h : StandsFor w m) (tag : Moment) (o : Option Live) (has : HasBefore w.arena.places w.cursor tag o) where
+  before : FindsBefore w.arena.places (ahead w.tip.last w.arena.places) tag o
+  before = has (ahead w.tip.last w.arena.places) h.cursor
+
+  pub before_at : (l : Live) → o ≡ Some l → IsFound w.arena.places (ahead w.tip.last w.arena.places) l × (is_before l.tag tag ≡ true)
+  before_at l is = subst (FindsBefore w.arena.places (ahead w.tip.last w.arena.places) tag) is before
+
+  -- where there is none, no event after the last row is before it
+  pub none_before_tag : o ≡ None → AreNotBefore tag (filter (λ e. is_after w.tip.last e.tag) (live m.table))
+  none_before_tag none =
+      subst (AreNotBefore tag) (ahead_events w m h)
+      (subst (FindsBefore w.arena.places (ahead w.tip.last w.arena.places) tag) none before)

@@ -33,12 +33,12 @@ goes_on P a b c i j k g h is = λ m stands same.
 -- a row more leaves fewer, since they are no more than there may be names
 pub fewer_left : (P : Program) (v w : Warp) (m : Standing) (rows : List Row) → StandsFor v m
     → StandsFor w (record m { done = m.done ++ rows }) → m.program ≡ P → 1 ≤ length rows
-    → most_names - w.front.rows < most_names - v.front.rows
+    → most_names - w.tip.rows < most_names - v.tip.rows
 fewer_left P v w m rows h k same one =
-    let most = begin_names m.program (live m.table) h.program h.events (m.done ++ rows) k.front.begin in
+    let most = begin_names m.program (live m.table) h.program h.events (m.done ++ rows) k.tip.begin in
     let lengths = length-append m.done rows in
-    let was = h.front.rows in
-    let are = k.front.rows in
+    let was = h.tip.rows in
+    let are = k.tip.rows in
     omega arith
 
 -- what settling does: to where it goes there is at most one tick for each row that was not done
@@ -50,7 +50,7 @@ settles w m rows ticks h is =
       stands = h;
       kept = omega arith;
       bound = λ trace run.
-          let most = begin_length m.program (live m.table) (m.done ++ rows) trace h.front.begin run in
+          let most = begin_length m.program (live m.table) (m.done ++ rows) trace h.tip.begin run in
           omega arith;
     }
 
@@ -71,11 +71,11 @@ none_after E last s none = by E (λ u there. there)
         grind (arith, nat_tests)
 
 -- so where the run is done, its last tag is the latest
-pub done_through : (w : Warp) (m : Standing) → StandsFor w m → IsDone m → AreThrough w.front.last (live m.table)
+pub done_through : (w : Warp) (m : Standing) → StandsFor w m → IsDone m → AreThrough w.tip.last (live m.table)
 done_through w m h done =
-    none_after (live m.table) w.front.last w.front.state
-    (λ t. ap (λ l. waits (live m.table) l w.front.state t) h.front.last
-    ∙ ap (λ s. waits (live m.table) (last_after None m.done) s t) h.front.state
+    none_after (live m.table) w.tip.last w.tip.state
+    (λ t. ap (λ l. waits (live m.table) l w.tip.state t) h.tip.last
+    ∙ ap (λ s. waits (live m.table) (last_after None m.done) s t) h.tip.state
     ∙ run_ends m.program (live m.table) None (start_state m.program) m.done done t)
 
 -- a settled value is settled again at no cost
@@ -84,7 +84,7 @@ settled_again w m h = record {
   stands = h;
   kept = omega arith;
   bound = λ trace run.
-      let most = begin_length m.program (live m.table) m.done trace h.front.begin run in
+      let most = begin_length m.program (live m.table) m.done trace h.tip.begin run in
       omega arith;
 }
 

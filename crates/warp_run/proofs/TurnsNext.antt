@@ -17,7 +17,7 @@ use Rattle.warp_line.specs.inner.Replay.{none_before}
 use Rattle.warp_line.proofs.NextLemmas.{is_at, least_any, next_entries, next_pending, none_pending}
 use Rattle.warp_line.proofs.ReplayLemmas.{live_name, live_tags}
 use Rattle.warp_line.proofs.RunLemmas.{past, pends, stands}
-use Rattle.warp_run.specs.Walk.{first_tag}
+use Rattle.warp_run.specs.Walk.{AreNotBefore, first_tag}
 use Rattle.warp_line.proofs.ProgressLemmas.{turned}
 
 -- of these events none is before an earlier one in the list
@@ -134,18 +134,26 @@ event_before E last s a b first least before =
     (list_all_weaker (λ (w : Waiting). not (is_before w.tag b)) (λ w. not (is_before w.tag a))
     (λ w later. grind (arith, nat_tests)) s.pending least.none)
 
--- the least entry is next where no event is left
-pub entry_next : (E : List Event) (last : Option Moment) (s : Snapshot) (b : Moment) → IsLeast last s.pending b → IsTrue (past last E)
-    → IsNext E last s b
-entry_next E last s b least gone =
-    let there = least.there in
-    next_is E last s b least.after (grind (arith, nat_tests))
-    (list_all_weaker (λ (e : Event). not (is_after last e.tag)) (λ e. misses last b e.tag) (λ e old. grind (arith, nat_tests)) E gone) least.none
+-- of the events after the last row none is before the tag
+all_miss : (last : Option Moment) (E : List Event) (b : Moment) → AreNotBefore b (filter (λ e. is_after last e.tag) E)
+    → IsTrue (list_all (λ e. misses last b e.tag) E)
+all_miss last [] b none = refl
+all_miss last (e ∷ E) b none = elim (cases_Bool (is_after last e.tag)) [
+  | inl later ↦
+      let here : AreNotBefore b (e ∷ filter (λ d. is_after last d.tag) E) =
+      subst (AreNotBefore b) (filter-here (λ (d : Event). is_after last d.tag) e E later) none in
+      let first : not (is_before e.tag b) ≡ true = grind (arith, nat_tests) in
+      let behind : AreNotBefore b (filter (λ d. is_after last d.tag) E) = grind (arith, nat_tests) in
+      let rest = all_miss last E b behind in
+      grind (arith, nat_tests)
+  | inr old ↦
+      let rest = all_miss last E b (subst (AreNotBefore b) (filter-past (λ (d : Event). is_after last d.tag) e E old) none) in
+      grind (arith, nat_tests)
+]
 
--- and where the first is not before it
-pub entry_before : (E : List Event) (last : Option Moment) (s : Snapshot) (a b : Moment) → IsFirst last E a → IsLeast last s.pending b
-    → is_before a b ≡ false → IsNext E last s b
-entry_before E last s a b first least before =
+-- the least entry is next where no event after the last row is before it
+pub entry_next : (E : List Event) (last : Option Moment) (s : Snapshot) (b : Moment) → IsLeast last s.pending b
+    → AreNotBefore b (filter (λ e. is_after last e.tag) E) → IsNext E last s b
+entry_next E last s b least none =
     let there = least.there in
-    next_is E last s b least.after (grind (arith, nat_tests))
-    (list_all_weaker (λ (e : Event). misses last a e.tag) (λ e. misses last b e.tag) (λ e none. grind (arith, nat_tests)) E first.none) least.none
+    next_is E last s b least.after (grind (arith, nat_tests)) (all_miss last E b none) least.none

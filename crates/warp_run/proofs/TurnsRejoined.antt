@@ -9,10 +9,10 @@ use Rattle.warp_step.proofs.TagsOfRun.{waits_after}
 use Rattle.warp_line.specs.Begin.{BeginFrom, last_after}
 use Rattle.warp_line.specs.Timeline.{Standing}
 use Rattle.warp_arena.specs.Places.{Place, Reaches}
-use Rattle.warp_run.specs.Front.{AreFew, GoesOn, IsAt}
+use Rattle.warp_run.specs.Tip.{AreFew, GoesOn, IsAt}
 use Rattle.warp_run.specs.Walk.{AreThrough, ahead}
 use Rattle.warp_run.specs.Warp.{Goes, StandsFor}
-use Rattle.warp_run.specs.declared.front.Front.{Front}
+use Rattle.warp_run.specs.declared.tip.Tip.{Tip}
 use Rattle.warp_run.specs.declared.warp.Warp.{Warp}
 use Rattle.warp_run.proofs.PlacesBack.{ahead_none}
 use Rattle.warp_run.proofs.RowsBegun.{begin_behind}
@@ -41,7 +41,7 @@ ahead_begun P E last s (r ∷ rows) places h =
     ∙ ahead_begun P E (Some r.tag) r.state rows places h.2
 
 -- so it is between two fronts of which one goes on from the other
-ahead_on : (P : Program) (E : List Event) (x y : Front) (done rows : List Row) (places : List Place) → IsAt P E x done → IsAt P E y (done ++ rows)
+ahead_on : (P : Program) (E : List Event) (x y : Tip) (done rows : List Row) (places : List Place) → IsAt P E x done → IsAt P E y (done ++ rows)
     → ahead y.last (ahead x.last places) ≡ ahead y.last places
 ahead_on P E x y done rows places h k =
     let s : Snapshot = start_state P in
@@ -56,16 +56,16 @@ pub may_rejoin : (w : Warp) (m : Standing) → StandsFor w m → AreFew m.progra
 may_rejoin w m h = begin_names m.program (live m.table) h.program h.events
 
 -- a value that went on over what was aside, with a cursor behind
-pub rejoined : (P : Program) (w v : Warp) → w.settled ≡ false → v.arena ≡ w.arena → v.latest ≡ w.latest → v.settled ≡ w.settled → GoesOn w.front v.front
-    → ((m : Standing) → StandsFor w m → Reaches w.arena.places (ahead v.front.last (ahead w.front.last w.arena.places)) v.cursor)
+pub rejoined : (P : Program) (w v : Warp) → w.settled ≡ false → v.arena ≡ w.arena → v.latest ≡ w.latest → v.settled ≡ w.settled → GoesOn w.tip v.tip
+    → ((m : Standing) → StandsFor w m → Reaches w.arena.places (ahead v.tip.last (ahead w.tip.last w.arena.places)) v.cursor)
     → Goes P w v 0
 rejoined P w v unsettled arena latest settled on cursor = λ m h same.
-    let more = on.rows m.program (live m.table) m.done h.front in
+    let more = on.rows m.program (live m.table) m.done h.tip in
     let places = w.arena.places in (
       more.0,
       stands_on w v m (m.done ++ more.0) h arena on.floor more.1
           (subst (λ (qs : List Place). Reaches places qs v.cursor)
-          (ahead_on m.program (live m.table) w.front v.front m.done more.0 places h.front more.1) (cursor m h))
+          (ahead_on m.program (live m.table) w.tip v.tip m.done more.0 places h.tip more.1) (cursor m h))
           (subst (λ (l : Option Moment). AreThrough l (live m.table)) (sym latest) h.latest)
           (λ yes. let never : true ≡ false = sym yes ∙ settled ∙ unsettled in cc),
       omega arith,

@@ -15,7 +15,7 @@ use Rattle.warp_step.proofs.TraceExists.{exists}
 use Rattle.warp_step.proofs.ValidLemmas.{validity}
 use Rattle.warp_line.specs.Begin.{Begin, BeginFrom, last_after}
 use Rattle.warp_line.proofs.Begins.{front_begins}
-use Rattle.warp_run.specs.Front.{AreFew}
+use Rattle.warp_run.specs.Tip.{AreFew}
 use Rattle.warp_run.proofs.RowsStep.{begin_more}
 
 -- they are the whole run where nothing waits after them

@@ -23,7 +23,7 @@ use Rattle.warp_line.specs.Begin.{last_after}
 use Rattle.warp_line.specs.inner.Replay.{is_waiting}
 use Rattle.warp_line.proofs.ReplayLemmas.{can_step}
 use Rattle.warp_line.proofs.RunLemmas.{stands}
-use Rattle.warp_run.specs.Front.{CanGive, IsAt}
+use Rattle.warp_run.specs.Tip.{CanGive, IsAt}
 use Rattle.warp_run.specs.Walk.{AreThrough, ahead, given_by, through}
 use Rattle.warp_run.specs.Warp.{StandsFor, ahead_of}
 use Rattle.warp_run.specs.declared.warp.Warp.{Warp}
@@ -58,28 +58,28 @@ waiting_given E last s t next =
     ]
 
 -- a value with the same arena, of which these rows are done
-pub stands_on : (w v : Warp) (m : Standing) (done : List Row) → StandsFor w m → v.arena ≡ w.arena → v.front.floor ≡ w.front.floor → IsAt m.program (live m.table) v.front done
-    → Reaches w.arena.places (ahead v.front.last w.arena.places) v.cursor → AreThrough v.latest (live m.table)
+pub stands_on : (w v : Warp) (m : Standing) (done : List Row) → StandsFor w m → v.arena ≡ w.arena → v.tip.floor ≡ w.tip.floor → IsAt m.program (live m.table) v.tip done
+    → Reaches w.arena.places (ahead v.tip.last w.arena.places) v.cursor → AreThrough v.latest (live m.table)
     → (IsTrue v.settled → IsDone (record m { done = done })) → StandsFor v (record m { done = done })
-stands_on w v m done h arena floor front cursor latest settled = record {
+stands_on w v m done h arena floor tip cursor latest settled = record {
   program = h.program;
   origins = ap (λ (a : Contents). a.origins) arena ∙ h.origins;
   table = ap (λ (a : Contents). entries_of a.places) arena ∙ h.table ∙ ap (λ (o : Option Moment). ahead_of o m.table) (sym floor);
   ordered = h.ordered;
   events = h.events;
-  front = front;
-  cursor = subst (λ (a : Contents). Reaches a.places (ahead v.front.last a.places) v.cursor) (sym arena) cursor;
+  tip = tip;
+  cursor = subst (λ (a : Contents). Reaches a.places (ahead v.tip.last a.places) v.cursor) (sym arena) cursor;
   latest = latest;
   settled = settled;
 }
 
 -- where no row was done more
-pub stays : (w v : Warp) (m : Standing) → StandsFor w m → v.arena ≡ w.arena → v.front.floor ≡ w.front.floor → IsAt m.program (live m.table) v.front m.done
-    → Reaches w.arena.places (ahead v.front.last w.arena.places) v.cursor → v.latest ≡ w.latest → v.settled ≡ w.settled
+pub stays : (w v : Warp) (m : Standing) → StandsFor w m → v.arena ≡ w.arena → v.tip.floor ≡ w.tip.floor → IsAt m.program (live m.table) v.tip m.done
+    → Reaches w.arena.places (ahead v.tip.last w.arena.places) v.cursor → v.latest ≡ w.latest → v.settled ≡ w.settled
     → StandsFor v (record m { done = m.done ++ [] })
-stays w v m h arena floor front cursor latest settled =
+stays w v m h arena floor tip cursor latest settled =
     subst (λ (rows : List Row). StandsFor v (record m { done = rows })) (sym (append-nil m.done))
-    (stands_on w v m m.done h arena floor front cursor (subst (λ (l : Option Moment). AreThrough l (live m.table)) (sym latest) h.latest)
+    (stands_on w v m m.done h arena floor tip cursor (subst (λ (l : Option Moment). AreThrough l (live m.table)) (sym latest) h.latest)
     (λ is. h.settled (sym settled ∙ is)))
 
 -- where the events after the last row are the same, so is what waits
@@ -94,25 +94,25 @@ waits_ahead last s D E same t = elim (cases_Bool (is_after last t)) [
 ]
 
 -- so the next tag of one standing is that of each that the value has
-pub same_next : (w : Warp) (m n : Standing) (t : Moment) → StandsFor w m → StandsFor w n → IsNext (live m.table) w.front.last w.front.state t
-    → IsNext (live n.table) w.front.last w.front.state t
+pub same_next : (w : Warp) (m n : Standing) (t : Moment) → StandsFor w m → StandsFor w n → IsNext (live m.table) w.tip.last w.tip.state t
+    → IsNext (live n.table) w.tip.last w.tip.state t
 same_next w m n t h k next =
-    let same = waits_ahead w.front.last w.front.state (live m.table) (live n.table) (sym (ahead_events w m h) ∙ ahead_events w n k) in
+    let same = waits_ahead w.tip.last w.tip.state (live m.table) (live n.table) (sym (ahead_events w m h) ∙ ahead_events w n k) in
     record {
       waiting = sym (same t) ∙ next.waiting;
       least = λ u waiting. next.least u (same u ∙ waiting);
     }
 
-module _ (w : Warp) (m : Standing) (h : StandsFor w m) (t : Moment) (next : IsNext (live m.table) w.front.last w.front.state t) where
+module _ (w : Warp) (m : Standing) (h : StandsFor w m) (t : Moment) (next : IsNext (live m.table) w.tip.last w.tip.state t) where
   -- what the places up to the next tag give is what is given at it
-  given_next : given_by (through t (ahead w.front.last w.arena.places)) ≡ given_at t (live m.table)
+  given_next : given_by (through t (ahead w.tip.last w.arena.places)) ≡ given_at t (live m.table)
   given_next =
-      ap (map given_of) (live_places (λ u. not (is_before t u)) (ahead w.front.last w.arena.places)
+      ap (map given_of) (live_places (λ u. not (is_before t u)) (ahead w.tip.last w.arena.places)
       ∙ ap (filter (λ (e : Event). not (is_before t e.tag))) (ahead_events w m h)
-      ∙ at_next (live m.table) w.front.last w.front.state t next)
+      ∙ at_next (live m.table) w.tip.last w.tip.state t next)
 
   -- so it is where just that is gathered
-  pub given_is : (X Y : List Given) → X ≡ Y → Y ≡ given_by (through t (ahead w.front.last w.arena.places)) → X ≡ given_at t (live m.table)
+  pub given_is : (X Y : List Given) → X ≡ Y → Y ≡ given_by (through t (ahead w.tip.last w.arena.places)) → X ≡ given_at t (live m.table)
   given_is X Y same gathered = same ∙ gathered ∙ given_next
 
   -- and a step can be made with it
@@ -124,29 +124,29 @@ module _ (w : Warp) (m : Standing) (h : StandsFor w m) (t : Moment) (next : IsNe
       let fits : IsTrue (list_all (event_fits m.program) (live es)) =
       subst (λ (E : List Event). IsTrue (list_all (event_fits m.program) E)) (sym lives)
       (all_kept (λ (e : Event). is_same t e.tag) (event_fits m.program) (live m.table) h.events) in
-      let waiting : IsTrue (is_waiting t X w.front.state.pending) =
-      subst (λ (Y : List Given). IsTrue (is_waiting t Y w.front.state.pending)) (sym is)
-      (waiting_given (live m.table) w.front.last w.front.state t next) in
-      let can : CanStep m.program w.front.state t X =
-      can_step m.program w.front.state t es X (IsTable-filter (λ (d : Entry). is_same t d.tag) m.table table) (all_same t m.table) fits
-      (is ∙ ap (map given_of) (sym lives)) h.front.ready.of_program
-      (none_before (live m.table) w.front.last w.front.state t h.front.ready.later next) waiting in
+      let waiting : IsTrue (is_waiting t X w.tip.state.pending) =
+      subst (λ (Y : List Given). IsTrue (is_waiting t Y w.tip.state.pending)) (sym is)
+      (waiting_given (live m.table) w.tip.last w.tip.state t next) in
+      let can : CanStep m.program w.tip.state t X =
+      can_step m.program w.tip.state t es X (IsTable-filter (λ (d : Entry). is_same t d.tag) m.table table) (all_same t m.table) fits
+      (is ∙ ap (map given_of) (sym lives)) h.tip.ready.of_program
+      (none_before (live m.table) w.tip.last w.tip.state t h.tip.ready.later next) waiting in
       record { time = can.time; microstep = can.microstep; inputs = can.inputs }
 
   -- there are fewer rows than names
-  pub few : w.front.rows < most_names
+  pub few : w.tip.rows < most_names
   few =
       let there : IsNext (live m.table) (last_after None m.done) (state_at_end (start_state m.program) m.done) t =
-      subst (λ (l : Option Moment). IsNext (live m.table) l (state_at_end (start_state m.program) m.done) t) h.front.last
-      (subst (λ (s : Snapshot). IsNext (live m.table) w.front.last s t) h.front.state next) in
-      let less = begin_few m.program (live m.table) m.done t h.program h.events h.front.begin there in
-      let rows = h.front.rows in
+      subst (λ (l : Option Moment). IsNext (live m.table) l (state_at_end (start_state m.program) m.done) t) h.tip.last
+      (subst (λ (s : Snapshot). IsNext (live m.table) w.tip.last s t) h.tip.state next) in
+      let less = begin_few m.program (live m.table) m.done t h.program h.events h.tip.begin there in
+      let rows = h.tip.rows in
       omega arith
 
   -- after the row the cursor is at the first place after it
-  pub cursor_next : (at : _) → Reaches w.arena.places (ahead (Some t) (ahead w.front.last w.arena.places)) at → (last : Option Moment) → last ≡ Some t
+  pub cursor_next : (at : _) → Reaches w.arena.places (ahead (Some t) (ahead w.tip.last w.arena.places)) at → (last : Option Moment) → last ≡ Some t
       → Reaches w.arena.places (ahead last w.arena.places) at
   cursor_next at reaches last is =
       subst (λ (l : Option Moment). Reaches w.arena.places (ahead l w.arena.places) at) (sym is)
       (subst (λ places. Reaches w.arena.places places at)
-      (ahead_twice w.front.last t w.arena.places (waits_after (live m.table) w.front.last w.front.state t next.waiting)) reaches)
+      (ahead_twice w.tip.last t w.arena.places (waits_after (live m.table) w.tip.last w.tip.state t next.waiting)) reaches)

@@ -19,46 +19,46 @@ use Rattle.warp_run.proofs.TurnsRuns.{begin_whole}
 
 module _ (w : Warp) (m : Standing) (h : StandsFor w m) where
   -- the live events after the last row
-  pub ahead_events : live_of (ahead w.front.last w.arena.places) ≡ filter (λ e. is_after w.front.last e.tag) (live m.table)
+  pub ahead_events : live_of (ahead w.tip.last w.arena.places) ≡ filter (λ e. is_after w.tip.last e.tag) (live m.table)
   ahead_events =
-      live_places (is_after w.front.last) w.arena.places
-      ∙ ap (filter (λ (e : Event). is_after w.front.last e.tag)) (ap live h.table ∙ live_kept (is_after w.front.floor) m.table)
-      ∙ both_filters (λ (e : Event). is_after w.front.floor e.tag) (λ e. is_after w.front.last e.tag) (live m.table)
+      live_places (is_after w.tip.last) w.arena.places
+      ∙ ap (filter (λ (e : Event). is_after w.tip.last e.tag)) (ap live h.table ∙ live_kept (is_after w.tip.floor) m.table)
+      ∙ both_filters (λ (e : Event). is_after w.tip.floor e.tag) (λ e. is_after w.tip.last e.tag) (live m.table)
       ∙ ap (λ (test : Event → Bool). filter test (live m.table))
-      (λ i e. both_after w.front.floor w.front.last (after_floor m.program (live m.table) w.front m.done h.front) e.tag i)
+      (λ i e. both_after w.tip.floor w.tip.last (after_floor m.program (live m.table) w.tip m.done h.tip) e.tag i)
 
   -- none is after the latest tag
-  pub ahead_through : AreThrough w.latest (live_of (ahead w.front.last w.arena.places))
+  pub ahead_through : AreThrough w.latest (live_of (ahead w.tip.last w.arena.places))
   ahead_through =
       subst (AreThrough w.latest) (sym ahead_events)
-      (all_kept (λ (e : Event). is_after w.front.last e.tag) (λ e. not (is_after w.latest e.tag)) (live m.table) h.latest)
+      (all_kept (λ (e : Event). is_after w.tip.last e.tag) (λ e. not (is_after w.latest e.tag)) (live m.table) h.latest)
 
   sorted : IsOrdered w.arena → AreSorted (live m.table)
   sorted ordered = live_sorted m.table h.ordered
 
   -- the first of them, where there is one
-  pub first_event : (o : Option Moment) (a : Moment) → IsOrdered w.arena → o ≡ first_tag (live_of (ahead w.front.last w.arena.places)) → o ≡ Some a
-      → IsFirst w.front.last (live m.table) a
+  pub first_event : (o : Option Moment) (a : Moment) → IsOrdered w.arena → o ≡ first_tag (live_of (ahead w.tip.last w.arena.places)) → o ≡ Some a
+      → IsFirst w.tip.last (live m.table) a
   first_event o a ordered is some =
-      first_is w.front.last (live m.table) a (sorted ordered) (sym (ap first_tag ahead_events) ∙ sym is ∙ some)
+      first_is w.tip.last (live m.table) a (sorted ordered) (sym (ap first_tag ahead_events) ∙ sym is ∙ some)
 
   -- all are past, where there is none
-  pub no_event : (o : Option Moment) → o ≡ first_tag (live_of (ahead w.front.last w.arena.places)) → o ≡ None
-      → IsTrue (past w.front.last (live m.table))
-  no_event o is none = first_none w.front.last (live m.table) (sym (ap first_tag ahead_events) ∙ sym is ∙ none)
+  pub no_event : (o : Option Moment) → o ≡ first_tag (live_of (ahead w.tip.last w.arena.places)) → o ≡ None
+      → IsTrue (past w.tip.last (live m.table))
+  no_event o is none = first_none w.tip.last (live m.table) (sym (ap first_tag ahead_events) ∙ sym is ∙ none)
 
   -- the least that is pending
-  pub least_entry : (o : Option Moment) (b : Moment) → o ≡ least_pending w.front.state.pending → o ≡ Some b
-      → IsLeast w.front.last w.front.state.pending b
-  least_entry o b is some = least_is w.front.last w.front.state.pending b h.front.ready.later (sym is ∙ some)
+  pub least_entry : (o : Option Moment) (b : Moment) → o ≡ least_pending w.tip.state.pending → o ≡ Some b
+      → IsLeast w.tip.last w.tip.state.pending b
+  least_entry o b is some = least_is w.tip.last w.tip.state.pending b h.tip.ready.later (sym is ∙ some)
 
   -- where nothing waits all rows are done
-  pub all_done : ((t : Moment) → waits (live m.table) w.front.last w.front.state t ≡ false) → IsDone m
+  pub all_done : ((t : Moment) → waits (live m.table) w.tip.last w.tip.state t ≡ false) → IsDone m
   all_done none =
-      begin_whole m.program (live m.table) None (start_state m.program) m.done h.front.begin
-      (λ t. ap (λ l. waits (live m.table) l (state_at_end (start_state m.program) m.done) t) (sym h.front.last)
-      ∙ ap (λ s. waits (live m.table) w.front.last s t) (sym h.front.state) ∙ none t)
+      begin_whole m.program (live m.table) None (start_state m.program) m.done h.tip.begin
+      (λ t. ap (λ l. waits (live m.table) l (state_at_end (start_state m.program) m.done) t) (sym h.tip.last)
+      ∙ ap (λ s. waits (live m.table) w.tip.last s t) (sym h.tip.state) ∙ none t)
 
   -- so it is where no event is left and nothing is pending
-  pub all_done_there : IsTrue (past w.front.last (live m.table)) → least_pending w.front.state.pending ≡ None → IsDone m
-  all_done_there gone none = all_done (none_waits w.front.last w.front.state (live m.table) gone (none_pending w.front.state.pending none))
+  pub all_done_there : IsTrue (past w.tip.last (live m.table)) → least_pending w.tip.state.pending ≡ None → IsDone m
+  all_done_there gone none = all_done (none_waits w.tip.last w.tip.state (live m.table) gone (none_pending w.tip.state.pending none))

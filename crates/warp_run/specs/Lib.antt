@@ -1,5 +1,5 @@
 pub mod History
 pub mod Aside
-pub mod Front
+pub mod Tip
 pub mod Walk
 pub mod Warp

@@ -1,5 +1,5 @@
 -- Walks along an arena's places: what is after a tag, and what is not.
-use Rattle.std.specs.Prelude.{◌≡◌, ℕ, not, Option, Some, None, MatchOption, List, [], ◌∷◌, filter, map, IsTrue, IsSome}
+use Rattle.std.specs.Prelude.{◌≡◌, ℕ, true, not, Option, Some, None, MatchOption, List, [], ◌∷◌, filter, map, IsTrue, IsSome}
 use Rattle.std.specs.List.{list_all}
 use Rattle.warp_tag.specs.Moment.{Moment, is_before}
 use Rattle.warp_tag.specs.Table.{Event, live, live_event}
@@ -52,6 +52,15 @@ pub record IsFound (places rest : List Place) (l : Live) : Type 0 where
 -- it is the first live event of these places; where there is none, they have none
 abbrev pub FindsFirst : List Place → List Place → Option Live → Type 0
 FindsFirst places rest found = MatchOption found (live_of rest ≡ []) (IsFound places rest)
+
+-- no event is before this tag
+abbrev pub AreNotBefore : Moment → List Event → Type 0
+AreNotBefore tag E = IsTrue (list_all (λ e. not (is_before e.tag tag)) E)
+
+-- it is the first live event of these places, and before the tag; where there is none, none of theirs is before it
+abbrev pub FindsBefore : List Place → List Place → Moment → Option Live → Type 0
+FindsBefore places rest tag found =
+    MatchOption found (AreNotBefore tag (live_of rest)) (λ l. IsFound places rest l × (is_before l.tag tag ≡ true))
 
 -- what these places give at the event's tag is what it gives, and then what the places after its own give
 pub record IsAhead (places rest : List Place) (l : Live) : Type 0 where

@@ -11,13 +11,13 @@ use Rattle.warp_step.specs.Valid.{is_valid}
 use Rattle.warp_step.specs.Events.{event_fits}
 use Rattle.warp_arena.specs.Places.{Reaches, entries_of, entry_of, with_change}
 use Rattle.warp_line.specs.Timeline.{Standing, IsDone}
-use Rattle.warp_run.specs.Front.{IsAt}
+use Rattle.warp_run.specs.Tip.{IsAt}
 use Rattle.warp_run.specs.Walk.{AreThrough, ahead}
 use Rattle.warp_run.specs.declared.warp.Warp.{Warp}
 
 -- the last tag through which names were let go of
 abbrev pub floor_of : Warp → Option Moment
-floor_of w = w.front.floor
+floor_of w = w.tip.floor
 
 -- the entries that are not behind a floor
 abbrev pub ahead_of : Option Moment → List Entry → List Entry
@@ -29,11 +29,11 @@ ahead_of floor entries = filter (λ e. is_after floor e.tag) entries
 pub record StandsFor (w : Warp) (m : Standing) : Type 0 where
   pub program : IsTrue (is_valid m.program)
   pub origins : w.arena.origins ≡ m.program.origins
-  pub table : entries_of w.arena.places ≡ ahead_of w.front.floor m.table
+  pub table : entries_of w.arena.places ≡ ahead_of w.tip.floor m.table
   pub ordered : IsTable m.table
   pub events : IsTrue (list_all (event_fits m.program) (live m.table))
-  pub front : IsAt m.program (live m.table) w.front m.done
-  pub cursor : Reaches w.arena.places (ahead w.front.last w.arena.places) w.cursor
+  pub tip : IsAt m.program (live m.table) w.tip m.done
+  pub cursor : Reaches w.arena.places (ahead w.tip.last w.arena.places) w.cursor
   pub latest : AreThrough w.latest (live m.table)
   pub settled : IsTrue w.settled → IsDone m
 
@@ -52,21 +52,21 @@ pub record NamesAt (old new : Warp) (origin : ℕ) (tag : Moment) (node : ℕ) :
       ≡ Some (unwrap_or (known origin tag (entries_of old.arena.places)) (fresh origin tag))
   pub change : (f : Entry → Entry) → entries_of (with_change f node new.arena.places)
       ≡ changed f origin tag (entries_of old.arena.places)
-  pub cursor : Reaches new.arena.places (ahead new.front.last new.arena.places) new.cursor
+  pub cursor : Reaches new.arena.places (ahead new.tip.last new.arena.places) new.cursor
 
 -- a tag after which no event is, with one more tag
 abbrev pub latest_with : Moment → Option Moment → Option Moment
 latest_with tag latest = if is_after latest tag then Some tag else latest
 
--- the room of each of its lists: the arena's, those of what is executed, those of what is aside, and that of what is
+-- the room of its lists, but the arena's of origins and hints: the arena's nodes, those of what is executed, those of what is aside, and that of what is
 -- given to a step
 abbrev pub room_in : Warp → List ℕ
 room_in w =
     w.arena.room
-    ∷ w.front.history.room.marks ∷ w.front.history.room.values ∷ w.front.history.room.entries
-    ∷ vec_capacity w.front.outputs
-    ∷ w.front.aside.history.room.marks ∷ w.front.aside.history.room.values ∷ w.front.aside.history.room.entries
-    ∷ w.front.aside.room
+    ∷ w.tip.history.room.marks ∷ w.tip.history.room.values ∷ w.tip.history.room.entries
+    ∷ vec_capacity w.tip.outputs
+    ∷ w.tip.aside.history.room.marks ∷ w.tip.aside.history.room.values ∷ w.tip.aside.history.room.entries
+    ∷ w.tip.aside.room
     ∷ vec_capacity w.given ∷ []
 
 -- a node is free

@@ -1,6 +1,6 @@
 //! Rollback: the timeline that executes at once what it has, and goes back when a change comes late.
 //!
-//! `Warp` meets `Timeline` with a slack of 16. It stands on an arena of names. What is executed is a `Front` of the
+//! `Warp` meets `Timeline` with a slack of 16. It stands on an arena of names. What is executed is a `Tip` of the
 //! run: its state, its outputs, and checkpoints, one at its base and one at most sixteen rows after each. The base is
 //! before the first row, until the timeline collects. A change of the live events at a tag that is executed already
 //! goes back to the newest checkpoint before that tag, and sets those after it aside (Jefferson 1985). Where the run
@@ -11,8 +11,8 @@
 #![tactic(auto)]
 
 mod aside;
-mod front;
 mod history;
+mod tip;
 mod walk;
 mod warp;
 

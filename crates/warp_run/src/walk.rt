@@ -5,7 +5,7 @@ ghost use Rattle.std.specs.Option.{option_map};
 ghost use Rattle.warp_tag.specs.Table.{live, live_event};
 ghost use Rattle.warp_step.specs.Run.{given_of, is_after};
 ghost use Rattle.warp_arena.specs.Places.{Place, Reaches, entry_of};
-ghost use Rattle.warp_run.specs.Walk.{AreThrough, FindsFirst, ahead, event_at, given_by, live_of, through};
+ghost use Rattle.warp_run.specs.Walk.{AreThrough, FindsBefore, FindsFirst, ahead, event_at, given_by, live_of, through};
 
 use warp_arena::{Arena, NodeId};
 use warp_step::Given;
@@ -117,6 +117,48 @@ fn seek_event(arena: &Arena, cursor: Option<NodeId>, latest: &Option<Tag>) -> Op
         }
         if latest.is_before(entry.tag) {
             return None;
+        }
+        at = arena.next(node);
+    }
+    None
+}
+
+/// The first live event from the cursor on that is before the tag: mostly that of the first place, or none, since that place is not
+/// before it.
+#[inline(always)]
+pub(crate) fn event_before(arena: &Arena, cursor: Option<NodeId>, tag: Tag) -> Option<Live>
+    requires { (rest : List Place) × Reaches arena.now.places rest cursor }
+    ensures { (rest : List Place) → Reaches arena.now.places rest cursor → FindsBefore arena.now.places rest tag result }
+{
+    arena.ordered();
+    let node = cursor?;
+    let first = arena.entry(node);
+    if !first.tag.is_before(tag) {
+        return None;
+    }
+    let live = live_at(node, &first);
+    if live.is_some() {
+        return live;
+    }
+    seek_before(arena, Some(node), tag)
+}
+
+/// The first live event from the cursor on that is before the tag, sought: the walk ends at the first place that is not.
+#[inline(never)]
+fn seek_before(arena: &Arena, cursor: Option<NodeId>, tag: Tag) -> Option<Live>
+    requires { (rest : List Place) × Reaches arena.now.places rest cursor }
+    ensures { (rest : List Place) → Reaches arena.now.places rest cursor → FindsBefore arena.now.places rest tag result }
+{
+    arena.ordered();
+    let mut at = cursor;
+    while let Some(node) = at {
+        let entry = arena.entry(node);
+        if !entry.tag.is_before(tag) {
+            return None;
+        }
+        let live = live_at(node, &entry);
+        if live.is_some() {
+            return live;
         }
         at = arena.next(node);
     }

@@ -9,12 +9,13 @@ ghost use Rattle.warp_arena.specs.Places.{Reaches, entries_of, entry_of};
 ghost use Rattle.warp_line.specs.Begin.{last_after};
 ghost use Rattle.warp_line.specs.Timeline.{Standing, IsDone};
 ghost use Rattle.warp_run.specs.Walk.{IsAhead, IsAtFirst, ahead, tag_of_next};
-ghost use Rattle.warp_run.specs.Front.{GoesBack, IsAt, KeepsRoom};
+ghost use Rattle.warp_run.specs.Tip.{GoesBack, IsAt, KeepsRoom};
 ghost use Rattle.warp_run.specs.Warp.{Goes, HasRoom, NamesAt, StandsFor, ahead_of, floor_of, latest_with};
 
-use crate::front::Front;
+use crate::tip::Tip;
 use crate::walk::{
-    Live, Next, first_after, first_from, free_behind, gather_from, is_after, is_past, next_event,
+    Live, Next, event_before, first_after, first_from, free_behind, gather_from, is_after, is_past,
+    next_event,
 };
 use std::alloc::Global;
 use std::slice;
@@ -35,7 +36,7 @@ pub struct Warp {
     cursor: Option<NodeId>,
     /// A tag after which no live event is.
     latest: Option<Tag>,
-    front: Front,
+    tip: Tip,
     /// Room for what is given to a step, where it is gathered.
     given: Vec<Given>,
     settled: bool,
@@ -67,7 +68,7 @@ impl Timeline for Warp {
     ghost use Rattle.warp_tag.specs.Table.{live};
     ghost use Rattle.warp_line.proofs.Begins.{front_begins};
 
-    ghost done_is_front = { λ w m h trace run. front_begins m.program (live m.table) m.done trace h.front.begin run };
+    ghost done_is_front = { λ w m h trace run. front_begins m.program (live m.table) m.done trace h.tip.begin run };
 
     /// A checkpoint stands at most sixteen rows behind the one before it.
     const SLACK: u64 = 16;
@@ -78,14 +79,14 @@ impl Timeline for Warp {
             arena: Arena::start(alloc, program.origins())?,
             cursor: None,
             latest: None,
-            front: Front::start(alloc, program)?,
+            tip: Tip::start(alloc, program)?,
             given: Vec::new(alloc),
             settled: false,
         })
     }
 
     fn behind(&self, tag: Tag) -> bool {
-        !is_after(self.front.floor(), tag)
+        !is_after(self.tip.floor(), tag)
     }
 
     fn prepare(&mut self, alloc: Global) -> Result<(), OutOfMemory> {
@@ -118,7 +119,7 @@ impl Timeline for Warp {
     ) -> Result<(), OutOfMemory> {
         if !self.settled {
             self.catch_up(program, meter)?;
-            self.latest = self.front.last();
+            self.latest = self.tip.last();
             self.settled = true;
         }
         Ok(())
@@ -126,11 +127,10 @@ impl Timeline for Warp {
 
     /// The base comes to the present state, where all that is done is before `below`, and else to the newest
     /// checkpoint whose done tags are all before it, if there is one. The nodes of all names through the base's last
-    /// tag are freed, and older checkpoints are dropped, and so is what a rollback set aside. All outputs stay. The
-    /// work is that of what is freed and dropped, and of the checkpoints that stay.
+    /// tag are freed, and older checkpoints are dropped, and so is what a rollback set aside. All outputs stay.
     fn collect(&mut self, below: Tag) {
-        self.front.collect(below);
-        free_behind(&mut self.arena, self.front.floor());
+        self.tip.collect(below);
+        free_behind(&mut self.arena, self.tip.floor());
     }
 
     fn is_settled(&self) -> bool {
@@ -138,11 +138,11 @@ impl Timeline for Warp {
     }
 
     fn state(&self) -> &State {
-        self.front.state()
+        self.tip.state()
     }
 
     fn outputs(&self) -> &[Out] {
-        self.front.outputs()
+        self.tip.outputs()
     }
 }
 
@@ -160,7 +160,7 @@ impl Warp {
     pub fn last(&self) -> Option<Tag>
         ensures { (m : Standing) → StandsFor self.now m → result ≡ last_after None m.done }
     {
-        self.front.last()
+        self.tip.last()
     }
 
     /// How many names its arena holds: those that are not behind.
@@ -177,12 +177,12 @@ impl Warp {
         ensures goes { Goes program.now self.old self.new (M.ticks meter.new - M.ticks meter.old) }
         ensures ticked { M.ticks meter.old ≤ M.ticks meter.new }
         ensures unsettled { self.new.settled ≡ false }
-        ensures floor { self.new.front.floor ≡ self.old.front.floor }
+        ensures floor { self.new.tip.floor ≡ self.old.tip.floor }
         ensures done { OnOk result ((m : Standing) → StandsFor self.new m → m.program ≡ program.now → IsDone m) }
     {
         while let Some(next) = self.next_row() {
             self.turn(program, &next, meter)?;
-            if self.front.comes_to_aside() {
+            if self.tip.comes_to_aside() {
                 self.rejoin()?;
             }
         }
@@ -196,35 +196,35 @@ impl Warp {
         requires unsettled { self.old.settled ≡ false }
         ensures goes { (P : Program) → Goes P self.old self.new 0 }
         ensures unsettled { self.new.settled ≡ false }
-        ensures floor { self.new.front.floor ≡ self.old.front.floor }
+        ensures floor { self.new.tip.floor ≡ self.old.tip.floor }
     {
-        let rejoined = self.front.rejoin();
-        if let Some(last) = self.front.last() {
+        let rejoined = self.tip.rejoin();
+        if let Some(last) = self.tip.last() {
             self.cursor = first_from(&self.arena, self.cursor, last);
         }
         rejoined
     }
 
-    /// The next row: at the next tag that waits, of a live event or a pending entry.
+    /// The next row: at the next tag that waits, of a live event or a pending entry. No place is looked at that is behind the next
+    /// pending entry, but for the first.
     #[inline(always)]
     fn next_row(&self) -> Option<Next>
         requires { (m : Standing) × StandsFor self.now m }
         ensures none { result ≡ None → (m : Standing) → StandsFor self.now m → IsDone m }
         ensures some { IfSome result
             (λ r. (m : Standing) → StandsFor self.now m →
-            IsNext (live m.table) self.now.front.last self.now.front.state (tag_of_next r)) }
+            IsNext (live m.table) self.now.tip.last self.now.tip.state (tag_of_next r)) }
         ensures event { IfSome result
-            (IsAtFirst self.now.arena.places (ahead self.now.front.last self.now.arena.places)) }
+            (IsAtFirst self.now.arena.places (ahead self.now.tip.last self.now.arena.places)) }
     {
         self.arena.ordered();
-        let event = next_event(&self.arena, self.cursor, &self.latest);
-        let Some(pending) = self.front.state().next() else {
-            let live = event?;
+        let Some(pending) = self.tip.state().next() else {
+            let live = next_event(&self.arena, self.cursor, &self.latest)?;
             return Some(Next::AtEvent(live));
         };
-        match event {
-            Some(live) if live.tag.is_before(pending) => Some(Next::AtEvent(live)),
-            _ => Some(Next::AtEntry(pending)),
+        match event_before(&self.arena, self.cursor, pending) {
+            Some(live) => Some(Next::AtEvent(live)),
+            None => Some(Next::AtEntry(pending)),
         }
     }
 
@@ -237,14 +237,14 @@ impl Warp {
         meter: &mut M,
     ) -> Result<(), OutOfMemory>
         requires next { (m : Standing) × StandsFor self.old m × (m.program ≡ program.now)
-            × IsNext (live m.table) self.old.front.last self.old.front.state (tag_of_next next.now) }
-        requires event { IsAtFirst self.old.arena.places (ahead self.old.front.last self.old.arena.places) next.now }
+            × IsNext (live m.table) self.old.tip.last self.old.tip.state (tag_of_next next.now) }
+        requires event { IsAtFirst self.old.arena.places (ahead self.old.tip.last self.old.arena.places) next.now }
         requires unsettled { self.old.settled ≡ false }
         ensures goes { Goes program.now self.old self.new (M.ticks meter.new - M.ticks meter.old) }
         ensures ticked { OnOk result (M.ticks meter.new ≡ M.ticks meter.old + 1) }
         ensures stays { OnErr result (M.ticks meter.new ≡ M.ticks meter.old) }
         ensures unsettled { self.new.settled ≡ false }
-        ensures floor { self.new.front.floor ≡ self.old.front.floor }
+        ensures floor { self.new.tip.floor ≡ self.old.tip.floor }
     {
         match *next {
             Next::AtEvent(live) => self.turn_at_event(program, &live, meter),
@@ -262,24 +262,24 @@ impl Warp {
         meter: &mut M,
     ) -> Result<(), OutOfMemory>
         requires next { (m : Standing) × StandsFor self.old m × (m.program ≡ program.now)
-            × IsNext (live m.table) self.old.front.last self.old.front.state first.now.tag }
-        requires event { IsAhead self.old.arena.places (ahead self.old.front.last self.old.arena.places) first.now }
+            × IsNext (live m.table) self.old.tip.last self.old.tip.state first.now.tag }
+        requires event { IsAhead self.old.arena.places (ahead self.old.tip.last self.old.arena.places) first.now }
         requires unsettled { self.old.settled ≡ false }
         ensures goes { Goes program.now self.old self.new (M.ticks meter.new - M.ticks meter.old) }
         ensures ticked { OnOk result (M.ticks meter.new ≡ M.ticks meter.old + 1) }
         ensures stays { OnErr result (M.ticks meter.new ≡ M.ticks meter.old) }
         ensures unsettled { self.new.settled ≡ false }
-        ensures floor { self.new.front.floor ≡ self.old.front.floor }
+        ensures floor { self.new.tip.floor ≡ self.old.tip.floor }
     {
         self.arena.ordered();
         let behind = self.arena.next(first.node);
         if !is_past(&self.arena, &behind, first.tag) {
             return self.turn_at(program, first.tag, meter);
         }
-        self.front.get_ready(program)?;
+        self.tip.get_ready(program)?;
         self.cursor = behind;
         let alone = slice::from_ref(&first.given);
-        self.front.step_at_event(program, first.tag, alone, meter);
+        self.tip.step_at_event(program, first.tag, alone, meter);
         Ok(())
     }
 
@@ -292,20 +292,20 @@ impl Warp {
         meter: &mut M,
     ) -> Result<(), OutOfMemory>
         requires next { (m : Standing) × StandsFor self.old m × (m.program ≡ program.now)
-            × IsNext (live m.table) self.old.front.last self.old.front.state tag }
+            × IsNext (live m.table) self.old.tip.last self.old.tip.state tag }
         requires unsettled { self.old.settled ≡ false }
         ensures goes { Goes program.now self.old self.new (M.ticks meter.new - M.ticks meter.old) }
         ensures ticked { OnOk result (M.ticks meter.new ≡ M.ticks meter.old + 1) }
         ensures stays { OnErr result (M.ticks meter.new ≡ M.ticks meter.old) }
         ensures unsettled { self.new.settled ≡ false }
-        ensures floor { self.new.front.floor ≡ self.old.front.floor }
+        ensures floor { self.new.tip.floor ≡ self.old.tip.floor }
     {
         self.arena.ordered();
         if !is_past(&self.arena, &self.cursor, tag) {
             return self.turn_at(program, tag, meter);
         }
-        self.front.get_ready(program)?;
-        self.front.step(program, tag, &[], meter);
+        self.tip.get_ready(program)?;
+        self.tip.step(program, tag, &[], meter);
         Ok(())
     }
 
@@ -318,20 +318,20 @@ impl Warp {
         meter: &mut M,
     ) -> Result<(), OutOfMemory>
         requires next { (m : Standing) × StandsFor self.old m × (m.program ≡ program.now)
-            × IsNext (live m.table) self.old.front.last self.old.front.state tag }
+            × IsNext (live m.table) self.old.tip.last self.old.tip.state tag }
         requires unsettled { self.old.settled ≡ false }
         ensures goes { Goes program.now self.old self.new (M.ticks meter.new - M.ticks meter.old) }
         ensures ticked { OnOk result (M.ticks meter.new ≡ M.ticks meter.old + 1) }
         ensures stays { OnErr result (M.ticks meter.new ≡ M.ticks meter.old) }
         ensures unsettled { self.new.settled ≡ false }
-        ensures floor { self.new.front.floor ≡ self.old.front.floor }
+        ensures floor { self.new.tip.floor ≡ self.old.tip.floor }
     {
         self.arena.ordered();
         self.given.clear();
         let cursor = gather_from(&self.arena, self.cursor, tag, &mut self.given)?;
-        self.front.get_ready(program)?;
+        self.tip.get_ready(program)?;
         self.cursor = cursor;
-        self.front.step_at_event(program, tag, &self.given, meter);
+        self.tip.step_at_event(program, tag, &self.given, meter);
         Ok(())
     }
 
@@ -351,7 +351,7 @@ impl Warp {
             return node;
         }
         self.arena.ordered();
-        if is_after(self.front.last(), tag) {
+        if is_after(self.tip.last(), tag) {
             match self.cursor {
                 Some(cursor) if self.arena.entry(cursor).comes_before(origin, tag) => {}
                 _ => self.cursor = Some(node),
@@ -363,32 +363,32 @@ impl Warp {
     /// Goes back behind a tag after the floor at which the live events changed, if it is executed.
     fn undo_from(&mut self, node: NodeId, tag: Tag)
         requires named { IsSomeAnd (entry_of node self.old.arena.places) (λ e. e.tag ≡ tag) }
-        requires front { (P : Program) × (E : List Event) × (done : List Row) × IsAt P E self.old.front done }
-        requires ahead { is_after self.old.front.floor tag ≡ true }
+        requires tip { (P : Program) × (E : List Event) × (done : List Row) × IsAt P E self.old.tip done }
+        requires ahead { is_after self.old.tip.floor tag ≡ true }
         ensures arena { self.new.arena ≡ self.old.arena }
         ensures latest { self.new.latest ≡ latest_with tag self.old.latest }
         ensures unsettled { self.new.settled ≡ false }
         ensures given { self.new.given ≡ self.old.given }
-        ensures room { KeepsRoom self.old.front self.new.front }
+        ensures room { KeepsRoom self.old.tip self.new.tip }
         // A change after the last row leaves what is executed.
-        ensures ahead { is_after self.old.front.last tag ≡ true →
-            self.new.front ≡ record self.old.front { aside = self.new.front.aside } }
-        ensures front { (P : Program) (E : List Event) (done : List Row) → IsAt P E self.old.front done →
-            GoesBack P E tag done self.new.front }
+        ensures ahead { is_after self.old.tip.last tag ≡ true →
+            self.new.tip ≡ record self.old.tip { aside = self.new.tip.aside } }
+        ensures tip { (P : Program) (E : List Event) (done : List Row) → IsAt P E self.old.tip done →
+            GoesBack P E tag done self.new.tip }
         ensures cursor { Reaches self.old.arena.places
-            (ahead self.old.front.last self.old.arena.places) self.old.cursor →
-            Reaches self.new.arena.places (ahead self.new.front.last self.new.arena.places) self.new.cursor }
-        ensures floor { self.new.front.floor ≡ self.old.front.floor }
+            (ahead self.old.tip.last self.old.arena.places) self.old.cursor →
+            Reaches self.new.arena.places (ahead self.new.tip.last self.new.arena.places) self.new.cursor }
+        ensures floor { self.new.tip.floor ≡ self.old.tip.floor }
     {
         self.settled = false;
         if is_after(self.latest, tag) {
             self.latest = Some(tag);
         }
-        if !is_after(self.front.last(), tag) {
-            self.front.go_back(tag);
-            self.cursor = first_after(&self.arena, node, self.front.last());
+        if !is_after(self.tip.last(), tag) {
+            self.tip.go_back(tag);
+            self.cursor = first_after(&self.arena, node, self.tip.last());
         } else {
-            self.front.let_go_before(tag);
+            self.tip.let_go_before(tag);
         }
     }
 }

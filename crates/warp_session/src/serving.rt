@@ -1,8 +1,10 @@
 //! Serving many sessions at once: a thread for the replica, one for each session, and one for each pull from a peer.
-ghost use Rattle.std.specs.Prelude.{◌≡◌, ◌⊎◌, ◌+◌, ◌≤◌, [], All, IfOk, IsTrue, length, vec_len};
+ghost use Rattle.std.specs.Prelude.{◌≡◌, ◌⊎◌, ◌+◌, ◌≤◌, [], ◌∷◌, ◌++◌, All, IfOk, IsTrue, Ok, OnOk, false, length, vec_len};
 ghost use Rattle.warp_tag.specs.Limits.{most_rows};
 ghost use Rattle.warp_board.specs.Board.{room_of};
-ghost use Rattle.warp_lanes.specs.Engine.{AreFresh, most_lanes};
+ghost use Rattle.warp_lanes.specs.Engine.{AreFresh, IsFresh, most_lanes};
+ghost use Rattle.warp_lanes.specs.Lanes.{LaneState};
+ghost use Rattle.warp_session.specs.PortDesk.{PortDeskState};
 ghost use Rattle.warp_session.specs.Serve.{HasServed, Shows};
 
 use crate::desk_session::session;
@@ -17,9 +19,9 @@ use std::snapshot::Snapshot;
 use std::sync::Wait;
 use std::sync::atomic::{AtomicBool, Ordering};
 use std::thread;
-use std::thread::{JoinHandle, Promise, PromisedHandle, Scope, Threads};
+use std::thread::{JoinHandle, Promise, PromisedHandle, Scope, SpawnError, Threads};
 use std::time::Clock;
-use warp_board::{Board, MAX_ROWS, Reader, board, split_reader};
+use warp_board::{Board, MAX_ROWS, Reader, Writer, board, split_reader};
 use warp_exchange::Desk;
 use warp_lanes::{Engine, Lane, lane};
 use warp_line::Timeline;
@@ -37,6 +39,56 @@ impl<T: Timeline> Promise<Engine<T>> for ServesOf<T> {
     ghost kept_by = { λ p e. HasServed T.settled p.given.value e };
 }
 
+/// Adds a lane, and a desk at it, whose lines are of this form. Gives a reader for the next one.
+fn add_desk<'a, X: Wait + Clock>(
+    rt: &'a X,
+    alloc: Global,
+    board: &'a Board,
+    reader: Reader,
+    form: Form,
+    desks: &mut Vec<PortDesk<'a, X>>,
+    lanes: &mut Vec<Lane>,
+) -> Result<Reader, AllocError>
+    requires { reader.board ≡ board.now }
+    ensures reader { IfOk result (λ rest. rest.board ≡ board.now) }
+    ensures desks { OnOk result ((desk : PortDeskState) × (desk.form ≡ form)
+        × (desks.new.items ≡ desks.old.items ++ desk ∷ [])) }
+    ensures lanes { OnOk result ((lane : LaneState) × IsFresh lane × (lanes.new.items ≡ lanes.old.items ++ lane ∷ [])) }
+{
+    let (port, end) = lane(alloc)?;
+    let Ok((rest, own)) = split_reader(board, reader) else {
+        unreachable!()
+    };
+    desks.push(PortDesk::new(rt, board, port, own, form))?;
+    lanes.push(end)?;
+    Ok(rest)
+}
+
+/// Adds so many lanes, and a desk at each, where there are none yet.
+fn add_desks<'a, X: Wait + Clock>(
+    rt: &'a X,
+    alloc: Global,
+    board: &'a Board,
+    reader: Reader,
+    form: Form,
+    count: usize,
+    desks: &mut Vec<PortDesk<'a, X>>,
+    lanes: &mut Vec<Lane>,
+) -> Result<(), AllocError>
+    requires board { reader.board ≡ board.now }
+    requires none { (desks.old.items ≡ []) × (lanes.old.items ≡ []) }
+    ensures desks { OnOk result (vec_len desks.new ≡ count) }
+    ensures lanes { OnOk result (vec_len lanes.new ≡ count) }
+    ensures fresh { OnOk result (AreFresh lanes.new.items) }
+    ensures form { OnOk result (All (λ desk. desk.form ≡ form) desks.new.items) }
+{
+    let mut reader = reader;
+    for _ in 0..count {
+        reader = add_desk(rt, alloc, board, reader, form, desks, lanes)?;
+    }
+    Ok(())
+}
+
 /// So many lanes, and a desk at each, whose lines are of this form.
 fn make_desks<'a, X: Wait + Clock>(
     rt: &'a X,
@@ -52,18 +104,11 @@ fn make_desks<'a, X: Wait + Clock>(
     ensures fresh { IfOk result (λ made. AreFresh made.1.items) }
     ensures form { IfOk result (λ made. All (λ desk. desk.form ≡ form) made.0.items) }
 {
-    let mut desks = Vec::with_capacity(alloc, count)?;
-    let mut lanes = Vec::with_capacity(alloc, count)?;
-    let mut reader = reader;
-    for _ in 0..count {
-        let (port, end) = lane(alloc)?;
-        let Ok((rest, own)) = split_reader(board, reader) else {
-            unreachable!()
-        };
-        reader = rest;
-        desks.push(PortDesk::new(rt, board, port, own, form))?;
-        lanes.push(end)?;
-    }
+    let mut desks = Vec::new(alloc);
+    let mut lanes = Vec::new(alloc);
+    add_desks(
+        rt, alloc, board, reader, form, count, &mut desks, &mut lanes,
+    )?;
     Ok((desks, lanes))
 }
 
@@ -78,6 +123,16 @@ fn attend<K: Desk + Drop, R: Source + Drop, W: Sink + Drop, G: Gate>(
 ) {
     let mut desk = GatedDesk::new(desk, gate, number);
     session(alloc, &mut source, &mut sink, &mut desk);
+}
+
+/// The handle of a thread, if it could be started.
+fn started<H, F: Drop>(running: Result<H, SpawnError<F>>) -> Result<H, ServeFault>
+    ensures { IfOk result (λ handle. running ≡ Ok handle) }
+{
+    match running {
+        Ok(handle) => Ok(handle),
+        Err(_) => Err(ServeFault::Accept),
+    }
 }
 
 /// Starts the next session that comes.
@@ -96,10 +151,9 @@ where
     let Ok((source, sink)) = door.next() else {
         return Err(ServeFault::Accept);
     };
-    match scope.spawn(move || attend(alloc, desk, source, sink, gate, number)) {
-        Ok(_running) => Ok(()),
-        Err(_) => Err(ServeFault::Accept),
-    }
+    let running = scope.spawn(move || attend(alloc, desk, source, sink, gate, number));
+    started(running)?;
+    Ok(())
 }
 
 /// Starts a session for each desk, as they come.
@@ -168,13 +222,11 @@ where
     W: Sink + Send + Drop + 's,
 {
     let number = peer.number;
-    match scope.spawn(move || pull_peer(rt, alloc, desk, peer)) {
-        Ok(thread) => Ok(RunningPull {
-            peer: number,
-            thread,
-        }),
-        Err(_) => Err(ServeFault::Accept),
-    }
+    let thread = started(scope.spawn(move || pull_peer(rt, alloc, desk, peer)))?;
+    Ok(RunningPull {
+        peer: number,
+        thread,
+    })
 }
 
 /// Starts a pull from each peer, with one of the desks, and says which run.
@@ -310,15 +362,57 @@ fn start_executor<'s, E, X: Wait + Clock + Sync + 's, T: Timeline + Send + Drop 
     let promise = ServesOf {
         given: Snapshot::of(&executor.engine),
     };
-    let started = scope.spawn_with(
+    let running = scope.spawn_with(
         promise,
         move || -> Engine<T>
             ensures { HasServed T.settled executor.entry.engine result }
         { executor.run(rt, alloc, ended) },
     );
-    match started {
-        Ok(handle) => Ok(handle),
-        Err(_) => Err(ServeFault::Accept),
+    started(running)
+}
+
+/// Tells the executor that all have ended, and gives back its engine, unless something kept sessions from being served.
+fn end_executor<X: Threads, T: Timeline>(
+    rt: &X,
+    ended: &AtomicBool,
+    running: PromisedHandle<Engine<T>, ServesOf<T>>,
+    served: Result<(), ServeFault>,
+) -> Result<Engine<T>, ServeFault>
+    ensures { IfOk result (λ engine. HasServed T.settled running.promise.given.value engine) }
+{
+    ended.store(true, Ordering::SeqCst);
+    let engine = running.join(rt);
+    match served {
+        Ok(()) => Ok(engine),
+        Err(fault) => Err(fault),
+    }
+}
+
+/// Starts the executor, serves the sessions and pulls, and gives its engine back once all have ended.
+fn serve_in<'s, E, X, T, K, D: Door, G: Gate + Sync>(
+    scope: &'s Scope<'s, E>,
+    rt: &'s X,
+    alloc: Global,
+    ended: &'s AtomicBool,
+    executor: Executor<'s, T>,
+    desks: Vec<K>,
+    door: &mut D,
+    peers: Vec<Peer<D::R, D::W>>,
+    gate: &G,
+    room: Room,
+) -> Result<Engine<T>, ServeFault>
+where
+    X: Threads + Wait + Clock + Sync + 's,
+    T: Timeline + Send + Drop + 's,
+    K: Desk + Send + Drop,
+    ensures { IfOk result (λ engine. HasServed T.settled executor.entry.engine engine) }
+{
+    match start_executor(scope, rt, alloc, ended, executor) {
+        Ok(running) => {
+            let served = call_all(rt, alloc, desks, door, peers, gate, room);
+            end_executor(rt, ended, running, served)
+        }
+        Err(fault) => Err(fault),
     }
 }
 
@@ -351,14 +445,30 @@ fn serve_beside<
         move |scope| -> Result<Engine<T>, ServeFault>
             ensures { IfOk result (λ engine. HasServed T.settled executor.entry.engine engine) }
         {
-            let handle = start_executor(scope, rt, alloc, ended, executor)?;
-            let served = call_all(rt, alloc, desks, door, peers, gate, room);
-            ended.store(true, Ordering::SeqCst);
-            let engine = handle.join(rt);
-            served?;
-            Ok(engine)
+            serve_in(
+                scope, rt, alloc, ended, executor, desks, door, peers, gate, room,
+            )
         },
     )
+}
+
+/// The executor over an engine that took no record yet, and that serves these lanes and writes this board.
+fn executor_for<'a, T: Timeline>(
+    alloc: Global,
+    program: Program,
+    lanes: Vec<Lane>,
+    board: &'a Board,
+    writer: Writer,
+) -> Result<Executor<'a, T>, ServeFault>
+    requires lanes { AreFresh lanes.items × (length lanes.items ≤ most_lanes) }
+    requires writer { (writer.board ≡ board.now) × (writer.rows ≡ []) × (writer.frozen ≡ false) }
+    ensures program { IfOk result (λ made. made.engine.replica.program ≡ program) }
+    ensures records { IfOk result (λ made. (made.engine.replica.records ≡ []) × (made.engine.began ≡ 0)) }
+    ensures parts { IfOk result (λ made. (made.engine.lanes ≡ lanes.items) × (made.engine.writer ≡ writer)) }
+{
+    let replica = Replica::new(alloc, program)?;
+    let engine = Engine::new(replica, lanes, writer);
+    Ok(Executor { engine, board })
 }
 
 /// Serves so many sessions of a replica of this program that has taken no record yet, over a timeline of this type.
@@ -390,13 +500,11 @@ pub fn serve_sessions<
         (engine.replica.records ≡ []) ⊎ Shows engine) }
 {
     let room = Room::new(alloc, peers.len())?;
-    let form = program.form();
-    let replica = Replica::new(alloc, program)?;
     let (board, writer, reader) = board(alloc, MAX_ROWS)?;
     let board = &board;
+    let form = program.form();
     let (desks, lanes) = make_desks(rt, alloc, board, reader, form, sessions + peers.len())?;
-    let engine = Engine::new(replica, lanes, writer);
-    let executor = Executor { engine, board };
+    let executor = executor_for(alloc, program, lanes, board, writer)?;
     let served = serve_beside(rt, alloc, executor, desks, door, peers, gate, room)?;
     Ok(served)
 }

@@ -1,6 +1,5 @@
-//! What no contract says of serving, pulling and a full lane: that calls return, who meets whom, and what is answered.
+//! What no contract says of serving and a full lane: that calls return, that sessions meet, and what a door hears.
 
 mod desks;
 mod memory;
-mod peers;
 mod servers;

@@ -1,6 +1,6 @@
 -- Which timers repeat after the entries at a tag came: those among the entries, in their order. And an entry that comes in later
 -- than a front leaves the front.
-use Rattle.std.proofs.Common.{◌≡◌, ◌≢◌, inl, inr, ℕ, ℤ, zero, suc, ◌+◌, ◌<◌, ◌≤◌, Bool, true, false, not, ◌&&◌, ◌||◌, ◌==◌, nat_lt, nat_le, IsTrue, List, [], ◌∷◌, ◌++◌, length, map, take, get_or, Option, None, Some, is_some, refl, sym, ap, ◌∙◌, subst, arith}
+use Rattle.std.proofs.Common.{◌≡◌, ◌≢◌, inl, inr, ℕ, ℤ, zero, suc, ◌+◌, ◌<◌, ◌≤◌, Bool, true, false, not, ◌&&◌, ◌||◌, ◌==◌, nat_lt, nat_le, IsTrue, List, [], ◌∷◌, ◌++◌, length, take, get_or, Option, None, Some, is_some, refl, sym, ap, ◌∙◌, subst, arith}
 use Rattle.std.specs.Prelude.{pos, if◌then◌else◌}
 use Rattle.std.specs.List.{list_all, list_any, AllByRecursion}
 use Rattle.std.proofs.Common.{eq-or-lt_of_le}
@@ -21,15 +21,12 @@ use Rattle.warp_step.specs.Valid.{program_places}
 use Rattle.warp_step.specs.Snapshot.{Snapshot, AreInOrder, entered, entered_where, has_key, key_before, landed, with_entry}
 use Rattle.warp_step.specs.Step.{absent, arrived_entries, repeats, with_repeats}
 use Rattle.warp_step.specs.inner.Again.{again, again_each, period_of}
+pub use Rattle.warp_step.specs.inner.Taken.{targets, with_front}
 use Rattle.warp_step.specs.declared.parts.Timer.{Timer}
 use Rattle.warp_step.specs.declared.pending.Waiting.{Waiting}
 use Rattle.warp_step.proofs.PendingLemmas.{Above, ahead, ahead_not_at, ahead_not_before}
 use Rattle.warp_step.proofs.RepeatLemmas.{absent_places}
 use Rattle.warp_step.proofs.DueLemmas.{none_at}
-
--- the targets of entries
-abbrev pub targets : List Waiting → List Target
-targets ws = map (λ w. w.target) ws
 
 -- one more target is again behind those before it
 pub again_more : (P : Program) (t : Moment) (ws : List Waiting) (i : ℕ) (d : Waiting) (s : Snapshot) → i < length ws
@@ -41,7 +38,7 @@ again_more P t (w ∷ ws) (suc i) d s lt =
     rw more (again_more P t ws i d (again P t w.target s) (omega arith))
 
 -- each target comes before those behind it
-abbrev Rising : List Target → Type 0
+abbrev pub Rising : List Target → Type 0
 Rising [] = Unit {0}
 Rising (k ∷ ks) = AllByRecursion (λ j. IsTrue (target_before k j)) ks × Rising ks
 
@@ -56,7 +53,7 @@ before_all t w (v ∷ ws) here all above =
     let both = and_parts (is_same v.tag t) (list_all (λ u. is_same u.tag t) ws) all in
     (before_at_tag t w v here both.0 above.0, before_all t w ws here both.1 above.1)
 
-rising : (t : Moment) (ws : List Waiting) → AreInOrder ws → IsTrue (list_all (λ w. is_same w.tag t) ws) → Rising (targets ws)
+pub rising : (t : Moment) (ws : List Waiting) → AreInOrder ws → IsTrue (list_all (λ w. is_same w.tag t) ws) → Rising (targets ws)
 rising t [] ordered all = tt
 rising t (w ∷ ws) ordered all =
     let both = and_parts (is_same w.tag t) (list_all (λ v. is_same v.tag t) ws) all in
@@ -324,10 +321,6 @@ alone_again P t k v s fits =
     (λ m. timer_with k v (absent P) m own
     ∙ ap (λ (o : Option ℤ). is_some o || is_target (to.Timer m) k) (none_at (length P.timers) m)
     ∙ or_false (is_target (to.Timer m) k))
-
--- a state with a front of entries before those that are pending
-abbrev pub with_front : List Waiting → Snapshot → Snapshot
-with_front ws s = record s { pending = ws ++ s.pending }
 
 -- a landing is later than the tag from which it lands
 abbrev IsLater : Moment → Landing → Type 0

@@ -31,6 +31,7 @@ pub mod TagsOfBox
 pub mod TagsOfRun
 pub mod TagsOfStep
 pub mod TakenLemmas
+pub mod TogetherLemmas
 pub mod TargetsOfStep
 pub mod TraceExists
 pub mod TraceLemmas

@@ -15,16 +15,14 @@ use Rattle.warp_step.specs.Snapshot.{Snapshot, AreInOrder}
 use Rattle.warp_step.specs.Step.{absent, arrived_entries, with_repeats, without_entries}
 use Rattle.warp_step.specs.inner.Again.{again, again_each, period_of}
 use Rattle.warp_step.specs.declared.pending.Waiting.{Waiting}
+pub use Rattle.warp_step.specs.inner.Taken.{SoFar, here}
 use Rattle.warp_step.proofs.AgainLemmas.{again_behind, again_more, repeats_are, targets, with_front}
 use Rattle.warp_step.proofs.PendingLemmas.{Above}
 use Rattle.warp_step.proofs.FrontLemmas.{arrived_more, none_at, other_after, stands_at}
 use Rattle.warp_step.proofs.TagsOfStep.{kept_at, repeated_at}
 
--- the entries at a tag, and the others
-abbrev pub here : Moment → List Waiting → List Waiting
-here t ws = filter (λ w. is_same w.tag t) ws
-
-abbrev others : Moment → List Waiting → List Waiting
+-- the entries that are not at a tag
+abbrev pub others : Moment → List Waiting → List Waiting
 others t ws = filter (λ w. not (is_same w.tag t)) ws
 
 -- where none is before the tag, the entries at it stand in front of the others
@@ -48,7 +46,7 @@ all_here t (w ∷ ws) = elim (cases_Bool (is_same w.tag t)) [
 ]
 
 -- a timer that is again lands later
-again_later : (P : Program) (t : Moment) (k : Target) (s : Snapshot) → IsTrue (list_all (λ w. is_before t w.tag) s.pending)
+pub again_later : (P : Program) (t : Moment) (k : Target) (s : Snapshot) → IsTrue (list_all (λ w. is_before t w.tag) s.pending)
     → IsTrue (list_all (λ w. is_before t w.tag) (again P t k s).pending)
 again_later P t to.Startup s later = later
 again_later P t (to.Timer n) s later = repeated_at P t (λ u. is_before t u) (λ u l. grind (arith, nat_tests)) (nat_lt 0 (period_of P n)) (period_of P n) n s later
@@ -70,16 +68,10 @@ front_first t (w ∷ front) ws at h =
     let no : true ≡ false = sym same ∙ h in
     cc
 
-all_left : (p : Waiting → Bool) (ws : List Waiting) (n : ℕ) → IsTrue (list_all p ws) → IsTrue (list_all p (drop n ws))
+pub all_left : (p : Waiting → Bool) (ws : List Waiting) (n : ℕ) → IsTrue (list_all p ws) → IsTrue (list_all p (drop n ws))
 all_left p ws zero all = all
 all_left p [] (suc n) all = refl
 all_left p (w ∷ ws) (suc n) all = all_left p ws n (and_parts (p w) (list_all p ws) all).1
-
--- so many entries at the tag are taken
-pub record SoFar (P : Program) (t : Moment) (old : Snapshot) (n : ℕ) (now : Snapshot) (before after : Presence) : Type 0 where
-  pub state : now ≡ with_front (drop n (here t old.pending)) (again_each P t (targets (take n (here t old.pending))) (without_entries t old))
-  pub later : IsTrue (list_all (λ w. is_before t w.tag) (again_each P t (targets (take n (here t old.pending))) (without_entries t old)).pending)
-  pub present : after ≡ arrived_entries (take n (here t old.pending)) before
 
 -- none is taken at first
 pub none_so_far : (P : Program) (t : Moment) (old : Snapshot) (before : Presence) → AreInOrder old.pending

@@ -8,3 +8,4 @@ pub mod Room
 pub mod Due
 pub mod Sure
 pub mod World
+pub mod Taken

@@ -14,18 +14,21 @@ ghost use Rattle.warp_step.specs.inner.Plan.{plan_of};
 ghost use Rattle.warp_step.specs.Step.{without_entries};
 ghost use Rattle.warp_step.specs.inner.Due.{AreDue};
 ghost use Rattle.warp_step.specs.inner.Again.{again, again_each};
+ghost use Rattle.warp_step.specs.inner.Taken.{SoFar};
+ghost use Rattle.warp_tag.specs.Landing.{landing};
+ghost use Rattle.warp_tag.specs.declared.tag.Landing.TheVariants.{At};
 ghost use Rattle.warp_tag.specs.Limits.{most_pending};
 ghost use Rattle.warp_step.specs.declared.pending.Waiting.{Waiting};
 ghost use Rattle.warp_step.specs.inner.Sure.{IsSure};
 
 use crate::given::Given;
 use crate::marks::Marks;
-use crate::pending::Waiting;
+use crate::pending::{Waiting, period_of};
 use crate::plan::{Concerned, NO_REACTION, Plan};
 use crate::program::Program;
 use crate::state::State;
 use warp_body::{Present, Target};
-use warp_tag::Tag;
+use warp_tag::{Landing, Tag};
 
 impl State {
     /// Makes the targets of the entries at the tag present, takes these entries out, and makes the timers among them
@@ -161,12 +164,92 @@ impl State {
         ensures due { AreDue program.now present.old due.old.word → AreDue program.now present.new due.new.word }
         ensures sure { IsSure program.now present.old sure.old → IsSure program.now present.new sure.new }
     {
-        for _ in 0..self.pending.len() {
+        let most = self.pending.len();
+        let count = self.take_alike(program, plan, due, sure, tag, present);
+        for _ in 0..most {
             if !is_at(self.pending.as_slice(), 0, tag) {
                 return;
             }
             self.take_first(program, plan, due, sure, tag, present);
         }
+    }
+
+    /// Takes the first entries out that are timers with the period of the first one, if they land behind all entries:
+    /// makes them present and pending again. Answers how many they are. Whom they concern is due, and the first
+    /// reaction that the last one triggers is sure.
+    #[inline(always)]
+    fn take_alike(
+        &mut self,
+        program: &Program,
+        plan: &Plan,
+        due: &mut Marks,
+        sure: &mut usize,
+        tag: Tag,
+        present: &mut Present,
+    ) -> usize
+        requires state { IsStateOf program.now self.old }
+        requires time { tag.time ≤ program.now.stop }
+        requires microstep { tag.microstep ≤ top_of program.now }
+        requires places { places_of present.old ≡ program_places program.now }
+        requires none_before { IsTrue (list_all (λ w. not (is_before w.tag tag)) self.old.pending) }
+        requires plan { plan.now ≡ plan_of program.now }
+        requires own { present.old.sources ≡ sources_of program.now }
+        ensures so_far { SoFar program.now tag self.old result self.new present.old present.new }
+        ensures places { places_of present.new ≡ places_of present.old }
+        ensures sources { present.new.sources ≡ present.old.sources }
+        ensures due { AreDue program.now present.old due.old.word → AreDue program.now present.new due.new.word }
+        ensures sure { IsSure program.now present.old sure.old → IsSure program.now present.new sure.new }
+    {
+        program.valid();
+        if !is_at(self.pending.as_slice(), 0, tag) {
+            return 0;
+        }
+        let period = period_of(program, self.pending.as_slice()[0].target);
+        if period == 0 {
+            return 0;
+        }
+        match tag.after(period, program.stop(), program.top()) {
+            Landing::At(later) => {
+                self.take_until(program, plan, due, sure, tag, period, later, present)
+            }
+            _ => 0,
+        }
+    }
+
+    /// Takes the first entries out that have this period, if all entries are before where they land: makes them present
+    /// and pending again. Answers how many they are. Whom they concern is due, and the first reaction that the last one
+    /// triggers is sure.
+    #[inline(always)]
+    fn take_until(
+        &mut self,
+        program: &Program,
+        plan: &Plan,
+        due: &mut Marks,
+        sure: &mut usize,
+        tag: Tag,
+        period: u64,
+        later: Tag,
+        present: &mut Present,
+    ) -> usize
+        requires state { IsStateOf program.now self.old }
+        requires some { 0 < length self.old.pending }
+        requires period { 0 < period }
+        requires lands { landing program.now.stop (top_of program.now) tag period ≡ At later }
+        requires places { places_of present.old ≡ program_places program.now }
+        requires none_before { IsTrue (list_all (λ w. not (is_before w.tag tag)) self.old.pending) }
+        requires plan { plan.now ≡ plan_of program.now }
+        requires own { present.old.sources ≡ sources_of program.now }
+        ensures so_far { SoFar program.now tag self.old result self.new present.old present.new }
+        ensures places { places_of present.new ≡ places_of present.old }
+        ensures sources { present.new.sources ≡ present.old.sources }
+        ensures due { AreDue program.now present.old due.old.word → AreDue program.now present.new due.new.word }
+        ensures sure { IsSure program.now present.old sure.old → IsSure program.now present.new sure.new }
+    {
+        if !self.pending.last().tag.is_before(later) {
+            return 0;
+        }
+        self.pending
+            .take_alike(program, plan, due, sure, tag, period, later, present)
     }
 
     /// Makes the target of the first entry present, takes the entry out, and makes its target pending again if it is a
@@ -262,7 +345,7 @@ fn is_at(entries: &[Waiting], index: usize, tag: Tag) -> bool
 
 /// Makes a target present with a value. Whom it concerns is due, and the first reaction that it triggers is sure.
 #[inline(always)]
-fn put(
+pub(crate) fn put(
     program: &Program,
     plan: &Plan,
     due: &mut Marks,

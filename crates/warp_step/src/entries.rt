@@ -1,17 +1,28 @@
 //! The list of the pending entries. The earliest are taken out at its front without moving the rest, and a new one
 //! moves those on its shorter side, where there is room.
 ghost use Rattle.std.specs.Prelude.{◌≡◌, ℕ, ◌+◌, ◌-◌, ◌<◌, ◌≤◌, ◌++◌, [], true, false, length, take, drop};
-ghost use Rattle.std.specs.Prelude.{slice_index_or, slice_range, slice_set, if◌then◌else◌};
-ghost use Rattle.std.specs.List.{copy_within, insert};
+ghost use Rattle.std.specs.Prelude.{slice_index_or, slice_range, slice_set, if◌then◌else◌, IsTrue, map};
+ghost use Rattle.std.specs.List.{copy_within, insert, list_all};
 ghost use Rattle.warp_tag.specs.Limits.{most_pending};
 ghost use Rattle.warp_tag.specs.Moment.{is_before};
 ghost use Rattle.warp_step.specs.declared.pending.Waiting.{Waiting as Entry};
 ghost use Rattle.warp_step.specs.Snapshot.{AreInOrder, with_entry};
+ghost use Rattle.warp_body.specs.Presence.{places_of, target_fits};
+ghost use Rattle.warp_step.specs.Step.{arrived_entries, sources_of};
+ghost use Rattle.warp_step.specs.Valid.{program_places};
+ghost use Rattle.warp_step.specs.inner.Again.{is_alike, later_entry};
+ghost use Rattle.warp_step.specs.inner.Due.{AreDue};
+ghost use Rattle.warp_step.specs.inner.Plan.{plan_of};
+ghost use Rattle.warp_step.specs.inner.Sure.{IsSure};
 
-use crate::pending::Waiting;
+use crate::arrive::put;
+use crate::marks::Marks;
+use crate::pending::{Waiting, is_alike};
+use crate::plan::Plan;
+use crate::program::Program;
 use std::fmt;
 use std::marker::Model;
-use warp_body::Target;
+use warp_body::{Present, Target};
 use warp_tag::Tag;
 
 /// How many entries may be pending.
@@ -166,6 +177,58 @@ impl Entries {
         self.start = 0;
     }
 
+    /// Makes the targets of the first entries present, as long as they are at the tag and have this period, and puts
+    /// these entries behind all others, at a later tag and without a value. Answers how many they are: none where there
+    /// may be no room for them. Whom they concern is due, and the first reaction that the last one triggers is sure.
+    #[inline(always)]
+    pub(crate) fn take_alike(
+        &mut self,
+        program: &Program,
+        plan: &Plan,
+        due: &mut Marks,
+        sure: &mut usize,
+        tag: Tag,
+        period: u64,
+        later: Tag,
+        present: &mut Present,
+    ) -> usize
+        requires fits { IsTrue (list_all (λ w. target_fits (program_places program.now) w.target) self.old) }
+        requires places { places_of present.old ≡ program_places program.now }
+        requires plan { plan.now ≡ plan_of program.now }
+        requires own { present.old.sources ≡ sources_of program.now }
+        ensures bound { length self.old ≤ most_pending }
+        ensures few { result ≤ length self.old }
+        ensures entries { self.new ≡ drop result self.old ++ map (later_entry later) (take result self.old) }
+        ensures alike { IsTrue (list_all (is_alike program.now tag period) (take result self.old)) }
+        ensures present { present.new ≡ arrived_entries (take result self.old) present.old }
+        ensures places { places_of present.new ≡ places_of present.old }
+        ensures sources { present.new.sources ≡ present.old.sources }
+        ensures due { AreDue program.now present.old due.old.word → AreDue program.now present.new due.new.word }
+        ensures sure { IsSure program.now present.old sure.old → IsSure program.now present.new sure.new }
+    {
+        let start = self.start;
+        let end = self.end;
+        if end + (end - start) > PLACES {
+            return 0;
+        }
+        let count = shift_alike(
+            &mut self.items,
+            start,
+            end,
+            program,
+            plan,
+            due,
+            sure,
+            tag,
+            period,
+            later,
+            present,
+        );
+        self.start = start + count;
+        self.end = end + count;
+        count
+    }
+
     /// Takes the first so many entries out. The others stay where they are.
     #[inline(always)]
     pub(crate) fn drop_front(&mut self, count: usize)
@@ -222,6 +285,59 @@ fn move_later(items: &mut [Waiting], start: usize, end: usize, tag: Tag) -> usiz
         at -= 1;
     }
     at
+}
+
+/// Makes the targets of entries from a place on and before another present, as long as they are at the tag and have this
+/// period, and puts them behind these entries too, at a later tag and without a value. Answers how many they are. Whom
+/// they concern is due, and the first reaction that the last one triggers is sure.
+#[inline(always)]
+fn shift_alike(
+    items: &mut [Waiting],
+    start: usize,
+    end: usize,
+    program: &Program,
+    plan: &Plan,
+    due: &mut Marks,
+    sure: &mut usize,
+    tag: Tag,
+    period: u64,
+    later: Tag,
+    present: &mut Present,
+) -> usize
+    requires order { start ≤ end }
+    requires room { end + (end - start) ≤ length items.old }
+    requires fits { IsTrue (list_all (λ w. target_fits (program_places program.now) w.target)
+        (slice_range items.old start end)) }
+    requires places { places_of present.old ≡ program_places program.now }
+    requires plan { plan.now ≡ plan_of program.now }
+    requires own { present.old.sources ≡ sources_of program.now }
+    ensures few { result ≤ end - start }
+    ensures entries { slice_range items.new start (end + result) ≡
+        slice_range items.old start end ++ map (later_entry later) (take result (slice_range items.old start end)) }
+    ensures alike { IsTrue (list_all (is_alike program.now tag period)
+        (take result (slice_range items.old start end))) }
+    ensures present { present.new ≡ arrived_entries (take result (slice_range items.old start end)) present.old }
+    ensures places { places_of present.new ≡ places_of present.old }
+    ensures sources { present.new.sources ≡ present.old.sources }
+    ensures due { AreDue program.now present.old due.old.word → AreDue program.now present.new due.new.word }
+    ensures sure { IsSure program.now present.old sure.old → IsSure program.now present.new sure.new }
+    ensures len { length items.new ≡ length items.old }
+{
+    let mut count = 0;
+    while start + count < end {
+        let entry = items[start + count];
+        if !is_alike(program, &entry, tag, period) {
+            return count;
+        }
+        items[end + count] = Waiting {
+            tag: later,
+            target: entry.target,
+            value: 0,
+        };
+        put(program, plan, due, sure, present, entry.target, entry.value);
+        count += 1;
+    }
+    count
 }
 
 /// Moves the entries behind a place down by one.

@@ -492,6 +492,15 @@ all_of-append : (xs ys : List (List Tally)) → all_of (xs ++ ys) ≡ all_of xs 
 all_of-append [] ys = refl
 all_of-append (b ∷ xs) ys = ap (λ ts. b ++ ts) (all_of-append xs ys) ∙ sym (append_assoc b (all_of xs) (all_of ys))
 
+-- where none is beyond the tag, it is counted in none
+pub counted_none : (kind : Kind) (tag : Moment) (xs : List Tally) → All (λ c. is_before tag c.tag ≡ false) xs → counted kind tag xs ≡ xs
+counted_none kind tag [] none = refl
+counted_none kind tag (x ∷ xs) none = counted_there kind tag x xs (none 0 x (omega arith)) ∙ ap (λ l. x ∷ l) (counted_none kind tag xs (λ k d l. none (suc k) d (omega arith)))
+
+pub beyond_none : (tag : Moment) (xs : List Tally) → All (λ c. is_before tag c.tag ≡ false) xs → beyond tag xs ≡ []
+beyond_none tag [] none = refl
+beyond_none tag (x ∷ xs) none = beyond_there_on tag x xs (none 0 x (omega arith)) ∙ beyond_none tag xs (λ k d l. none (suc k) d (omega arith))
+
 -- counted in the blocks behind a front that has none beyond the tag, it is counted in all
 pub counted_behind : (kind : Kind) (tag : Moment) (blocks : List (List Tally)) (n : ℕ) → AreInOrder (all_of blocks) → All (λ c. is_before tag c.tag ≡ false) (all_of (take n blocks)) →
     all_of (take n blocks ++ map (counted kind tag) (drop n blocks)) ≡ counted kind tag (all_of blocks)

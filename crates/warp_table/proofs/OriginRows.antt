@@ -176,3 +176,20 @@ says_changed row (r ∷ rows) (suc n) within same h = λ other.
   where
     shared : (o t u : Moment) → is_same o u ≡ true → is_same o t ≡ true → is_same t u ≡ true
     shared o t u h k = grind (arith, nat_tests)
+
+-- Places
+
+-- a row of the tag stands at the tag's place
+pub at_row : (tag : Moment) (rows : List NameRow) (n : ℕ) (d : NameRow) → AreInOrder rows → n < length rows → is_same (get_or rows n d).tag tag ≡ true → n ≡ row_place tag rows
+at_row tag [] n d h within same = absurd (omega (arith, within))
+at_row tag (r ∷ rows) zero d h within same = rw (same_not_before r.tag tag same) refl
+  where
+    same_not_before : (t u : Moment) → is_same t u ≡ true → is_before t u ≡ false
+    same_not_before t u e = grind (arith, nat_tests)
+at_row tag (r ∷ rows) (suc n) d h within same =
+    let before : is_before r.tag (get_or rows n d).tag ≡ true = AllPairs-first Before r rows h n d (omega (arith, within)) in
+    let own : is_before r.tag tag ≡ true = before_same r.tag (get_or rows n d).tag tag before same in
+    rw own (ap (λ (m : ℕ). suc m) (at_row tag rows n d (AllPairs-tail Before r rows h) (omega (arith, within)) same))
+  where
+    before_same : (t u v : Moment) → is_before t u ≡ true → is_same u v ≡ true → is_before t v ≡ true
+    before_same t u v b e = grind (arith, nat_tests)

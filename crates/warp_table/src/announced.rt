@@ -366,6 +366,18 @@ impl Announced {
         first_beyond(&self.blocks, tag) < self.blocks.len()
     }
 
+    /// Whether none of them is beyond the tag, as the last one tells.
+    #[inline(always)]
+    pub(crate) fn are_behind(&self, tag: Tag) -> bool
+        requires { AreInOrder self.now }
+        ensures { result ≡ true → All (λ t. is_before tag t.tag ≡ false) self.now }
+    {
+        match self.blocks.last() {
+            Some(block) => !block.has_beyond(tag),
+            None => true,
+        }
+    }
+
     /// Counts a new name in the announcements beyond its tag. A verdict that has them all judged is brought up to date.
     #[inline(always)]
     pub(crate) fn count_name(&mut self, tag: Tag, kind: Kind, verdict: &mut Verdict)
@@ -388,6 +400,9 @@ impl Announced {
         let at = first_beyond(&self.blocks, tally.tag);
         if at == self.blocks.len() {
             return put_last(&mut self.blocks, tally);
+        }
+        if !self.blocks[at].is_full() {
+            return self.blocks[at].insert(tally);
         }
         split_if_full(&mut self.blocks, at)?;
         let at = first_beyond(&self.blocks, tally.tag);

@@ -2,7 +2,7 @@
 //!
 //! Each announcement has how many names are before its tag. A new name is counted in the announcements beyond it
 //! (`announced.rt`), so that what comes in order of tag costs no pass over what came before.
-ghost use Rattle.std.specs.Prelude.{◌≡◌, ◌↔◌, ◌⊎◌, Contains, IsTrue, OnOk, OnErr};
+ghost use Rattle.std.specs.Prelude.{◌≡◌, ◌↔◌, ◌⊎◌, Contains, IsTrue, OnOk, OnErr, false};
 ghost use Rattle.warp_table.specs.inner.Heard.{Announced as Said, IsExceeded, IsHeardTo, earlier_of, nothing_heard};
 ghost use Rattle.warp_table.specs.inner.Heard.{with_tag};
 ghost use Rattle.warp_table.specs.inner.Tally.{tags_of, with_noted};
@@ -80,6 +80,19 @@ impl Announcer {
         self.announced
             .count_name(tag, Kind::Event, &mut self.verdict);
         Ok(())
+    }
+
+    /// Notes a new name that has an event and is behind all announcements, where there is room at once: whether it did.
+    #[inline(always)]
+    pub(crate) fn note_event_last(&mut self, tag: Tag) -> bool
+        requires { ¬ Contains self.old.events tag }
+        ensures came { IsTrue result → self.new ≡ record self.old { events = with_tag tag self.old.events } }
+        ensures other { result ≡ false → self.new ≡ self.old }
+    {
+        if !self.announced.are_behind(tag) {
+            return false;
+        }
+        self.events.insert_last(tag)
     }
 
     /// Notes a new name that has a withdrawal. An `Err` changes nothing.

@@ -2,7 +2,8 @@
 //!
 //! No block is empty but the first, which is where nothing came. What comes in order of tags goes to the end of the
 //! last block. On how many items a block has hangs what an insertion costs, and nothing else.
-ghost use Rattle.std.specs.Prelude.{◌≡◌, ◌<◌, ◌≤◌, All, IfOk, IsTrue, OnErr, OnOk, drop, false, length, take, true};
+ghost use Rattle.std.specs.Prelude.{◌≡◌, ◌-◌, ◌<◌, ◌≤◌, All, IfOk, IsTrue, OnErr, OnOk, drop, false, length, take};
+ghost use Rattle.std.specs.Prelude.{true};
 ghost use Rattle.std.specs.List.{position_or_len};
 ghost use Rattle.std.specs.Vec.{vec_capacity, vec_items, vec_len};
 ghost use Rattle.warp_tag.specs.Moment.{Moment, is_before};
@@ -108,20 +109,6 @@ pub(crate) fn block_near<T: Tagged>(blocks: &[Vec<T>], tag: Tag, near: usize) ->
     block_of(blocks, tag)
 }
 
-/// Whether the tag is beyond all items, as the last one tells.
-pub(crate) fn is_beyond_all<T: Tagged>(blocks: &[Vec<T>], tag: Tag) -> bool
-    requires { AreOrdered T.tag_of (flat vec_items blocks.now) }
-    ensures { result ≡ true → All (λ x. IsTrue (is_before (T.tag_of x) tag)) (flat vec_items blocks.now) }
-{
-    let Some(block) = blocks.last() else {
-        return false;
-    };
-    match block.last() {
-        Some(last) => last.tag().is_before(tag),
-        None => false,
-    }
-}
-
 /// Whether none of these, which stand in order, is beyond the tag.
 pub(crate) fn is_behind_all<T: Tagged>(items: &[T], tag: Tag) -> bool
     requires { AreOrdered T.tag_of items.now }
@@ -142,19 +129,49 @@ pub(crate) fn place_by_halves<T: Tagged>(items: &[T], tag: Tag) -> usize
     items.partition_point(|item| !item.is_beyond(tag))
 }
 
-/// Puts an item among others of a block, which has room for it.
+/// Whether this is the place of the first one beyond the tag, and not the end.
+fn is_place<T: Tagged>(items: &[T], tag: Tag, at: usize) -> bool
+    requires { AreOrdered T.tag_of items.now }
+    ensures place { result ≡ true → at ≡ position_or_len (λ x. is_before tag (T.tag_of x)) items.now }
+    ensures within { result ≡ true → at ≤ length items.now }
+{
+    if items.len() <= at {
+        return false;
+    }
+    if !items[at].is_beyond(tag) {
+        return false;
+    }
+    if at == 0 {
+        return true;
+    }
+    !items[at - 1].is_beyond(tag)
+}
+
+/// The place of the first one beyond the tag: this one, where it is, or else sought by halves.
+fn place_near<T: Tagged>(items: &[T], tag: Tag, near: usize) -> usize
+    requires { AreOrdered T.tag_of items.now }
+    ensures place { result ≡ position_or_len (λ x. is_before tag (T.tag_of x)) items.now }
+    ensures within { result ≤ length items.now }
+{
+    if is_place(items, tag, near) {
+        return near;
+    }
+    place_by_halves(items, tag)
+}
+
+/// Puts an item among others of a block, which has room for it: at this place, where it belongs there, or else sought.
 #[inline(never)]
-fn put_among<T: Tagged + Copy>(block: &mut Vec<T>, item: T)
+fn put_among<T: Tagged + Copy>(block: &mut Vec<T>, item: T, near: usize)
     requires in_order { AreOrdered T.tag_of block.old.items }
     requires room { vec_len block.old < vec_capacity block.old }
     ensures { block.new.items ≡ with_item T.tag_of item block.old.items }
 {
-    let at = place_by_halves(block, item.tag());
+    let at = place_near(block, item.tag(), near);
     let _ = block.insert(at, item);
 }
 
-/// Puts an item at its place in a block, which has room for it.
-fn put_in<T: Tagged + Copy>(block: &mut Vec<T>, item: T)
+/// Puts an item at its place in a block, which has room for it; it is looked for at this place first.
+fn put_in<T: Tagged + Copy>(block: &mut Vec<T>, item: T, near: usize)
     requires in_order { AreOrdered T.tag_of block.old.items }
     requires room { vec_len block.old < vec_capacity block.old }
     ensures { block.new.items ≡ with_item T.tag_of item block.old.items }
@@ -163,11 +180,11 @@ fn put_in<T: Tagged + Copy>(block: &mut Vec<T>, item: T)
         block.push_reserved(item);
         return;
     }
-    put_among(block, item);
+    put_among(block, item, near);
 }
 
-/// Puts an item at its place in its block, which has room for it.
-pub(crate) fn put<T: Tagged + Copy>(blocks: &mut Vec<Vec<T>>, at: usize, item: T)
+/// Puts an item at its place in its block, which has room for it; it is looked for at this place first.
+pub(crate) fn put<T: Tagged + Copy>(blocks: &mut Vec<Vec<T>>, at: usize, item: T, near: usize)
     requires kept { AreBlocks vec_items blocks.old.items }
     requires in_order { AreOrdered T.tag_of (flat vec_items blocks.old.items) }
     requires block { IsBlockOf vec_items T.tag_of (T.tag_of item) blocks.old.items at }
@@ -175,7 +192,41 @@ pub(crate) fn put<T: Tagged + Copy>(blocks: &mut Vec<Vec<T>>, at: usize, item: T
     ensures items { flat vec_items blocks.new.items ≡ with_item T.tag_of item (flat vec_items blocks.old.items) }
     ensures kept { AreBlocks vec_items blocks.new.items }
 {
-    put_in(&mut blocks[at], item);
+    put_in(&mut blocks[at], item, near);
+}
+
+/// Whether the tag is beyond all items, as the last one tells, and the last block has room for one more.
+pub(crate) fn has_room_beyond_all<T: Tagged>(blocks: &Vec<Vec<T>>, tag: Tag) -> bool
+    requires { AreOrdered T.tag_of (flat vec_items blocks.now.items) }
+    ensures some { result ≡ true → 0 < length blocks.now.items }
+    ensures beyond { result ≡ true → All (λ x. IsTrue (is_before (T.tag_of x) tag)) (flat vec_items blocks.now.items) }
+    ensures room { result ≡ true →
+        HasRoom vec_len vec_capacity blocks.now.items (length blocks.now.items - 1) }
+{
+    let Some(block) = blocks.last() else {
+        return false;
+    };
+    if block.capacity() == block.len() {
+        return false;
+    }
+    match block.last() {
+        Some(last) => last.tag().is_before(tag),
+        None => false,
+    }
+}
+
+/// Puts an item that is beyond all behind them, in the last block, which has room for it.
+pub(crate) fn put_last<T: Tagged + Copy>(blocks: &mut Vec<Vec<T>>, item: T)
+    requires some { 0 < length blocks.old.items }
+    requires kept { AreBlocks vec_items blocks.old.items }
+    requires in_order { AreOrdered T.tag_of (flat vec_items blocks.old.items) }
+    requires beyond { All (λ x. IsTrue (is_before (T.tag_of x) (T.tag_of item))) (flat vec_items blocks.old.items) }
+    requires room { HasRoom vec_len vec_capacity blocks.old.items (length blocks.old.items - 1) }
+    ensures items { flat vec_items blocks.new.items ≡ with_item T.tag_of item (flat vec_items blocks.old.items) }
+    ensures kept { AreBlocks vec_items blocks.new.items }
+{
+    let last = blocks.len() - 1;
+    blocks[last].push_reserved(item);
 }
 
 /// Where a full block is parted for a tag: before its last item, where the tag comes behind all, so that what comes in
@@ -271,7 +322,7 @@ fn block_for<T: Tagged + Copy + Drop>(
 /// Makes room for one more item of a tag, wherever it goes, and gives its block, which is this one, where it is, or
 /// else sought. The items stay, also on an `Err`.
 #[inline(never)]
-fn make_room_anywhere<T: Tagged + Copy + Drop>(
+pub(crate) fn make_room_anywhere<T: Tagged + Copy + Drop>(
     blocks: &mut Vec<Vec<T>>,
     tag: Tag,
     near: usize,

@@ -33,8 +33,9 @@ fn keep_up_to(origins: &mut Vec<Rows>, origin: u32) -> Result<(), OutOfMemory>
 pub(crate) struct Names {
     origins: Vec<Rows>,
     order: Vec<Name>,
-    /// Where the row of the name stands that was sought last. It only shortens the search for it.
+    /// In which block, and where there, the row of the name stands that was sought last. It only shortens the search.
     near: usize,
+    place: usize,
 }
 
 impl Model for Names {
@@ -51,7 +52,9 @@ impl Model for Names {
 }
 
 impl Names {
-    ghost use Rattle.std.specs.Prelude.{◌≡◌, [], None, Some, IsTrue, is_some, Contains, IfSome, OnOk, OnErr, slice_get};
+    ghost use Rattle.std.specs.Prelude.{◌≡◌, [], None, Some, IsTrue, is_some, Contains, IfSome, OnOk, OnErr, false};
+    ghost use Rattle.std.specs.Prelude.{slice_get};
+    ghost use Rattle.warp_table.specs.inner.Heard.{with_tag};
     ghost use Rattle.std.specs.Map.{lookup};
     ghost use Rattle.warp_table.specs.inner.Kept.{is_named, put_known};
     ghost use Rattle.warp_table.specs.inner.Tally.{tags_of, with_noted};
@@ -64,6 +67,7 @@ impl Names {
             origins: Vec::new(alloc),
             order: Vec::new(alloc),
             near: 0,
+            place: 0,
         }
     }
 
@@ -71,7 +75,8 @@ impl Names {
     pub(crate) fn known(&self, name: Name) -> Option<Known>
         ensures { result ≡ lookup (is_named name.origin name.tag) self.now }
     {
-        let (known, _near) = self.origins.get(name.origin as usize)?.seek(name.tag);
+        let rows = self.origins.get(name.origin as usize)?;
+        let (known, _near, _place) = rows.seek(name.tag, self.near);
         known
     }
 
@@ -80,8 +85,10 @@ impl Names {
         ensures known { result ≡ lookup (is_named name.origin name.tag) self.old }
         ensures same { self.new ≡ self.old }
     {
-        let (known, near) = self.origins.get(name.origin as usize)?.seek(name.tag);
+        let rows = self.origins.get(name.origin as usize)?;
+        let (known, near, place) = rows.seek(name.tag, self.near);
         self.near = near;
+        self.place = place;
         known
     }
 
@@ -100,7 +107,38 @@ impl Names {
         requires { IsTrue (is_some (lookup (is_named name.origin name.tag) self.old)) }
         ensures { self.new ≡ put_known self.old name known }
     {
-        self.origins[name.origin as usize].set(name.tag, known, self.near);
+        self.origins[name.origin as usize].set(name.tag, known, self.near, self.place);
+    }
+
+    /// Puts in a name of which this is known, where it comes behind all of its origin's and there is room at once, and
+    /// tells its origin that it has an event: whether it did.
+    #[inline(always)]
+    pub(crate) fn insert_last(
+        &mut self,
+        name: Name,
+        known: Known,
+        announcer: &mut Announcer,
+    ) -> bool
+        requires fresh { lookup (is_named name.origin name.tag) self.old ≡ None →
+            ¬ Contains announcer.old.events name.tag }
+        ensures new { IsTrue result → lookup (is_named name.origin name.tag) self.old ≡ None }
+        ensures with { IsTrue result → self.new ≡ put_known self.old name known }
+        ensures heard { IsTrue result →
+            announcer.new ≡ record announcer.old { events = with_tag name.tag announcer.old.events } }
+        ensures other { result ≡ false → (self.new ≡ self.old) × (announcer.new ≡ announcer.old) }
+    {
+        if self.order.len() == self.order.capacity() {
+            return false;
+        }
+        if self.origins.len() <= name.origin as usize {
+            return false;
+        }
+        let rows = &mut self.origins[name.origin as usize];
+        if !rows.insert_last(name.tag, known, announcer) {
+            return false;
+        }
+        self.order.push_reserved(name);
+        true
     }
 
     /// Puts in a new name of which this is known, and tells its origin that it has an event or a withdrawal. An `Err`
@@ -121,7 +159,8 @@ impl Names {
     {
         keep_up_to(&mut self.origins, name.origin)?;
         self.order.reserve(1)?;
-        self.origins[name.origin as usize].insert(name.tag, known, kind, announcer, self.near)?;
+        let rows = &mut self.origins[name.origin as usize];
+        rows.insert(name.tag, known, kind, announcer, self.near, self.place)?;
         self.order.push_reserved(name);
         Ok(())
     }

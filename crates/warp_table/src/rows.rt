@@ -6,7 +6,7 @@ ghost use Rattle.std.specs.Prelude.{◌≡◌, ◌≤◌, IsTrue, is_some, lengt
 ghost use Rattle.warp_table.specs.inner.NamesByOrigin.{AreInOrder, IsWith, row_of, row_place};
 
 use crate::announcer::Announcer;
-use crate::blocks::{Tagged, block_near, block_of, is_beyond_all, make_room, put};
+use crate::blocks::{Tagged, block_near, has_room_beyond_all, make_room_anywhere, put, put_last};
 use crate::tally::Kind;
 use std::alloc::Global;
 use std::marker::Model;
@@ -96,27 +96,44 @@ fn place_of(rows: &[NameRow], tag: Tag) -> usize
     rows.len() - 1
 }
 
-/// What is known of the name of this tag; `None` where it has no row.
-fn known_at(rows: &[NameRow], tag: Tag) -> Option<Known>
+/// What is known of the name of this tag, `None` where it has no row; and the place of the first row that is not before
+/// it.
+fn known_at(rows: &[NameRow], tag: Tag) -> (Option<Known>, usize)
     requires { AreInOrder rows.now }
-    ensures { result ≡ row_of tag rows.now }
+    ensures { result.0 ≡ row_of tag rows.now }
 {
-    let row = rows.get(place_of(rows, tag))?;
+    let place = place_of(rows, tag);
+    let Some(row) = rows.get(place) else {
+        return (None, place);
+    };
     if tag.is_before(row.tag) {
-        None
+        (None, place)
     } else {
-        Some(row.known)
+        (Some(row.known), place)
     }
 }
 
-/// Has this known of the name of this tag, which has a row.
-fn set_at(rows: &mut [NameRow], tag: Tag, known: Known)
+/// The place of the first row that is not before the tag: this one, where it is the tag's, or else sought.
+fn place_near(rows: &[NameRow], tag: Tag, near: usize) -> usize
+    requires { AreInOrder rows.now }
+    ensures { result ≡ row_place tag rows.now }
+{
+    if near < rows.len() {
+        if rows[near].tag.is_same(tag) {
+            return near;
+        }
+    }
+    place_of(rows, tag)
+}
+
+/// Has this known of the name of this tag, which has a row; it is looked for at this place first.
+fn set_at(rows: &mut [NameRow], tag: Tag, known: Known, near: usize)
     requires in_order { AreInOrder rows.old }
     requires there { IsTrue (is_some (row_of tag rows.old)) }
     ensures tags { map (λ r. r.tag) rows.new ≡ map (λ r. r.tag) rows.old }
     ensures row { IsWith tag known rows.old rows.new }
 {
-    let place = place_of(rows, tag);
+    let place = place_near(rows, tag, near);
     rows[place].known = known;
 }
 
@@ -142,7 +159,8 @@ impl Model for Rows {
 }
 
 impl Rows {
-    ghost use Rattle.std.specs.Prelude.{◌≡◌, [], None, IsTrue, is_some, Contains, OnOk, OnErr};
+    ghost use Rattle.std.specs.Prelude.{◌≡◌, [], None, IsTrue, is_some, Contains, OnOk, OnErr, false};
+    ghost use Rattle.warp_table.specs.inner.Heard.{with_tag};
     ghost use Rattle.warp_table.specs.inner.NamesByOrigin.{IsWith, row_of};
     ghost use Rattle.warp_table.specs.inner.Tally.{tags_of, with_noted};
 
@@ -155,40 +173,53 @@ impl Rows {
         }
     }
 
-    /// What is known of the name of this tag, `None` where it has no row; and where to look for its row.
-    pub(crate) fn seek(&self, tag: Tag) -> (Option<Known>, usize)
-        ensures { result.0 ≡ row_of tag self.now }
-    {
-        if is_beyond_all(&self.blocks, tag) {
-            return (None, 0);
-        }
-        self.seek_among(tag)
-    }
-
-    /// `seek` where the row may stand among others.
+    /// What is known of the name of this tag, `None` where it has no row; and the block and the place in it where to
+    /// look for its row. It is looked for near this block first.
     #[inline(never)]
-    fn seek_among(&self, tag: Tag) -> (Option<Known>, usize)
+    pub(crate) fn seek(&self, tag: Tag, near: usize) -> (Option<Known>, usize, usize)
         ensures { result.0 ≡ row_of tag self.now }
     {
         if self.blocks.is_empty() {
-            return (None, 0);
+            return (None, 0, 0);
         }
-        let at = block_of(&self.blocks, tag);
-        let known = known_at(&self.blocks[at], tag);
-        (known, at)
+        let at = block_near(&self.blocks, tag, near);
+        let (known, place) = known_at(&self.blocks[at], tag);
+        (known, at, place)
     }
 
-    /// Has this known of the name of this tag, which has a row; it is looked for near this block first.
-    pub(crate) fn set(&mut self, tag: Tag, known: Known, near: usize)
+    /// Has this known of the name of this tag, which has a row; it is looked for near this block and at this place
+    /// first.
+    pub(crate) fn set(&mut self, tag: Tag, known: Known, near: usize, place: usize)
         requires { IsTrue (is_some (row_of tag self.old)) }
         ensures { IsWith tag known self.old self.new }
     {
         let at = block_near(&self.blocks, tag, near);
-        set_at(&mut self.blocks[at], tag, known);
+        set_at(&mut self.blocks[at], tag, known, place);
     }
 
-    /// Puts in the row of a new name of which this is known, near this block, and tells its origin that it has an event
-    /// or a withdrawal. An `Err` changes nothing.
+    /// Puts in the row of a name of which this is known, where its tag is beyond all and there is room at once, and
+    /// tells its origin that it has an event: whether it did.
+    #[inline(always)]
+    pub(crate) fn insert_last(&mut self, tag: Tag, known: Known, announcer: &mut Announcer) -> bool
+        requires fresh { row_of tag self.old ≡ None → ¬ Contains announcer.old.events tag }
+        ensures new { IsTrue result → row_of tag self.old ≡ None }
+        ensures with { IsTrue result → IsWith tag known self.old self.new }
+        ensures heard { IsTrue result →
+            announcer.new ≡ record announcer.old { events = with_tag tag announcer.old.events } }
+        ensures other { result ≡ false → (self.new ≡ self.old) × (announcer.new ≡ announcer.old) }
+    {
+        if !has_room_beyond_all(&self.blocks, tag) {
+            return false;
+        }
+        if !announcer.note_event_last(tag) {
+            return false;
+        }
+        put_last(&mut self.blocks, NameRow { tag, known });
+        true
+    }
+
+    /// Puts in the row of a new name of which this is known, near this block and place, and tells its origin that it
+    /// has an event or a withdrawal. An `Err` changes nothing.
     #[inline(always)]
     pub(crate) fn insert(
         &mut self,
@@ -197,6 +228,7 @@ impl Rows {
         kind: Kind,
         announcer: &mut Announcer,
         near: usize,
+        place: usize,
     ) -> Result<(), OutOfMemory>
         requires new { row_of tag self.old ≡ None }
         requires fresh { ¬ Contains (tags_of kind announcer.old) tag }
@@ -204,9 +236,9 @@ impl Rows {
         ensures heard { OnOk result (announcer.new ≡ with_noted kind tag announcer.old) }
         ensures err { OnErr result ((self.new ≡ self.old) × (announcer.new ≡ announcer.old)) }
     {
-        let at = make_room(&mut self.blocks, tag, near)?;
+        let at = make_room_anywhere(&mut self.blocks, tag, near)?;
         announcer.note(kind, tag)?;
-        put(&mut self.blocks, at, NameRow { tag, known });
+        put(&mut self.blocks, at, NameRow { tag, known }, place);
         Ok(())
     }
 }

@@ -154,7 +154,39 @@ impl Table {
 
     /// Adds a record where it is not there yet, notes what it says of its name and to its origin, and tells its place
     /// and whether it is new. A record that was there stays in its place. An `Err` changes nothing.
+    #[inline(always)]
     pub fn add(&mut self, record: &Record) -> Result<Added, OutOfMemory>
+        requires room { length self.old < most_records }
+        requires origin { origin_of «record».now < most_origins widest }
+        ensures new { IfOk result (λ added. IsTrue added.is_new →
+            (¬ Contains self.old «record».now) × (added.place ≡ length self.old + 1) ×
+            (self.new ≡ self.old ++ «record».now ∷ [])) }
+        ensures known { IfOk result
+            (λ added. added.is_new ≡ false → IsAt self.old added.place «record».now × (self.new ≡ self.old)) }
+        ensures err { OnErr result (self.new ≡ self.old) }
+    {
+        if self.records.len() < self.records.capacity() {
+            let is_last = note_last(
+                &self.records,
+                &mut self.names,
+                &self.others,
+                &mut self.announcers,
+                record,
+            );
+            if is_last {
+                self.records.push_reserved(*record);
+                return Ok(Added {
+                    place: self.records.len() as u32,
+                    is_new: true,
+                });
+            }
+        }
+        self.add_anywhere(record)
+    }
+
+    /// `add`, wherever the record goes.
+    #[inline(never)]
+    fn add_anywhere(&mut self, record: &Record) -> Result<Added, OutOfMemory>
         requires room { length self.old < most_records }
         requires origin { origin_of «record».now < most_origins widest }
         ensures new { IfOk result (λ added. IsTrue added.is_new →
@@ -722,6 +754,36 @@ fn note(
     keep_up_to(announcers, origin)?;
     let announcer = &mut announcers[origin as usize];
     note_own(records, names, others, announcer, record)
+}
+
+/// Adds an event of a name that comes behind all of its origin's and that no announcement is beyond, where there is
+/// room for it at once, and tells it to its origin: whether it did. What is heard stays where it did not.
+#[inline(always)]
+fn note_last(
+    records: &[Record],
+    names: &mut Names,
+    others: &IndexMap<Record, u32>,
+    announcers: &mut Vec<Announcer>,
+    record: &Record,
+) -> bool
+    requires room { length records.now < most_records }
+    requires keeps { Keeps records.now names.old others.now.entries }
+    requires heard { AreHeard records.now announcers.old.items }
+    ensures came { IsTrue result →
+        IsAdded records.now «record».now (length records.now + 1) names.new others.now.entries ×
+        AreHeard (records.now ++ «record».now ∷ []) announcers.new.items }
+    ensures other { result ≡ false → (names.new ≡ names.old) × AreHeard records.now announcers.new.items }
+{
+    let Record::Event { origin, tag, .. } = *record else {
+        return false;
+    };
+    if announcers.len() <= origin as usize {
+        return false;
+    }
+    let noted = noted_first(records);
+    let known = Known::nothing().with_event(noted.event);
+    let announcer = &mut announcers[origin as usize];
+    names.insert_last(Name { origin, tag }, known, announcer)
 }
 
 /// Why the program takes no event of this origin, at this tag, for this input.

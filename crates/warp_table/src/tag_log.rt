@@ -2,7 +2,7 @@
 //! from then on.
 //!
 //! So a name of an origin that announced nothing costs a push here, in any order of tags.
-ghost use Rattle.std.specs.Prelude.{◌≡◌, ◌+◌, ◌<◌, ◌^◌, [], IfOk, OnOk, OnErr, length};
+ghost use Rattle.std.specs.Prelude.{◌≡◌, ◌+◌, ◌<◌, ◌^◌, [], IfOk, IsTrue, OnOk, OnErr, false, length};
 ghost use Rattle.warp_table.specs.inner.Heard.{count_before as tags_before, with_tag, with_tags};
 
 use crate::tags::Tags;
@@ -70,6 +70,22 @@ impl TagLog {
         }
         self.came.push(tag)?;
         Ok(())
+    }
+
+    /// Puts in a tag that is beyond all of those that stand in order, where there is room at once: whether it did.
+    #[inline(always)]
+    pub(crate) fn insert_last(&mut self, tag: Tag) -> bool
+        ensures came { IsTrue result → self.new ≡ with_tag tag self.old }
+        ensures other { result ≡ false → self.new ≡ self.old }
+    {
+        if self.is_ordered {
+            return self.in_order.insert_last(tag);
+        }
+        if self.came.len() == self.came.capacity() {
+            return false;
+        }
+        self.came.push_reserved(tag);
+        true
     }
 
     /// How many of them are before this one. They stay.

@@ -1,5 +1,5 @@
 //! The tags of an origin's names, in order, in blocks: so one that comes late moves those of one block alone.
-ghost use Rattle.std.specs.Prelude.{◌≡◌, ◌+◌, ◌<◌, ◌≤◌, ◌^◌, [], AllPairs, OnOk, OnErr, false, length};
+ghost use Rattle.std.specs.Prelude.{◌≡◌, ◌+◌, ◌<◌, ◌≤◌, ◌^◌, [], AllPairs, IsTrue, OnOk, OnErr, false, length};
 ghost use Rattle.std.specs.List.{position_or_len};
 ghost use Rattle.std.specs.Vec.{vec_items};
 ghost use Rattle.warp_tag.specs.Moment.{is_before};
@@ -7,7 +7,9 @@ ghost use Rattle.warp_table.specs.inner.Blocks.{AreOrdered, begins_before, flat}
 ghost use Rattle.warp_table.specs.inner.Heard.{count_before as tags_before, with_tag};
 
 pub(crate) use crate::blocks::Tagged;
-use crate::blocks::{is_behind_all, make_room, place_by_halves, put};
+use crate::blocks::{
+    has_room_beyond_all, is_behind_all, make_room, place_by_halves, put, put_last,
+};
 use std::alloc::{AllocError, Global};
 use std::marker::Model;
 use warp_tag::Tag;
@@ -121,9 +123,26 @@ impl Tags {
             return Err(AllocError);
         }
         let at = make_room(&mut self.blocks, tag, 0)?;
-        put(&mut self.blocks, at, tag);
+        put(&mut self.blocks, at, tag, 0);
         self.len += 1;
         Ok(())
+    }
+
+    /// Puts in a tag that is beyond all, where there is room at once: whether it did.
+    #[inline(always)]
+    pub(crate) fn insert_last(&mut self, tag: Tag) -> bool
+        ensures came { IsTrue result → self.new ≡ with_tag tag self.old }
+        ensures other { result ≡ false → self.new ≡ self.old }
+    {
+        if self.len == usize::MAX {
+            return false;
+        }
+        if !has_room_beyond_all(&self.blocks, tag) {
+            return false;
+        }
+        put_last(&mut self.blocks, tag);
+        self.len += 1;
+        true
     }
 
     /// How many of them are before this one.

@@ -69,11 +69,11 @@ answer is that of the program run over all of them in the order of their tags.";
 const STATUSES: &str = "\
 Exit status:
   0  done, or help or the version was asked for
-  2  the words were not understood
+  2  the words were not understood, or ask for too many lanes
   3  the program or the schedule was refused
   4  the program or the schedule couldn't be read, or a standard stream failed
   5  memory ran out
-  6  the server couldn't listen, or couldn't accept a connection";
+  6  the server couldn't listen, or couldn't have a further connection or thread";
 
 const RUN_ABOUT: &str = "Answers the lines of standard input on standard output";
 
@@ -121,7 +121,7 @@ Why a line is refused:
  11  there is no board here
 
 Why a program file is refused (warpd check says where):
-  1  it is no JSON text
+  1  it is no JSON text, or nests too deep
   2  it has not the shape of a program file
   3  it goes past a limit
   4  a name is unknown in its place

@@ -9,9 +9,10 @@ first K connections. Each is a session as `warpd run` has one: every line that i
 sends is answered with one line, in order, up to the end of what it sends. Standard input is
 not read.
 
-All sessions share one replica. What any client was told happened before every line that is
-sent after it, by any client. A session that waits, fails or breaks off disturbs no other: a
-client that doesn't read its replies waits alone. Connections past the K sessions get no byte.
+All sessions share one replica. What any client was told, but by board and row, happened before
+every line that is sent after it, by any client. A session that waits, fails or breaks off
+disturbs no other: a client that doesn't read its replies waits alone. Connections past the K
+sessions get no byte.
 
 The lines are those of `warpd run --help`, and two that look at the board of released outputs
 without asking the replica:
@@ -24,8 +25,9 @@ A row on the board stays there. The board has room for 4,096 rows, and is frozen
 a record takes back what was released.
 
 From each PEER, the HOST:PORT of another server, the log is pulled in the background. A pull
-ends once the peer had nothing new for 500 times in a row, 10 milliseconds apart. A server
-that names itself as a peer serves that pull as one of its sessions.
+ends once the peer had nothing new for 500 times in a row, 10 milliseconds apart, and for the
+reasons that docs/FORMATS.md lists; it is not begun again. A server that names itself as a peer
+serves that pull as one of its sessions.
 
 The server ends when all K sessions and all pulls have ended. Nothing is stored on disk: a
 server that is started anew is empty, and gets from its peers what they have. It can be
@@ -38,7 +40,8 @@ No line is refused for reason 11 here, since there is a board.
 
 On standard error, I being the place of a PEER from 0:
   peer I failed     it can't be reached or is no HOST:PORT: told before sessions are served;
-                    or its connection broke: told when the server ends. The server goes on
+                    or its connection broke, or there was no memory for it: told when the
+                    server ends. The server goes on
   cannot listen     the port is taken or not allowed
   cannot accept     no further session could be had; those so far were served to their end
   too many lanes    there are more than 16 sessions and peers together

@@ -25,14 +25,14 @@ line was taken as it came: of each step tag, given, due, changed, outputs and pe
 given has the values of the program inputs; and before the steps that a late line brings
 
   rollback   from which tag the run went back, to which (null for its start), and how many
-             steps up to the first of the two were then made again";
+             of the steps that follow are not after the first of the two";
 
 pub(crate) const STEPS_HELP: &str =
     "Prints the steps in the order in which they were executed, with rollbacks";
 
 pub(crate) const NOTES: &str = "\
-A line that `warpd run` refuses counts for nothing. Standard error tells how many there were,
-and the first of them with its reason:
+A record that `warpd run` refuses, and a line that is none, counts for nothing. Standard error
+tells how many there were, and the first of them with its reason:
 
   lines refused 2, first line 7: refused 3
 

@@ -13,6 +13,7 @@ use crate::refused_lines::RefusedLines;
 use crate::stepping::print_steps;
 use crate::streams::Streams;
 use std::alloc::Global;
+use warp_run::Warp;
 use warp_session::{SessionEnd, Sink, Source, session};
 use warp_step::Program;
 use warp_world::{Labels, print_trace};
@@ -112,5 +113,5 @@ fn print_executed<R: Source, W: Sink>(
     if desk.has_lacked {
         return Outcome::Memory;
     }
-    outcome_of_trace(print_steps(alloc, labels, &desk.recorder, streams))
+    outcome_of_trace(print_steps::<_, Warp>(alloc, labels, &desk.recorder, streams))
 }

@@ -5,9 +5,10 @@ ghost use Rattle.warp_prog.specs.Explain.{names_of};
 ghost use Rattle.warp_prog.specs.Uses.{action_names, timer_names, variable_names};
 ghost use Rattle.warp_prog.specs.View.{file_tree, reactor_tree};
 
-use crate::file::{InputPart, PortName, ProgramFile, Reactor};
+use crate::file::{ProgramFile, Reactor};
 use crate::name::Name;
 use crate::named::Named;
+use crate::twice::Refers;
 use std::alloc::{AllocError, Global};
 use std::marker::Model;
 
@@ -53,8 +54,8 @@ pub(crate) fn labels_of(alloc: Global, file: &ProgramFile) -> Result<Labels, All
 {
     let inside = inside_all(alloc, &file.reactors)?;
     let reactors = reactor_names(alloc, &file.reactors)?;
-    let inputs = input_labels(alloc, &file.inputs)?;
-    let outputs = output_labels(alloc, &file.outputs)?;
+    let inputs = port_labels(alloc, &file.inputs)?;
+    let outputs = port_labels(alloc, &file.outputs)?;
     Ok(Labels {
         reactors,
         variables: inside.variables,
@@ -110,48 +111,13 @@ impl Inside {
         ensures timers { let its = labelled timer_names (reactor_tree reactor.now) in
             OnOk result (map string_bytes self.new.timers.items ≡ map string_bytes self.old.timers.items ++ its) }
     {
-        add_variables(alloc, &mut self.variables, reactor)?;
-        add_ports(alloc, &mut self.ports, reactor)?;
-        add_actions(alloc, &mut self.actions, reactor)?;
-        add_timers(alloc, &mut self.timers, reactor)
+        let name = &reactor.name;
+        add_each(alloc, &mut self.variables, name, &reactor.variables)?;
+        add_each(alloc, &mut self.ports, name, &reactor.inputs)?;
+        add_each(alloc, &mut self.ports, name, &reactor.outputs)?;
+        add_each(alloc, &mut self.actions, name, &reactor.actions)?;
+        add_each(alloc, &mut self.timers, name, &reactor.timers)
     }
-}
-
-/// Adds the labels of the variables of a reactor.
-fn add_variables(
-    alloc: Global,
-    labels: &mut Vec<String>,
-    reactor: &Reactor,
-) -> Result<(), AllocError>
-    ensures { let its = labelled variable_names (reactor_tree reactor.now) in
-        OnOk result (map string_bytes labels.new.items ≡ map string_bytes labels.old.items ++ its) }
-{
-    add_each(alloc, labels, &reactor.name, &reactor.variables)
-}
-
-/// Adds the labels of the actions of a reactor.
-fn add_actions(alloc: Global, labels: &mut Vec<String>, reactor: &Reactor) -> Result<(), AllocError>
-    ensures { let its = labelled action_names (reactor_tree reactor.now) in
-        OnOk result (map string_bytes labels.new.items ≡ map string_bytes labels.old.items ++ its) }
-{
-    add_each(alloc, labels, &reactor.name, &reactor.actions)
-}
-
-/// Adds the labels of the timers of a reactor.
-fn add_timers(alloc: Global, labels: &mut Vec<String>, reactor: &Reactor) -> Result<(), AllocError>
-    ensures { let its = labelled timer_names (reactor_tree reactor.now) in
-        OnOk result (map string_bytes labels.new.items ≡ map string_bytes labels.old.items ++ its) }
-{
-    add_each(alloc, labels, &reactor.name, &reactor.timers)
-}
-
-/// Adds the labels of the ports of a reactor.
-fn add_ports(alloc: Global, labels: &mut Vec<String>, reactor: &Reactor) -> Result<(), AllocError>
-    ensures { let its = labelled port_names (reactor_tree reactor.now) in
-        OnOk result (map string_bytes labels.new.items ≡ map string_bytes labels.old.items ++ its) }
-{
-    add_each(alloc, labels, &reactor.name, &reactor.inputs)?;
-    add_each(alloc, labels, &reactor.name, &reactor.outputs)
 }
 
 /// Adds the labels of these things in the reactor of this name.
@@ -194,24 +160,13 @@ fn reactor_names(alloc: Global, reactors: &[Reactor]) -> Result<Vec<String>, All
     Ok(names)
 }
 
-/// The labels of the program's inputs.
-fn input_labels(alloc: Global, inputs: &[InputPart]) -> Result<Vec<String>, AllocError>
-    ensures { IfOk result (λ ls. map string_bytes ls.items ≡ map (λ i. port_label i.port) inputs.now) }
+/// The labels of the ports to which these things refer.
+fn port_labels<T: Refers>(alloc: Global, things: &[T]) -> Result<Vec<String>, AllocError>
+    ensures { IfOk result (λ ls. map string_bytes ls.items ≡ map (λ t. port_label (T.refers_to t)) things.now) }
 {
-    let mut labels = Vec::with_capacity(alloc, inputs.len())?;
-    for input in inputs {
-        let label = label(alloc, &input.port.reactor, &input.port.port)?;
-        labels.push(label)?;
-    }
-    Ok(labels)
-}
-
-/// The labels of the program's outputs.
-fn output_labels(alloc: Global, outputs: &[PortName]) -> Result<Vec<String>, AllocError>
-    ensures { IfOk result (λ ls. map string_bytes ls.items ≡ map port_label outputs.now) }
-{
-    let mut labels = Vec::with_capacity(alloc, outputs.len())?;
-    for port in outputs {
+    let mut labels = Vec::with_capacity(alloc, things.len())?;
+    for thing in things {
+        let port = thing.port();
         let label = label(alloc, &port.reactor, &port.port)?;
         labels.push(label)?;
     }

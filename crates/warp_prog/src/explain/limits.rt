@@ -2,7 +2,7 @@
 
 mod body;
 
-use crate::explain::limits::body::check_body;
+use crate::explain::limits::body::body_fails;
 use crate::explain::reason::Reason;
 use crate::explain::trail::{Step, Trail};
 use crate::file::{ActionPart, InputPart, LinkPart, ProgramFile, Reaction, Reactor, TimerPart};
@@ -13,65 +13,49 @@ use crate::limits::{
 };
 use warp_tag::Form;
 
-/// That a file goes past no limit. Whether its version is known is looked at last.
-pub(crate) fn check_limits<'f>(file: &'f ProgramFile, at: &mut Trail) -> Result<(), Reason<'f>> {
+/// Whether a file goes past a limit. Whether its version is known is looked at last.
+pub(crate) fn limits_fail(file: &ProgramFile, at: &mut Trail) -> bool {
     let form = form_of_version(file.version);
-    check_range(file.stop, 0, longest_stop(form), Step::Key("stop"), at)?;
-    check_range(
-        file.origins,
-        1,
-        most_origins(form),
-        Step::Key("origins"),
-        at,
-    )?;
-    check_lengths(file, at)?;
-    check_totals(&file.reactors, at)?;
-    check_parts(file, form, at)?;
-    if is_outside(file.version, FIRST_VERSION, LAST_VERSION) {
-        at.back(Step::Key("version"));
-        return Err(Reason::Plain("this version of the format is not known"));
-    }
-    Ok(())
+    range_fails(file.stop, 0, longest_stop(form), Step::Key("stop"), at)
+        || range_fails(
+            file.origins,
+            1,
+            most_origins(form),
+            Step::Key("origins"),
+            at,
+        )
+        || lengths_fail(file, at)
+        || totals_fail(&file.reactors, at)
+        || reactors_fail(&file.reactors, form, at)
+        || links_fail(&file.links, form, at)
+        || inputs_fail(&file.inputs, file.origins, at)
+        || version_fails(file.version, at)
 }
 
-/// That a number is one of these; this step leads to it.
-fn check_range<'f>(
-    number: i64,
-    low: i64,
-    high: i64,
-    step: Step,
-    at: &mut Trail,
-) -> Result<(), Reason<'f>> {
-    if is_outside(number, low, high) {
-        at.back(step);
-        return Err(Reason::Range(number, low, high));
-    }
-    Ok(())
+/// Whether a number is not one of these; this step leads to it.
+fn range_fails(number: i64, low: i64, high: i64, step: Step, at: &mut Trail) -> bool {
+    is_outside(number, low, high) && at.fault_at(step, Reason::Range(number, low, high))
 }
 
-/// That a list is no longer than this; it stands under this key.
-fn check_length<'f>(
-    length: usize,
-    most: usize,
-    key: &'static str,
-    at: &mut Trail,
-) -> Result<(), Reason<'f>> {
-    if length > most {
-        at.back(Step::Key(key));
-        return Err(Reason::Many(key, most));
-    }
-    Ok(())
+/// Whether a list is longer than this; it stands under this key.
+fn length_fails(length: usize, most: usize, key: &'static str, at: &mut Trail) -> bool {
+    length > most && at.fault_at(Step::Key(key), Reason::Many(key, most))
 }
 
-fn check_lengths<'f>(file: &'f ProgramFile, at: &mut Trail) -> Result<(), Reason<'f>> {
-    check_length(file.reactors.len(), MOST_REACTORS, "reactors", at)?;
-    check_length(file.links.len(), MOST_LINKS, "links", at)?;
-    check_length(file.inputs.len(), MOST_INPUTS, "inputs", at)?;
-    check_length(file.outputs.len(), MOST_OUTPUTS, "outputs", at)
+fn lengths_fail(file: &ProgramFile, at: &mut Trail) -> bool {
+    length_fails(file.reactors.len(), MOST_REACTORS, "reactors", at)
+        || length_fails(file.links.len(), MOST_LINKS, "links", at)
+        || length_fails(file.inputs.len(), MOST_INPUTS, "inputs", at)
+        || length_fails(file.outputs.len(), MOST_OUTPUTS, "outputs", at)
+}
+
+fn version_fails(version: i64, at: &mut Trail) -> bool {
+    let reason = Reason::Plain("this version of the format is not known");
+    is_outside(version, FIRST_VERSION, LAST_VERSION) && at.fault_at(Step::Key("version"), reason)
 }
 
 /// How many things of each kind may still come.
-#[derive(Drop)]
+#[derive(Clone, Copy)]
 struct Room {
     variables: usize,
     ports: usize,
@@ -80,7 +64,7 @@ struct Room {
     reactions: usize,
 }
 
-fn check_totals<'f>(reactors: &'f [Reactor], at: &mut Trail) -> Result<(), Reason<'f>> {
+fn totals_fail(reactors: &[Reactor], at: &mut Trail) -> bool {
     let mut room = Room {
         variables: MOST_VARIABLES,
         ports: MOST_PORTS,
@@ -89,111 +73,127 @@ fn check_totals<'f>(reactors: &'f [Reactor], at: &mut Trail) -> Result<(), Reaso
         reactions: MOST_REACTIONS,
     };
     for (i, reactor) in reactors.iter().enumerate() {
-        let found = take_room(&mut room, reactor);
-        at.along(Step::Of("reactors", i), found)?;
+        if exceeds_room(&mut room, reactor, at) {
+            return at.back(Step::Of("reactors", i));
+        }
     }
-    Ok(())
+    false
 }
 
-/// Takes the room for the things of a reactor, or says what is too much.
-fn take_room<'f>(room: &mut Room, reactor: &'f Reactor) -> Result<(), Reason<'f>> {
-    let Some(variables) = room.variables.checked_sub(reactor.variables.len()) else {
-        return Err(Reason::Many("variables in the reactors up to here", MOST_VARIABLES));
-    };
-    let ports = reactor.inputs.len().saturating_add(reactor.outputs.len());
-    let Some(ports) = room.ports.checked_sub(ports) else {
-        return Err(Reason::Many("inputs and outputs in the reactors up to here", MOST_PORTS));
-    };
-    let Some(actions) = room.actions.checked_sub(reactor.actions.len()) else {
-        return Err(Reason::Many("actions in the reactors up to here", MOST_ACTIONS));
-    };
-    let Some(timers) = room.timers.checked_sub(reactor.timers.len()) else {
-        return Err(Reason::Many("timers in the reactors up to here", MOST_TIMERS));
-    };
-    let Some(reactions) = room.reactions.checked_sub(reactor.reactions.len()) else {
-        return Err(Reason::Many("reactions in the reactors up to here", MOST_REACTIONS));
-    };
-    *room = Room {
+/// Takes the room for the things of a reactor, or says of which there are too many.
+fn exceeds_room(room: &mut Room, reactor: &Reactor, at: &mut Trail) -> bool {
+    let variables = "variables in the reactors up to here";
+    let ports = "inputs and outputs in the reactors up to here";
+    let actions = "actions in the reactors up to here";
+    let timers = "timers in the reactors up to here";
+    let reactions = "reactions in the reactors up to here";
+    let port_count = reactor.inputs.len().saturating_add(reactor.outputs.len());
+    count_exceeds(
+        &mut room.variables,
+        reactor.variables.len(),
         variables,
-        ports,
-        actions,
-        timers,
-        reactions,
-    };
-    Ok(())
+        MOST_VARIABLES,
+        at,
+    ) || count_exceeds(&mut room.ports, port_count, ports, MOST_PORTS, at)
+        || count_exceeds(
+            &mut room.actions,
+            reactor.actions.len(),
+            actions,
+            MOST_ACTIONS,
+            at,
+        )
+        || count_exceeds(
+            &mut room.timers,
+            reactor.timers.len(),
+            timers,
+            MOST_TIMERS,
+            at,
+        )
+        || count_exceeds(
+            &mut room.reactions,
+            reactor.reactions.len(),
+            reactions,
+            MOST_REACTIONS,
+            at,
+        )
 }
 
-fn check_parts<'f>(file: &'f ProgramFile, form: Form, at: &mut Trail) -> Result<(), Reason<'f>> {
-    for (i, reactor) in file.reactors.iter().enumerate() {
-        let found = check_reactor(reactor, form, at);
-        at.along(Step::Of("reactors", i), found)?;
-    }
-    check_links(&file.links, form, at)?;
-    check_inputs(&file.inputs, file.origins, at)
-}
-
-fn check_reactor<'f>(reactor: &'f Reactor, form: Form, at: &mut Trail) -> Result<(), Reason<'f>> {
-    check_actions(&reactor.actions, form, at)?;
-    check_timers(&reactor.timers, form, at)?;
-    check_reactions(&reactor.reactions, form, at)
-}
-
-fn check_actions<'f>(
-    actions: &'f [ActionPart],
-    form: Form,
+/// Takes the room for so many of these things, or says that there are more than the most.
+fn count_exceeds(
+    room: &mut usize,
+    count: usize,
+    things: &'static str,
+    most: usize,
     at: &mut Trail,
-) -> Result<(), Reason<'f>> {
-    for (i, action) in actions.iter().enumerate() {
-        let found = check_range(action.delay, 0, longest_period(form), Step::Item(1), at);
-        at.along(Step::Of("actions", i), found)?;
+) -> bool {
+    match room.checked_sub(count) {
+        Some(left) => {
+            *room = left;
+            false
+        }
+        None => at.fault(Reason::Many(things, most)),
     }
-    Ok(())
 }
 
-fn check_timers<'f>(timers: &'f [TimerPart], form: Form, at: &mut Trail) -> Result<(), Reason<'f>> {
-    for (i, timer) in timers.iter().enumerate() {
-        let found = check_timer(timer, form, at);
-        at.along(Step::Of("timers", i), found)?;
+fn reactors_fail(reactors: &[Reactor], form: Form, at: &mut Trail) -> bool {
+    for (i, reactor) in reactors.iter().enumerate() {
+        if actions_fail(&reactor.actions, form, at)
+            || timers_fail(&reactor.timers, form, at)
+            || reactions_fail(&reactor.reactions, form, at)
+        {
+            return at.back(Step::Of("reactors", i));
+        }
     }
-    Ok(())
+    false
 }
 
-fn check_timer<'f>(timer: &'f TimerPart, form: Form, at: &mut Trail) -> Result<(), Reason<'f>> {
+fn actions_fail(actions: &[ActionPart], form: Form, at: &mut Trail) -> bool {
     let longest = longest_period(form);
-    check_range(timer.offset, 0, longest, Step::Item(1), at)?;
-    check_range(timer.period, 0, longest, Step::Item(2), at)
+    for (i, action) in actions.iter().enumerate() {
+        if range_fails(action.delay, 0, longest, Step::Item(1), at) {
+            return at.back(Step::Of("actions", i));
+        }
+    }
+    false
 }
 
-fn check_reactions<'f>(
-    reactions: &'f [Reaction],
-    form: Form,
-    at: &mut Trail,
-) -> Result<(), Reason<'f>> {
+fn timers_fail(timers: &[TimerPart], form: Form, at: &mut Trail) -> bool {
+    let longest = longest_period(form);
+    for (i, timer) in timers.iter().enumerate() {
+        if range_fails(timer.offset, 0, longest, Step::Item(1), at)
+            || range_fails(timer.period, 0, longest, Step::Item(2), at)
+        {
+            return at.back(Step::Of("timers", i));
+        }
+    }
+    false
+}
+
+fn reactions_fail(reactions: &[Reaction], form: Form, at: &mut Trail) -> bool {
     for (i, reaction) in reactions.iter().enumerate() {
-        let found = check_body(&reaction.body, form, at);
-        at.along(Step::Of("reactions", i), found)?;
+        if body_fails(&reaction.body, form, at) {
+            return at.back(Step::Of("reactions", i));
+        }
     }
-    Ok(())
+    false
 }
 
-fn check_links<'f>(links: &'f [LinkPart], form: Form, at: &mut Trail) -> Result<(), Reason<'f>> {
+fn links_fail(links: &[LinkPart], form: Form, at: &mut Trail) -> bool {
+    let longest = longest_period(form);
     for (i, link) in links.iter().enumerate() {
-        let delay = link.delay.unwrap_or(0);
-        let found = check_range(delay, 0, longest_period(form), Step::Item(2), at);
-        at.along(Step::Of("links", i), found)?;
+        if range_fails(link.delay.unwrap_or(0), 0, longest, Step::Item(2), at) {
+            return at.back(Step::Of("links", i));
+        }
     }
-    Ok(())
+    false
 }
 
-fn check_inputs<'f>(
-    inputs: &'f [InputPart],
-    origins: i64,
-    at: &mut Trail,
-) -> Result<(), Reason<'f>> {
+fn inputs_fail(inputs: &[InputPart], origins: i64, at: &mut Trail) -> bool {
     let last = origins.saturating_sub(1);
     for (i, input) in inputs.iter().enumerate() {
-        let found = check_range(input.origin, 0, last, Step::Item(0), at);
-        at.along(Step::Of("inputs", i), found)?;
+        if range_fails(input.origin, 0, last, Step::Item(0), at) {
+            return at.back(Step::Of("inputs", i));
+        }
     }
-    Ok(())
+    false
 }

@@ -2,84 +2,79 @@
 
 use crate::backward::is_backward;
 use crate::explain::reason::Reason;
-use crate::explain::role::{Role, fits};
+use crate::explain::role::{INPUT, OUTPUT, Role, fits};
 use crate::explain::trail::{Step, Trail};
 use crate::file::{InputPart, LinkPart, PortName, ProgramFile, Reactor};
 use crate::limits::FIRST_VERSION;
 use crate::named::is_same;
 
-/// That each link, program input and program output names ports of its kind.
-pub(crate) fn check_ports<'f>(file: &'f ProgramFile, at: &mut Trail) -> Result<(), Reason<'f>> {
-    check_links(&file.reactors, &file.links, at)?;
-    check_inputs(&file.reactors, &file.inputs, at)?;
-    for (i, port) in file.outputs.iter().enumerate() {
-        let found = check_port(&file.reactors, port, Role::Output);
-        at.along(Step::Of("outputs", i), found)?;
-    }
-    Ok(())
+/// Whether a link, a program input or a program output names no port of its kind.
+pub(crate) fn ports_fail<'f>(file: &'f ProgramFile, at: &mut Trail<'f>) -> bool {
+    links_fail(&file.reactors, &file.links, at)
+        || inputs_fail(&file.reactors, &file.inputs, at)
+        || outputs_fail(&file.reactors, &file.outputs, at)
 }
 
-fn check_links<'f>(
-    reactors: &'f [Reactor],
-    links: &'f [LinkPart],
-    at: &mut Trail,
-) -> Result<(), Reason<'f>> {
+fn links_fail<'f>(reactors: &'f [Reactor], links: &'f [LinkPart], at: &mut Trail<'f>) -> bool {
     for (i, link) in links.iter().enumerate() {
-        let found = check_link(reactors, link, at);
-        at.along(Step::Of("links", i), found)?;
+        if port_fails(reactors, &link.source, OUTPUT, Step::Item(0), at)
+            || port_fails(reactors, &link.target, INPUT, Step::Item(1), at)
+        {
+            return at.back(Step::Of("links", i));
+        }
     }
-    Ok(())
+    false
 }
 
-fn check_link<'f>(
-    reactors: &'f [Reactor],
-    link: &'f LinkPart,
-    at: &mut Trail,
-) -> Result<(), Reason<'f>> {
-    let found = check_port(reactors, &link.source, Role::Output);
-    at.along(Step::Item(0), found)?;
-    let found = check_port(reactors, &link.target, Role::Input);
-    at.along(Step::Item(1), found)
-}
-
-fn check_inputs<'f>(
-    reactors: &'f [Reactor],
-    inputs: &'f [InputPart],
-    at: &mut Trail,
-) -> Result<(), Reason<'f>> {
+fn inputs_fail<'f>(reactors: &'f [Reactor], inputs: &'f [InputPart], at: &mut Trail<'f>) -> bool {
     for (i, input) in inputs.iter().enumerate() {
-        let found = check_port(reactors, &input.port, Role::Input);
-        let found = at.along(Step::Item(1), found);
-        at.along(Step::Of("inputs", i), found)?;
+        if port_fails(reactors, &input.port, INPUT, Step::Item(1), at) {
+            return at.back(Step::Of("inputs", i));
+        }
     }
-    Ok(())
+    false
 }
 
-/// That a reactor has the port's name and such a port in this role. Where none has, the last that has the name is told.
-fn check_port<'f>(
+fn outputs_fail<'f>(reactors: &'f [Reactor], outputs: &'f [PortName], at: &mut Trail<'f>) -> bool {
+    for (i, port) in outputs.iter().enumerate() {
+        if port_fails(reactors, port, OUTPUT, Step::Of("outputs", i), at) {
+            return true;
+        }
+    }
+    false
+}
+
+/// Whether no reactor of the port's name has such a port in this role. This step leads to the port. Where none has, the
+/// last that has the name is told.
+fn port_fails<'f>(
     reactors: &'f [Reactor],
     port: &'f PortName,
     role: Role,
-) -> Result<(), Reason<'f>> {
+    step: Step,
+    at: &mut Trail<'f>,
+) -> bool {
     let mut reason = Reason::NoReactor(port, reactors);
     for reactor in reactors {
         if is_same(&port.reactor, &reactor.name) {
             if fits(reactor, role, &port.port) {
-                return Ok(());
+                return false;
             }
             reason = Reason::Unknown(&port.port, role, reactor);
         }
     }
-    Err(reason)
+    at.fault_at(step, reason)
 }
 
-/// That no link without delay leads back, in a file of version 1.
-pub(crate) fn check_order<'f>(file: &'f ProgramFile, at: &mut Trail) -> Result<(), Reason<'f>> {
+/// Whether a link without delay leads back, in a file of version 1.
+pub(crate) fn order_fails<'f>(file: &'f ProgramFile, at: &mut Trail<'f>) -> bool {
+    if file.version != FIRST_VERSION {
+        return false;
+    }
     for (i, link) in file.links.iter().enumerate() {
-        if file.version == FIRST_VERSION && is_backward(&file.reactors, link) {
-            at.back(Step::Of("links", i));
-            return Err(Reason::Backward(&link.source.reactor, &link.target.reactor));
+        if is_backward(&file.reactors, link) {
+            let reason = Reason::Backward(&link.source.reactor, &link.target.reactor);
+            return at.fault_at(Step::Of("links", i), reason);
         }
     }
-    Ok(())
+    false
 }

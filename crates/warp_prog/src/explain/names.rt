@@ -1,75 +1,74 @@
 //! Where a name stands for nothing of its kind, and where a body uses what its reaction does not declare.
 
-use crate::explain::links::check_ports;
+use crate::explain::links::ports_fail;
 use crate::explain::reason::Reason;
-use crate::explain::role::{Role, fits};
+use crate::explain::role::{ACTION, CAUSE, OUTPUT, Role, VALUE, VARIABLE, WRITTEN, fits};
 use crate::explain::trail::{Step, Trail};
 use crate::file::{Expression, ProgramFile, Reaction, Reactor, Statement};
 use crate::name::Name;
 use crate::uses::{Rule, Use};
 
-/// That each name stands for something of the kind that its place asks.
-pub(crate) fn check_names<'f>(file: &'f ProgramFile, at: &mut Trail) -> Result<(), Reason<'f>> {
+/// Whether a name stands for nothing of the kind that its place asks.
+pub(crate) fn names_fail<'f>(file: &'f ProgramFile, at: &mut Trail<'f>) -> bool {
     for (i, reactor) in file.reactors.iter().enumerate() {
-        let found = check_reactor(reactor, at);
-        at.along(Step::Of("reactors", i), found)?;
+        if reactor_fails(reactor, at) {
+            return at.back(Step::Of("reactors", i));
+        }
     }
-    check_ports(file, at)
+    ports_fail(file, at)
 }
 
-fn check_reactor<'f>(reactor: &'f Reactor, at: &mut Trail) -> Result<(), Reason<'f>> {
+fn reactor_fails<'f>(reactor: &'f Reactor, at: &mut Trail<'f>) -> bool {
     for (i, reaction) in reactor.reactions.iter().enumerate() {
-        let found = check_reaction(reactor, reaction, at);
-        at.along(Step::Of("reactions", i), found)?;
+        if reaction_fails(reactor, reaction, at) {
+            return at.back(Step::Of("reactions", i));
+        }
     }
-    Ok(())
+    false
 }
 
-fn check_reaction<'f>(
-    reactor: &'f Reactor,
-    reaction: &'f Reaction,
-    at: &mut Trail,
-) -> Result<(), Reason<'f>> {
-    check_list(reactor, &reaction.triggers, Role::Cause, "on", at)?;
-    check_list(reactor, &reaction.reads, Role::Cause, "reads", at)?;
-    check_list(reactor, &reaction.writes, Role::Written, "writes", at)?;
-    let found = check_uses(&Rule::Known(reactor), &reaction.body, at);
-    at.along(Step::Key("body"), found)
+fn reaction_fails<'f>(reactor: &'f Reactor, reaction: &'f Reaction, at: &mut Trail<'f>) -> bool {
+    list_fails(reactor, &reaction.triggers, CAUSE, "on", at)
+        || list_fails(reactor, &reaction.reads, CAUSE, "reads", at)
+        || list_fails(reactor, &reaction.writes, WRITTEN, "writes", at)
+        || body_fails(&Rule::Known(reactor), &reaction.body, Step::Key("body"), at)
 }
 
-/// That each of the names under this key has this role in the reactor.
-fn check_list<'f>(
+/// Whether one of the names under this key has not this role in the reactor.
+fn list_fails<'f>(
     reactor: &'f Reactor,
     names: &'f [Name],
     role: Role,
     key: &'static str,
-    at: &mut Trail,
-) -> Result<(), Reason<'f>> {
+    at: &mut Trail<'f>,
+) -> bool {
     for name in names {
         if !fits(reactor, role, name) {
-            at.back(Step::Key(key));
-            return Err(Reason::Unknown(name, role, reactor));
+            return at.fault_at(Step::Key(key), Reason::Unknown(name, role, reactor));
         }
     }
-    Ok(())
+    false
 }
 
-/// That bodies read and ask for only what their reactions are on or read, and put and schedule only what they write.
-pub(crate) fn check_declared<'f>(file: &'f ProgramFile, at: &mut Trail) -> Result<(), Reason<'f>> {
+/// Whether a body reads or asks for what its reaction neither is on nor reads, or puts or schedules what it does not
+/// write.
+pub(crate) fn declared_fail<'f>(file: &'f ProgramFile, at: &mut Trail<'f>) -> bool {
     for (i, reactor) in file.reactors.iter().enumerate() {
-        let found = check_declared_in(reactor, at);
-        at.along(Step::Of("reactors", i), found)?;
+        if declared_fail_in(reactor, at) {
+            return at.back(Step::Of("reactors", i));
+        }
     }
-    Ok(())
+    false
 }
 
-fn check_declared_in<'f>(reactor: &'f Reactor, at: &mut Trail) -> Result<(), Reason<'f>> {
+fn declared_fail_in<'f>(reactor: &'f Reactor, at: &mut Trail<'f>) -> bool {
     for (i, reaction) in reactor.reactions.iter().enumerate() {
-        let found = check_uses(&Rule::Declared(reactor, reaction), &reaction.body, at);
-        let found = at.along(Step::Key("body"), found);
-        at.along(Step::Of("reactions", i), found)?;
+        let rule = Rule::Declared(reactor, reaction);
+        if body_fails(&rule, &reaction.body, Step::Key("body"), at) {
+            return at.back(Step::Of("reactions", i));
+        }
     }
-    Ok(())
+    false
 }
 
 /// What a use breaks a rule by.
@@ -82,109 +81,89 @@ fn broken<'f>(rule: &Rule<'f>, what: &Use<'f>) -> Reason<'f> {
 
 fn unknown<'f>(what: &Use<'f>, reactor: &'f Reactor) -> Reason<'f> {
     match what {
-        Use::Reads(name) => Reason::Unknown(name, Role::Value, reactor),
-        Use::Asks(name) => Reason::Unknown(name, Role::Cause, reactor),
-        Use::Sets(name) => Reason::Unknown(name, Role::Variable, reactor),
-        Use::Puts(name) => Reason::Unknown(name, Role::Output, reactor),
-        Use::Schedules(name) => Reason::Unknown(name, Role::Action, reactor),
+        Use::Reads(name) => Reason::Unknown(name, VALUE, reactor),
+        Use::Asks(name) => Reason::Unknown(name, CAUSE, reactor),
+        Use::Sets(name) => Reason::Unknown(name, VARIABLE, reactor),
+        Use::Puts(name) => Reason::Unknown(name, OUTPUT, reactor),
+        Use::Schedules(name) => Reason::Unknown(name, ACTION, reactor),
     }
 }
 
 fn undeclared<'f>(what: &Use<'f>) -> Reason<'f> {
     match what {
-        Use::Reads(name) | Use::Asks(name) => Reason::Unheard(name),
-        Use::Sets(name) | Use::Puts(name) | Use::Schedules(name) => Reason::Unwritten(name),
+        Use::Reads(name) | Use::Asks(name) => Reason::Named(
+            name,
+            "is neither in \"on\" nor in \"reads\"",
+        ),
+        Use::Sets(name) | Use::Puts(name) | Use::Schedules(name) => Reason::Named(
+            name,
+            "is not in \"writes\"",
+        ),
     }
 }
 
-/// That a use keeps to the rule.
-fn check_one<'f>(rule: &Rule<'f>, what: &Use<'f>) -> Result<(), Reason<'f>> {
+/// Whether a use breaks the rule.
+fn use_fails<'f>(rule: &Rule<'f>, what: &Use<'f>, at: &mut Trail<'f>) -> bool {
     if rule.is_met(what) {
-        return Ok(());
+        return false;
     }
-    Err(broken(rule, what))
+    at.fault(broken(rule, what))
 }
 
 /// The same of a name that is the second item of its list.
-fn check_use<'f>(rule: &Rule<'f>, what: &Use<'f>, at: &mut Trail) -> Result<(), Reason<'f>> {
-    let found = check_one(rule, what);
-    at.along(Step::Item(1), found)
+fn second_fails<'f>(rule: &Rule<'f>, what: &Use<'f>, at: &mut Trail<'f>) -> bool {
+    use_fails(rule, what, at) && at.back(Step::Item(1))
 }
 
-/// That all uses in the body keep to the rule.
-#[cycle(check_uses)]
-fn check_uses<'f>(
-    rule: &Rule<'f>,
-    body: &'f [Statement],
-    at: &mut Trail,
-) -> Result<(), Reason<'f>> {
+/// Whether a use in the body to which this step leads breaks the rule.
+#[cycle(body_fails)]
+fn body_fails<'f>(rule: &Rule<'f>, body: &'f [Statement], step: Step, at: &mut Trail<'f>) -> bool {
     for (i, statement) in body.iter().enumerate() {
-        let found = check_uses_of(rule, statement, at);
-        at.along(Step::Item(i), found)?;
+        if statement_fails(rule, statement, at) {
+            return at.back(Step::Item(i)) && at.back(step);
+        }
     }
-    Ok(())
+    false
 }
 
-#[cycle(check_uses)]
-fn check_uses_of<'f>(
-    rule: &Rule<'f>,
-    statement: &'f Statement,
-    at: &mut Trail,
-) -> Result<(), Reason<'f>> {
+#[cycle(body_fails)]
+fn statement_fails<'f>(rule: &Rule<'f>, statement: &'f Statement, at: &mut Trail<'f>) -> bool {
     match statement {
         Statement::Set(name, term) => {
-            check_use(rule, &Use::Sets(name), at)?;
-            check_term(rule, term, 2, at)
+            second_fails(rule, &Use::Sets(name), at) || term_fails(rule, term, 2, at)
         }
         Statement::Put(name, term) => {
-            check_use(rule, &Use::Puts(name), at)?;
-            check_term(rule, term, 2, at)
+            second_fails(rule, &Use::Puts(name), at) || term_fails(rule, term, 2, at)
         }
         Statement::Schedule(name, _, term) => {
-            check_use(rule, &Use::Schedules(name), at)?;
-            check_term(rule, term, 3, at)
+            second_fails(rule, &Use::Schedules(name), at) || term_fails(rule, term, 3, at)
         }
         Statement::If(test, first, second) => {
-            check_term(rule, test, 1, at)?;
-            let found = check_uses(rule, first, at);
-            at.along(Step::Item(2), found)?;
-            let found = check_uses(rule, second, at);
-            at.along(Step::Item(3), found)
+            term_fails(rule, test, 1, at)
+                || body_fails(rule, first, Step::Item(2), at)
+                || body_fails(rule, second, Step::Item(3), at)
         }
     }
 }
 
-/// That all uses in the expression at this place keep to the rule.
-#[cycle(check_term)]
-fn check_term<'f>(
-    rule: &Rule<'f>,
-    term: &'f Expression,
-    place: usize,
-    at: &mut Trail,
-) -> Result<(), Reason<'f>> {
-    let found = check_parts(rule, term, at);
-    at.along(Step::Item(place), found)
+/// Whether a use in the expression at this place breaks the rule.
+#[cycle(term_fails)]
+fn term_fails<'f>(rule: &Rule<'f>, term: &'f Expression, place: usize, at: &mut Trail<'f>) -> bool {
+    parts_fail(rule, term, at) && at.back(Step::Item(place))
 }
 
-#[cycle(check_term)]
-fn check_parts<'f>(
-    rule: &Rule<'f>,
-    term: &'f Expression,
-    at: &mut Trail,
-) -> Result<(), Reason<'f>> {
+#[cycle(term_fails)]
+fn parts_fail<'f>(rule: &Rule<'f>, term: &'f Expression, at: &mut Trail<'f>) -> bool {
     match term {
-        Expression::Number(_) => Ok(()),
-        Expression::Value(name) => check_one(rule, &Use::Reads(name)),
-        Expression::Present(name) => check_use(rule, &Use::Asks(name), at),
-        Expression::Unary(_, a) => check_term(rule, a, 1, at),
-        Expression::Binary(_, a, b) => {
-            check_term(rule, a, 1, at)?;
-            check_term(rule, b, 2, at)
-        }
+        Expression::Number(_) => false,
+        Expression::Value(name) => use_fails(rule, &Use::Reads(name), at),
+        Expression::Present(name) => second_fails(rule, &Use::Asks(name), at),
+        Expression::Unary(_, a) => term_fails(rule, a, 1, at),
+        Expression::Binary(_, a, b) => term_fails(rule, a, 1, at) || term_fails(rule, b, 2, at),
         Expression::If(test, a, b) => {
-            check_term(rule, test, 1, at)?;
-            check_term(rule, a, 2, at)?;
-            check_term(rule, b, 3, at)
+            term_fails(rule, test, 1, at)
+                || term_fails(rule, a, 2, at)
+                || term_fails(rule, b, 3, at)
         }
     }
 }

@@ -1,5 +1,6 @@
 //! The name that was meant: the nearest of those that are there.
 
+use crate::explain::text::push_all;
 use std::alloc::{AllocError, Global};
 use strsim::osa_distance;
 
@@ -14,6 +15,8 @@ pub(crate) struct Nearest<'f> {
     found: Option<&'f str>,
     // Less than this makes a name the nearest.
     edits: usize,
+    // Whether memory was wanting for a comparison.
+    lacked: bool,
 }
 
 impl<'f> Nearest<'f> {
@@ -25,23 +28,28 @@ impl<'f> Nearest<'f> {
             wanted,
             found: None,
             edits,
+            lacked: false,
         }
     }
 
     /// Compares it with this name.
-    pub(crate) fn compare(&mut self, name: &'f str) -> Result<(), AllocError> {
-        let edits = osa_distance(self.alloc, self.wanted, name)?;
-        if edits < self.edits {
-            self.edits = edits;
-            self.found = Some(name);
+    pub(crate) fn compare(&mut self, name: &'f str) {
+        match osa_distance(self.alloc, self.wanted, name) {
+            Ok(edits) => if edits < self.edits {
+                self.edits = edits;
+                self.found = Some(name);
+            },
+            Err(_) => self.lacked = true,
         }
-        Ok(())
     }
 
-    /// Writes the question whether the nearest was meant, if there is one.
+    /// Writes the question whether the nearest was meant, if there is one. Fails also where memory was wanting before.
     pub(crate) fn write(&self, text: &mut String) -> Result<(), AllocError> {
+        if self.lacked {
+            return Err(AllocError);
+        }
         match self.found {
-            Some(name) => write!(text, " (did you mean \"{name}\"?)"),
+            Some(name) => push_all(text, &[" (did you mean \"", name, "\"?)"]),
             None => Ok(()),
         }
     }

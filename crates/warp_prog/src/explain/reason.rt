@@ -4,6 +4,7 @@ use crate::explain::circle::write_circle;
 use crate::explain::neighbour::Nearest;
 use crate::explain::role::{Role, compare_all};
 use crate::explain::terms::Vocabulary;
+use crate::explain::text::push_all;
 use crate::file::{PortName, Reactor};
 use crate::name::Name;
 use serde_json::Value;
@@ -33,22 +34,16 @@ pub(crate) enum Reason<'f> {
     Unknown(&'f Name, Role, &'f Reactor),
     /// No reactor has the name of the port's.
     NoReactor(&'f PortName, &'f [Reactor]),
-    /// The name stands twice in its reactor.
-    Again(&'f Name),
+    /// These words stand behind the name.
+    Named(&'f Name, &'static str),
+    /// These words stand behind the reference to a port.
+    Port(&'f PortName, &'static str),
     /// The reactor at this place has this name too.
     SameReactor(usize),
-    /// The port has a source already.
-    Fed(&'f PortName),
-    /// The port stands twice among the outputs.
-    SameOutput(&'f PortName),
     /// A link without delay leads from the first reactor to the second, which does not stand later.
     Backward(&'f Name, &'f Name),
     /// Reactions of these reactors, by their numbers: each waits for the next, and the last for the first.
     Circle(&'f [u32], &'f [Reactor]),
-    /// The name is not declared for reading.
-    Unheard(&'f Name),
-    /// The name is not declared for writing.
-    Unwritten(&'f Name),
 }
 
 /// Writes what is wrong.
@@ -60,45 +55,39 @@ pub(crate) fn write_reason(
     match *reason {
         Reason::Plain(words) => text.push_str(words),
         Reason::Form(value, words) => write_form(alloc, text, value, words),
-        Reason::Parts(form) => write!(text, "this is not {form}"),
+        Reason::Parts(form) => push_all(text, &["this is not ", form]),
         Reason::Unread(word, vocabulary) => write_unread(alloc, text, word, vocabulary),
-        Reason::Missing(key) => write!(text, "\"{key}\" is missing"),
+        Reason::Missing(key) => push_all(text, &["\"", key, "\" is missing"]),
         Reason::Range(number, low, high) => write!(text, "{number} is not in {low} to {high}"),
         Reason::Many(things, most) => write!(text, "there are more than {most} {things}"),
         Reason::Unknown(name, role, reactor) => write_unknown(alloc, text, name, role, reactor),
         Reason::NoReactor(port, reactors) => write_no_reactor(alloc, text, port, reactors),
-        Reason::Again(name) => write_named(text, name, " stands twice in its reactor"),
+        Reason::Named(name, words) => write_named(text, name, words),
+        Reason::Port(port, words) => write_port(text, port, words),
         Reason::SameReactor(place) => write!(text, "reactors[{place}] has this name too"),
-        Reason::Fed(port) => write_port(text, port, " has a source already"),
-        Reason::SameOutput(port) => write_port(text, port, " stands there already"),
         Reason::Backward(from, to) => write_backward(text, from, to),
         Reason::Circle(circle, reactors) => write_circle(text, circle, reactors),
-        Reason::Unheard(name) => write_named(text, name, " is neither in \"on\" nor in \"reads\""),
-        Reason::Unwritten(name) => write_named(text, name, " is not in \"writes\""),
     }
 }
 
 fn write_named(text: &mut String, name: &Name, words: &str) -> Result<(), AllocError> {
-    let name = name.as_str();
-    write!(text, "\"{name}\"{words}")
+    push_all(text, &["\"", name.as_str(), "\" ", words])
 }
 
 fn write_port(text: &mut String, port: &PortName, words: &str) -> Result<(), AllocError> {
     let reactor = port.reactor.as_str();
-    let name = port.port.as_str();
-    write!(text, "\"{reactor}.{name}\"{words}")
+    push_all(
+        text,
+        &["\"", reactor, ".", port.port.as_str(), "\" ", words],
+    )
 }
 
 fn write_backward(text: &mut String, from: &Name, to: &Name) -> Result<(), AllocError> {
-    let from = from.as_str();
-    let to = to.as_str();
-    if from == to {
-        return write!(text, "without a delay it leads from \"{from}\" to itself");
+    push_all(text, &["without a delay it leads from \"", from.as_str()])?;
+    if from.is_same(to) {
+        return text.push_str("\" to itself");
     }
-    write!(
-        text,
-        "without a delay it leads from \"{from}\" back to \"{to}\""
-    )
+    push_all(text, &["\" back to \"", to.as_str(), "\""])
 }
 
 fn write_form(
@@ -109,7 +98,7 @@ fn write_form(
 ) -> Result<(), AllocError> {
     let shown = value.to_string(alloc)?;
     if shown.len() > LONGEST_SHOWN {
-        return write!(text, "this is {words}");
+        return push_all(text, &["this is ", words]);
     }
     write!(text, "{shown} is {words}")
 }
@@ -121,9 +110,11 @@ fn write_unread(
     vocabulary: Vocabulary,
 ) -> Result<(), AllocError> {
     let shown = Value::String(String::from_str(alloc, word)?);
-    write_form(alloc, text, &shown, vocabulary.kind())?;
+    write_form(alloc, text, &shown, vocabulary.kind)?;
     let mut nearest = Nearest::new(alloc, word);
-    vocabulary.compare(&mut nearest)?;
+    for other in vocabulary.words {
+        nearest.compare(*other);
+    }
     nearest.write(text)
 }
 
@@ -134,12 +125,12 @@ fn write_unknown(
     role: Role,
     reactor: &Reactor,
 ) -> Result<(), AllocError> {
-    let words = role.words();
-    let of = reactor.name.as_str();
     let wanted = name.as_str();
+    let of = reactor.name.as_str();
+    let words = role.words;
     write!(text, "\"{wanted}\" is no {words} of \"{of}\"")?;
     let mut nearest = Nearest::new(alloc, wanted);
-    compare_all(&mut nearest, reactor, role)?;
+    compare_all(&mut nearest, reactor, role);
     nearest.write(text)
 }
 
@@ -150,10 +141,10 @@ fn write_no_reactor(
     reactors: &[Reactor],
 ) -> Result<(), AllocError> {
     let wanted = port.reactor.as_str();
-    write!(text, "there is no reactor \"{wanted}\"")?;
+    push_all(text, &["there is no reactor \"", wanted, "\""])?;
     let mut nearest = Nearest::new(alloc, wanted);
     for reactor in reactors {
-        nearest.compare(reactor.name.as_str())?;
+        nearest.compare(reactor.name.as_str());
     }
     nearest.write(text)
 }

@@ -4,102 +4,108 @@ use crate::explain::neighbour::Nearest;
 use crate::file::Reactor;
 use crate::name::Name;
 use crate::named::{Named, is_among, is_startup};
-use std::alloc::AllocError;
 
 /// What is asked of a name where it stands: which kinds of things it may stand for.
-#[derive(Clone, Copy, PartialEq, Eq)]
-pub(crate) enum Role {
-    /// What triggers a reaction, or may be present.
-    Cause,
-    /// What an expression reads.
-    Value,
-    /// What a body sets.
-    Variable,
-    /// What a body puts, and where a link begins.
-    Output,
-    /// What a body schedules.
-    Action,
-    /// What a reaction writes.
-    Written,
-    /// Where a link or a program input ends.
-    Input,
-}
-
-impl Role {
+#[derive(Clone, Copy)]
+pub(crate) struct Role {
     /// The kinds in words.
-    pub(crate) fn words(self) -> &'static str {
-        match self {
-            Role::Cause => "input, action or timer",
-            Role::Value => "variable, input or action",
-            Role::Variable => "variable",
-            Role::Output => "output",
-            Role::Action => "action",
-            Role::Written => "output or action",
-            Role::Input => "input",
-        }
-    }
-
-    fn has_variables(self) -> bool {
-        self == Role::Value || self == Role::Variable
-    }
-
-    fn has_inputs(self) -> bool {
-        self == Role::Cause || self == Role::Value || self == Role::Input
-    }
-
-    fn has_outputs(self) -> bool {
-        self == Role::Output || self == Role::Written
-    }
-
-    fn has_actions(self) -> bool {
-        self != Role::Variable && self != Role::Output && self != Role::Input
-    }
-
-    fn has_timers(self) -> bool {
-        self == Role::Cause
-    }
+    pub words: &'static str,
+    variables: bool,
+    inputs: bool,
+    outputs: bool,
+    actions: bool,
+    timers: bool,
 }
+
+const NOTHING: Role = Role {
+    words: "nothing",
+    variables: false,
+    inputs: false,
+    outputs: false,
+    actions: false,
+    timers: false,
+};
+
+/// What triggers a reaction, or may be present.
+pub(crate) const CAUSE: Role = Role {
+    words: "input, action or timer",
+    inputs: true,
+    actions: true,
+    timers: true,
+    ..NOTHING
+};
+
+/// What an expression reads.
+pub(crate) const VALUE: Role = Role {
+    words: "variable, input or action",
+    variables: true,
+    inputs: true,
+    actions: true,
+    ..NOTHING
+};
+
+/// What a body sets.
+pub(crate) const VARIABLE: Role = Role {
+    words: "variable",
+    variables: true,
+    ..NOTHING
+};
+
+/// What a body puts, and where a link begins.
+pub(crate) const OUTPUT: Role = Role {
+    words: "output",
+    outputs: true,
+    ..NOTHING
+};
+
+/// What a body schedules.
+pub(crate) const ACTION: Role = Role {
+    words: "action",
+    actions: true,
+    ..NOTHING
+};
+
+/// What a reaction writes.
+pub(crate) const WRITTEN: Role = Role {
+    words: "output or action",
+    outputs: true,
+    actions: true,
+    ..NOTHING
+};
+
+/// Where a link or a program input ends.
+pub(crate) const INPUT: Role = Role {
+    words: "input",
+    inputs: true,
+    ..NOTHING
+};
 
 /// Whether a name stands for a thing of the reactor that the role asks.
 pub(crate) fn fits(reactor: &Reactor, role: Role, name: &Name) -> bool {
-    (role.has_variables() && is_among(&reactor.variables, name))
-        || (role.has_inputs() && is_among(&reactor.inputs, name))
-        || (role.has_outputs() && is_among(&reactor.outputs, name))
-        || (role.has_actions() && is_among(&reactor.actions, name))
-        || (role.has_timers() && (is_among(&reactor.timers, name) || is_startup(name)))
+    (role.variables && is_among(&reactor.variables, name))
+        || (role.inputs && is_among(&reactor.inputs, name))
+        || (role.outputs && is_among(&reactor.outputs, name))
+        || (role.actions && is_among(&reactor.actions, name))
+        || (role.timers && (is_among(&reactor.timers, name) || is_startup(name)))
 }
 
 /// Compares a name with those of the reactor's things that the role asks.
-pub(crate) fn compare_all<'f>(
-    nearest: &mut Nearest<'f>,
-    reactor: &'f Reactor,
-    role: Role,
-) -> Result<(), AllocError> {
-    if role.has_variables() {
-        compare_each(nearest, &reactor.variables)?;
+pub(crate) fn compare_all<'f>(nearest: &mut Nearest<'f>, reactor: &'f Reactor, role: Role) {
+    compare_each(nearest, role.variables, &reactor.variables);
+    compare_each(nearest, role.inputs, &reactor.inputs);
+    compare_each(nearest, role.outputs, &reactor.outputs);
+    compare_each(nearest, role.actions, &reactor.actions);
+    compare_each(nearest, role.timers, &reactor.timers);
+    if role.timers {
+        nearest.compare("startup");
     }
-    if role.has_inputs() {
-        compare_each(nearest, &reactor.inputs)?;
-    }
-    if role.has_outputs() {
-        compare_each(nearest, &reactor.outputs)?;
-    }
-    if role.has_actions() {
-        compare_each(nearest, &reactor.actions)?;
-    }
-    if role.has_timers() {
-        compare_each(nearest, &reactor.timers)?;
-        nearest.compare("startup")?;
-    }
-    Ok(())
 }
 
-fn compare_each<'f, T: Named>(
-    nearest: &mut Nearest<'f>,
-    things: &'f [T],
-) -> Result<(), AllocError> {
-    for thing in things {
-        nearest.compare(thing.name().as_str())?;
+/// Compares a name with those of these things, if they are asked for.
+fn compare_each<'f, T: Named>(nearest: &mut Nearest<'f>, is_asked: bool, things: &'f [T]) {
+    if is_asked {
+        for thing in things {
+            nearest.compare(thing.name().as_str());
+        }
     }
-    Ok(())
 }

@@ -4,116 +4,118 @@ mod body;
 mod part;
 
 use crate::explain::reason::Reason;
-use crate::explain::shape::body::check_body;
-use crate::explain::shape::part::{Part, check_list, check_part};
-use crate::explain::terms::Vocabulary;
+use crate::explain::shape::body::body_fails;
+use crate::explain::shape::part::{Part, list_fails, part_fails};
+use crate::explain::terms::{FILE, REACTION, REACTOR, Vocabulary};
 use crate::explain::trail::{Step, Trail};
+use crate::shape::json::is_one_of;
 use serde_json::Value;
 
-/// That a value is a file.
-pub(crate) fn check_shape<'v>(value: &'v Value, at: &mut Trail) -> Result<(), Reason<'v>> {
-    check_keys(value, Vocabulary::File)?;
-    check_needed(value, "version", Part::Number, at)?;
-    check_needed(value, "stop", Part::Number, at)?;
-    check_needed(value, "origins", Part::Number, at)?;
-    check_reactors(value, at)?;
-    check_list(value, "links", Part::Link, at)?;
-    check_list(value, "inputs", Part::ProgramInput, at)?;
-    check_list(value, "outputs", Part::Port, at)
+/// Whether a value is no file.
+pub(crate) fn shape_fails<'v>(value: &'v Value, at: &mut Trail<'v>) -> bool {
+    keys_fail(value, FILE, at)
+        || needed_fails(value, "version", Part::Number, at)
+        || needed_fails(value, "stop", Part::Number, at)
+        || needed_fails(value, "origins", Part::Number, at)
+        || reactors_fail(value, at)
+        || list_fails(value, "links", Part::Link, at)
+        || list_fails(value, "inputs", Part::ProgramInput, at)
+        || list_fails(value, "outputs", Part::Port, at)
 }
 
-/// That a value is an object, and each of its keys is one of these.
-fn check_keys<'v>(value: &'v Value, keys: Vocabulary) -> Result<(), Reason<'v>> {
+/// Whether a value is no object, or one of its keys is none of these.
+fn keys_fail<'v>(value: &'v Value, keys: Vocabulary, at: &mut Trail<'v>) -> bool {
     let Some(members) = value.as_object() else {
-        return Err(Reason::Form(value, "no object"));
+        return at.fault(Reason::Form(value, "no object"));
     };
     for (key, _) in members.iter() {
-        if !keys.has(key.as_str()) {
-            return Err(Reason::Unread(key.as_str(), keys));
+        if !is_one_of(keys.words, key.as_str()) {
+            return at.fault(Reason::Unread(key.as_str(), keys));
         }
     }
-    Ok(())
+    false
 }
 
-/// That a key is there, and its value what it has to be.
-fn check_needed<'v>(
-    value: &'v Value,
-    key: &'static str,
-    part: Part,
-    at: &mut Trail,
-) -> Result<(), Reason<'v>> {
-    let Some(found) = value.get(key) else {
-        return Err(Reason::Missing(key));
-    };
-    let found = check_part(found, part, at);
-    at.along(Step::Key(key), found)
+/// Whether a key is missing, or its value is not what it has to be.
+fn needed_fails<'v>(value: &'v Value, key: &'static str, part: Part, at: &mut Trail<'v>) -> bool {
+    match value.get(key) {
+        Some(found) => part_fails(found, part, Step::Key(key), at),
+        None => at.fault(Reason::Missing(key)),
+    }
 }
 
-/// That a list of reactors is there, with one at least.
-fn check_reactors<'v>(value: &'v Value, at: &mut Trail) -> Result<(), Reason<'v>> {
+/// Whether there is no list of reactors with one at least.
+fn reactors_fail<'v>(value: &'v Value, at: &mut Trail<'v>) -> bool {
     let Some(found) = value.get("reactors") else {
-        return Err(Reason::Missing("reactors"));
+        return at.fault(Reason::Missing("reactors"));
     };
     let Some(reactors) = found.as_array() else {
-        at.back(Step::Key("reactors"));
-        return Err(Reason::Form(found, "no list of reactors"));
+        return at.fault_at(
+            Step::Key("reactors"),
+            Reason::Form(found, "no list of reactors"),
+        );
     };
     if reactors.is_empty() {
-        at.back(Step::Key("reactors"));
-        return Err(Reason::Plain("there is no reactor"));
+        return at.fault_at(Step::Key("reactors"), Reason::Plain("there is no reactor"));
     }
     for (i, reactor) in reactors.iter().enumerate() {
-        let found = check_reactor(reactor, at);
-        at.along(Step::Of("reactors", i), found)?;
+        if reactor_fails(reactor, at) {
+            return at.back(Step::Of("reactors", i));
+        }
     }
-    Ok(())
+    false
 }
 
-fn check_reactor<'v>(value: &'v Value, at: &mut Trail) -> Result<(), Reason<'v>> {
-    check_keys(value, Vocabulary::Reactor)?;
-    check_needed(value, "name", Part::Name, at)?;
-    check_list(value, "vars", Part::Variable, at)?;
-    check_list(value, "inputs", Part::Name, at)?;
-    check_list(value, "outputs", Part::Name, at)?;
-    check_list(value, "actions", Part::Action, at)?;
-    check_list(value, "timers", Part::Timer, at)?;
-    check_reactions(value, at)
+fn reactor_fails<'v>(value: &'v Value, at: &mut Trail<'v>) -> bool {
+    keys_fail(value, REACTOR, at)
+        || needed_fails(value, "name", Part::Name, at)
+        || list_fails(value, "vars", Part::Variable, at)
+        || list_fails(value, "inputs", Part::Name, at)
+        || list_fails(value, "outputs", Part::Name, at)
+        || list_fails(value, "actions", Part::Action, at)
+        || list_fails(value, "timers", Part::Timer, at)
+        || reactions_fail(value, at)
 }
 
-fn check_reactions<'v>(value: &'v Value, at: &mut Trail) -> Result<(), Reason<'v>> {
+fn reactions_fail<'v>(value: &'v Value, at: &mut Trail<'v>) -> bool {
     let Some(found) = value.get("reactions") else {
-        return Ok(());
+        return false;
     };
     let Some(reactions) = found.as_array() else {
-        at.back(Step::Key("reactions"));
-        return Err(Reason::Form(found, "no list of reactions"));
+        return at.fault_at(
+            Step::Key("reactions"),
+            Reason::Form(found, "no list of reactions"),
+        );
     };
     for (i, reaction) in reactions.iter().enumerate() {
-        let found = check_reaction(reaction, at);
-        at.along(Step::Of("reactions", i), found)?;
+        if reaction_fails(reaction, at) {
+            return at.back(Step::Of("reactions", i));
+        }
     }
-    Ok(())
+    false
 }
 
-fn check_reaction<'v>(value: &'v Value, at: &mut Trail) -> Result<(), Reason<'v>> {
-    check_keys(value, Vocabulary::Reaction)?;
-    check_triggers(value, at)?;
-    check_list(value, "reads", Part::Name, at)?;
-    check_list(value, "writes", Part::Name, at)?;
-    match value.get("body") {
-        Some(body) => check_body(body, Step::Key("body"), at),
-        None => Ok(()),
-    }
+fn reaction_fails<'v>(value: &'v Value, at: &mut Trail<'v>) -> bool {
+    keys_fail(value, REACTION, at)
+        || triggers_fail(value, at)
+        || list_fails(value, "reads", Part::Name, at)
+        || list_fails(value, "writes", Part::Name, at)
+        || body_at_fails(value, at)
 }
 
-fn check_triggers<'v>(value: &'v Value, at: &mut Trail) -> Result<(), Reason<'v>> {
+fn triggers_fail<'v>(value: &'v Value, at: &mut Trail<'v>) -> bool {
     let Some(found) = value.get("on") else {
-        return Err(Reason::Missing("on"));
+        return at.fault(Reason::Missing("on"));
     };
-    check_list(value, "on", Part::Name, at)?;
     if found.as_array().is_some_and(Vec::is_empty) {
-        at.back(Step::Key("on"));
-        return Err(Reason::Plain("there is no name"));
+        return at.fault_at(Step::Key("on"), Reason::Plain("there is no name"));
     }
-    Ok(())
+    list_fails(value, "on", Part::Name, at)
+}
+
+fn body_at_fails<'v>(value: &'v Value, at: &mut Trail<'v>) -> bool {
+    match value.get("body") {
+        Some(body) => body_fails(body, Step::Key("body"), at),
+        None => false,
+    }
 }

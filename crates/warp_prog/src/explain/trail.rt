@@ -1,6 +1,7 @@
-//! Where something stands in a program file.
+//! Where something is wrong in a program file, and what.
 
 use crate::explain::reason::Reason;
+use crate::explain::text::push_all;
 use arrayvec::ArrayVec;
 use serde_json::Value;
 use std::alloc::AllocError;
@@ -25,37 +26,45 @@ impl Default for Step {
     }
 }
 
-/// The steps from the file to a part of it, the last of them first.
+/// The way to a fault: the steps from the file to the part that has it, the last of them first, and what is wrong there.
 #[derive(Drop)]
-pub(crate) struct Trail {
+pub(crate) struct Trail<'f> {
     steps: ArrayVec<Step, MOST_STEPS>,
+    reason: Option<Reason<'f>>,
 }
 
-impl Trail {
-    /// The trail to the file itself.
-    pub(crate) fn new() -> Trail {
+impl<'f> Trail<'f> {
+    /// The trail of a file in which no fault was found so far.
+    pub(crate) fn new() -> Trail<'f> {
         Trail {
             steps: ArrayVec::new(),
+            reason: None,
         }
     }
 
-    /// Adds the step before those that are there.
-    pub(crate) fn back(&mut self, step: Step) {
+    /// Notes what is wrong at the part that is looked at. Always true: a fault was found.
+    pub(crate) fn fault(&mut self, reason: Reason<'f>) -> bool {
+        self.reason = Some(reason);
+        true
+    }
+
+    /// Notes what is wrong behind this step. Always true.
+    pub(crate) fn fault_at(&mut self, step: Step, reason: Reason<'f>) -> bool {
+        self.reason = Some(reason);
+        self.back(step)
+    }
+
+    /// Adds the step before those that are there, since a fault was found behind it. Always true.
+    pub(crate) fn back(&mut self, step: Step) -> bool {
         if !self.steps.is_full() {
             self.steps.push(step);
         }
+        true
     }
 
-    /// Adds the step before those that are there, if a fault was found behind it.
-    pub(crate) fn along<'f>(
-        &mut self,
-        step: Step,
-        found: Result<(), Reason<'f>>,
-    ) -> Result<(), Reason<'f>> {
-        if found.is_err() {
-            self.back(step);
-        }
-        found
+    /// What is wrong, if a fault was found.
+    pub(crate) fn reason(&self) -> Option<Reason<'f>> {
+        self.reason
     }
 
     /// Writes the steps from the first on, with the names of the reactors of the file.
@@ -75,7 +84,7 @@ fn write_step(text: &mut String, step: Step, file: &Value) -> Result<(), AllocEr
     match step {
         Step::Key(key) => {
             write_comma(text)?;
-            write!(text, "\"{key}\"")
+            push_all(text, &["\"", key, "\""])
         }
         Step::Of(key, place) => {
             write_comma(text)?;
@@ -100,7 +109,7 @@ fn write_comma(text: &mut String) -> Result<(), AllocError> {
 /// Writes the name of the reactor at this place, if it has one.
 fn write_name(text: &mut String, place: usize, file: &Value) -> Result<(), AllocError> {
     match reactor_name(file, place) {
-        Some(name) => write!(text, " \"{name}\""),
+        Some(name) => push_all(text, &[" \"", name, "\""]),
         None => Ok(()),
     }
 }

@@ -8,63 +8,68 @@ use crate::name::Name;
 use crate::named::{Named, is_among, is_same, is_startup};
 use crate::twice::{Refers, is_same_port};
 
-/// That nothing stands a second time: a reactor's name, a name in a reactor, an input port that has a source, or a
+/// What is wrong with a port to which something leads a second time.
+const FED: &str = "has a source already";
+
+/// Whether something stands a second time: a reactor's name, a name in a reactor, an input port that has a source, or a
 /// port among the outputs.
-pub(crate) fn check_once<'f>(file: &'f ProgramFile, at: &mut Trail) -> Result<(), Reason<'f>> {
+pub(crate) fn once_fails<'f>(file: &'f ProgramFile, at: &mut Trail<'f>) -> bool {
     for (i, reactor) in file.reactors.iter().enumerate() {
-        let found = check_reactor(&file.reactors, i, reactor, at);
-        at.along(Step::Of("reactors", i), found)?;
+        if reactor_fails(&file.reactors, i, reactor, at) {
+            return at.back(Step::Of("reactors", i));
+        }
     }
-    check_links(&file.links, at)?;
-    check_inputs(&file.links, &file.inputs, at)?;
-    check_outputs(&file.outputs, at)
+    links_fail(&file.links, at)
+        || inputs_fail(&file.links, &file.inputs, at)
+        || outputs_fail(&file.outputs, at)
 }
 
 /// The same of the reactor at this place.
-fn check_reactor<'f>(
+fn reactor_fails<'f>(
     reactors: &'f [Reactor],
     i: usize,
     reactor: &'f Reactor,
-    at: &mut Trail,
-) -> Result<(), Reason<'f>> {
+    at: &mut Trail<'f>,
+) -> bool {
     let before = place(reactors, &reactor.name);
     if before < i {
-        at.back(Step::Key("name"));
-        return Err(Reason::SameReactor(before));
+        return at.fault_at(Step::Key("name"), Reason::SameReactor(before));
     }
-    check_names(reactor, at)
+    names_fail(reactor, at)
 }
 
-/// That no name stands in the reactor before its place.
-fn check_names<'f>(reactor: &'f Reactor, at: &mut Trail) -> Result<(), Reason<'f>> {
-    check_list(&reactor.variables, reactor, 0, "vars", at)?;
-    check_list(&reactor.inputs, reactor, 1, "inputs", at)?;
-    check_list(&reactor.outputs, reactor, 2, "outputs", at)?;
-    check_list(&reactor.actions, reactor, 3, "actions", at)?;
-    check_list(&reactor.timers, reactor, 4, "timers", at)
+/// Whether a name stands in the reactor before its place.
+fn names_fail<'f>(reactor: &'f Reactor, at: &mut Trail<'f>) -> bool {
+    list_fails(&reactor.variables, reactor, 0, "vars", at)
+        || list_fails(&reactor.inputs, reactor, 1, "inputs", at)
+        || list_fails(&reactor.outputs, reactor, 2, "outputs", at)
+        || list_fails(&reactor.actions, reactor, 3, "actions", at)
+        || list_fails(&reactor.timers, reactor, 4, "timers", at)
 }
 
-/// That no name of the list under this key is `startup`, or stands before in the list or in the reactor's lists before
+/// Whether a name of the list under this key is `startup`, or stands before in the list or in the reactor's lists before
 /// it, which are so many.
-fn check_list<'f, T: Named>(
+fn list_fails<'f, T: Named>(
     things: &'f [T],
     reactor: &'f Reactor,
     lists: usize,
     key: &'static str,
-    at: &mut Trail,
-) -> Result<(), Reason<'f>> {
+    at: &mut Trail<'f>,
+) -> bool {
     for (i, thing) in things.iter().enumerate() {
         let name = thing.name();
         if is_startup(name) {
-            at.back(Step::Of(key, i));
-            return Err(Reason::Plain("\"startup\" names the start, and nothing else"));
+            let reason = Reason::Plain("\"startup\" names the start, and nothing else");
+            return at.fault_at(Step::Of(key, i), reason);
         }
         if is_in_lists(reactor, lists, name) || place_in(things, name) < i {
-            at.back(Step::Of(key, i));
-            return Err(Reason::Again(name));
+            return at.fault_at(
+                Step::Of(key, i),
+                Reason::Named(name, "stands twice in its reactor"),
+            );
         }
     }
-    Ok(())
+    false
 }
 
 /// Whether a name stands in one of the first so many lists of a reactor.
@@ -95,40 +100,34 @@ fn place_of<T: Refers>(things: &[T], port: &PortName) -> usize {
     things.len()
 }
 
-/// That no link leads to a port to which one before it leads.
-fn check_links<'f>(links: &'f [LinkPart], at: &mut Trail) -> Result<(), Reason<'f>> {
+/// Whether a link leads to a port to which one before it leads.
+fn links_fail<'f>(links: &'f [LinkPart], at: &mut Trail<'f>) -> bool {
     for (i, link) in links.iter().enumerate() {
         if place_of(links, &link.target) < i {
-            at.back(Step::Item(1));
-            at.back(Step::Of("links", i));
-            return Err(Reason::Fed(&link.target));
+            at.fault_at(Step::Item(1), Reason::Port(&link.target, FED));
+            return at.back(Step::Of("links", i));
         }
     }
-    Ok(())
+    false
 }
 
-/// That no program input leads to a port to which a link or one before it leads.
-fn check_inputs<'f>(
-    links: &'f [LinkPart],
-    inputs: &'f [InputPart],
-    at: &mut Trail,
-) -> Result<(), Reason<'f>> {
+/// Whether a program input leads to a port to which a link or one before it leads.
+fn inputs_fail<'f>(links: &'f [LinkPart], inputs: &'f [InputPart], at: &mut Trail<'f>) -> bool {
     for (i, input) in inputs.iter().enumerate() {
         if place_of(links, &input.port) < links.len() || place_of(inputs, &input.port) < i {
-            at.back(Step::Item(1));
-            at.back(Step::Of("inputs", i));
-            return Err(Reason::Fed(&input.port));
+            at.fault_at(Step::Item(1), Reason::Port(&input.port, FED));
+            return at.back(Step::Of("inputs", i));
         }
     }
-    Ok(())
+    false
 }
 
-fn check_outputs<'f>(outputs: &'f [PortName], at: &mut Trail) -> Result<(), Reason<'f>> {
+fn outputs_fail<'f>(outputs: &'f [PortName], at: &mut Trail<'f>) -> bool {
     for (i, port) in outputs.iter().enumerate() {
         if place_of(outputs, port) < i {
-            at.back(Step::Of("outputs", i));
-            return Err(Reason::SameOutput(port));
+            let reason = Reason::Port(port, "stands there already");
+            return at.fault_at(Step::Of("outputs", i), reason);
         }
     }
-    Ok(())
+    false
 }

@@ -27,6 +27,15 @@ fn numbered_name(before: &Before, reactor: &Reactor, name: &Name) -> Expr
     }
 }
 
+/// A part in a box, if it was numbered.
+fn boxed(alloc: Global, part: Result<Expr, OutOfMemory>) -> Result<Box<Expr>, OutOfMemory>
+    ensures { (a : Term) → IfOk part (λ e. term_of e ≡ a) → IfOk result (λ b. term_of b.value ≡ a) }
+{
+    let part = part?;
+    let part = Box::new(alloc, part)?;
+    Ok(part)
+}
+
 /// An operator over two parts, if both were numbered.
 fn with_two(
     alloc: Global,
@@ -37,20 +46,8 @@ fn with_two(
     ensures { (a b : Term) → IfOk first (λ e. term_of e ≡ a) → IfOk second (λ e. term_of e ≡ b)
         → IfOk result (λ e. term_of e ≡ OfTwo operator a b) }
 {
-    let (first, second) = both(first, second)?;
-    let first = Box::new(alloc, first)?;
-    let second = Box::new(alloc, second)?;
+    let (first, second) = both(boxed(alloc, first), boxed(alloc, second))?;
     Ok(Expr::Binary(operator, first, second))
-}
-
-/// A choice.
-fn of_three(alloc: Global, test: Expr, first: Expr, second: Expr) -> Result<Expr, OutOfMemory>
-    ensures { IfOk result (λ e. term_of e ≡ Choice (term_of test) (term_of first) (term_of second)) }
-{
-    let test = Box::new(alloc, test)?;
-    let first = Box::new(alloc, first)?;
-    let second = Box::new(alloc, second)?;
-    Ok(Expr::If(test, first, second))
 }
 
 /// A choice, if all three parts were numbered.
@@ -63,9 +60,9 @@ fn with_three(
     ensures { (c a b : Term) → IfOk test (λ e. term_of e ≡ c) → IfOk first (λ e. term_of e ≡ a)
         → IfOk second (λ e. term_of e ≡ b) → IfOk result (λ e. term_of e ≡ Choice c a b) }
 {
-    let (test, rest) = both(test, both(first, second))?;
-    let (first, second) = rest;
-    of_three(alloc, test, first, second)
+    let parts = both(boxed(alloc, first), boxed(alloc, second));
+    let (test, (first, second)) = both(boxed(alloc, test), parts)?;
+    Ok(Expr::If(test, first, second))
 }
 
 fn numbered_term(
@@ -82,8 +79,7 @@ fn numbered_term(
         Expression::Value(name) => Ok(numbered_name(before, reactor, name)),
         Expression::Present(name) => Ok(Expr::Present(readable(before, reactor, name))),
         Expression::Unary(operator, a) => {
-            let a = numbered_term(alloc, before, reactor, a)?;
-            let a = Box::new(alloc, a)?;
+            let a = boxed(alloc, numbered_term(alloc, before, reactor, a))?;
             Ok(Expr::Unary(*operator, a))
         }
         Expression::Binary(operator, a, b) => {

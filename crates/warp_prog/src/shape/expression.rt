@@ -3,7 +3,7 @@ ghost use Rattle.std.specs.Prelude.{◌≡◌, Option, Some, None, IfOk, Err, op
 ghost use Rattle.serde_json.specs.Data.{array};
 ghost use Rattle.serde_json.specs.View.{view, items_view};
 ghost use Rattle.warp_prog.specs.File.{NamedTerm, PresentNamed};
-ghost use Rattle.warp_prog.specs.Terms.{unary_of, binary_of, term_of, of_one, of_two, of_three};
+ghost use Rattle.warp_prog.specs.Terms.{unary_of, binary_of, term_of};
 ghost use Rattle.warp_prog.specs.View.{term_tree};
 ghost use Rattle.warp_prog.specs.Word.{name_at};
 ghost use Rattle.warp_prog.specs.inner.Read.{IsRead, with_one, with_two, with_three};
@@ -31,70 +31,18 @@ fn unary_operator(word: &str) -> Option<UnaryOperator>
 fn binary_operator(word: &str) -> Option<BinaryOperator>
     ensures { result ≡ binary_of word.now }
 {
-    match word {
-        "+" => Some(BinaryOperator::Add),
-        "-" => Some(BinaryOperator::Subtract),
-        "*" => Some(BinaryOperator::Multiply),
-        "/" => Some(BinaryOperator::Divide),
-        "%" => Some(BinaryOperator::Remainder),
-        "=" => Some(BinaryOperator::Equal),
-        "<" => Some(BinaryOperator::Less),
-        "and" => Some(BinaryOperator::And),
-        "or" => Some(BinaryOperator::Or),
+    match word.as_bytes() {
+        b"+" => Some(BinaryOperator::Add),
+        b"-" => Some(BinaryOperator::Subtract),
+        b"*" => Some(BinaryOperator::Multiply),
+        b"/" => Some(BinaryOperator::Divide),
+        b"%" => Some(BinaryOperator::Remainder),
+        b"=" => Some(BinaryOperator::Equal),
+        b"<" => Some(BinaryOperator::Less),
+        b"and" => Some(BinaryOperator::And),
+        b"or" => Some(BinaryOperator::Or),
         _ => None,
     }
-}
-
-/// An operator over one part.
-fn of_one(alloc: Global, word: &str, part: Expression) -> Result<Expression, Misread>
-    ensures ok { IfOk result (λ e. of_one word.now (term_tree part) ≡ Some (term_tree e)) }
-    ensures err { result ≡ Err Misread.Shape → of_one word.now (term_tree part) ≡ None }
-{
-    let Some(operator) = unary_operator(word) else {
-        return Err(Misread::Shape);
-    };
-    let part = Box::new(alloc, part)?;
-    Ok(Expression::Unary(operator, part))
-}
-
-/// An operator over two parts.
-fn of_two(
-    alloc: Global,
-    word: &str,
-    first: Expression,
-    second: Expression,
-) -> Result<Expression, Misread>
-    ensures ok { IfOk result (λ e. of_two word.now (term_tree first) (term_tree second) ≡ Some (term_tree e)) }
-    ensures err { result ≡ Err Misread.Shape → of_two word.now (term_tree first) (term_tree second) ≡ None }
-{
-    let Some(operator) = binary_operator(word) else {
-        return Err(Misread::Shape);
-    };
-    let first = Box::new(alloc, first)?;
-    let second = Box::new(alloc, second)?;
-    Ok(Expression::Binary(operator, first, second))
-}
-
-/// A choice.
-fn of_three(
-    alloc: Global,
-    word: &str,
-    test: Expression,
-    first: Expression,
-    second: Expression,
-) -> Result<Expression, Misread>
-    ensures ok { IfOk result
-        (λ e. of_three word.now (term_tree test) (term_tree first) (term_tree second) ≡ Some (term_tree e)) }
-    ensures err { result ≡ Err Misread.Shape
-        → of_three word.now (term_tree test) (term_tree first) (term_tree second) ≡ None }
-{
-    if word != "if" {
-        return Err(Misread::Shape);
-    }
-    let test = Box::new(alloc, test)?;
-    let first = Box::new(alloc, first)?;
-    let second = Box::new(alloc, second)?;
-    Ok(Expression::If(test, first, second))
 }
 
 /// Whether what has the name that a value is is present.
@@ -107,6 +55,15 @@ fn presence(value: &Value) -> Result<Expression, Misread>
     Ok(Expression::Present(name))
 }
 
+/// A part in a box, if it was read.
+fn boxed(alloc: Global, part: Result<Expression, Misread>) -> Result<Box<Expression>, Misread>
+    ensures { (a : Option NamedTerm) → IsRead term_tree part a → IsRead (λ b. term_tree b.value) result a }
+{
+    let part = part?;
+    let part = Box::new(alloc, part)?;
+    Ok(part)
+}
+
 /// An operator over one part, if it was read.
 fn with_one(
     alloc: Global,
@@ -115,8 +72,11 @@ fn with_one(
 ) -> Result<Expression, Misread>
     ensures { (a : Option NamedTerm) → IsRead term_tree part a → IsRead term_tree result (with_one word.now a) }
 {
-    let part = part?;
-    of_one(alloc, word, part)
+    let part = boxed(alloc, part)?;
+    match unary_operator(word) {
+        Some(operator) => Ok(Expression::Unary(operator, part)),
+        None => Err(Misread::Shape),
+    }
 }
 
 /// An operator over two parts, if both were read.
@@ -129,8 +89,11 @@ fn with_two(
     ensures { (a b : Option NamedTerm) → IsRead term_tree first a → IsRead term_tree second b
         → IsRead term_tree result (with_two word.now a b) }
 {
-    let (first, second) = both(first, second)?;
-    of_two(alloc, word, first, second)
+    let (first, second) = both(boxed(alloc, first), boxed(alloc, second))?;
+    match binary_operator(word) {
+        Some(operator) => Ok(Expression::Binary(operator, first, second)),
+        None => Err(Misread::Shape),
+    }
 }
 
 /// A choice, if all three parts were read.
@@ -144,9 +107,13 @@ fn with_three(
     ensures { (c a b : Option NamedTerm) → IsRead term_tree test c → IsRead term_tree first a
         → IsRead term_tree second b → IsRead term_tree result (with_three word.now c a b) }
 {
-    let (test, rest) = both(test, both(first, second))?;
-    let (first, second) = rest;
-    of_three(alloc, word, test, first, second)
+    let parts = both(boxed(alloc, first), boxed(alloc, second));
+    let (test, (first, second)) = both(boxed(alloc, test), parts)?;
+    if word == "if" {
+        Ok(Expression::If(test, first, second))
+    } else {
+        Err(Misread::Shape)
+    }
 }
 
 /// A list of a word and its parts.

@@ -55,7 +55,8 @@ pub(crate) fn list<T: FromJson>(alloc: Global, value: &Value, key: &str) -> Resu
     each(alloc, items)
 }
 
-fn is_one_of(keys: &[&str], key: &str) -> bool
+/// Whether a key is one of these.
+pub(crate) fn is_one_of(keys: &[&str], key: &str) -> bool
     ensures { result ≡ is_one_of (map (λ k. k.now) keys.now) key.now }
 {
     for known in keys {

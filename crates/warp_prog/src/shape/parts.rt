@@ -14,9 +14,15 @@ impl FromJson for VariablePart {
     ghost shape = { variable_of };
 
     fn from_json(value: &Value) -> Option<VariablePart> {
-        let (name, start) = pair(value)?;
-        let name = name_at(name)?;
-        let start = integer_at(start)?;
+        let Some((name, start)) = pair(value) else {
+            return None;
+        };
+        let Some(name) = name_at(name) else {
+            return None;
+        };
+        let Some(start) = integer_at(start) else {
+            return None;
+        };
         Some(VariablePart { name, start })
     }
 }
@@ -27,9 +33,15 @@ impl FromJson for ActionPart {
     ghost shape = { action_of };
 
     fn from_json(value: &Value) -> Option<ActionPart> {
-        let (name, delay) = pair(value)?;
-        let name = name_at(name)?;
-        let delay = integer_at(delay)?;
+        let Some((name, delay)) = pair(value) else {
+            return None;
+        };
+        let Some(name) = name_at(name) else {
+            return None;
+        };
+        let Some(delay) = integer_at(delay) else {
+            return None;
+        };
         Some(ActionPart { name, delay })
     }
 }
@@ -40,10 +52,18 @@ impl FromJson for TimerPart {
     ghost shape = { timer_of };
 
     fn from_json(value: &Value) -> Option<TimerPart> {
-        let (name, offset, period) = triple(value)?;
-        let name = name_at(name)?;
-        let offset = integer_at(offset)?;
-        let period = integer_at(period)?;
+        let Some((name, offset, period)) = triple(value) else {
+            return None;
+        };
+        let Some(name) = name_at(name) else {
+            return None;
+        };
+        let Some(offset) = integer_at(offset) else {
+            return None;
+        };
+        let Some(period) = integer_at(period) else {
+            return None;
+        };
         Some(TimerPart {
             name,
             offset,
@@ -55,9 +75,15 @@ impl FromJson for TimerPart {
 fn plain_link(value: &Value) -> Option<LinkPart>
     ensures { result ≡ plain_link_of (view value.now) }
 {
-    let (source, target) = pair(value)?;
-    let source = port_at(source)?;
-    let target = port_at(target)?;
+    let Some((source, target)) = pair(value) else {
+        return None;
+    };
+    let Some(source) = port_at(source) else {
+        return None;
+    };
+    let Some(target) = port_at(target) else {
+        return None;
+    };
     Some(LinkPart {
         source,
         target,
@@ -68,10 +94,18 @@ fn plain_link(value: &Value) -> Option<LinkPart>
 fn delayed_link(value: &Value) -> Option<LinkPart>
     ensures { result ≡ delayed_link_of (view value.now) }
 {
-    let (source, target, delay) = triple(value)?;
-    let source = port_at(source)?;
-    let target = port_at(target)?;
-    let delay = integer_at(delay)?;
+    let Some((source, target, delay)) = triple(value) else {
+        return None;
+    };
+    let Some(source) = port_at(source) else {
+        return None;
+    };
+    let Some(target) = port_at(target) else {
+        return None;
+    };
+    let Some(delay) = integer_at(delay) else {
+        return None;
+    };
     Some(LinkPart {
         source,
         target,
@@ -98,9 +132,15 @@ impl FromJson for InputPart {
     ghost shape = { input_of };
 
     fn from_json(value: &Value) -> Option<InputPart> {
-        let (origin, port) = pair(value)?;
-        let origin = integer_at(origin)?;
-        let port = port_at(port)?;
+        let Some((origin, port)) = pair(value) else {
+            return None;
+        };
+        let Some(origin) = integer_at(origin) else {
+            return None;
+        };
+        let Some(port) = port_at(port) else {
+            return None;
+        };
         Some(InputPart { origin, port })
     }
 }

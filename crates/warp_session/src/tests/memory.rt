@@ -1,4 +1,5 @@
-//! Connections over memory: pipes between threads, a door that gives them out, and a gate by which sessions meet.
+//! Connections over memory: what was sent on each, what it was answered, a door that gives them out, and a gate by which
+//! sessions meet.
 ghost use Rattle.std.specs.Prelude.{◌≤◌, length};
 
 use crate::door::{Door, DoorFault, Gate};
@@ -10,8 +11,6 @@ use std::sync::atomic::{AtomicBool, Ordering};
 use std::sync::{Mutex, Wait};
 use std::thread;
 use std::time::{Clock, Duration};
-use warp_record::{Reply, read_reply};
-use warp_tag::Form;
 
 /// How often something is waited for, a millisecond each time, before it is given up.
 const TURNS: u32 = 10_000;
@@ -21,57 +20,52 @@ fn wait_a_turn(rt: &impl Clock) {
     thread::sleep(rt, Duration::from_millis(1));
 }
 
-/// Bytes that one thread writes and another reads.
+/// A connection: what the other end sent, behind which nothing follows, and what was written to it.
 #[derive(Drop)]
-pub(crate) struct Pipe {
-    bytes: Mutex<Vec<u8>>,
-    has_ended: AtomicBool,
+pub(crate) struct Talk<'a> {
+    sent: &'a str,
+    written: Mutex<Vec<u8>>,
 }
 
-impl Pipe {
-    /// A pipe that has this text in it; nothing follows where it `has_ended`.
-    fn new(rt: &impl Abort, alloc: Global, text: &str, has_ended: bool) -> Pipe {
-        let mut bytes = Vec::new(alloc);
-        bytes
-            .extend_from_slice(text.as_bytes())
-            .expect(rt, "memory");
-        Pipe {
-            bytes: Mutex::new(bytes),
-            has_ended: AtomicBool::new(has_ended),
+impl<'a> Talk<'a> {
+    /// A connection on which this was sent, and nothing was written yet.
+    pub(crate) fn new(alloc: Global, sent: &'a str) -> Talk<'a> {
+        Talk {
+            sent,
+            written: Mutex::new(Vec::new(alloc)),
         }
     }
 
-    /// Writes these bytes behind the others.
-    fn push<X: Wait + Abort>(&self, rt: &X, bytes: &[u8]) {
-        self.bytes
-            .lock(rt)
-            .extend_from_slice(bytes)
-            .expect(rt, "memory");
+    /// Both directions of it.
+    pub(crate) fn both<X: Wait + Abort>(&'a self, rt: &'a X) -> (Sent<'a>, Written<'a, X>) {
+        let rest = self.sent.as_bytes();
+        let written = &self.written;
+        (Sent { rest }, Written { rt, written })
     }
 
-    /// Copies what stands from this place on into the front of the buffer, and tells how many bytes that is.
-    fn copy(&self, rt: &impl Wait, place: usize, buffer: &mut [u8]) -> usize
-        ensures { result ≤ length buffer.new }
-    {
-        let bytes = self.bytes.lock(rt);
-        let Some(rest) = bytes.get(place..) else {
-            return 0;
-        };
-        copy_front(rest, buffer)
-    }
-
-    /// Whether these are all bytes that were written.
+    /// Whether just this was written.
     pub(crate) fn holds(&self, rt: &impl Wait, text: &str) -> bool {
-        self.bytes.lock(rt).as_slice() == text.as_bytes()
+        self.written.lock(rt).as_slice() == text.as_bytes()
     }
+}
 
-    /// The reply that was written, if it is one line.
-    pub(crate) fn reply(&self, rt: &impl Wait) -> Option<Reply> {
-        let bytes = self.bytes.lock(rt);
-        match bytes.split_last() {
-            Some((b'\n', line)) => read_reply(Form::One, line),
-            _ => None,
-        }
+/// What is left of the bytes that were sent.
+#[derive(Drop)]
+pub(crate) struct Sent<'a> {
+    rest: &'a [u8],
+}
+
+impl<'a> Source for Sent<'a> {
+    ghost use Rattle.std.specs.Prelude.{None};
+
+    ghost left = { λ _. None };
+
+    ghost failures = { λ _. 0 };
+
+    fn read(&mut self, buffer: &mut [u8]) -> Result<usize, Failed> {
+        let count = copy_front(self.rest, buffer);
+        self.rest = self.rest.get(count..).unwrap_or(&[]);
+        Ok(count)
     }
 }
 
@@ -84,109 +78,14 @@ fn copy_front(bytes: &[u8], buffer: &mut [u8]) -> usize
     count
 }
 
-/// A connection as its server sees it: what it is sent, and what it answers.
+/// Takes what is written.
 #[derive(Drop)]
-pub(crate) struct Talk {
-    asked: Pipe,
-    pub(crate) answered: Pipe,
-}
-
-impl Talk {
-    /// A connection by which these lines were sent, and nothing follows.
-    pub(crate) fn of(rt: &impl Abort, alloc: Global, lines: &str) -> Talk {
-        Talk {
-            asked: Pipe::new(rt, alloc, lines, true),
-            answered: Pipe::new(rt, alloc, "", false),
-        }
-    }
-
-    /// A connection by which nothing was sent yet.
-    pub(crate) fn open(rt: &impl Abort, alloc: Global) -> Talk {
-        Talk {
-            asked: Pipe::new(rt, alloc, "", false),
-            answered: Pipe::new(rt, alloc, "", false),
-        }
-    }
-
-    /// The server's end of it.
-    pub(crate) fn server_end<'a, X: Wait + Clock + Abort>(
-        &'a self,
-        rt: &'a X,
-    ) -> (Reader<'a, X>, Writer<'a, X>) {
-        (
-            Reader::new(rt, &self.asked),
-            Writer::new(rt, &self.answered),
-        )
-    }
-
-    /// The other end of it.
-    pub(crate) fn client_end<'a, X: Wait + Clock + Abort>(
-        &'a self,
-        rt: &'a X,
-    ) -> (Reader<'a, X>, Writer<'a, X>) {
-        (
-            Reader::new(rt, &self.answered),
-            Writer::new(rt, &self.asked),
-        )
-    }
-}
-
-/// Reads a pipe, and waits where nothing came yet; where nothing comes any more it is at its end.
-#[derive(Drop)]
-pub(crate) struct Reader<'a, X: Wait + Clock> {
+pub(crate) struct Written<'a, X: Wait + Abort> {
     rt: &'a X,
-    pipe: &'a Pipe,
-    place: usize,
+    written: &'a Mutex<Vec<u8>>,
 }
 
-impl<'a, X: Wait + Clock> Reader<'a, X> {
-    fn new(rt: &'a X, pipe: &'a Pipe) -> Reader<'a, X> {
-        Reader { rt, pipe, place: 0 }
-    }
-}
-
-impl<'a, X: Wait + Clock> Source for Reader<'a, X> {
-    ghost use Rattle.std.specs.Prelude.{None};
-
-    ghost left = { λ _. None };
-
-    ghost failures = { λ _. 0 };
-
-    fn read(&mut self, buffer: &mut [u8]) -> Result<usize, Failed> {
-        for _turn in 0..TURNS {
-            // What was written before the end is found behind this look.
-            let has_ended = self.pipe.has_ended.load(Ordering::SeqCst);
-            let count = self.pipe.copy(self.rt, self.place, buffer);
-            if count > 0 || has_ended {
-                self.place = self.place.saturating_add(count);
-                return Ok(count);
-            }
-            wait_a_turn(self.rt);
-        }
-        Ok(0)
-    }
-}
-
-/// Writes a pipe, which has ended once it is dropped.
-pub(crate) struct Writer<'a, X: Wait + Abort> {
-    rt: &'a X,
-    pipe: &'a Pipe,
-}
-
-impl<'a, X: Wait + Abort> Writer<'a, X> {
-    fn new(rt: &'a X, pipe: &'a Pipe) -> Writer<'a, X> {
-        Writer { rt, pipe }
-    }
-}
-
-impl<'a, X: Wait + Abort> Drop for Writer<'a, X> {
-    fn drop(self) {
-        let Writer { rt: _, pipe } = self;
-        pipe.has_ended.store(true, Ordering::SeqCst);
-    }
-}
-
-impl<'a, X: Wait + Abort> Sink for Writer<'a, X> {
+impl<'a, X: Wait + Abort> Sink for Written<'a, X> {
     ghost use Rattle.std.specs.Prelude.{None};
 
     ghost written = { λ _. None };
@@ -194,46 +93,52 @@ impl<'a, X: Wait + Abort> Sink for Writer<'a, X> {
     ghost failures = { λ _. 0 };
 
     fn write(&mut self, piece: &[u8]) -> Result<usize, Failed> {
-        self.pipe.push(self.rt, piece);
+        self.written
+            .lock(self.rt)
+            .extend_from_slice(piece)
+            .expect(self.rt, "memory");
         Ok(piece.len())
     }
 }
 
-/// A door to which these connections come, one after another. It notes how pulls ended.
+/// A door to which these connections come, one after another. It notes how the last pull ended, and how many did.
 #[derive(Drop)]
-pub(crate) struct Lobby<'a, X: Wait + Clock + Abort> {
+pub(crate) struct Lobby<'a, X: Wait + Abort> {
     rt: &'a X,
-    talks: &'a [Talk],
+    talks: &'a [Talk<'a>],
     next: usize,
-    pub(crate) ended: Vec<(u32, PullEnd)>,
+    pub(crate) ended: Option<(u32, PullEnd)>,
+    pub(crate) count: u32,
 }
 
-impl<'a, X: Wait + Clock + Abort> Lobby<'a, X> {
-    pub(crate) fn new(rt: &'a X, alloc: Global, talks: &'a [Talk]) -> Lobby<'a, X> {
+impl<'a, X: Wait + Abort> Lobby<'a, X> {
+    pub(crate) fn new(rt: &'a X, talks: &'a [Talk<'a>]) -> Lobby<'a, X> {
         Lobby {
             rt,
             talks,
             next: 0,
-            ended: Vec::new(alloc),
+            ended: None,
+            count: 0,
         }
     }
 }
 
-impl<'a, X: Wait + Clock + Abort + Sync> Door for Lobby<'a, X> {
-    type R = Reader<'a, X>;
+impl<'a, X: Wait + Abort + Sync> Door for Lobby<'a, X> {
+    type R = Sent<'a>;
 
-    type W = Writer<'a, X>;
+    type W = Written<'a, X>;
 
-    fn next(&mut self) -> Result<(Reader<'a, X>, Writer<'a, X>), DoorFault> {
+    fn next(&mut self) -> Result<(Sent<'a>, Written<'a, X>), DoorFault> {
         let Some(talk) = self.talks.get(self.next) else {
             return Err(DoorFault);
         };
         self.next = self.next.saturating_add(1);
-        Ok(talk.server_end(self.rt))
+        Ok(talk.both(self.rt))
     }
 
     fn pull_ended(&mut self, peer: u32, end: PullEnd) {
-        self.ended.push((peer, end)).expect(self.rt, "memory");
+        self.ended = Some((peer, end));
+        self.count = self.count.saturating_add(1);
     }
 }
 

@@ -1,82 +1,60 @@
 //! Where a body goes past a limit.
 
+use crate::explain::limits::range_fails;
 use crate::explain::reason::Reason;
 use crate::explain::trail::{Step, Trail};
 use crate::file::{Expression, Statement};
 use crate::limits::body::{DEEPEST, MOST_WISHES, is_deeper_term, room_for_wishes};
-use crate::limits::{is_outside, longest_period};
+use crate::limits::longest_period;
 use warp_tag::Form;
 
-/// That a body goes past no limit.
-pub(crate) fn check_body<'f>(
-    body: &'f [Statement],
-    form: Form,
-    at: &mut Trail,
-) -> Result<(), Reason<'f>> {
-    let mut found = check_statements(body, DEEPEST, form, at);
-    if found.is_ok() && room_for_wishes(body, MOST_WISHES).is_none() {
-        found = Err(Reason::Many("\"schedule\"", MOST_WISHES));
+/// Whether a body goes past a limit.
+pub(crate) fn body_fails(body: &[Statement], form: Form, at: &mut Trail) -> bool {
+    if statements_fail(body, DEEPEST, longest_period(form), Step::Key("body"), at) {
+        return true;
     }
-    at.along(Step::Key("body"), found)
+    let reason = Reason::Many("\"schedule\"", MOST_WISHES);
+    room_for_wishes(body, MOST_WISHES).is_none() && at.fault_at(Step::Key("body"), reason)
 }
 
-/// The same of each of the statements, whose lists may have so many levels.
-#[cycle(check_statements)]
-fn check_statements<'f>(
-    body: &'f [Statement],
+/// Whether one of the statements does, whose lists may have so many levels, and their delays be so long. This step leads
+/// to them.
+#[cycle(statements_fail)]
+fn statements_fail(
+    body: &[Statement],
     levels: usize,
-    form: Form,
+    longest: i64,
+    step: Step,
     at: &mut Trail,
-) -> Result<(), Reason<'f>> {
+) -> bool {
     for (i, statement) in body.iter().enumerate() {
-        let found = check_statement(statement, levels, form, at);
-        at.along(Step::Item(i), found)?;
+        if statement_fails(statement, levels, longest, at) {
+            return at.back(Step::Item(i)) && at.back(step);
+        }
     }
-    Ok(())
+    false
 }
 
-#[cycle(check_statements)]
-fn check_statement<'f>(
-    statement: &'f Statement,
-    levels: usize,
-    form: Form,
-    at: &mut Trail,
-) -> Result<(), Reason<'f>> {
+#[cycle(statements_fail)]
+fn statement_fails(statement: &Statement, levels: usize, longest: i64, at: &mut Trail) -> bool {
     let Some(below) = levels.checked_sub(1) else {
-        return Err(Reason::Plain("the lists of statements are more than 24 deep"));
+        return at.fault(Reason::Plain("the lists of statements are more than 24 deep"));
     };
     match statement {
-        Statement::Set(_, term) | Statement::Put(_, term) => check_term(term, 2, at),
-        Statement::Schedule(_, delay, term) => check_scheduling(*delay, term, form, at),
+        Statement::Set(_, term) | Statement::Put(_, term) => term_fails(term, 2, at),
+        Statement::Schedule(_, delay, term) => {
+            range_fails(*delay, 0, longest, Step::Item(2), at) || term_fails(term, 3, at)
+        }
         Statement::If(test, first, second) => {
-            check_term(test, 1, at)?;
-            let found = check_statements(first, below, form, at);
-            at.along(Step::Item(2), found)?;
-            let found = check_statements(second, below, form, at);
-            at.along(Step::Item(3), found)
+            term_fails(test, 1, at)
+                || statements_fail(first, below, longest, Step::Item(2), at)
+                || statements_fail(second, below, longest, Step::Item(3), at)
         }
     }
 }
 
-fn check_scheduling<'f>(
-    delay: i64,
-    term: &'f Expression,
-    form: Form,
-    at: &mut Trail,
-) -> Result<(), Reason<'f>> {
-    let longest = longest_period(form);
-    if is_outside(delay, 0, longest) {
-        at.back(Step::Item(2));
-        return Err(Reason::Range(delay, 0, longest));
-    }
-    check_term(term, 3, at)
-}
-
-/// That an expression is not too deep; it stands at this place of its statement.
-fn check_term<'f>(term: &'f Expression, place: usize, at: &mut Trail) -> Result<(), Reason<'f>> {
-    if is_deeper_term(term, DEEPEST) {
-        at.back(Step::Item(place));
-        return Err(Reason::Plain("the expression is more than 24 deep"));
-    }
-    Ok(())
+/// Whether an expression is too deep; it stands at this place of its statement.
+fn term_fails(term: &Expression, place: usize, at: &mut Trail) -> bool {
+    let reason = Reason::Plain("the expression is more than 24 deep");
+    is_deeper_term(term, DEEPEST) && at.fault_at(Step::Item(place), reason)
 }

@@ -1,157 +1,141 @@
 //! Bodies, statements and expressions.
 
 use crate::explain::reason::Reason;
-use crate::explain::shape::part::{check_name, check_number};
-use crate::explain::terms::{Vocabulary, operands};
+use crate::explain::shape::part::{name_fails, number_fails};
+use crate::explain::terms::{OPERATORS, STATEMENTS, operands};
 use crate::explain::trail::{Step, Trail};
+use crate::shape::json::first_word;
 use serde_json::Value;
 
-/// That a value is a list of statements; this step leads to it.
-#[cycle(check_statement)]
-pub(crate) fn check_body<'v>(
-    value: &'v Value,
-    step: Step,
-    at: &mut Trail,
-) -> Result<(), Reason<'v>> {
-    let found = match value {
-        Value::Array(items) => check_statements(items.as_slice(), at),
-        _ => Err(Reason::Form(value, "no list of statements")),
-    };
-    at.along(step, found)
-}
-
-#[cycle(check_statement)]
-fn check_statements<'v>(items: &'v [Value], at: &mut Trail) -> Result<(), Reason<'v>> {
-    for (i, item) in items.iter().enumerate() {
-        let found = check_statement(item, at);
-        at.along(Step::Item(i), found)?;
-    }
-    Ok(())
-}
-
-#[cycle(check_statement)]
-fn check_statement<'v>(value: &'v Value, at: &mut Trail) -> Result<(), Reason<'v>> {
+/// Whether a value is no list of statements; this step leads to it.
+#[cycle(statement_fails)]
+pub(crate) fn body_fails<'v>(value: &'v Value, step: Step, at: &mut Trail<'v>) -> bool {
     match value {
-        Value::Array(items) => check_parts(items.as_slice(), at),
-        _ => Err(Reason::Form(value, "no statement")),
+        Value::Array(items) => statements_fail(items.as_slice(), step, at),
+        _ => at.fault_at(step, Reason::Form(value, "no list of statements")),
     }
 }
 
-/// That a list of these items is a statement.
-#[cycle(check_statement)]
-fn check_parts<'v>(items: &'v [Value], at: &mut Trail) -> Result<(), Reason<'v>> {
-    let Some(word) = word_of(items) else {
-        return Err(Reason::Plain("this is no statement"));
+#[cycle(statement_fails)]
+fn statements_fail<'v>(items: &'v [Value], step: Step, at: &mut Trail<'v>) -> bool {
+    for (i, item) in items.iter().enumerate() {
+        if statement_fails(item, at) {
+            return at.back(Step::Item(i)) && at.back(step);
+        }
+    }
+    false
+}
+
+#[cycle(statement_fails)]
+fn statement_fails<'v>(value: &'v Value, at: &mut Trail<'v>) -> bool {
+    match value {
+        Value::Array(items) => parts_fail(items.as_slice(), at),
+        _ => at.fault(Reason::Form(value, "no statement")),
+    }
+}
+
+/// Whether a list of these items is no statement.
+#[cycle(statement_fails)]
+fn parts_fail<'v>(items: &'v [Value], at: &mut Trail<'v>) -> bool {
+    let Some(word) = first_word(items) else {
+        return at.fault(Reason::Plain("this is no statement"));
     };
     if word != "if" {
-        return check_simple(word, items, at);
+        return simple_fails(word, items, at);
     }
     match items {
         [_, test, first, second] => {
-            check_expression(test, 1, at)?;
-            check_body(first, Step::Item(2), at)?;
-            check_body(second, Step::Item(3), at)
+            expression_fails(test, 1, at)
+                || body_fails(first, Step::Item(2), at)
+                || body_fails(second, Step::Item(3), at)
         }
-        _ => Err(Reason::Parts("[\"if\", expression, [..], [..]]")),
+        _ => at.fault(Reason::Parts("[\"if\", expression, [..], [..]]")),
     }
 }
 
 /// The same of a statement of this word, which is not `if`.
-fn check_simple<'v>(word: &'v str, items: &'v [Value], at: &mut Trail) -> Result<(), Reason<'v>> {
+fn simple_fails<'v>(word: &'v str, items: &'v [Value], at: &mut Trail<'v>) -> bool {
     match word {
-        "set" => check_assignment(items, "[\"set\", variable, expression]", at),
-        "put" => check_assignment(items, "[\"put\", output, expression]", at),
-        "schedule" => check_scheduling(items, at),
-        _ => Err(Reason::Unread(word, Vocabulary::Statements)),
+        "set" => assignment_fails(items, "[\"set\", variable, expression]", at),
+        "put" => assignment_fails(items, "[\"put\", output, expression]", at),
+        "schedule" => scheduling_fails(items, at),
+        _ => at.fault(Reason::Unread(word, STATEMENTS)),
     }
 }
 
-/// The text that the first item is.
-fn word_of<'v>(items: &'v [Value]) -> Option<&'v str> {
-    items.first()?.as_str()
-}
-
-fn check_assignment<'v>(
-    items: &'v [Value],
-    form: &'static str,
-    at: &mut Trail,
-) -> Result<(), Reason<'v>> {
+fn assignment_fails<'v>(items: &'v [Value], form: &'static str, at: &mut Trail<'v>) -> bool {
     match items {
         [_, name, value] => {
-            at.along(Step::Item(1), check_name(name))?;
-            check_expression(value, 2, at)
+            name_fails(name, Step::Item(1), at) || expression_fails(value, 2, at)
         }
-        _ => Err(Reason::Parts(form)),
+        _ => at.fault(Reason::Parts(form)),
     }
 }
 
-fn check_scheduling<'v>(items: &'v [Value], at: &mut Trail) -> Result<(), Reason<'v>> {
+fn scheduling_fails<'v>(items: &'v [Value], at: &mut Trail<'v>) -> bool {
     match items {
         [_, action, delay, value] => {
-            at.along(Step::Item(1), check_name(action))?;
-            at.along(Step::Item(2), check_number(delay))?;
-            check_expression(value, 3, at)
+            name_fails(action, Step::Item(1), at)
+                || number_fails(delay, Step::Item(2), at)
+                || expression_fails(value, 3, at)
         }
-        _ => Err(Reason::Parts("[\"schedule\", action, delay, expression]")),
+        _ => at.fault(Reason::Parts("[\"schedule\", action, delay, expression]")),
     }
 }
 
-/// That a value is an expression; it stands at this place of a list.
-#[cycle(check_expression)]
-fn check_expression<'v>(value: &'v Value, place: usize, at: &mut Trail) -> Result<(), Reason<'v>> {
-    let found = match value {
-        Value::Number(_) => check_number(value),
-        Value::String(_) => check_name(value),
-        Value::Array(items) => check_operation(items.as_slice(), at),
-        _ => Err(Reason::Form(value, "no expression")),
-    };
-    at.along(Step::Item(place), found)
+/// Whether a value is no expression; it stands at this place of a list.
+#[cycle(expression_fails)]
+fn expression_fails<'v>(value: &'v Value, place: usize, at: &mut Trail<'v>) -> bool {
+    let step = Step::Item(place);
+    match value {
+        Value::Number(_) => number_fails(value, step, at),
+        Value::String(_) => name_fails(value, step, at),
+        Value::Array(items) => operation_fails(items.as_slice(), at) && at.back(step),
+        _ => at.fault_at(step, Reason::Form(value, "no expression")),
+    }
 }
 
-/// That a list of these items is an expression.
-#[cycle(check_expression)]
-fn check_operation<'v>(items: &'v [Value], at: &mut Trail) -> Result<(), Reason<'v>> {
-    let Some(word) = word_of(items) else {
-        return Err(Reason::Plain("this is no expression"));
+/// Whether a list of these items is no expression.
+#[cycle(expression_fails)]
+fn operation_fails<'v>(items: &'v [Value], at: &mut Trail<'v>) -> bool {
+    let Some(word) = first_word(items) else {
+        return at.fault(Reason::Plain("this is no expression"));
     };
-    check_operator(word, items.len())?;
-    if word == "present" {
-        return check_presence(items, at);
+    if operator_fails(word, items.len(), at) {
+        return true;
     }
     match items {
-        [_, a] => check_expression(a, 1, at),
-        [_, a, b] => {
-            check_expression(a, 1, at)?;
-            check_expression(b, 2, at)
-        }
+        [_, a] => operand_fails(word, a, at),
+        [_, a, b] => expression_fails(a, 1, at) || expression_fails(b, 2, at),
         [_, test, a, b] => {
-            check_expression(test, 1, at)?;
-            check_expression(a, 2, at)?;
-            check_expression(b, 3, at)
+            expression_fails(test, 1, at)
+                || expression_fails(a, 2, at)
+                || expression_fails(b, 3, at)
         }
-        _ => Ok(()),
+        _ => false,
     }
 }
 
-/// That the second of these items is a name.
-fn check_presence<'v>(items: &'v [Value], at: &mut Trail) -> Result<(), Reason<'v>> {
-    match items.get(1) {
-        Some(name) => at.along(Step::Item(1), check_name(name)),
-        None => Ok(()),
+/// Whether the only part of an operator of this word is no name behind `present`, else no expression.
+#[cycle(expression_fails)]
+fn operand_fails<'v>(word: &'v str, value: &'v Value, at: &mut Trail<'v>) -> bool {
+    if word == "present" {
+        return name_fails(value, Step::Item(1), at);
     }
+    expression_fails(value, 1, at)
 }
 
-/// That a word is an operator, and its list has as many items as it asks.
-fn check_operator<'v>(word: &'v str, items: usize) -> Result<(), Reason<'v>> {
+/// Whether a word is no operator, or its list has not as many items as it asks.
+fn operator_fails<'v>(word: &'v str, items: usize, at: &mut Trail<'v>) -> bool {
     let Some(parts) = operands(word) else {
-        return Err(Reason::Unread(word, Vocabulary::Operators));
+        return at.fault(Reason::Unread(word, OPERATORS));
     };
     if items == parts.saturating_add(1) {
-        return Ok(());
+        return false;
     }
-    match parts {
-        1 => Err(Reason::Plain("this operator has one part")),
-        2 => Err(Reason::Plain("this operator has two parts")),
-        _ => Err(Reason::Parts("[\"if\", expression, expression, expression]")),
-    }
+    at.fault(match parts {
+        1 => Reason::Plain("this operator has one part"),
+        2 => Reason::Plain("this operator has two parts"),
+        _ => Reason::Parts("[\"if\", expression, expression, expression]"),
+    })
 }

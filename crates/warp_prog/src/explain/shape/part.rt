@@ -2,7 +2,8 @@
 
 use crate::explain::reason::Reason;
 use crate::explain::trail::{Step, Trail};
-use crate::name::Name;
+use crate::shape::json::{pair, triple};
+use crate::shape::word::{name_at, port_at};
 use serde_json::Value;
 
 /// What a value has to be that holds no body.
@@ -20,146 +21,113 @@ pub(crate) enum Part {
     ProgramInput,
 }
 
-/// That the value under a key is a list, each of whose items is what it has to be; nothing where the key is not there.
-pub(crate) fn check_list<'v>(
+/// Whether the value under a key is no list, or one of its items is not what it has to be; false where the key is not
+/// there.
+pub(crate) fn list_fails<'v>(
     value: &'v Value,
     key: &'static str,
     part: Part,
-    at: &mut Trail,
-) -> Result<(), Reason<'v>> {
+    at: &mut Trail<'v>,
+) -> bool {
     let Some(found) = value.get(key) else {
-        return Ok(());
+        return false;
     };
     let Some(items) = found.as_array() else {
-        at.back(Step::Key(key));
-        return Err(Reason::Form(found, "no list"));
+        return at.fault_at(Step::Key(key), Reason::Form(found, "no list"));
     };
     for (i, item) in items.iter().enumerate() {
-        let found = check_part(item, part, at);
-        at.along(Step::Of(key, i), found)?;
+        if part_fails(item, part, Step::Of(key, i), at) {
+            return true;
+        }
     }
-    Ok(())
+    false
 }
 
-/// That a value is what it has to be.
-pub(crate) fn check_part<'v>(
-    value: &'v Value,
-    part: Part,
-    at: &mut Trail,
-) -> Result<(), Reason<'v>> {
+/// Whether a value, to which this step leads, is not what it has to be.
+pub(crate) fn part_fails<'v>(value: &'v Value, part: Part, step: Step, at: &mut Trail<'v>) -> bool {
     match part {
-        Part::Number => check_number(value),
-        Part::Name => check_name(value),
-        Part::Port => check_port(value),
-        Part::Variable => check_pair(value, "[name, start]", Part::Name, Part::Number, at),
-        Part::Action => check_pair(value, "[name, delay]", Part::Name, Part::Number, at),
-        Part::Timer => check_timer(value, at),
-        Part::Link => check_link(value, at),
-        Part::ProgramInput => check_pair(value, "[origin, port]", Part::Number, Part::Port, at),
+        Part::Number => number_fails(value, step, at),
+        Part::Name => name_fails(value, step, at),
+        Part::Port => port_fails(value, step, at),
+        _ => items_fail(value, part, at) && at.back(step),
     }
 }
 
-/// That a value is a number.
-pub(crate) fn check_number(value: &Value) -> Result<(), Reason<'_>> {
-    if value.as_i64().is_some() {
-        return Ok(());
-    }
-    Err(Reason::Form(value, "no integer of 64 bits"))
-}
-
-/// That a value is a name.
-pub(crate) fn check_name(value: &Value) -> Result<(), Reason<'_>> {
-    if value
-        .as_str()
-        .is_some_and(|text| Name::read(text).is_some())
-    {
-        return Ok(());
-    }
-    Err(Reason::Form(
-        value,
-        "no name: 1 to 32 letters, digits and _, the first a letter",
-    ))
-}
-
-/// That a value is a reference to a port.
-fn check_port(value: &Value) -> Result<(), Reason<'_>> {
-    if value.as_str().is_some_and(is_port) {
-        return Ok(());
-    }
-    Err(Reason::Form(value, "no port: REACTOR.PORT, two names"))
-}
-
-fn is_port(text: &str) -> bool {
-    match text.split_once('.') {
-        Some((reactor, port)) => Name::read(reactor).is_some() && Name::read(port).is_some(),
-        None => false,
+/// The same of a list of parts.
+fn items_fail<'v>(value: &'v Value, part: Part, at: &mut Trail<'v>) -> bool {
+    match part {
+        Part::Variable => pair_fails(value, "[name, start]", Part::Name, Part::Number, at),
+        Part::Action => pair_fails(value, "[name, delay]", Part::Name, Part::Number, at),
+        Part::Timer => timer_fails(value, at),
+        Part::Link => link_fails(value, at),
+        _ => pair_fails(value, "[origin, port]", Part::Number, Part::Port, at),
     }
 }
 
-/// The same of a number, a name or a port at this place of a list.
-fn check_item<'v>(
-    value: &'v Value,
-    place: usize,
-    part: Part,
-    at: &mut Trail,
-) -> Result<(), Reason<'v>> {
-    let found = match part {
-        Part::Number => check_number(value),
-        Part::Name => check_name(value),
-        _ => check_port(value),
-    };
-    at.along(Step::Item(place), found)
+/// Whether a value is no number.
+pub(crate) fn number_fails<'v>(value: &'v Value, step: Step, at: &mut Trail<'v>) -> bool {
+    value.as_i64().is_none() && at.fault_at(step, Reason::Form(value, "no integer of 64 bits"))
 }
 
-fn check_pair<'v>(
+/// Whether a value is no name.
+pub(crate) fn name_fails<'v>(value: &'v Value, step: Step, at: &mut Trail<'v>) -> bool {
+    let words = "no name: 1 to 32 letters, digits and _, the first a letter";
+    name_at(value).is_none() && at.fault_at(step, Reason::Form(value, words))
+}
+
+/// Whether a value is no reference to a port.
+fn port_fails<'v>(value: &'v Value, step: Step, at: &mut Trail<'v>) -> bool {
+    let words = "no port: REACTOR.PORT, two names";
+    port_at(value).is_none() && at.fault_at(step, Reason::Form(value, words))
+}
+
+/// Whether an item is no number, no name or no port, whichever it has to be; it stands at this place of a list.
+fn item_fails<'v>(value: &'v Value, place: usize, part: Part, at: &mut Trail<'v>) -> bool {
+    let step = Step::Item(place);
+    match part {
+        Part::Number => number_fails(value, step, at),
+        Part::Name => name_fails(value, step, at),
+        _ => port_fails(value, step, at),
+    }
+}
+
+fn pair_fails<'v>(
     value: &'v Value,
     form: &'static str,
     one: Part,
     other: Part,
-    at: &mut Trail,
-) -> Result<(), Reason<'v>> {
-    let Some(items) = value.as_array() else {
-        return Err(Reason::Parts(form));
-    };
-    match items.as_slice() {
-        [a, b] => {
-            check_item(a, 0, one, at)?;
-            check_item(b, 1, other, at)
-        }
-        _ => Err(Reason::Parts(form)),
+    at: &mut Trail<'v>,
+) -> bool {
+    match pair(value) {
+        Some((a, b)) => item_fails(a, 0, one, at) || item_fails(b, 1, other, at),
+        None => at.fault(Reason::Parts(form)),
     }
 }
 
-fn check_timer<'v>(value: &'v Value, at: &mut Trail) -> Result<(), Reason<'v>> {
-    let Some(items) = value.as_array() else {
-        return Err(Reason::Parts("[name, offset, period]"));
-    };
-    match items.as_slice() {
-        [a, b, c] => {
-            check_item(a, 0, Part::Name, at)?;
-            check_item(b, 1, Part::Number, at)?;
-            check_item(c, 2, Part::Number, at)
+fn timer_fails<'v>(value: &'v Value, at: &mut Trail<'v>) -> bool {
+    match triple(value) {
+        Some((name, offset, period)) => {
+            name_fails(name, Step::Item(0), at)
+                || number_fails(offset, Step::Item(1), at)
+                || number_fails(period, Step::Item(2), at)
         }
-        _ => Err(Reason::Parts("[name, offset, period]")),
+        None => at.fault(Reason::Parts("[name, offset, period]")),
     }
 }
 
-fn check_link<'v>(value: &'v Value, at: &mut Trail) -> Result<(), Reason<'v>> {
-    let Some(items) = value.as_array() else {
-        return Err(Reason::Parts("[from, to] or [from, to, delay]"));
-    };
-    match items.as_slice() {
-        [a, b] => check_ends(a, b, at),
-        [a, b, c] => {
-            check_ends(a, b, at)?;
-            check_item(c, 2, Part::Number, at)
+fn link_fails<'v>(value: &'v Value, at: &mut Trail<'v>) -> bool {
+    if let Some((from, to)) = pair(value) {
+        return ends_fail(from, to, at);
+    }
+    match triple(value) {
+        Some((from, to, delay)) => {
+            ends_fail(from, to, at) || number_fails(delay, Step::Item(2), at)
         }
-        _ => Err(Reason::Parts("[from, to] or [from, to, delay]")),
+        None => at.fault(Reason::Parts("[from, to] or [from, to, delay]")),
     }
 }
 
 /// The same of the ports of a link.
-fn check_ends<'v>(from: &'v Value, to: &'v Value, at: &mut Trail) -> Result<(), Reason<'v>> {
-    check_item(from, 0, Part::Port, at)?;
-    check_item(to, 1, Part::Port, at)
+fn ends_fail<'v>(from: &'v Value, to: &'v Value, at: &mut Trail<'v>) -> bool {
+    port_fails(from, Step::Item(0), at) || port_fails(to, Step::Item(1), at)
 }

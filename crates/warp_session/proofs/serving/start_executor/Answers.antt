@@ -14,8 +14,8 @@ flag_sync : IsSync flag.the_row
 flag_sync = search (crosses, sendable) depth 60 fits 20000
 
 -- the closure holds the executor, a caller, an allocator and a flag, in this order
-pub spawn_with-started-requires-send-F : goal.spawn_with-started-requires-send-F
-spawn_with-started-requires-send-F g c κs within =
+pub spawn_with-running-requires-send-F : goal.spawn_with-running-requires-send-F
+spawn_with-running-requires-send-F g c κs within =
     let executor = executor_send _ _ g.T.Timeline c.type_bounds.send-T in
     param_send _ _ (arg_send _ no _ (declared_send (type_at _ (_ ∷ _ ∷ _ ∷ _ ∷ [])) (
       as_row_send (row_field _) executor,
@@ -25,5 +25,5 @@ spawn_with-started-requires-send-F g c κs within =
       ),
     )))
 
-pub spawn_with-started-requires-send-T : goal.spawn_with-started-requires-send-T
-spawn_with-started-requires-send-T g c κs within = param_send _ _ (arg_send _ no _ (engine_send _ g.T.Timeline c.type_bounds.send-T))
+pub spawn_with-running-requires-send-T : goal.spawn_with-running-requires-send-T
+spawn_with-running-requires-send-T g c κs within = param_send _ _ (arg_send _ no _ (engine_send _ g.T.Timeline c.type_bounds.send-T))

@@ -1,12 +1,13 @@
-use Rattle.std.proofs.Common.{refl, map, ℕ, ◌+◌, ◌-◌, arith, sym, ap, ◌∙◌, subst, length, List, set, drop}
+use Rattle.std.proofs.Common.{map, ℕ, ◌+◌, ◌-◌, ◌<◌, get_or, arith, sym, ap, ◌∙◌, subst, length, List, set, drop}
 use Rattle.std.specs.Vec.{vec_capacity}
 use Rattle.std.proofs.lemmas.List.{with_items_is}
+use Rattle.warp_tag.specs.declared.entry.Entry.{Entry}
 use Rattle.warp_arena.specs.declared.node.Node.{Node}
 use Rattle.warp_arena.specs.Places.{Place, Contents}
 use Rattle.warp_arena.specs.Changes.{Unthreaded, CanUnthread}
-use Rattle.warp_arena.specs.Shape.{AreHints, place_at, IsWhole, threads_of, contents_of, next_in, by_tag, of_origin}
+use Rattle.warp_arena.specs.Shape.{AreHints, AreUsed, IsHinted, entry_at, place_at, threads_of, contents_of, next_in, by_tag, of_origin}
 use Rattle.warp_arena.proofs.Removed.{leaving_of, unthreadable, first_declared, first_read, whole_removed, contents_removed}
-use Rattle.warp_arena.proofs.Hinted.{hints_left}
+use Rattle.warp_arena.proofs.Hinted.{hints_below, used_left}
 use Rattle.warp_arena.proofs.Walks.{threads}
 use Rattle.warp_arena.proofs.arena.Arena.free_first.Goals as goal
 
@@ -50,20 +51,26 @@ invariant_of-self c =
     let change = subst (λ ns. Unthreaded ns c.unthread_node.new.nodes a.ends c.unthread_node.new.ends c.index-2.result.now.ends c.unthread_node.new.own_ends a.ends.next a.free)
     c.deref_mut.ensures.value c.unthread_node.ensures in
     let items = with_items_is a.nodes c.unthread_node.new.nodes (omega (arith, change.len, a.nodes.ok.0)) in
-    let whole =
-    subst (λ ns. IsWhole (threads_of ns (set a.by_origin.items o (record { ends = c.unthread_node.new.own_ends; touched = c.touched_without.result })) c.unthread_node.new.ends a.ends.next) (a.used - 1)) (sym items)
-    (whole_removed a l c.unthread_node.new.nodes c.index-2.result.now c.unthread_node.new.ends c.unthread_node.new.own_ends o c.touched_without.result r.is_own r.own_is c.touched_without.ensures change) in
-    let contents =
-    ap (λ ns. contents_of (threads_of ns (set a.by_origin.items o (record { ends = c.unthread_node.new.own_ends; touched = c.touched_without.result })) c.unthread_node.new.ends a.ends.next) (a.used - 1) (vec_capacity a.nodes)) items
-    ∙ contents_removed a l c.unthread_node.new.nodes c.index-2.result.now c.unthread_node.new.ends c.unthread_node.new.own_ends o c.touched_without.result r.is_own r.own_is c.touched_without.ensures change in
+    let own = set a.by_origin.items o (record { ends = c.unthread_node.new.own_ends; touched = c.touched_without.result }) in
+    let whole = whole_removed a l c.unthread_node.new.nodes c.index-2.result.now c.unthread_node.new.ends c.unthread_node.new.own_ends o c.touched_without.result r.is_own r.own_is c.touched_without.ensures change in
+    let contents = contents_removed a l c.unthread_node.new.nodes c.index-2.result.now c.unthread_node.new.ends c.unthread_node.new.own_ends o c.touched_without.result r.is_own r.own_is c.touched_without.ensures change in
     let place : ℕ → Place = place_at (threads a).entry in
-    record {
+    let entry' : ℕ → Entry = entry_at c.unthread_node.new.nodes in
+    subst (λ ns. IsHinted (threads_of ns own c.unthread_node.new.ends a.ends.next) (a.used - 1) c.forget_hint.new.hints.items c.forget_own_hint.new.hints.items) (sym items) (record {
       whole = whole;
-      named =
-          subst (AreHints c.forget_hint.new.hints.items) (sym (ap (λ v. v.places) contents ∙ ap (λ is. drop 1 (map place is)) l.parts))
-          (hints_left a.ends.next a.hints.items c.forget_hint.new.hints.items (place a.ends.next) (map place l.rest) refl c.forget_hint.ensures
-          (subst (AreHints a.hints.items) (ap (map place) l.parts) c.self.invariant.named));
-    }
+      used =
+          subst (AreUsed entry') (sym (ap (λ v. v.places) contents ∙ ap (λ is. drop 1 (map place is)) l.parts))
+          (used_left (threads a).entry entry' (place a.ends.next) (map place l.rest) change.here change.entries
+          (subst (AreUsed (threads a).entry) (ap (map place) l.parts) c.self.invariant.used));
+      hinted = subst (λ n. AreHints n c.forget_hint.new.hints.items) (sym change.len) (c.forget_hint.ensures (length a.nodes.items) c.self.invariant.hinted);
+      own_hinted = subst (λ n. AreHints n c.forget_own_hint.new.hints.items) (sym change.len) (c.forget_own_hint.ensures (length a.nodes.items) c.self.invariant.own_hinted);
+    })
+
+pub forget_own_hint-requires : goal.forget_own_hint-requires
+forget_own_hint-requires c =
+    let a = c.self.inside in
+    subst (λ ns. (k d : ℕ) → k < length a.own_hints.items → get_or a.own_hints.items k d < length ns) (sym c.deref.ensures.value)
+    (hints_below (length a.nodes.items) a.own_hints.items c.self.invariant.own_hinted)
 
 pub returns : goal.returns
 returns c =

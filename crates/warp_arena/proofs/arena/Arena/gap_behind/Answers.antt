@@ -7,9 +7,8 @@ use Rattle.warp_arena.proofs.arena.Arena.gap_behind.Goals as goal
 
 pub next_by_tag-requires : goal.next_by_tag-requires
 next_by_tag-requires c =
-    let before = c.last_through-before in
-    subst (λ ns. IsPlace (length ns) before.result) (sym c.deref.ensures.value)
-    (tag_below c.self.inside c.self.invariant.whole c.args.origin c.args.tag c.args.self.now c.self.view_is before.result before.ensures)
+    subst (λ ns. IsPlace (length ns) c.args.before) (sym c.deref.ensures.value)
+    (tag_below c.self.inside c.self.invariant.whole c.args.origin c.args.tag c.args.self.now c.self.view_is c.args.before c.requires.before)
 
 pub next_of_origin-requires : goal.next_of_origin-requires
 next_of_origin-requires c =
@@ -26,14 +25,13 @@ returns c =
     let g = c.args.tag in
     let v = c.args.self.now in
     let at = c.args.own_before in
-    let before = c.last_through-before in
     let h : o < length a.by_origin.items = omega (arith, ap (λ u. u.origins) c.self.view_is) in
     let read = ap (λ n. n.ends) (origin_read a.by_origin.items o c.index.result.now h c.index.ensures) in
     record {
-      before = before.ensures;
+      before = c.requires.before;
       after =
-          c.next_by_tag.ensures ∙ ap (λ ns. next_in a.ends (by_tag ns) before.result) c.deref.ensures.value
-          ∙ tag_after a w o g v c.self.view_is before.result before.ensures;
+          c.next_by_tag.ensures ∙ ap (λ ns. next_in a.ends (by_tag ns) c.args.before) c.deref.ensures.value
+          ∙ tag_after a w o g v c.self.view_is c.args.before c.requires.before;
       own_before = c.requires.own_before;
       own_after =
           c.next_of_origin.ensures ∙ ap (λ ns. next_in c.index.result.now.ends (of_origin ns) at) c.deref-2.ensures.value

@@ -1,12 +1,12 @@
-use Rattle.std.proofs.Common.{◌≡◌, ◌<◌, arith, refl, sym, ap, ◌∙◌, subst, length, ◌++◌, ◌∷◌, []}
+use Rattle.std.proofs.Common.{◌≡◌, ◌<◌, arith, refl, sym, ap, ◌∙◌, subst, length, length-append, ◌++◌, ◌∷◌, []}
 use Rattle.std.specs.Vec.{vec_capacity}
 use Rattle.std.proofs.lemmas.Bool.{false≢true}
 use Rattle.warp_tag.specs.Limits.{most_names}
 use Rattle.warp_arena.specs.Places.{Contents, with_free, room_after}
-use Rattle.warp_arena.specs.Shape.{IsHinted, IsWhole, threads_of, contents_of, no_node}
+use Rattle.warp_arena.specs.Shape.{IsHinted, IsWhole, threads_of, contents_of, entry_at, no_node}
 use Rattle.warp_arena.proofs.Removed.{length-places}
-use Rattle.warp_arena.proofs.Growing.{none_free, whole_grown, contents_grown}
-use Rattle.warp_arena.proofs.Hinted.{IsHinted-kept}
+use Rattle.warp_arena.proofs.Growing.{none_free, entry_pushed, whole_grown, contents_grown}
+use Rattle.warp_arena.proofs.Hinted.{IsHinted-kept, used_same}
 use Rattle.warp_arena.proofs.Reading.{places}
 use Rattle.warp_arena.proofs.Walks.{threads}
 use Rattle.warp_arena.proofs.arena.Arena.reserve_one.Goals as goal
@@ -51,8 +51,13 @@ invariant_of-self-then-self c =
     ap (λ ns. contents_of (threads_of ns a.by_origin.items a.ends c.len-index.result) a.used (vec_capacity c.add_node.new.nodes)) c.in_ok-add_node.ensures.ok
     ∙ ap (λ i. contents_of (threads_of (a.nodes.items ++ no_node ∷ []) a.by_origin.items a.ends i) a.used (vec_capacity c.add_node.new.nodes)) index
     ∙ contents_grown a c.self.invariant.whole full room (vec_capacity c.add_node.new.nodes) in
-    subst (IsHinted (threads_of c.add_node.new.nodes.items a.by_origin.items a.ends c.len-index.result) a.used) (sym c.in_ok-reserve_hints.ensures.items)
-    (IsHinted-kept (threads a) _ a.used a.used a.hints.items (places a) c.self.invariant whole (ap (λ v. v.places) contents) (λ i s. s))
+    let t' = threads_of c.add_node.new.nodes.items a.by_origin.items a.ends c.len-index.result in
+    subst (λ hs. IsHinted t' a.used hs c.reserve_hints.new.own_hints.items) (sym c.in_ok-reserve_hints.ensures.items)
+    (subst (IsHinted t' a.used a.hints.items) (sym c.in_ok-reserve_hints.ensures.own_items)
+    (IsHinted-kept (threads a) t' a.used a.used a.hints.items a.own_hints.items (places a) c.self.invariant whole (ap (λ v. v.places) contents)
+    (omega (arith, ap length c.in_ok-add_node.ensures.ok, length-append a.nodes.items (no_node ∷ [])))
+    (used_same (threads a).entry t'.entry (places a)
+    (λ i. ap (λ ns. entry_at ns i) c.in_ok-add_node.ensures.ok ∙ entry_pushed a.nodes.items i) c.self.invariant.used)))
 
 pub returns-in_ok-add_node-clause-ok : goal.returns-in_ok-add_node-clause-ok
 returns-in_ok-add_node-clause-ok c =

@@ -10,13 +10,13 @@ use Rattle.warp_arena.specs.declared.node.Node.{Node}
 use Rattle.warp_arena.specs.declared.node.Origin.{Origin}
 use Rattle.warp_arena.specs.Places.{Place, Contents, places_of, node_of, entry_of, with_place}
 use Rattle.warp_arena.specs.Changes.{Threaded, CanThread}
-use Rattle.warp_arena.specs.Shape.{last_not_after, IsWhole, threads_of, contents_of, next_in, by_tag, of_origin, no_origin}
+use Rattle.warp_arena.specs.Shape.{last_not_after, IsWhole, threads_of, contents_of, next_in, entry_at, by_tag, of_origin, no_origin}
 use Rattle.warp_arena.proofs.Walks.{threads, node_read, origin_read}
 use Rattle.warp_arena.proofs.Wholes.{Ready, Threadable, ready, threadable}
 use Rattle.warp_arena.proofs.Gaps.{tag_after, own_after}
 use Rattle.warp_arena.proofs.Inserted.{new_handle, whole_inserted, contents_inserted}
 use Rattle.warp_arena.proofs.Handles.{entry_of-with_place_same, entry_of-with_place_other}
-use Rattle.warp_arena.proofs.Hinted.{IsHinted-kept, named_with_place}
+use Rattle.warp_arena.proofs.Hinted.{IsHinted-kept, used_with_place}
 use Rattle.warp_arena.proofs.Reading.{places}
 use Rattle.warp_arena.proofs.arena.Arena.thread_in.Goals as goal
 
@@ -96,8 +96,10 @@ invariant_of-self c =
     ∙ contents_inserted a c.args.origin c.args.tag c.args.gap.now.before c.args.gap.now.own_before b.is_ready b.declared
     c.thread_node.new.nodes c.index_mut-own.result.now.ends c.thread_node.new.ends c.thread_node.new.own_ends c.index.result.now.by_tag.next own free change in
     let p : Place = record { node = a.free; entry = fresh c.args.origin c.args.tag } in
-    IsHinted-kept (threads a) _ a.used (a.used + 1) a.hints.items (with_place p (places a)) c.self.invariant whole (ap (λ v. v.places) contents)
-    (named_with_place p (places a) (new_handle a c.args.origin c.args.tag c.args.gap.now.before c.args.gap.now.own_before b.is_ready b.declared))
+    IsHinted-kept (threads a) _ a.used (a.used + 1) a.hints.items a.own_hints.items (with_place p (places a)) c.self.invariant whole (ap (λ v. v.places) contents)
+    (omega (arith, change.len, ap length items))
+    (used_with_place (threads a).entry _ p (places a) (new_handle a c.args.origin c.args.tag c.args.gap.now.before c.args.gap.now.own_before b.is_ready b.declared)
+    (λ i n. ap (λ ns. entry_at ns i) items ∙ change.entries i n) c.self.invariant.used)
 
 pub returns-clause-places : goal.returns-clause-places
 returns-clause-places c =

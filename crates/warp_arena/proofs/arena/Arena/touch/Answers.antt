@@ -23,6 +23,6 @@ pub invariant_of-self : goal.invariant_of-self
 invariant_of-self c =
     let a = c.self.inside in
     let h = subst (λ v. IsSome (entry_of c.args.node v.places)) (sym c.self.view_is) c.requires in
-    IsHinted-kept (threads a) _ a.used a.used a.hints.items (places a) c.self.invariant
+    IsHinted-kept (threads a) _ a.used a.used a.hints.items a.own_hints.items (places a) c.self.invariant
     (whole_touched a c.self.invariant.whole c.args.node h c.index-at.result c.index-at.ensures c.index.result.now c.index.ensures c.origin-origin.result c.origin-origin.ensures c.index_mut.result.now c.index_mut.ensures.value)
-    refl (λ i s. s)
+    refl (omega arith) c.self.invariant.used

@@ -1,7 +1,7 @@
-use Rattle.std.proofs.Common.{map, string_bytes, ◌∙◌}
+use Rattle.std.proofs.Common.{map, string_bytes, sym, ◌∙◌}
 use Rattle.warp_prog.specs.Explain.{port_names}
 use Rattle.warp_prog.specs.Uses.{action_names, timer_names, variable_names}
-use Rattle.warp_prog.proofs.LabelLemmas.{labels_more}
+use Rattle.warp_prog.proofs.LabelLemmas.{labels_more, labels_all}
 use Rattle.warp_prog.proofs.explain.labels.inside_all.Goals as goal
 
 pub loop-reactor-preserved : goal.loop-reactor-preserved
@@ -21,3 +21,23 @@ loop-reactor-preserved c =
       actions = labels_more action_names (map string_bytes old.actions.items) (map string_bytes new.actions.items) rs i r lt here added.actions ∙ l.invariant.actions;
       timers = labels_more timer_names (map string_bytes old.timers.items) (map string_bytes new.timers.items) rs i r lt here added.timers ∙ l.invariant.timers;
     }
+
+pub returns-clause-variables : goal.returns-clause-variables
+returns-clause-variables c =
+    let l = c.loop-reactor in
+    sym (labels_all variable_names (map string_bytes l.inside.variables.items) c.args.reactors.now l.reactor-index c.loop-reactor-test.false) ∙ l.invariant.variables
+
+pub returns-clause-ports : goal.returns-clause-ports
+returns-clause-ports c =
+    let l = c.loop-reactor in
+    sym (labels_all port_names (map string_bytes l.inside.ports.items) c.args.reactors.now l.reactor-index c.loop-reactor-test.false) ∙ l.invariant.ports
+
+pub returns-clause-actions : goal.returns-clause-actions
+returns-clause-actions c =
+    let l = c.loop-reactor in
+    sym (labels_all action_names (map string_bytes l.inside.actions.items) c.args.reactors.now l.reactor-index c.loop-reactor-test.false) ∙ l.invariant.actions
+
+pub returns-clause-timers : goal.returns-clause-timers
+returns-clause-timers c =
+    let l = c.loop-reactor in
+    sym (labels_all timer_names (map string_bytes l.inside.timers.items) c.args.reactors.now l.reactor-index c.loop-reactor-test.false) ∙ l.invariant.timers

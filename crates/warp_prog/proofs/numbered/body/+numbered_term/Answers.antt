@@ -1,4 +1,6 @@
--- a choice is numbered part by part
+-- an operator over one part, and a choice, are numbered part by part
+use Rattle.std.proofs.Common.{ap}
+use Rattle.warp_body.specs.Term.{OfOne}
 use Rattle.warp_prog.specs.Numbered.{numbered_term}
 use Rattle.warp_prog.specs.View.{reactor_tree, term_tree}
 use Rattle.warp_prog.specs.declared.file.Expression.{Expression}
@@ -10,3 +12,9 @@ returns-in-If t c =
     let made = c.with_three.ensures (number c.deref-in-If.result.now) (number c.deref-in-If-2.result.now) (number c.deref-in-If-3.result.now)
     c.numbered_term-condition.ensures c.numbered_term-a-in-If.ensures c.numbered_term-b-in-If.ensures in
     rw (c.in-If.is, ← c.deref-in-If.ensures, ← c.deref-in-If-2.ensures, ← c.deref-in-If-3.ensures) made
+
+pub returns-in_ok-a-in-Unary : goal.returns-in_ok-a-in-Unary
+returns-in_ok-a-in-Unary t c =
+    let number = λ (x : Expression). numbered_term c.args.before.now (reactor_tree c.args.reactor.now) (term_tree x) in
+    let made = c.in_ok-a-in-Unary.ensures (number c.deref.result.now) c.numbered_term.ensures in
+    rw (c.in-Unary.is, ← c.deref.ensures) (ap (OfOne c.in-Unary.operator) made)

@@ -10,10 +10,10 @@ invariant-loop-next g l = record {
   goes : Goes l.program l.fn.self l.self (g.M.Meter.ticks l.meter - g.M.Meter.ticks l.fn.meter);
   ticked : g.M.Meter.ticks l.fn.meter ≤ g.M.Meter.ticks l.meter;
   unsettled : l.self.settled ≡ false;
-  floor : l.self.front.floor ≡ l.fn.self.front.floor;
+  floor : l.self.tip.floor ≡ l.fn.self.tip.floor;
   stands : (m : Standing) × StandsFor l.self m × (m.program ≡ l.program);
 }
 
 -- no more rows than there may be names
 abbrev pub decreases-loop-next : goal.decreases-loop-next
-decreases-loop-next g l = most_names - l.self.front.rows
+decreases-loop-next g l = most_names - l.self.tip.rows

@@ -3,66 +3,62 @@ use Rattle.std.proofs.Common.{◌≡◌, None, ap, sym, ◌∙◌}
 use Rattle.warp_tag.specs.Table.{live}
 use Rattle.warp_step.specs.Snapshot.{Snapshot, least_pending}
 use Rattle.warp_run.specs.Walk.{ahead}
-use Rattle.warp_run.proofs.TurnsNext.{event_alone, event_before, entry_next, entry_before}
+use Rattle.warp_run.proofs.TurnsNext.{event_alone, event_before, entry_next}
 use Rattle.warp_run.proofs.TurnsWarp.{ahead_through, all_done_there, least_entry}
-use Rattle.warp_run.proofs.TurnsFirst.{first_live, live_ahead, no_live}
+use Rattle.warp_run.proofs.TurnsFirst.{before_at, first_live, found_at, live_ahead, no_live, none_before_tag}
 use Rattle.warp_run.proofs.warp.Warp.next_row.Goals as goal
-use Rattle.warp_run.proofs.warp.Warp.next_row.Goals.{in_default-event-via-in-Some-event+else-is_before, in_default-event-via-in_default-event}
 
-pub next_event-event-requires : goal.next_event-event-requires
-next_event-event-requires c =
+pub next_event-requires : goal.next_event-requires
+next_event-requires c =
     let w = c.args.self.now in
-    let m = c.requires.0 in
-    (ahead w.front.last w.arena.places, c.requires.1.cursor, ahead_through w m c.requires.1)
+    (ahead w.tip.last w.arena.places, c.requires.1.cursor, ahead_through w c.requires.0 c.requires.1)
 
 pub returns-in_err-live-clause-none : goal.returns-in_err-live-clause-none
 returns-in_err-live-clause-none c = λ none m h.
     let w = c.args.self.now in
-    let pending : least_pending w.front.state.pending ≡ None = ap (λ (s : Snapshot). least_pending s.pending)
+    let pending : least_pending w.tip.state.pending ≡ None = ap (λ (s : Snapshot). least_pending s.pending)
     (sym c.state.ensures) ∙ sym c.next.ensures ∙ c.in_default.is in
-    all_done_there w m h (no_live w m h c.next_event-event.result c.next_event-event.ensures c.in_err-live.was) pending
+    all_done_there w m h (no_live w m h c.next_event.result c.next_event.ensures c.in_err-live.was) pending
 
 pub returns-in_default-clause-some : goal.returns-in_default-clause-some
 returns-in_default-clause-some c = λ m h.
     let w = c.args.self.now in
-    let live_event = c.in_ok-live.live in
-    let pending : least_pending w.front.state.pending ≡ None = ap (λ (s : Snapshot). least_pending s.pending)
+    let l = c.in_ok-live.live in
+    let pending : least_pending w.tip.state.pending ≡ None = ap (λ (s : Snapshot). least_pending s.pending)
     (sym c.state.ensures) ∙ sym c.next.ensures ∙ c.in_default.is in
-    event_alone (live m.table) w.front.last w.front.state live_event.tag
-    (first_live w m h c.next_event-event.result c.next_event-event.ensures live_event c.ordered.ensures.order c.in_ok-live.was) pending
+    let found = found_at w m h c.next_event.result c.next_event.ensures l c.in_ok-live.was in
+    event_alone (live m.table) w.tip.last w.tip.state l.tag (first_live w m h l found c.ordered.ensures.order) pending
 
 pub returns-in_default-clause-event : goal.returns-in_default-clause-event
 returns-in_default-clause-event c =
-    live_ahead c.args.self.now c.requires.0 c.requires.1 c.next_event-event.result c.next_event-event.ensures c.in_ok-live.live
-    c.ordered.ensures.order c.in_ok-live.was
-
-pub returns-in-Some-event-clause-some : goal.returns-in-Some-event-clause-some
-returns-in-Some-event-clause-some c = λ m h.
     let w = c.args.self.now in
-    let live_event = c.in-Some-event.live in
-    let first = first_live w m h c.next_event-event.result c.next_event-event.ensures live_event c.ordered.ensures.order c.in-Some-event.is in
+    let m = c.requires.0 in
+    let h = c.requires.1 in
+    live_ahead w m h c.in_ok-live.live (found_at w m h c.next_event.result c.next_event.ensures c.in_ok-live.live c.in_ok-live.was)
+    c.ordered.ensures.order
+
+pub returns-in-Some-event_before-clause-some : goal.returns-in-Some-event_before-clause-some
+returns-in-Some-event_before-clause-some c = λ m h.
+    let w = c.args.self.now in
+    let l = c.in-Some-event_before.live in
+    let found = before_at w m h c.in-Some.pending c.event_before.result c.event_before.ensures l c.in-Some-event_before.is in
     let least = least_entry w m h c.next.result c.in-Some.pending
     (c.next.ensures ∙ ap (λ (s : Snapshot). least_pending s.pending) c.state.ensures) c.in-Some.is in
-    event_before (live m.table) w.front.last w.front.state live_event.tag c.in-Some.pending first least
-    (sym c.is_before.ensures ∙ c.if-is_before.true)
+    event_before (live m.table) w.tip.last w.tip.state l.tag c.in-Some.pending (first_live w m h l found.0 c.ordered.ensures.order) least found.1
 
-pub returns-in-Some-event-clause-event : goal.returns-in-Some-event-clause-event
-returns-in-Some-event-clause-event c =
-    live_ahead c.args.self.now c.requires.0 c.requires.1 c.next_event-event.result c.next_event-event.ensures c.in-Some-event.live
-    c.ordered.ensures.order c.in-Some-event.is
+pub returns-in-Some-event_before-clause-event : goal.returns-in-Some-event_before-clause-event
+returns-in-Some-event_before-clause-event c =
+    let w = c.args.self.now in
+    let m = c.requires.0 in
+    let h = c.requires.1 in
+    let l = c.in-Some-event_before.live in
+    live_ahead w m h l (before_at w m h c.in-Some.pending c.event_before.result c.event_before.ensures l c.in-Some-event_before.is).0
+    c.ordered.ensures.order
 
-pub returns-in_default-event-clause-some : goal.returns-in_default-event-clause-some
-returns-in_default-event-clause-some c = λ m h.
+pub returns-in-None-clause-some : goal.returns-in-None-clause-some
+returns-in-None-clause-some c = λ m h.
     let w = c.args.self.now in
     let least = least_entry w m h c.next.result c.in-Some.pending
     (c.next.ensures ∙ ap (λ (s : Snapshot). least_pending s.pending) c.state.ensures) c.in-Some.is in
-    elim c.in_default-event.branch [
-      | in_default-event-via-in-Some-event+else-is_before b ↦
-          let first = first_live w m h c.next_event-event.result c.next_event-event.ensures b.in-Some-event.live c.ordered.ensures.order
-          b.in-Some-event.is in
-          entry_before (live m.table) w.front.last w.front.state b.in-Some-event.live.tag c.in-Some.pending first least
-          (sym b.is_before.ensures ∙ b.if-is_before.false)
-      | in_default-event-via-in_default-event b ↦
-          entry_next (live m.table) w.front.last w.front.state c.in-Some.pending least
-          (no_live w m h c.next_event-event.result c.next_event-event.ensures b.in_default-event.is)
-    ]
+    entry_next (live m.table) w.tip.last w.tip.state c.in-Some.pending least
+    (none_before_tag w m h c.in-Some.pending c.event_before.result c.event_before.ensures c.in-None.is)

@@ -37,7 +37,7 @@ some_of (Some d) e h = refl
 
 -- a name that was there
 names_known : (w : Warp) (o : ℕ) (g : Moment) (at : ℕ) → node_of o g w.arena.places ≡ Some at → FindsKnown o g w.arena.places
-    → ((f : Entry → Entry) → ChangesFound f o g w.arena.places) → Reaches w.arena.places (ahead w.front.last w.arena.places) w.cursor
+    → ((f : Entry → Entry) → ChangesFound f o g w.arena.places) → Reaches w.arena.places (ahead w.tip.last w.arena.places) w.cursor
     → NamesAt w w o g at
 names_known w o g at is finds changes r =
     let ps = w.arena.places in
@@ -78,7 +78,7 @@ returns-in-Some-clause-names c =
     (subst (λ x. IfSome x (λ n. IsSome (entry_of n ps))) c.in-Some.is r.used) c.entry.ensures.entry in
     names_new old c.args.origin c.args.tag new.result new.new.self old.cursor (new.ensures.places absent) (new.ensures.new_handle absent) (new.ensures.entry absent)
     c.finds_known.ensures absent c.changes_new.ensures c.ordered.ensures.order
-    (stays_first old.front.last c.args.origin c.args.tag new.result ps old.cursor r later at c.entry.result c.in-Some.is named
+    (stays_first old.tip.last c.args.origin c.args.tag new.result ps old.cursor r later at c.entry.result c.in-Some.is named
     (sym c.comes_before.ensures ∙ c.if-comes_before.true))
 
 pub returns-in_default-clause-names : goal.returns-in_default-clause-names
@@ -96,10 +96,10 @@ returns-in_default-clause-names c =
           let at = w.in-Some.cursor in
           let named = named_before ps new.new.self.places new.result at w.entry.result (new.ensures.new_handle absent) (new.ensures.others absent)
           (subst (λ x. IfSome x (λ n. IsSome (entry_of n ps))) w.in-Some.is r.used) w.entry.ensures.entry in
-          comes_first old.front.last c.args.origin c.args.tag new.result ps old.cursor r later at w.entry.result w.in-Some.is named nothing
+          comes_first old.tip.last c.args.origin c.args.tag new.result ps old.cursor r later at w.entry.result w.in-Some.is named nothing
           (sym w.comes_before.ensures ∙ w.if-comes_before.false)
       | in_default-via-in_default w ↦
-          comes_alone old.front.last c.args.origin c.args.tag new.result ps old.cursor r later w.in_default.is
+          comes_alone old.tip.last c.args.origin c.args.tag new.result ps old.cursor r later w.in_default.is
     ])
 
 pub returns-else-is_after-clause-names : goal.returns-else-is_after-clause-names
@@ -111,7 +111,7 @@ returns-else-is_after-clause-names c =
     let earlier = ap (λ last. is_after last c.args.tag) (sym c.last.ensures) ∙ sym c.is_after.ensures ∙ c.if-is_after.false in
     names_new old c.args.origin c.args.tag new.result new.new.self old.cursor (new.ensures.places absent) (new.ensures.new_handle absent) (new.ensures.entry absent)
     c.finds_known.ensures absent c.changes_new.ensures c.ordered.ensures.order
-    (stays_before old.front.last c.args.origin c.args.tag new.result ps old.cursor c.requires.name.1.cursor earlier)
+    (stays_before old.tip.last c.args.origin c.args.tag new.result ps old.cursor c.requires.name.1.cursor earlier)
 
 -- the room stays as it is
 

@@ -1,12 +1,12 @@
 -- the row at the next tag is done, with what all events at it give, and the cursor goes behind it
 use Rattle.std.proofs.Common.{◌++◌, ap, ◌∙◌, refl, arith}
 use Rattle.warp_run.specs.Walk.{ahead}
-use Rattle.warp_run.proofs.TurnsRow.{are_few, given_through, is_at, may_give, may_step, row_done, row_failed, same_front}
+use Rattle.warp_run.proofs.TurnsRow.{are_few, given_through, is_at, may_give, may_step, row_done, row_failed, same_tip}
 use Rattle.warp_run.proofs.warp.Warp.turn_at.Goals as goal
 
 pub returns-in_err-cursor-clause-goes : goal.returns-in_err-cursor-clause-goes
 returns-in_err-cursor-clause-goes g c =
-    row_failed c.args.program.now c.args.self.now _ _ refl refl refl refl (same_front c.args.self.now.front) (omega arith)
+    row_failed c.args.program.now c.args.self.now _ _ refl refl refl refl (same_tip c.args.self.now.tip) (omega arith)
 
 pub get_ready-requires : goal.get_ready-requires
 get_ready-requires g c = is_at c.args.program.now c.args.self.now c.args.tag c.requires.next
@@ -18,14 +18,14 @@ returns-in_err-get_ready-clause-goes g c =
 pub step_at_event-requires-clause-at : goal.step_at_event-requires-clause-at
 step_at_event-requires-clause-at g c =
     let w = c.args.self.now in
-    let gathered = c.in_ok-cursor.ensures (ahead w.front.last w.arena.places) c.requires.next.1.cursor in
+    let gathered = c.in_ok-cursor.ensures (ahead w.tip.last w.arena.places) c.requires.next.1.cursor in
     may_step c.args.program.now w c.args.tag c.requires.next c.get_ready.new.self c.deref.result.now c.get_ready.ensures.same
     (c.deref.ensures.value ∙ gathered.1 ∙ ap (λ xs. xs ++ given_through w c.args.tag) c.clear.ensures.items)
 
 pub step_at_event-requires-clause-given : goal.step_at_event-requires-clause-given
 step_at_event-requires-clause-given g c =
     let w = c.args.self.now in
-    let gathered = c.in_ok-cursor.ensures (ahead w.front.last w.arena.places) c.requires.next.1.cursor in
+    let gathered = c.in_ok-cursor.ensures (ahead w.tip.last w.arena.places) c.requires.next.1.cursor in
     may_give c.args.program.now w c.args.tag c.requires.next c.deref.result.now
     (c.deref.ensures.value ∙ gathered.1 ∙ ap (λ xs. xs ++ given_through w c.args.tag) c.clear.ensures.items) c.ordered.ensures.order
 
@@ -38,7 +38,7 @@ returns-clause-goes g c =
     let w = c.args.self.now in
     let did = c.step_at_event.ensures in
     let ticked = did.ticked in
-    let gathered = c.in_ok-cursor.ensures (ahead w.front.last w.arena.places) c.requires.next.1.cursor in
+    let gathered = c.in_ok-cursor.ensures (ahead w.tip.last w.arena.places) c.requires.next.1.cursor in
     row_done c.args.program.now w c.args.tag c.requires.next _ c.get_ready.new.self c.deref.result.now _ c.get_ready.ensures.same
     (c.deref.ensures.value ∙ gathered.1 ∙ ap (λ xs. xs ++ given_through w c.args.tag) c.clear.ensures.items)
     c.requires.unsettled refl refl refl did.last did.floor gathered.0 did.stepped (omega arith)

@@ -6,9 +6,9 @@ use Rattle.warp_tag.proofs.Tables.{events_pass, with_event_names}
 use Rattle.warp_step.specs.Events.{event_fits}
 use Rattle.warp_step.specs.Run.{is_after}
 use Rattle.warp_arena.specs.Places.{Contents}
-use Rattle.warp_run.specs.Front.{KeepsRoom}
+use Rattle.warp_run.specs.Tip.{KeepsRoom}
 use Rattle.warp_run.specs.Warp.{latest_with}
-use Rattle.warp_run.specs.declared.front.Front.{Front}
+use Rattle.warp_run.specs.declared.tip.Tip.{Tip}
 use Rattle.warp_run.specs.declared.warp.Warp.{Warp}
 use Rattle.warp_run.proofs.ChangesFloor.{not_behind}
 use Rattle.warp_run.proofs.ChangesEvents.{all_through, one_through}
@@ -22,14 +22,14 @@ undo_from-requires-clause-named c =
 
 pub undo_from-requires-clause-ahead : goal.undo_from-requires-clause-ahead
 undo_from-requires-clause-ahead c =
-    ap (λ (w : Warp). is_after w.front.floor c.args.tag) c.node-node.ensures.names.others
-    ∙ not_behind c.args.self.now.front.floor c.args.tag c.requires.ahead
+    ap (λ (w : Warp). is_after w.tip.floor c.args.tag) c.node-node.ensures.names.others
+    ∙ not_behind c.args.self.now.tip.floor c.args.tag c.requires.ahead
 
 pub returns-then-changes-clause-floor : goal.returns-then-changes-clause-floor
-returns-then-changes-clause-floor c = c.undo_from.ensures.floor ∙ ap (λ (w : Warp). w.front.floor) c.node-node.ensures.names.others
+returns-then-changes-clause-floor c = c.undo_from.ensures.floor ∙ ap (λ (w : Warp). w.tip.floor) c.node-node.ensures.names.others
 
 pub returns-else-changes-clause-floor : goal.returns-else-changes-clause-floor
-returns-else-changes-clause-floor c = ap (λ (w : Warp). w.front.floor) c.node-node.ensures.names.others
+returns-else-changes-clause-floor c = ap (λ (w : Warp). w.tip.floor) c.node-node.ensures.names.others
 
 pub returns-then-changes-clause-stands : goal.returns-then-changes-clause-stands
 returns-then-changes-clause-stands c = λ m h good.
@@ -41,22 +41,22 @@ returns-then-changes-clause-stands c = λ m h good.
     (all_through c.args.tag latest _ h.latest) (one_through c.args.tag latest) in
     let u = c.undo_from.ensures in
     undone_stands (with_event c.args.input c.args.value) (with_event_names c.args.input c.args.value) c.node-node.ensures.names made
-    (not_behind c.args.self.now.front.floor c.args.tag c.requires.ahead) c.entry.ensures.entry noted h (c.note_event-changes.ensures.changes c.if-changes.true) fits through
-    c.undo_from.new.self u.arena u.floor u.latest u.unsettled u.front u.cursor
+    (not_behind c.args.self.now.tip.floor c.args.tag c.requires.ahead) c.entry.ensures.entry noted h (c.note_event-changes.ensures.changes c.if-changes.true) fits through
+    c.undo_from.new.self u.arena u.floor u.latest u.unsettled u.tip u.cursor
 
 pub returns-else-changes-clause-stands : goal.returns-else-changes-clause-stands
 returns-else-changes-clause-stands c = λ m h good.
     let made = rw (to_z-of_z w64 c.args.value c.ranges.value) at c.set_event.ensures.places in
     let noted = rw (to_z-of_z w64 c.args.value c.ranges.value) at c.note_event-changes.ensures.entry in
     same_stands (with_event c.args.input c.args.value) (with_event_names c.args.input c.args.value) c.node-node.ensures.names made
-    (not_behind c.args.self.now.front.floor c.args.tag c.requires.ahead) c.entry.ensures.entry noted h (c.note_event-changes.ensures.same c.if-changes.false)
+    (not_behind c.args.self.now.tip.floor c.args.tag c.requires.ahead) c.entry.ensures.entry noted h (c.note_event-changes.ensures.same c.if-changes.false)
 
 pub returns-then-changes-clause-settled : goal.returns-then-changes-clause-settled
 returns-then-changes-clause-settled c = λ m h good same.
     let made = rw (to_z-of_z w64 c.args.value c.ranges.value) at c.set_event.ensures.places in
     let noted = rw (to_z-of_z w64 c.args.value c.ranges.value) at c.note_event-changes.ensures.entry in
     absurd (never_same (with_event c.args.input c.args.value) (with_event_names c.args.input c.args.value) c.node-node.ensures.names made
-    (not_behind c.args.self.now.front.floor c.args.tag c.requires.ahead) c.entry.ensures.entry noted h (c.note_event-changes.ensures.changes c.if-changes.true) same)
+    (not_behind c.args.self.now.tip.floor c.args.tag c.requires.ahead) c.entry.ensures.entry noted h (c.note_event-changes.ensures.changes c.if-changes.true) same)
 
 pub returns-else-changes-clause-settled : goal.returns-else-changes-clause-settled
 returns-else-changes-clause-settled c = λ m h good same. ap (λ (w : Warp). w.settled) c.node-node.ensures.names.others
@@ -67,12 +67,12 @@ returns-then-changes-clause-room c =
     let u = c.undo_from.ensures in
     same_room c.args.self.now c.undo_from.new.self
     (ap (λ (a : Contents). a.room) u.arena ∙ ap (λ (a : Contents). a.room) c.set_event.ensures.places ∙ c.node-node.ensures.room)
-    (subst (λ (x : Front). KeepsRoom x c.undo_from.new.self.front) (ap (λ (w : Warp). w.front) others) u.room)
+    (subst (λ (x : Tip). KeepsRoom x c.undo_from.new.self.tip) (ap (λ (w : Warp). w.tip) others) u.room)
     (u.given ∙ ap (λ (w : Warp). w.given) others)
 
 pub returns-else-changes-clause-room : goal.returns-else-changes-clause-room
 returns-else-changes-clause-room c =
     let others = c.node-node.ensures.names.others in
     same_room c.args.self.now (record c.node-node.new.self { arena = c.set_event.new.self }) (ap (λ (a : Contents). a.room) c.set_event.ensures.places ∙ c.node-node.ensures.room)
-    (subst (λ (x : Front). KeepsRoom c.args.self.now.front x) (sym (ap (λ (w : Warp). w.front) others)) (keeps_room c.args.self.now.front))
+    (subst (λ (x : Tip). KeepsRoom c.args.self.now.tip x) (sym (ap (λ (w : Warp). w.tip) others)) (keeps_room c.args.self.now.tip))
     (ap (λ (w : Warp). w.given) others)

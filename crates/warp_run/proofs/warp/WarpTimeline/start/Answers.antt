@@ -15,7 +15,7 @@ returns-clause-stands c =
       table = ap (λ a. entries_of a.places) arena;
       ordered = tt;
       events = refl;
-      front = c.in_ok-start-2.ensures [];
+      tip = c.in_ok-start-2.ensures [];
       cursor = subst (λ a. Reaches a.places (ahead last a.places) None) (sym arena) (record { handle = refl; used = tt; left = refl });
       latest = refl;
       settled = λ yes. let no : false ≡ true = yes in cc;
@@ -23,5 +23,5 @@ returns-clause-stands c =
 
 pub returns-clause-floor : goal.returns-clause-floor
 returns-clause-floor c =
-    let front = c.in_ok-start-2.ensures [] in
-    front.floor ∙ no_floor c.in_ok-start-2.field-0.base
+    let tip = c.in_ok-start-2.ensures [] in
+    tip.floor ∙ no_floor c.in_ok-start-2.field-0.base

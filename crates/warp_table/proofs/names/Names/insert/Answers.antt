@@ -22,19 +22,19 @@ insert-requires-clause-new c =
     insert_new now.items is.order.items c.args.self.now
     (kept_is is.origins.items is.order.items c.args.self.now c.self.view_is c.self.invariant now.items c.keep_up_to.ensures.same)
     (kept_listed is.origins.items is.order.items c.args.self.now c.self.view_is c.self.invariant now.items c.keep_up_to.ensures.same)
-    c.args.name c.index_mut.result.now c.requires.new (omega (arith, c.in_ok-keep_up_to.ensures.ok, now.ok.0)) c.index_mut.ensures.value
+    c.args.name c.index_mut-rows.result.now c.requires.new (omega (arith, c.in_ok-keep_up_to.ensures.ok, now.ok.0)) c.index_mut-rows.ensures.value
 
 pub returns-in_err-insert-clause-err : goal.returns-in_err-insert-clause-err
 returns-in_err-insert-clause-err c =
     let is = c.self.inside in
     let now = c.keep_up_to.new.origins in
     let left = c.in_err-insert.ensures.err in
-    let here = c.index_mut.ensures.value in
-    let same : (other : ℕ) → rows_at (set now.items c.args.name.origin c.index_mut.result.now) other ≡ rows_at is.origins.items other = (λ other. set_back now.items c.args.name.origin c.index_mut.result.now (omega (arith, c.in_ok-keep_up_to.ensures.ok, now.ok.0)) here other ∙ c.keep_up_to.ensures.same other) in
+    let here = c.index_mut-rows.ensures.value in
+    let same : (other : ℕ) → rows_at (set now.items c.args.name.origin c.index_mut-rows.result.now) other ≡ rows_at is.origins.items other = (λ other. set_back now.items c.args.name.origin c.index_mut-rows.result.now (omega (arith, c.in_ok-keep_up_to.ensures.ok, now.ok.0)) here other ∙ c.keep_up_to.ensures.same other) in
     on_err c.from_residual-in_err-insert.result (
       ap (λ row. listed (known_in (set now.items c.args.name.origin row)) c.reserve.new.self.items) left.0
-          ∙ ap (listed (known_in (set now.items c.args.name.origin c.index_mut.result.now))) c.reserve.ensures.items
-          ∙ kept_is is.origins.items is.order.items c.args.self.now c.self.view_is c.self.invariant (set now.items c.args.name.origin c.index_mut.result.now) same,
+          ∙ ap (listed (known_in (set now.items c.args.name.origin c.index_mut-rows.result.now))) c.reserve.ensures.items
+          ∙ kept_is is.origins.items is.order.items c.args.self.now c.self.view_is c.self.invariant (set now.items c.args.name.origin c.index_mut-rows.result.now) same,
       left.1,
     )
 
@@ -48,7 +48,7 @@ invariant_of-self-2 c =
     (insert_listed now.items is.order.items c.args.self.now
     (kept_is is.origins.items is.order.items c.args.self.now c.self.view_is c.self.invariant now.items c.keep_up_to.ensures.same)
     (kept_listed is.origins.items is.order.items c.args.self.now c.self.view_is c.self.invariant now.items c.keep_up_to.ensures.same)
-    c.args.name c.index_mut.result.now c.requires.new (omega (arith, c.in_ok-keep_up_to.ensures.ok, now.ok.0)) c.index_mut.ensures.value
+    c.args.name c.index_mut-rows.result.now c.requires.new (omega (arith, c.in_ok-keep_up_to.ensures.ok, now.ok.0)) c.index_mut-rows.ensures.value
     c.args.known c.insert.new.self c.in_ok-insert.ensures.ok)
 
 pub returns-clause-ok : goal.returns-clause-ok
@@ -60,5 +60,5 @@ returns-clause-ok c =
     ∙ insert_is now.items is.order.items c.args.self.now
     (kept_is is.origins.items is.order.items c.args.self.now c.self.view_is c.self.invariant now.items c.keep_up_to.ensures.same)
     (kept_listed is.origins.items is.order.items c.args.self.now c.self.view_is c.self.invariant now.items c.keep_up_to.ensures.same)
-    c.args.name c.index_mut.result.now c.requires.new (omega (arith, c.in_ok-keep_up_to.ensures.ok, now.ok.0)) c.index_mut.ensures.value
+    c.args.name c.index_mut-rows.result.now c.requires.new (omega (arith, c.in_ok-keep_up_to.ensures.ok, now.ok.0)) c.index_mut-rows.ensures.value
     c.args.known c.insert.new.self c.in_ok-insert.ensures.ok

@@ -5,8 +5,8 @@ use Rattle.warp_table.specs.inner.NamesByOrigin.{row_of}
 use Rattle.warp_table.proofs.NamesInOrder.{found_in, known_past}
 use Rattle.warp_table.proofs.names.Names.seek.Goals as goal
 
-pub returns-in_err-get-clause-known : goal.returns-in_err-get-clause-known
-returns-in_err-get-clause-known c =
+pub returns-in_err-rows-clause-known : goal.returns-in_err-rows-clause-known
+returns-in_err-rows-clause-known c =
     let is = c.self.inside in
     let past : length c.deref.result.now ≤ c.args.name.origin = search rules in
     c.from_residual.ensures
@@ -17,5 +17,5 @@ pub returns-clause-known : goal.returns-clause-known
 returns-clause-known c =
     let is = c.self.inside in
     c.seek-known.ensures
-    ∙ ap (row_of c.args.name.tag) (c.in_ok-get.ensures.lookup.3.1 [] ∙ ap (λ (os : List (List NameRow)). get_or os c.args.name.origin []) c.deref.ensures.value)
+    ∙ ap (row_of c.args.name.tag) (c.in_ok-rows.ensures.lookup.3.1 [] ∙ ap (λ (os : List (List NameRow)). get_or os c.args.name.origin []) c.deref.ensures.value)
     ∙ sym (found_in is.origins.items is.order.items c.args.self.now c.self.view_is c.self.invariant c.args.name)

@@ -1,8 +1,0 @@
-use Rattle.std.proofs.Common.{◌-◌, ◌≤◌, length}
-use Rattle.warp_arena.proofs.links.place_of_hint.Given as goal
-
-abbrev pub invariant-loop-low : goal.invariant-loop-low
-invariant-loop-low l = (l.low ≤ l.high) × (l.high ≤ length l.hints)
-
-abbrev pub decreases-loop-low : goal.decreases-loop-low
-decreases-loop-low l = l.high - l.low
