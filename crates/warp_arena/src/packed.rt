@@ -2,7 +2,7 @@
 ghost use Rattle.std.specs.Prelude.{◌≡◌};
 
 use std::marker::Model;
-use warp_tag::{Entry, Tag};
+use warp_tag::{Entry, Tag, is_lesser};
 
 /// An entry in 24 bytes. The payload's input and value count only where there is an event.
 #[derive(Drop)]
@@ -111,9 +111,7 @@ impl Packed {
     pub fn note_event(&mut self, input: u32, value: i64)
         ensures { self.new ≡ with_event input value self.old }
     {
-        let is_greatest = !self.has_event
-            || self.input < input
-            || (self.input == input && self.value < value);
+        let is_greatest = !self.has_event || is_lesser((self.input, self.value), (input, value));
         if is_greatest {
             self.input = input;
             self.value = value;

@@ -37,7 +37,7 @@ use std::alloc::Global;
 use std::marker::Model;
 use warp_record::{Record, Refusal};
 use warp_step::Program;
-use warp_tag::{Entry, OutOfMemory, Tag};
+use warp_tag::{Entry, OutOfMemory, Tag, is_lesser};
 
 /// The most records that a table holds.
 pub const MAX_RECORDS: u32 = 100_000;
@@ -368,9 +368,8 @@ fn place_of(
 fn counts_less(one: Option<(u32, i64)>, other: (u32, i64)) -> bool
     ensures { result ≡ counts_less one other }
 {
-    let (input, value) = other;
     match one {
-        Some((own, its_value)) => own < input || (own == input && its_value < value),
+        Some(payload) => is_lesser(payload, other),
         None => false,
     }
 }

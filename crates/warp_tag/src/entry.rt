@@ -1,7 +1,16 @@
 //! What is known of one name of a table, and how that changes.
 ghost use Rattle.std.specs.Prelude.{◌≡◌, ℕ, false, IsTrue};
+ghost use Rattle.warp_tag.specs.Table.{is_lesser};
 
 use crate::tag::Tag;
+
+/// Whether the first payload (input, value) counts less than the second: by input, then by value. Of several payloads
+/// of one name the greatest counts.
+pub fn is_lesser(one: (u32, i64), other: (u32, i64)) -> bool
+    ensures { result ≡ is_lesser one other }
+{
+    one.0 < other.0 || (one.0 == other.0 && one.1 < other.1)
+}
 
 /// What is known of one name of a table: the name is an origin and a tag.
 #[derive(Clone, Copy, Debug, PartialEq, Eq)]
@@ -60,7 +69,7 @@ impl Entry {
         ensures changes { IsTrue result → live_event self.new ≡ live_event self.old → ⊥ }
     {
         let counts = match self.event {
-            Some((of, known)) => of < input || (of == input && known < value),
+            Some(known) => is_lesser(known, (input, value)),
             None => true,
         };
         if counts {

@@ -10,7 +10,7 @@ mod form;
 mod out;
 mod tag;
 
-pub use entry::Entry;
+pub use entry::{Entry, is_lesser};
 pub use form::Form;
 pub use out::Out;
 pub use std::alloc::AllocError as OutOfMemory;

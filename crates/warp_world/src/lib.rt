@@ -31,7 +31,7 @@ pub use fault::ScheduleFault;
 pub use labels::Labels;
 pub use moves::Move;
 pub use moves_law::{equal_sets, released_fronts};
-pub use printer::{Printer, TraceFault, Unprinted};
+pub use printer::{Printer, TraceFault, Unprinted, print_full};
 pub use printing::play_text;
 pub use recorder::Recorder;
 pub use schedule::{MAX_REPLICAS, MAX_SCHEDULE, read_schedule};

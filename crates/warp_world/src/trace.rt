@@ -1,8 +1,7 @@
 //! The rows of a run, printed one JSON object a line.
 ghost use Rattle.std.specs.Prelude.{◌≡◌, ◌+◌, ℕ, ◌≤◌, ◌++◌, ◌∷◌, IsTrue, List, [], length, map, take, drop};
-ghost use Rattle.std.specs.Prelude.{IfOk, OnErr, OnOk};
-ghost use Rattle.std.specs.Prelude.{MatchResult, Option, vec_capacity, vec_len};
-ghost use Rattle.std.specs.Io.KnownBytes.{Appends};
+ghost use Rattle.std.specs.Prelude.{IfOk, OnOk};
+ghost use Rattle.std.specs.Prelude.{Option, vec_capacity, vec_len};
 ghost use Rattle.std.specs.List.{list_all, list_any};
 ghost use Rattle.warp_tag.specs.Moment.{is_before, is_same};
 ghost use Rattle.warp_tag.specs.Table.{IsTable, live};
@@ -14,7 +13,7 @@ ghost use Rattle.warp_step.specs.Snapshot.{IsStateOf, start_state};
 ghost use Rattle.warp_step.specs.Step.{CanStep};
 ghost use Rattle.warp_line.specs.inner.Replay.{HasOtherHead, is_waiting, next_of, none_before};
 ghost use Rattle.warp_table.specs.Records.{set_of};
-ghost use Rattle.warp_world.specs.Printed.{PrintsFront, PrintsText, PrintsTrace};
+ghost use Rattle.warp_world.specs.Printed.{PrintsText, PrintsTrace};
 ghost use Rattle.warp_world.specs.Trace.{came, changed, changed_part, due, due_part, events_part, outputs_part};
 ghost use Rattle.warp_world.specs.Trace.{pending_part, put, released_part, row_lines, tag_part};
 ghost use Rattle.warp_world.specs.inner.Tracing.{TellsRow, TellsTag};
@@ -22,7 +21,7 @@ ghost use Rattle.warp_world.specs.inner.Tracing.{TellsRow, TellsTag};
 use crate::item::{Item, gather_changed, gather_due, gather_events, gather_put};
 use crate::labels::Labels;
 use crate::names::names_in_order;
-use crate::printer::{Printer, TraceFault, Unprinted};
+use crate::printer::{Printer, TraceFault, print_full};
 use crate::recorder::Recorder;
 use crate::row_text::{append_last, append_part, append_tag};
 use std::alloc::Global;
@@ -31,9 +30,6 @@ use std::sync::ledger::{Blank, Ledger};
 use warp_replica::Idle;
 use warp_step::{Given, Meter, Out, Program, Scratch, State, step};
 use warp_tag::{Entry, OutOfMemory, Tag};
-
-/// How many bytes are gathered before they are printed.
-const PIECE: usize = 65_536;
 
 /// What a trace works in: the state and the room of the steps, what is given to one and what it puts, the variables
 /// before it, what its row tells, and the text that waits to be printed.
@@ -166,23 +162,6 @@ fn trace_rows<O: Printer, M: Meter>(
         Ok(()) => Ok(()),
         Err(_) => Err(TraceFault::Output),
     }
-}
-
-/// Prints the text where enough is gathered.
-fn print_full<O: Printer>(text: &mut Vec<u8>, out: &mut O) -> Result<(), Unprinted>
-    ensures sent { OnOk result ((sent : List ℕ) × Appends (O.written out.old) (O.written out.new) sent
-        × (sent ++ text.new.items ≡ text.old.items)) }
-    ensures front { OnErr result (PrintsFront (O.written out.old) (O.written out.new) text.old.items) }
-    ensures failures { MatchResult result (λ _. O.failures out.new ≡ O.failures out.old)
-        (λ _. O.failures out.new ≡ O.failures out.old + 1) }
-    ensures kept { O.kept out.new ≡ O.kept out.old }
-{
-    if text.len() < PIECE {
-        return Ok(());
-    }
-    out.print(text)?;
-    text.clear();
-    Ok(())
 }
 
 /// Tells the row at the tag, if something is given or pending there.

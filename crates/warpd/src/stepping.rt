@@ -10,10 +10,7 @@ use warp_line::Timeline;
 use warp_replica::Replica;
 use warp_run::Warp;
 use warp_tag::{OutOfMemory, Tag};
-use warp_world::{Labels, Printer, Recorder, StepNotes, TraceFault, Unprinted};
-
-/// How many bytes are gathered before they are printed.
-const PIECE: usize = 65_536;
+use warp_world::{Labels, Printer, Recorder, StepNotes, TraceFault, print_full};
 
 /// A timeline whose steps can be printed.
 pub(crate) trait Stepping: Timeline {
@@ -133,18 +130,4 @@ fn settle_noted<T: Stepping, L: Ledger>(
     let back = replica.timeline().last_done();
     replica.settle(alloc, notes)?;
     notes.take(back, text)
-}
-
-/// Prints the text where enough is gathered.
-fn print_full<O: Printer>(text: &mut Vec<u8>, out: &mut O) -> Result<(), Unprinted>
-    ensures failures { MatchResult result (λ _. O.failures out.new ≡ O.failures out.old)
-        (λ _. O.failures out.new ≡ O.failures out.old + 1) }
-    ensures kept { O.kept out.new ≡ O.kept out.old }
-{
-    if text.len() < PIECE {
-        return Ok(());
-    }
-    out.print(text)?;
-    text.clear();
-    Ok(())
 }
