@@ -1,20 +1,21 @@
 //! Whom the presence of a place concerns: a step looks only at those. And the bodies of reactions, ready to run.
 ghost use Rattle.std.specs.Prelude.{◌≡◌, ◌+◌, ◌<◌, ◌≤◌, [], ◌∷◌, map, filter, length, IfOk, slice_index_or};
-ghost use Rattle.std.specs.Prelude.{if◌then◌else◌, IsTrue, nat_lt};
+ghost use Rattle.std.specs.Prelude.{if◌then◌else◌, IsTrue, nat_lt, ◌==◌};
 ghost use Rattle.std.specs.List.{list_all, list_any};
 ghost use Rattle.warp_tag.specs.Limits.{most_reactions};
 ghost use Rattle.warp_body.specs.declared.place.Target.{Target};
 ghost use Rattle.warp_body.specs.declared.place.Target.TheVariants as to;
-ghost use Rattle.warp_step.specs.inner.Marks.{first_link, first_reaction, marks_from, most_marks, no_marks, with_mark};
+ghost use Rattle.warp_step.specs.inner.Marks.{first_link, first_output, first_reaction, marks_from, most_marks, no_marks};
+ghost use Rattle.warp_step.specs.inner.Marks.{with_mark};
 ghost use Rattle.warp_step.specs.inner.Plan.{first_heeding, heeds, heeds_any, is_port, link_heeds, most_places};
 ghost use Rattle.warp_step.specs.inner.Plan.{numbered_place, output_heeds, place_number, place_numbers, place_of};
 ghost use Rattle.warp_step.specs.inner.Plan.{in_turn, reaction_heeds, rule_numbered, with_watchers};
 ghost use Rattle.warp_step.specs.Program.{rule_of};
 ghost use Rattle.warp_step.specs.Step.{sources_of};
-ghost use Rattle.warp_step.specs.inner.Plan.{marks_of, plan_of, ready_turn, turn_plan};
+ghost use Rattle.warp_step.specs.inner.Plan.{marks_of, plan_of, ready_turn, shared_period, turn_plan};
 
 use crate::marks::{Marks, first_link, first_output};
-use crate::parts::Link;
+use crate::parts::{Link, Timer};
 use crate::program::Program;
 use crate::reaction::Reaction;
 use std::alloc::Global;
@@ -333,12 +334,15 @@ fn of_turns(
 }
 
 /// Whom each place of a program concerns, by the place's number; the reactions, ready to run, in the order in which a
-/// step runs them; and the marks of all links.
+/// step runs them; the marks of all program outputs and of all links; and the period that all timers share.
 #[derive(Drop)]
 pub(crate) struct Plan {
     places: Vec<Concerned>,
     turns: Vec<ReadyReaction>,
+    outputs: Marks,
     links: Marks,
+    /// The period of all timers, 0 where they have not all the same.
+    period: u64,
 }
 
 impl Model for Plan {
@@ -354,7 +358,9 @@ impl Model for Plan {
       places = map (λ one. one.marks.word) p.places.items;
       firsts = map (λ one. one.first) p.places.items;
       turns = map ready_turn p.turns.items;
+      outputs = p.outputs.word;
       links = p.links.word;
+      period = p.period;
     } };
 }
 
@@ -369,7 +375,9 @@ impl Plan {
         Ok(Plan {
             places,
             turns,
+            outputs: all_outputs(program),
             links: all_links(program),
+            period: shared_period(program.timers()),
         })
     }
 
@@ -400,6 +408,14 @@ impl Plan {
         &self.turns[turn]
     }
 
+    /// The marks of all program outputs.
+    #[inline(always)]
+    pub fn outputs(&self) -> Marks
+        ensures { result.word ≡ self.now.outputs }
+    {
+        self.outputs
+    }
+
     /// The marks of all links.
     #[inline(always)]
     pub fn links(&self) -> Marks
@@ -407,6 +423,44 @@ impl Plan {
     {
         self.links
     }
+
+    /// The period that all timers share, 0 where they share none.
+    #[inline(always)]
+    pub fn period(&self) -> u64
+        ensures { result ≡ self.now.period }
+    {
+        self.period
+    }
+}
+
+/// The period of these timers if all have the same, else 0.
+fn shared_period(timers: &[Timer]) -> u64
+    ensures { result ≡ shared_period timers.now }
+{
+    match timers {
+        [] => 0,
+        [first, rest @ ..] => {
+            if have_period(rest, first.period) {
+                first.period
+            } else {
+                0
+            }
+        }
+    }
+}
+
+/// Whether these timers all have this period.
+fn have_period(timers: &[Timer], period: u64) -> bool
+    ensures { result ≡ list_all (λ t. t.period == period) timers.now }
+{
+    timers.iter().all(|timer| timer.period == period)
+}
+
+/// The marks of all program outputs.
+fn all_outputs(program: &Program) -> Marks
+    ensures { result.word ≡ marks_from (first_output program.now) (length program.now.outputs) }
+{
+    Marks::range(first_output(program), program.outputs().len())
 }
 
 /// The marks of all links of a program.

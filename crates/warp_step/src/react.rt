@@ -167,15 +167,31 @@ pub(crate) fn run_reactions(
     wished
 }
 
-/// Appends an output for each program output that is present.
+/// Appends an output for each program output that is present. Where none is due it is one test.
 #[inline(always)]
 pub(crate) fn put_outputs(
     program: &Program,
+    plan: &Plan,
     tag: Tag,
     due: Marks,
     present: &Present,
     out: &mut Vec<Out>,
 )
+    requires places { places_of present.now ≡ program_places program.now }
+    requires plan { plan.now ≡ plan_of program.now }
+    requires due { AreDue program.now present.now due.word }
+    requires room { vec_len out.old + length program.now.outputs ≤ vec_capacity out.old }
+    ensures outputs { out.new.items ≡ out.old.items ++ outputs_from 0 tag present.now program.now.outputs }
+    ensures capacity { vec_capacity out.new ≡ vec_capacity out.old }
+{
+    if due.meets(plan.outputs()) {
+        put_some_outputs(program, tag, due, present, out);
+    }
+}
+
+/// Appends an output for each program output that is present.
+#[inline(always)]
+fn put_some_outputs(program: &Program, tag: Tag, due: Marks, present: &Present, out: &mut Vec<Out>)
     requires places { places_of present.now ≡ program_places program.now }
     requires due { AreDue program.now present.now due.word }
     requires room { vec_len out.old + length program.now.outputs ≤ vec_capacity out.old }
