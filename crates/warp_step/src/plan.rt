@@ -12,6 +12,7 @@ ghost use Rattle.warp_step.specs.inner.Plan.{numbered_place, output_heeds, place
 ghost use Rattle.warp_step.specs.inner.Plan.{in_turn, reaction_heeds, rule_numbered, with_watchers};
 ghost use Rattle.warp_step.specs.Program.{rule_of};
 ghost use Rattle.warp_step.specs.Step.{sources_of};
+ghost use Rattle.warp_step.specs.Valid.{program_sizes};
 ghost use Rattle.warp_step.specs.inner.Plan.{marks_of, plan_of, ready_turn, shared_period, turn_plan};
 
 use crate::marks::{Marks, first_link, first_output};
@@ -20,7 +21,7 @@ use crate::program::Program;
 use crate::reaction::Reaction;
 use std::alloc::Global;
 use std::marker::Model;
-use warp_body::{Code, Target};
+use warp_body::{Code, Places, Sizes, Target, fits};
 use warp_tag::OutOfMemory;
 
 /// How many numbers places have.
@@ -281,14 +282,29 @@ fn ports_among(alloc: Global, targets: &[Target]) -> Result<Vec<Target>, OutOfMe
     Ok(ports)
 }
 
-/// A reaction, ready to run: its number in the file, its triggers, its body, and the marks of those whom what it writes
-/// concerns.
+/// A reaction, ready to run: its number in the file, its triggers, its body, the marks of those whom what it writes
+/// concerns, and whether it may have wishes, as its body schedules something.
 #[derive(Drop)]
 pub(crate) struct ReadyReaction {
     pub(crate) number: usize,
     pub(crate) triggers: Vec<Target>,
     pub(crate) code: Code,
     pub(crate) after: Marks,
+    pub(crate) may_wish: bool,
+}
+
+/// How much there is of what the bodies of a program name.
+fn sizes(program: &Program) -> Sizes
+    ensures { result ≡ program_sizes program.now }
+{
+    Sizes {
+        vars: program.variables().len(),
+        places: Places {
+            timers: program.timers().len(),
+            actions: program.actions().len(),
+            ports: program.ports().len(),
+        },
+    }
 }
 
 /// The reaction with this number, ready to run.
@@ -307,11 +323,13 @@ fn ready_reaction(
     let code = Code::new(alloc, &reaction.body)?;
     let ports = ports_among(alloc, &reaction.writes)?;
     let after = marks_of(program, sources, &ports);
+    let may_wish = !fits(&reaction.body, sizes(program), 0);
     Ok(ReadyReaction {
         number,
         triggers,
         code,
         after,
+        may_wish,
     })
 }
 
