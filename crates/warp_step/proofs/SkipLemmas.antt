@@ -140,3 +140,9 @@ module _ (P : Program) (t : Moment) (present : Presence) (word : ℕ) (first : �
   skip_outputs from to starts order none =
       skip from_output word first (idle_or_past from_output [] word first (length P.outputs) idle_output no_output) (to - from) (from - first) (to - first)
       (omega (arith, starts, order)) (λ m l below. none m (omega (arith, l)) (omega (arith, below, starts, order)))
+
+  pub outputs_rest : NoneMarked word first (first + length P.outputs) → outputs_from 0 t present P.outputs ≡ []
+  outputs_rest none =
+      skip from_output word first (idle_or_past from_output [] word first (length P.outputs) idle_output no_output) (length P.outputs) 0 (length P.outputs)
+      (omega arith) (λ m l below. none m (omega (arith, l)) below)
+      ∙ no_output (length P.outputs) (omega arith)

@@ -10,7 +10,7 @@ ghost use Rattle.warp_step.specs.Program.{top_of};
 ghost use Rattle.warp_step.specs.Valid.{program_places};
 ghost use Rattle.warp_step.specs.Snapshot.{AreInOrder, IsStateOf};
 ghost use Rattle.warp_step.specs.Step.{AreInputs, absent, arrived, arrived_entries, sources_of, with_repeats};
-ghost use Rattle.warp_step.specs.inner.Plan.{plan_of};
+ghost use Rattle.warp_step.specs.inner.Plan.{plan_of, shared_period};
 ghost use Rattle.warp_step.specs.Step.{without_entries};
 ghost use Rattle.warp_step.specs.inner.Due.{AreDue};
 ghost use Rattle.warp_step.specs.inner.Again.{again, again_each};
@@ -22,8 +22,9 @@ ghost use Rattle.warp_step.specs.declared.pending.Waiting.{Waiting};
 ghost use Rattle.warp_step.specs.inner.Sure.{IsSure};
 
 use crate::given::Given;
+use crate::entries::MOST_PENDING;
 use crate::marks::Marks;
-use crate::pending::{Waiting, period_of};
+use crate::pending::Waiting;
 use crate::plan::{Concerned, NO_REACTION, Plan};
 use crate::program::Program;
 use crate::state::State;
@@ -113,6 +114,7 @@ impl State {
         requires state { IsStateOf program.now self.old }
         requires time { tag.time ≤ program.now.stop }
         requires microstep { tag.microstep ≤ top_of program.now }
+        requires some { 0 < length self.old.pending }
         requires none_before { IsTrue (list_all (λ w. not (is_before w.tag tag)) self.old.pending) }
         requires plan { plan.now ≡ plan_of program.now }
         requires absent { present.old ≡ absent program.now }
@@ -151,6 +153,7 @@ impl State {
         requires state { IsStateOf program.now self.old }
         requires time { tag.time ≤ program.now.stop }
         requires microstep { tag.microstep ≤ top_of program.now }
+        requires some { 0 < length self.old.pending }
         requires places { places_of present.old ≡ program_places program.now }
         requires none_before { IsTrue (list_all (λ w. not (is_before w.tag tag)) self.old.pending) }
         requires plan { plan.now ≡ plan_of program.now }
@@ -164,9 +167,10 @@ impl State {
         ensures due { AreDue program.now present.old due.old.word → AreDue program.now present.new due.new.word }
         ensures sure { IsSure program.now present.old sure.old → IsSure program.now present.new sure.new }
     {
-        let most = self.pending.len();
+        // A look at the entries shows how many there are at most.
+        let _most = self.pending.len();
         let count = self.take_alike(program, plan, due, sure, tag, present);
-        for _ in 0..most {
+        for _ in 0..MOST_PENDING {
             if !is_at(self.pending.as_slice(), 0, tag) {
                 return;
             }
@@ -174,7 +178,7 @@ impl State {
         }
     }
 
-    /// Takes the first entries out that are timers with the period of the first one, if they land behind all entries:
+    /// Takes the first entries out that are timers, if all timers share a period and these land behind all entries:
     /// makes them present and pending again. Answers how many they are. Whom they concern is due, and the first
     /// reaction that the last one triggers is sure.
     #[inline(always)]
@@ -190,6 +194,7 @@ impl State {
         requires state { IsStateOf program.now self.old }
         requires time { tag.time ≤ program.now.stop }
         requires microstep { tag.microstep ≤ top_of program.now }
+        requires some { 0 < length self.old.pending }
         requires places { places_of present.old ≡ program_places program.now }
         requires none_before { IsTrue (list_all (λ w. not (is_before w.tag tag)) self.old.pending) }
         requires plan { plan.now ≡ plan_of program.now }
@@ -201,10 +206,9 @@ impl State {
         ensures sure { IsSure program.now present.old sure.old → IsSure program.now present.new sure.new }
     {
         program.valid();
-        if !is_at(self.pending.as_slice(), 0, tag) {
-            return 0;
-        }
-        let period = period_of(program, self.pending.as_slice()[0].target);
+        // A look at the entries shows that they are in order.
+        let _count = self.pending.len();
+        let period = plan.period();
         if period == 0 {
             return 0;
         }
@@ -234,6 +238,7 @@ impl State {
         requires state { IsStateOf program.now self.old }
         requires some { 0 < length self.old.pending }
         requires period { 0 < period }
+        requires shared { period ≡ shared_period program.now.timers }
         requires lands { landing program.now.stop (top_of program.now) tag period ≡ At later }
         requires places { places_of present.old ≡ program_places program.now }
         requires none_before { IsTrue (list_all (λ w. not (is_before w.tag tag)) self.old.pending) }

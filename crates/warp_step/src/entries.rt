@@ -12,7 +12,7 @@ ghost use Rattle.warp_step.specs.Step.{arrived_entries, sources_of};
 ghost use Rattle.warp_step.specs.Valid.{program_places};
 ghost use Rattle.warp_step.specs.inner.Again.{is_alike, later_entry};
 ghost use Rattle.warp_step.specs.inner.Due.{AreDue};
-ghost use Rattle.warp_step.specs.inner.Plan.{plan_of};
+ghost use Rattle.warp_step.specs.inner.Plan.{plan_of, shared_period};
 ghost use Rattle.warp_step.specs.inner.Sure.{IsSure};
 
 use crate::arrive::put;
@@ -195,6 +195,8 @@ impl Entries {
         requires fits { IsTrue (list_all (λ w. target_fits (program_places program.now) w.target) self.old) }
         requires places { places_of present.old ≡ program_places program.now }
         requires plan { plan.now ≡ plan_of program.now }
+        requires some { 0 < period }
+        requires shared { period ≡ shared_period program.now.timers }
         requires own { present.old.sources ≡ sources_of program.now }
         ensures bound { length self.old ≤ most_pending }
         ensures few { result ≤ length self.old }
@@ -310,6 +312,8 @@ fn shift_alike(
         (slice_range items.old start end)) }
     requires places { places_of present.old ≡ program_places program.now }
     requires plan { plan.now ≡ plan_of program.now }
+    requires some { 0 < period }
+    requires shared { period ≡ shared_period program.now.timers }
     requires own { present.old.sources ≡ sources_of program.now }
     ensures few { result ≤ end - start }
     ensures entries { slice_range items.new start (end + result) ≡

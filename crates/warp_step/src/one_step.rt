@@ -157,7 +157,7 @@ pub fn step<M: Meter>(
         tag,
         given,
     );
-    put_outputs(program, tag, due, &scratch.present, out);
+    put_outputs(program, &scratch.plan, tag, due, &scratch.present, out);
     meter.look_after(state, out);
 }
 

@@ -1,11 +1,12 @@
 //! The pending entries of a state: sorted by tag, then by target, each tag and target once.
 ghost use Rattle.std.specs.Prelude.{◌≡◌, ℤ, ◌<◌, ◌≤◌, ◌||◌, IsTrue, nat_lt, length, slice_set, true, if◌then◌else◌};
 ghost use Rattle.std.specs.List.{list_any, insert, prefix_len};
-ghost use Rattle.warp_tag.specs.Limits.{longest_period, most_pending, widest};
+ghost use Rattle.warp_tag.specs.Limits.{most_pending};
 ghost use Rattle.warp_tag.specs.Moment.{is_before, is_same};
 ghost use Rattle.warp_body.specs.Presence.{target_before, target_fits};
 ghost use Rattle.warp_step.specs.Valid.{program_places};
-ghost use Rattle.warp_step.specs.inner.Again.{is_alike, target_period};
+ghost use Rattle.warp_step.specs.inner.Again.{is_alike, is_timer};
+ghost use Rattle.warp_step.specs.inner.Plan.{shared_period};
 ghost use Rattle.warp_step.specs.Snapshot.{AreInOrder, has_key, key_before, with_entry};
 
 use crate::entries::{Entries, MOST_PENDING};
@@ -43,27 +44,26 @@ impl Waiting {
     }
 }
 
-/// The period of a target that is a timer, else 0.
-#[inline(always)]
-pub(crate) fn period_of(program: &Program, target: Target) -> u64
-    requires { IsTrue (target_fits (program_places program.now) target) }
-    ensures period { result ≡ target_period program.now target }
-    ensures range { result ≤ longest_period widest }
-{
-    program.valid();
-    match target {
-        Target::Timer(n) => program.timers()[n as usize].period,
-        _ => 0,
-    }
-}
-
-/// Whether the entry is at the tag, and to a target with this period.
+/// Whether the entry is at the tag and to a timer: to a target with the period that all timers share.
 #[inline(always)]
 pub(crate) fn is_alike(program: &Program, entry: &Waiting, tag: Tag, period: u64) -> bool
-    requires { IsTrue (target_fits (program_places program.now) entry.now.target) }
+    requires target { IsTrue (target_fits (program_places program.now) entry.now.target) }
+    requires some { 0 < period }
+    requires shared { period ≡ shared_period program.now.timers }
     ensures { result ≡ is_alike program.now tag period entry.now }
 {
-    entry.tag.is_same(tag) && period_of(program, entry.target) == period
+    entry.tag.is_same(tag) && is_timer(entry.target)
+}
+
+/// Whether the target is a timer.
+#[inline(always)]
+fn is_timer(target: Target) -> bool
+    ensures { result ≡ is_timer target }
+{
+    match target {
+        Target::Timer(_) => true,
+        _ => false,
+    }
 }
 
 /// Whether this tag and target is before all entries, or at the first.

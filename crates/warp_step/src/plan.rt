@@ -1,25 +1,27 @@
 //! Whom the presence of a place concerns: a step looks only at those. And the bodies of reactions, ready to run.
 ghost use Rattle.std.specs.Prelude.{◌≡◌, ◌+◌, ◌<◌, ◌≤◌, [], ◌∷◌, map, filter, length, IfOk, slice_index_or};
-ghost use Rattle.std.specs.Prelude.{if◌then◌else◌, IsTrue, nat_lt};
+ghost use Rattle.std.specs.Prelude.{if◌then◌else◌, IsTrue, nat_lt, ◌==◌};
 ghost use Rattle.std.specs.List.{list_all, list_any};
 ghost use Rattle.warp_tag.specs.Limits.{most_reactions};
 ghost use Rattle.warp_body.specs.declared.place.Target.{Target};
 ghost use Rattle.warp_body.specs.declared.place.Target.TheVariants as to;
-ghost use Rattle.warp_step.specs.inner.Marks.{first_link, first_reaction, marks_from, most_marks, no_marks, with_mark};
+ghost use Rattle.warp_step.specs.inner.Marks.{first_link, first_output, first_reaction, marks_from, most_marks, no_marks};
+ghost use Rattle.warp_step.specs.inner.Marks.{with_mark};
 ghost use Rattle.warp_step.specs.inner.Plan.{first_heeding, heeds, heeds_any, is_port, link_heeds, most_places};
 ghost use Rattle.warp_step.specs.inner.Plan.{numbered_place, output_heeds, place_number, place_numbers, place_of};
 ghost use Rattle.warp_step.specs.inner.Plan.{in_turn, reaction_heeds, rule_numbered, with_watchers};
 ghost use Rattle.warp_step.specs.Program.{rule_of};
 ghost use Rattle.warp_step.specs.Step.{sources_of};
-ghost use Rattle.warp_step.specs.inner.Plan.{marks_of, plan_of, ready_turn, turn_plan};
+ghost use Rattle.warp_step.specs.Valid.{program_sizes};
+ghost use Rattle.warp_step.specs.inner.Plan.{marks_of, plan_of, ready_turn, shared_period, turn_plan};
 
 use crate::marks::{Marks, first_link, first_output};
-use crate::parts::Link;
+use crate::parts::{Link, Timer};
 use crate::program::Program;
 use crate::reaction::Reaction;
 use std::alloc::Global;
 use std::marker::Model;
-use warp_body::{Code, Target};
+use warp_body::{Code, Places, Sizes, Target, fits};
 use warp_tag::OutOfMemory;
 
 /// How many numbers places have.
@@ -280,14 +282,29 @@ fn ports_among(alloc: Global, targets: &[Target]) -> Result<Vec<Target>, OutOfMe
     Ok(ports)
 }
 
-/// A reaction, ready to run: its number in the file, its triggers, its body, and the marks of those whom what it writes
-/// concerns.
+/// A reaction, ready to run: its number in the file, its triggers, its body, the marks of those whom what it writes
+/// concerns, and whether it may have wishes, as its body schedules something.
 #[derive(Drop)]
 pub(crate) struct ReadyReaction {
     pub(crate) number: usize,
     pub(crate) triggers: Vec<Target>,
     pub(crate) code: Code,
     pub(crate) after: Marks,
+    pub(crate) may_wish: bool,
+}
+
+/// How much there is of what the bodies of a program name.
+fn sizes(program: &Program) -> Sizes
+    ensures { result ≡ program_sizes program.now }
+{
+    Sizes {
+        vars: program.variables().len(),
+        places: Places {
+            timers: program.timers().len(),
+            actions: program.actions().len(),
+            ports: program.ports().len(),
+        },
+    }
 }
 
 /// The reaction with this number, ready to run.
@@ -306,11 +323,13 @@ fn ready_reaction(
     let code = Code::new(alloc, &reaction.body)?;
     let ports = ports_among(alloc, &reaction.writes)?;
     let after = marks_of(program, sources, &ports);
+    let may_wish = !fits(&reaction.body, sizes(program), 0);
     Ok(ReadyReaction {
         number,
         triggers,
         code,
         after,
+        may_wish,
     })
 }
 
@@ -333,12 +352,15 @@ fn of_turns(
 }
 
 /// Whom each place of a program concerns, by the place's number; the reactions, ready to run, in the order in which a
-/// step runs them; and the marks of all links.
+/// step runs them; the marks of all program outputs and of all links; and the period that all timers share.
 #[derive(Drop)]
 pub(crate) struct Plan {
     places: Vec<Concerned>,
     turns: Vec<ReadyReaction>,
+    outputs: Marks,
     links: Marks,
+    /// The period of all timers, 0 where they have not all the same.
+    period: u64,
 }
 
 impl Model for Plan {
@@ -354,7 +376,9 @@ impl Model for Plan {
       places = map (λ one. one.marks.word) p.places.items;
       firsts = map (λ one. one.first) p.places.items;
       turns = map ready_turn p.turns.items;
+      outputs = p.outputs.word;
       links = p.links.word;
+      period = p.period;
     } };
 }
 
@@ -369,7 +393,9 @@ impl Plan {
         Ok(Plan {
             places,
             turns,
+            outputs: all_outputs(program),
             links: all_links(program),
+            period: shared_period(program.timers()),
         })
     }
 
@@ -400,6 +426,14 @@ impl Plan {
         &self.turns[turn]
     }
 
+    /// The marks of all program outputs.
+    #[inline(always)]
+    pub fn outputs(&self) -> Marks
+        ensures { result.word ≡ self.now.outputs }
+    {
+        self.outputs
+    }
+
     /// The marks of all links.
     #[inline(always)]
     pub fn links(&self) -> Marks
@@ -407,6 +441,44 @@ impl Plan {
     {
         self.links
     }
+
+    /// The period that all timers share, 0 where they share none.
+    #[inline(always)]
+    pub fn period(&self) -> u64
+        ensures { result ≡ self.now.period }
+    {
+        self.period
+    }
+}
+
+/// The period of these timers if all have the same, else 0.
+fn shared_period(timers: &[Timer]) -> u64
+    ensures { result ≡ shared_period timers.now }
+{
+    match timers {
+        [] => 0,
+        [first, rest @ ..] => {
+            if have_period(rest, first.period) {
+                first.period
+            } else {
+                0
+            }
+        }
+    }
+}
+
+/// Whether these timers all have this period.
+fn have_period(timers: &[Timer], period: u64) -> bool
+    ensures { result ≡ list_all (λ t. t.period == period) timers.now }
+{
+    timers.iter().all(|timer| timer.period == period)
+}
+
+/// The marks of all program outputs.
+fn all_outputs(program: &Program) -> Marks
+    ensures { result.word ≡ marks_from (first_output program.now) (length program.now.outputs) }
+{
+    Marks::range(first_output(program), program.outputs().len())
 }
 
 /// The marks of all links of a program.

@@ -77,8 +77,8 @@ fn is_one_present(targets: &[Target], present: &Present) -> bool
     false
 }
 
-/// Runs a reaction if it is triggered, and says whether it has wishes then. Whether it is may be sure before. Whom what
-/// it writes concerns is due then.
+/// Runs a reaction if it is triggered, and says whether it may have wishes then. Whether it is may be sure before. Whom
+/// what it writes concerns is due then.
 #[inline(always)]
 fn run_reaction(
     is_sure: bool,
@@ -94,6 +94,7 @@ fn run_reaction(
     requires body { IsTrue (body_fits (sizes_of vars.old present.old) (ready_turn ready.now).body) }
     requires room { schedules_of (ready_turn ready.now).body ≤ most_wishes }
     requires none { slice_index_or (lists_of wishes.old) (ready_turn ready.now).number [] ≡ [] }
+    requires wish { (ready_turn ready.now).may_wish ≡ false → schedules_of (ready_turn ready.now).body ≤ 0 }
     ensures effect { record { vars = vars.new; present = present.new; wishes = lists_of wishes.new }
         ≡ react (ready_turn ready.now).number (turn_rule (ready_turn ready.now)) (record {
           vars = vars.old;
@@ -114,12 +115,12 @@ fn run_reaction(
     if triggered(is_sure, ready, present) {
         due.add_all(ready.after);
         ready.code.run(vars, present, &mut wishes[ready.number]);
-        return !wishes[ready.number].is_empty();
+        return ready.may_wish;
     }
     false
 }
 
-/// Runs the reactions that are triggered, in the program's order, and says whether one has wishes then. It looks at
+/// Runs the reactions that are triggered, in the program's order, and says whether one may have wishes then. It looks at
 /// those that are due, which all are that something present triggers, and tests them but the first one where that is
 /// sure.
 #[inline(always)]
@@ -167,15 +168,31 @@ pub(crate) fn run_reactions(
     wished
 }
 
-/// Appends an output for each program output that is present.
+/// Appends an output for each program output that is present. Where none is due it is one test.
 #[inline(always)]
 pub(crate) fn put_outputs(
     program: &Program,
+    plan: &Plan,
     tag: Tag,
     due: Marks,
     present: &Present,
     out: &mut Vec<Out>,
 )
+    requires places { places_of present.now ≡ program_places program.now }
+    requires plan { plan.now ≡ plan_of program.now }
+    requires due { AreDue program.now present.now due.word }
+    requires room { vec_len out.old + length program.now.outputs ≤ vec_capacity out.old }
+    ensures outputs { out.new.items ≡ out.old.items ++ outputs_from 0 tag present.now program.now.outputs }
+    ensures capacity { vec_capacity out.new ≡ vec_capacity out.old }
+{
+    if due.meets(plan.outputs()) {
+        put_some_outputs(program, tag, due, present, out);
+    }
+}
+
+/// Appends an output for each program output that is present.
+#[inline(always)]
+fn put_some_outputs(program: &Program, tag: Tag, due: Marks, present: &Present, out: &mut Vec<Out>)
     requires places { places_of present.now ≡ program_places program.now }
     requires due { AreDue program.now present.now due.word }
     requires room { vec_len out.old + length program.now.outputs ≤ vec_capacity out.old }

@@ -1,5 +1,5 @@
 -- Timers that are pending again as the entries at a tag are taken one after another.
-use Rattle.std.specs.Prelude.{ℕ, pos, nat_lt, Bool, ◌&&◌, ◌==◌, List, [], ◌∷◌, slice_index_or, if◌then◌else◌}
+use Rattle.std.specs.Prelude.{ℕ, pos, nat_lt, Bool, true, false, ◌&&◌, ◌==◌, List, [], ◌∷◌, slice_index_or, if◌then◌else◌}
 use Rattle.warp_tag.specs.Moment.{Moment, is_same}
 use Rattle.warp_body.specs.declared.place.Target.{Target}
 use Rattle.warp_body.specs.declared.place.Target.TheVariants as to
@@ -29,6 +29,13 @@ target_period P to.Startup = 0
 target_period P (to.Timer n) = period_of P n
 target_period P (to.Action n) = 0
 target_period P (to.Port n) = 0
+
+-- the target is a timer
+abbrev pub is_timer : Target → Bool
+is_timer to.Startup = false
+is_timer (to.Timer n) = true
+is_timer (to.Action n) = false
+is_timer (to.Port n) = false
 
 -- the entry is at the tag, and to a target with this period
 abbrev pub is_alike : Program → Moment → ℕ → Waiting → Bool

@@ -1,17 +1,19 @@
 -- Whom a step may have to look at where a place becomes present: the reactions that it may trigger, and the links and the
 -- program outputs whose port it is. Each has its triggers.
-use Rattle.std.specs.Prelude.{ℕ, ◌+◌, ◌-◌, Bool, true, false, nat_lt, nat_eq, List, [], ◌∷◌, length, map, filter, Option, None, Some, slice_index_or, if◌then◌else◌, refl}
-use Rattle.std.specs.Coded.{Coded, code_by, coded×, coded_ℕ, coded_list}
-use Rattle.std.specs.List.{list_any, range_with_len}
+use Rattle.std.specs.Prelude.{ℕ, ◌+◌, ◌-◌, ◌==◌, ◌&&◌, not, Bool, true, false, nat_lt, nat_le, nat_eq, List, [], ◌∷◌, length, map, filter, Option, None, Some, slice_index_or, if◌then◌else◌, refl}
+use Rattle.std.specs.Coded.{Coded, code_by, coded×, coded_ℕ, coded_bool, coded_list}
+use Rattle.std.specs.List.{list_all, list_any, range_with_len}
 use Rattle.warp_body.specs.Codes.{body_code, target_code}
-use Rattle.warp_body.specs.Effect.{Body, Done}
+use Rattle.warp_body.specs.Effect.{Body, Done, body_fits, schedules_of}
 use Rattle.warp_body.specs.Presence.{is_target}
 use Rattle.warp_body.specs.declared.place.Target.{Target}
 use Rattle.warp_body.specs.declared.place.Target.TheVariants as to
 use Rattle.warp_step.specs.inner.Marks.{first_link, first_output, first_reaction, marks_from, no_marks, with_mark}
 use Rattle.warp_step.specs.Program.{Rule, Program}
 use Rattle.warp_step.specs.Step.{sources_of}
+use Rattle.warp_step.specs.Valid.{program_sizes}
 use Rattle.warp_step.specs.declared.parts.Link.{Link}
+use Rattle.warp_step.specs.declared.parts.Timer.{Timer}
 use Rattle.warp_step.specs.declared.plan.ReadyReaction.{ReadyReaction}
 
 -- the place by whose presence a target is present: of a port its source, else itself
@@ -90,29 +92,37 @@ most_places = 337
 unfoldable pub place_numbers : List ℕ
 place_numbers = range_with_len 0 most_places
 
--- What is kept for a turn: the number of the reaction that has it, what triggers it, its body, and the marks of those whom what it
--- writes concerns.
+-- What is kept for a turn: the number of the reaction that has it, what triggers it, its body, the marks of those whom what it
+-- writes concerns, and whether it may have wishes.
 pub record TurnPlan : Type 0 where
   pub number : ℕ
   pub triggers : List Target
   pub body : Body
   pub after : ℕ
+  pub may_wish : Bool
 
 -- what a reaction that is ready to run keeps for its turn
 abbrev pub ready_turn : ReadyReaction → TurnPlan
-ready_turn r = record { number = r.number; triggers = r.triggers.items; body = r.code; after = r.after.word }
+ready_turn r = record { number = r.number; triggers = r.triggers.items; body = r.code; after = r.after.word; may_wish = r.may_wish }
 
 -- a rule that is triggered and does as the reaction that has the turn
 abbrev pub turn_rule : TurnPlan → Rule
 turn_rule turn = record { reactor = 0; triggers = turn.triggers; reads = []; writes = []; body = turn.body }
 
+-- the period that all these timers have, 0 where they have not all the same
+abbrev pub shared_period : List Timer → ℕ
+shared_period [] = 0
+shared_period (t ∷ ts) = if list_all (λ x. x.period == t.period) ts then t.period else 0
+
 -- Whom each place concerns, by the place's number, as marks. The turn of the first reaction that each place triggers, by the place's
--- number. What is kept for each turn. And the marks of all links.
+-- number. What is kept for each turn. The marks of all program outputs, and of all links. And the period that all timers share.
 pub record Plan : Type 0 where
   pub places : List ℕ
   pub firsts : List ℕ
   pub turns : List TurnPlan
+  pub outputs : ℕ
   pub links : ℕ
+  pub period : ℕ
 
 -- the marks of those whom the presence of one of these places concerns
 abbrev pub marks_of : Program → List Target → ℕ
@@ -122,39 +132,60 @@ marks_of P places =
     (with_watchers link_heeds (first_link P) sources places 0 P.links
     (with_watchers reaction_heeds first_reaction sources places 0 (in_turn P) no_marks))
 
+-- the rule may have wishes, as its body schedules something
+abbrev pub may_wish : Program → Rule → Bool
+may_wish P rule = not (body_fits (program_sizes P) rule.body && nat_le (schedules_of rule.body) 0)
+
 -- what is kept for the turn of the reaction with this number
 abbrev pub turn_plan : Program → ℕ → TurnPlan
 turn_plan P n =
     let rule = rule_numbered P.reactions n in
-    record { number = n; triggers = rule.triggers; body = rule.body; after = marks_of P (filter is_port rule.writes) }
+    record {
+      number = n;
+      triggers = rule.triggers;
+      body = rule.body;
+      after = marks_of P (filter is_port rule.writes);
+      may_wish = may_wish P rule;
+    }
 
--- whom each place of the program concerns, which reaction first, what is kept for the turns of its order, and all its links
+-- whom each place of the program concerns, which reaction first, what is kept for the turns of its order, all its outputs and links,
+-- and the period of its timers
 abbrev pub plan_of : Program → Plan
 plan_of P = record {
   places = map (λ n. marks_of P (numbered_place n ∷ [])) place_numbers;
   firsts = map (λ n. first_heeding (sources_of P) (numbered_place n) 0 (in_turn P)) place_numbers;
   turns = map (turn_plan P) P.order;
+  outputs = marks_from (first_output P) (length P.outputs);
   links = marks_from (first_link P) (length P.links);
+  period = shared_period P.timers;
 }
 
--- number, triggers, body and marks of a turn
+-- number, triggers, body and marks of a turn, and whether it may have wishes
 abbrev pub TurnParts : Type 0
-TurnParts = ℕ × (List Target × (Body × ℕ))
+TurnParts = ℕ × (List Target × (Body × (ℕ × Bool)))
 
 abbrev pub turn_code : Coded TurnPlan
 turn_code =
-    code_by TurnParts (coded× coded_ℕ (coded× (coded_list target_code) (coded× body_code coded_ℕ)))
-    (λ t. (t.number, (t.triggers, (t.body, t.after))))
-    (λ q. record { number = q.0; triggers = q.1.0; body = q.1.1.0; after = q.1.1.1 })
+    code_by TurnParts (coded× coded_ℕ (coded× (coded_list target_code) (coded× body_code (coded× coded_ℕ coded_bool))))
+    (λ t. (t.number, (t.triggers, (t.body, (t.after, t.may_wish)))))
+    (λ q. record { number = q.0; triggers = q.1.0; body = q.1.1.0; after = q.1.1.1.0; may_wish = q.1.1.1.1 })
     (λ _. refl)
 
--- whom each place concerns, and which reaction first; the turns; and all links
+-- whom each place concerns, and which reaction first; the turns; all outputs, all links, and the period
 abbrev pub PlanParts : Type 0
-PlanParts = List ℕ × (List ℕ × (List TurnPlan × ℕ))
+PlanParts = List ℕ × (List ℕ × (List TurnPlan × (ℕ × (ℕ × ℕ))))
 
 abbrev pub plan_code : Coded Plan
 plan_code =
-    code_by PlanParts (coded× (coded_list coded_ℕ) (coded× (coded_list coded_ℕ) (coded× (coded_list turn_code) coded_ℕ)))
-    (λ p. (p.places, (p.firsts, (p.turns, p.links))))
-    (λ q. record { places = q.0; firsts = q.1.0; turns = q.1.1.0; links = q.1.1.1 })
+    code_by PlanParts
+    (coded× (coded_list coded_ℕ) (coded× (coded_list coded_ℕ) (coded× (coded_list turn_code) (coded× coded_ℕ (coded× coded_ℕ coded_ℕ)))))
+    (λ p. (p.places, (p.firsts, (p.turns, (p.outputs, (p.links, p.period))))))
+    (λ q. record {
+      places = q.0;
+      firsts = q.1.0;
+      turns = q.1.1.0;
+      outputs = q.1.1.1.0;
+      links = q.1.1.1.1.0;
+      period = q.1.1.1.1.1;
+    })
     (λ _. refl)

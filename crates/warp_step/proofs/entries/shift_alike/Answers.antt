@@ -10,8 +10,8 @@ use Rattle.warp_step.proofs.TogetherLemmas.{more_shifted, put_next, read_next}
 use Rattle.warp_step.proofs.ValidLemmas.{list_all_get}
 use Rattle.warp_step.proofs.entries.shift_alike.Goals as goal
 
-pub is_alike-requires : goal.is_alike-requires
-is_alike-requires c =
+pub is_alike-requires-clause-target : goal.is_alike-requires-clause-target
+is_alike-requires-clause-target c =
     let P = c.args.program.now in
     let all = slice_range c.args.items.now c.args.start c.args.end in
     let w = c.index-items-start.result in

@@ -1,18 +1,17 @@
--- an only output's port is one of the program's
-use Rattle.std.proofs.Common.{◌≡◌, ℕ, ◌<◌, List, get_or, nat_lt, length, ap, arith}
-use Rattle.std.proofs.lemmas.Bool.{ltb-true}
-use Rattle.warp_body.specs.declared.place.Places.{Places}
-use Rattle.warp_step.proofs.ValidLemmas.{list_all_get, outputs_within}
+-- where the marks of all program outputs are apart from those that are due, none is present
+use Rattle.std.proofs.Common.{◌≡◌, ℕ, ◌++◌, List, length, refl, sym, ap, ◌∙◌, append-nil}
+use Rattle.warp_step.specs.inner.Marks.{first_output, mark_at, marks_from}
+use Rattle.warp_step.specs.inner.Plan.{Plan}
+use Rattle.warp_tag.specs.declared.out.Out.{Out}
+use Rattle.warp_step.proofs.SkipLemmas.{none_marked, outputs_rest}
 use Rattle.warp_step.proofs.react.put_outputs.Goals as goal
 
-pub put_output-requires-clause-port : goal.put_output-requires-clause-port
-put_output-requires-clause-port c =
+pub returns-else-meets-clause-outputs : goal.returns-else-meets-clause-outputs
+returns-else-meets-clause-outputs c =
     let P = c.args.program.now in
-    let len : length c.outputs-ports.result.now ≡ length P.outputs = ap length c.outputs-ports.ensures in
-    let lt : 0 < length P.outputs = omega arith in
-    let within : get_or P.outputs 0 0 < length P.ports =
-    ltb-true _ _ (list_all_get (λ k. nat_lt k (length P.ports)) P.outputs 0 0 (outputs_within P c.valid.ensures) lt) in
-    let here : get_or c.outputs-ports.result.now 0 0 ≡ get_or P.outputs 0 0 =
-    ap (λ (ports : List ℕ). get_or ports 0 0) c.outputs-ports.ensures in
-    let ports : length c.args.present.now.ports ≡ length P.ports = ap (λ (p : Places). p.ports) c.requires.places in
-    omega (arith, within, here, ports)
+    let word = c.args.due.word in
+    let all : c.outputs.result.word ≡ marks_from (first_output P) (length P.outputs) =
+    c.outputs.ensures ∙ ap (λ (p : Plan). p.outputs) c.requires.plan in
+    let none = outputs_rest P c.args.tag c.args.present.now word (first_output P) c.requires.due.outputs
+    (none_marked (first_output P) (length P.outputs) word (λ m h. c.meets.ensures c.if-meets.false m (ap (λ (marks : ℕ). mark_at marks m) all ∙ h))) in
+    sym (ap (λ (more : List Out). c.args.out.now.items ++ more) none ∙ append-nil c.args.out.now.items)

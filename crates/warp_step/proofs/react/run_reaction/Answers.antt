@@ -1,9 +1,9 @@
 -- what the body does is the reaction's effect, and the wishes of the others stay
-use Rattle.std.proofs.Common.{◌≡◌, List, [], IsTrue, filter, ap, sym, ◌∙◌, subst, get_or, refl}
+use Rattle.std.proofs.Common.{◌≡◌, List, [], IsTrue, length, filter, ap, sym, ◌∙◌, subst, get_or, refl, arith}
 use Rattle.std.specs.List.{list_all}
 use Rattle.std.specs.Prelude.{slice_set}
 use Rattle.std.proofs.lemmas.Bool.{cond-true}
-use Rattle.std.proofs.lemmas.List.{get_or-map, map-set}
+use Rattle.std.proofs.lemmas.List.{get_or-map, map-set, nil_from_length, set-get_or}
 use Rattle.arrayvec.specs.ArrayVec.{ArrayVec}
 use Rattle.warp_body.specs.Effect.{Body, Effect, effect_of, wish_fits}
 use Rattle.warp_body.specs.Term.{sizes_of}
@@ -67,3 +67,17 @@ returns-then-triggered-clause-due c = λ P rule valid fits body own after_is wer
     subst (λ (p : Presence). AreDue P p c.add_all.new.self.word) (sym (ap (λ (e : Effect). e.present) effect))
     (due_after P (filter is_port rule.writes) c.args.present.now (effect_of rule.body now).present c.args.due.now.word c.args.ready.now.after.word c.add_all.new.self.word
     own (follows_body P rule fits now) after_is c.add_all.ensures were)
+
+pub returns-then-triggered-clause-none : goal.returns-then-triggered-clause-none
+returns-then-triggered-clause-none c = λ h.
+    let W = c.args.wishes.now in
+    let n = (ready_turn c.args.ready.now).number in
+    let room = c.index-wishes-ready.result in
+    let none : (get_or W n room).items ≡ [] =
+    sym (get_or-map (λ (w : ArrayVec Wish). w.items) W n room [] c.requires.number) ∙ c.requires.none in
+    let few = c.requires.wish h in
+    let before = ap (λ (ws : List Wish). length ws) none in
+    let after : c.run.new.wishes.items ≡ [] = nil_from_length c.run.new.wishes.items (omega (arith, few, before, c.run.ensures.room)) in
+    map-set (λ (w : ArrayVec Wish). w.items) W n c.run.new.wishes
+    ∙ ap (λ (ws : List Wish). slice_set (lists_of W) n ws) (after ∙ sym c.requires.none)
+    ∙ set-get_or (lists_of W) n []

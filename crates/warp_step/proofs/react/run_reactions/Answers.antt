@@ -3,7 +3,8 @@
 use Rattle.std.proofs.Common.{◌≡◌, ℕ, replicate, ◌+◌, ◌≤◌, ◌<◌, List, [], drop, IsTrue, ap, sym, ◌∙◌, subst, get_or, length, refl, true, false, arith}
 use Rattle.std.specs.Prelude.{slice_index_or}
 use Rattle.std.specs.List.{list_all}
-use Rattle.std.proofs.lemmas.Bool.{eqb-true, or_parts}
+use Rattle.std.specs.Prelude.{◌&&◌, nat_le}
+use Rattle.std.proofs.lemmas.Bool.{and_parts, eqb-true, leb-true, not-false, or_parts}
 use Rattle.std.proofs.lemmas.List.{at_drop_all, get_or-map, length-map, length-replicate}
 use Rattle.arrayvec.specs.ArrayVec.{ArrayVec}
 use Rattle.warp_tag.specs.Limits.{most_reactions, most_wishes}
@@ -13,8 +14,8 @@ use Rattle.warp_body.specs.Term.{sizes_of}
 use Rattle.warp_body.specs.declared.place.Places.{Places}
 use Rattle.warp_body.specs.declared.place.Sizes.{Sizes}
 use Rattle.warp_body.specs.declared.stmt.Wish.{Wish}
-use Rattle.warp_step.specs.inner.Plan.{Plan, TurnPlan, plan_of, ready_turn, rule_numbered, turn_plan, turn_rule}
-use Rattle.warp_step.specs.Program.{Program}
+use Rattle.warp_step.specs.inner.Plan.{Plan, TurnPlan, may_wish, plan_of, ready_turn, rule_numbered, turn_plan, turn_rule}
+use Rattle.warp_step.specs.Program.{Program, Rule}
 use Rattle.warp_step.specs.Valid.{is_valid, program_places, program_sizes, rule_fits}
 use Rattle.warp_step.specs.inner.Sure.{IsSure}
 use Rattle.warp_step.specs.Step.{Reacting, after_reactions, is_triggered, react}
@@ -52,6 +53,12 @@ kept_at P plan turn count kept valid is counted lt at =
       is = at ∙ ap (λ (p : Plan). slice_index_or p.turns turn kept) is ∙ get_or-map (turn_plan P) P.order turn 0 kept within;
       may = list_all_get (rule_fits P) P.reactions (get_or P.order turn 0) _ (validity P valid).rules mine.below;
     }
+
+-- a rule that has no wishes schedules nothing
+wishless : (P : Program) (rule : Rule) → may_wish P rule ≡ false → schedules_of rule.body ≤ 0
+wishless P rule h =
+    let fits = not-false (body_fits (program_sizes P) rule.body && nat_le (schedules_of rule.body) 0) h in
+    leb-true (schedules_of rule.body) 0 (and_parts (body_fits (program_sizes P) rule.body) (nat_le (schedules_of rule.body) 0) fits).1
 
 pub loop-turn-init : goal.loop-turn-init
 loop-turn-init c =
@@ -100,6 +107,7 @@ run_reaction-wished-requires c =
           (subst (λ (s : Sizes). IsTrue (body_fits s rule.body)) sizes fits.body);
       room = subst (λ (t : TurnPlan). schedules_of t.body ≤ most_wishes) own fits.room;
       none = ap (λ (t : TurnPlan). get_or (lists_of c.loop-turn.wishes) t.number []) kept.is ∙ c.loop-turn.invariant.none turn (omega arith) kept.mine.within;
+      wish = λ h. subst (λ (t : TurnPlan). schedules_of t.body ≤ 0) own (wishless P rule (sym (ap (λ (t : TurnPlan). t.may_wish) kept.is) ∙ h));
     }
 
 pub loop-turn-preserved : goal.loop-turn-preserved

@@ -73,7 +73,8 @@ all : (c : goal.After-loop) → AllTaken c.args.program.now c.args.tag c.args.se
 all c =
     let same : c.self.inside.pending ≡ c.args.self.now.pending = search rules in
     let long = ap (λ (xs : List Waiting). length xs) same in
-    let past : length c.args.self.now.pending ≤ c.take_alike-count.result + c.loop.counter = omega (arith, long, c.len-most.ensures.value, c.loop-test.false) in
+    let past : length c.args.self.now.pending ≤ c.take_alike-count.result + c.loop.counter =
+    omega (arith, long, c.len-most.ensures.value, c.len-most.ensures.few, c.loop-test.false) in
     as_many c.args.program.now c.args.tag c.args.self.now (c.take_alike-count.result + c.loop.counter) c.loop.self c.args.present.now c.loop.present c.loop.invariant.so_far
     (subst AreInOrder same c.self.invariant.0) c.requires.none_before past
 

@@ -71,3 +71,10 @@ take_one-requires-clause-some c =
     let same : ws ≡ c.args.self.now.pending = search rules in
     let stands = sym (c.is_at.ensures ∙ ap (λ (xs : List Waiting). stands_at c.args.tag xs 0) c.as_slice.ensures.value) ∙ c.if-not-is_at.false in
     subst (λ (xs : List Waiting). 0 < length xs) same (first_here c.args.tag ws stands).0
+
+pub take_several-requires-clause-some : goal.take_several-requires-clause-some
+take_several-requires-clause-some c =
+    let ws = c.self.inside.pending in
+    let same : ws ≡ c.args.self.now.pending = search rules in
+    let stands = sym (c.is_at.ensures ∙ ap (λ (xs : List Waiting). stands_at c.args.tag xs 0) c.as_slice.ensures.value) ∙ c.if-not-is_at.false in
+    subst (λ (xs : List Waiting). 0 < length xs) same (first_here c.args.tag ws stands).0
