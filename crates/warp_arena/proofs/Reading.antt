@@ -132,6 +132,7 @@ pub record LinksAt (size : ℕ) (links : Links) (i : ℕ) (front back : List ℕ
   pub below : i < size
   pub before : IsOff NO_NODE front
   pub behind : IsOff NO_NODE back
+  pub no_end : i ≢ NO_NODE
   pub next_is : links.next ≡ first_or back NO_NODE
   pub prev_is : links.prev ≡ last_or NO_NODE front
 
@@ -144,6 +145,7 @@ links_at size ends links is l i front back parts =
       below = (All-right (λ j. j < size) front (i ∷ back) (subst (AllByRecursion (λ j. j < size)) parts l.below)).0;
       before = All-left (λ j. j ≢ NO_NODE) front (i ∷ back) none;
       behind = from.1;
+      no_end = from.0;
       next_is =
           sym (next_in-at ends links i from.0)
           ∙ ap (next_in ends links) (sym (last_or-push NO_NODE front i))
@@ -167,6 +169,10 @@ module _ (a : Inside) (w : IsWhole (threads a) a.used) (i : ℕ) (h : IsSome (en
 
   pub used_found_below : i < length a.nodes.items
   used_found_below = tag_links.below
+
+  -- it is no list's end
+  pub used_found_no_end : i ≢ NO_NODE
+  used_found_no_end = tag_links.no_end
 
   pub entry_found : entry_of i (places a) ≡ Some ((threads a).entry i)
   entry_found =

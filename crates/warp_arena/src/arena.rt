@@ -6,7 +6,7 @@ use crate::hints::{
 use crate::links::{
     add_node, handle, is_passed, next_by_tag, next_of_origin, thread_node, unthread_node,
 };
-use crate::node::{Gap, HINTED, Links, MOST_PASSED, NO_NODE, Node, NodeId, Origin, Walk};
+use crate::node::{Cursor, Gap, HINTED, Links, MOST_PASSED, NO_NODE, Node, NodeId, Origin, Walk};
 use crate::packed::Packed;
 use std::alloc::Global;
 use std::marker::Model;
@@ -383,6 +383,19 @@ impl Arena {
         ensures used { IfSome result (λ at. IsSome (entry_of at self.now.places)) }
     {
         handle(self.nodes[node.index() as usize].of_origin.next)
+    }
+
+    /// Where a walk stands at this handle's entry, or behind the last one where there is none.
+    #[inline(always)]
+    pub fn cursor_at(&self, node: Option<NodeId>) -> Cursor
+        requires { IfSome node (λ at. IsSome (entry_of at self.now.places)) }
+        ensures { result ≡ node }
+    {
+        let _ = &self.used;
+        match node {
+            Some(node) => Cursor::new(node.index()),
+            None => Cursor::end(),
+        }
     }
 
     /// How many entries the arena holds.

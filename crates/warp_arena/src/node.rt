@@ -52,6 +52,54 @@ impl NodeId {
     }
 }
 
+/// Where a walk along an arena's entries stands: at the entry of a handle, or behind the last one. Contracts see it as
+/// that handle, if there is one. It takes four bytes, where a handle that may be none takes eight.
+#[derive(Debug, Drop)]
+pub struct Cursor {
+    at: u32,
+}
+
+impl Model for Cursor {
+    ghost use Rattle.std.specs.Prelude.{ℕ, Option, Some, None, if◌then◌else◌, ◌==◌};
+    ghost use Rattle.warp_arena.specs.declared.node.TheConstants.{NO_NODE};
+
+    ghost Value = { Option ℕ };
+
+    ghost view = { λ c. if c.at == NO_NODE then None else Some c.at };
+}
+
+impl Cursor {
+    ghost use Rattle.std.specs.Prelude.{◌≡◌, None, Some, if◌then◌else◌, ◌==◌};
+    ghost use Rattle.warp_arena.specs.declared.node.TheConstants.{NO_NODE};
+
+    /// Behind the last entry.
+    pub fn end() -> Cursor
+        ensures { result ≡ None }
+    {
+        Cursor { at: NO_NODE }
+    }
+
+    /// At the node at this index, or behind the last entry for `NO_NODE`.
+    #[inline(always)]
+    pub(crate) fn new(at: u32) -> Cursor
+        ensures { result ≡ (if at == NO_NODE then None else Some at) }
+    {
+        Cursor { at }
+    }
+
+    /// The handle of the entry at which it stands, or none behind the last one.
+    #[inline(always)]
+    pub fn node(&self) -> Option<NodeId>
+        ensures { result ≡ self.now }
+    {
+        if self.at == NO_NODE {
+            None
+        } else {
+            Some(NodeId::new(self.at))
+        }
+    }
+}
+
 /// The indices of a node's neighbours in a list, or `NO_NODE` at its ends. Where it stands for a list as a
 /// whole, `next` is the first node and `prev` the last.
 #[derive(Clone, Copy, Debug, PartialEq, Eq)]

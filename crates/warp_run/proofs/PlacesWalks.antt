@@ -122,6 +122,10 @@ passes_all tag ps cursor at p end to is_end to_end later =
 
 -- ---- the first live event
 
+-- where a walk stands, under another name
+pub reaches_as : (ps rest : List Place) (x y : Option ℕ) → x ≡ y → Reaches ps rest y → Reaches ps rest x
+reaches_as ps rest x y is r = subst (Reaches ps rest) (sym is) r
+
 -- What is left to seek in has the live events that there were at the start.
 pub record Seeks (ps start : List Place) (at : Option ℕ) : Type 0 where
   pub reaches : Reaches ps (left_at at ps) at

@@ -53,6 +53,10 @@ pub record IsFound (places rest : List Place) (l : Live) : Type 0 where
 abbrev pub FindsFirst : List Place → List Place → Option Live → Type 0
 FindsFirst places rest found = MatchOption found (live_of rest ≡ []) (IsFound places rest)
 
+-- it is the place of the first live event of these places; where there is none, they have none
+abbrev pub FindsPlace : List Place → List Place → Option ℕ → Type 0
+FindsPlace places rest found = MatchOption found (live_of rest ≡ []) (λ node. (l : Live) × IsFound places rest l × (l.node ≡ node))
+
 -- no event is before this tag
 abbrev pub AreNotBefore : Moment → List Event → Type 0
 AreNotBefore tag E = IsTrue (list_all (λ e. not (is_before e.tag tag)) E)
@@ -61,6 +65,13 @@ AreNotBefore tag E = IsTrue (list_all (λ e. not (is_before e.tag tag)) E)
 abbrev pub FindsBefore : List Place → List Place → Moment → Option Live → Type 0
 FindsBefore places rest tag found =
     MatchOption found (AreNotBefore tag (live_of rest)) (λ l. IsFound places rest l × (is_before l.tag tag ≡ true))
+
+-- it is the place of the first live event of these places, and that is before the tag; where there is none, none of
+-- theirs is before it
+abbrev pub FindsPlaceBefore : List Place → List Place → Moment → Option ℕ → Type 0
+FindsPlaceBefore places rest tag found =
+    MatchOption found (AreNotBefore tag (live_of rest))
+    (λ node. (l : Live) × IsFound places rest l × (is_before l.tag tag ≡ true) × (l.node ≡ node))
 
 -- what these places give at the event's tag is what it gives, and then what the places after its own give
 pub record IsAhead (places rest : List Place) (l : Live) : Type 0 where

@@ -5,7 +5,7 @@ ghost use Rattle.std.specs.Option.{option_map};
 ghost use Rattle.warp_tag.specs.Table.{live, live_event};
 ghost use Rattle.warp_step.specs.Run.{given_of, is_after};
 ghost use Rattle.warp_arena.specs.Places.{Place, Reaches, entry_of};
-ghost use Rattle.warp_run.specs.Walk.{AreThrough, FindsBefore, FindsFirst, ahead, event_at, given_by, live_of, through};
+ghost use Rattle.warp_run.specs.Walk.{AreThrough, FindsBefore, FindsFirst, FindsPlace, FindsPlaceBefore, ahead, event_at, given_by, live_of, through};
 
 use warp_arena::{Arena, NodeId};
 use warp_step::Given;
@@ -83,10 +83,10 @@ fn add_given(entry: &Entry, given: &mut Vec<Given>) -> Result<(), OutOfMemory>
 pub(crate) fn next_event(
     arena: &Arena,
     cursor: Option<NodeId>,
-    latest: &Option<Tag>,
+    latest: Option<Tag>,
 ) -> Option<Live>
-    requires { (rest : List Place) × Reaches arena.now.places rest cursor × AreThrough latest.now (live_of rest) }
-    ensures { (rest : List Place) → Reaches arena.now.places rest cursor → AreThrough latest.now (live_of rest) →
+    requires { (rest : List Place) × Reaches arena.now.places rest cursor × AreThrough latest (live_of rest) }
+    ensures { (rest : List Place) → Reaches arena.now.places rest cursor → AreThrough latest (live_of rest) →
         FindsFirst arena.now.places rest result }
 {
     let node = cursor?;
@@ -94,18 +94,30 @@ pub(crate) fn next_event(
     if live.is_some() {
         return live;
     }
-    seek_event(arena, Some(node), latest)
+    let found = later_event(arena, node, latest)?;
+    live_at(found, &arena.entry(found))
+}
+
+/// The place of the first live event from a place on, sought apart from where it is mostly that of the first place.
+#[inline(never)]
+fn later_event(arena: &Arena, node: NodeId, latest: Option<Tag>) -> Option<NodeId>
+    requires { (rest : List Place) × Reaches arena.now.places rest (Some node) × AreThrough latest (live_of rest) }
+    ensures { (rest : List Place) → Reaches arena.now.places rest (Some node) → AreThrough latest (live_of rest) →
+        FindsPlace arena.now.places rest result }
+{
+    let live = seek_event(arena, Some(node), latest)?;
+    Some(live.node)
 }
 
 /// The first live event from the cursor on, sought. No live event is after the latest tag, so the walk ends there.
-#[inline(never)]
-fn seek_event(arena: &Arena, cursor: Option<NodeId>, latest: &Option<Tag>) -> Option<Live>
-    requires { (rest : List Place) × Reaches arena.now.places rest cursor × AreThrough latest.now (live_of rest) }
-    ensures { (rest : List Place) → Reaches arena.now.places rest cursor → AreThrough latest.now (live_of rest) →
+#[inline(always)]
+fn seek_event(arena: &Arena, cursor: Option<NodeId>, latest: Option<Tag>) -> Option<Live>
+    requires { (rest : List Place) × Reaches arena.now.places rest cursor × AreThrough latest (live_of rest) }
+    ensures { (rest : List Place) → Reaches arena.now.places rest cursor → AreThrough latest (live_of rest) →
         FindsFirst arena.now.places rest result }
 {
     arena.ordered();
-    let Some(latest) = *latest else {
+    let Some(latest) = latest else {
         return None;
     };
     let mut at = cursor;
@@ -140,11 +152,24 @@ pub(crate) fn event_before(arena: &Arena, cursor: Option<NodeId>, tag: Tag) -> O
     if live.is_some() {
         return live;
     }
-    seek_before(arena, Some(node), tag)
+    let found = later_before(arena, node, tag)?;
+    live_at(found, &arena.entry(found))
+}
+
+/// The place of the first live event from a place on that is before the tag, sought apart from where it is mostly that
+/// of the first place.
+#[inline(never)]
+fn later_before(arena: &Arena, node: NodeId, tag: Tag) -> Option<NodeId>
+    requires { (rest : List Place) × Reaches arena.now.places rest (Some node) }
+    ensures { (rest : List Place) → Reaches arena.now.places rest (Some node) →
+        FindsPlaceBefore arena.now.places rest tag result }
+{
+    let live = seek_before(arena, Some(node), tag)?;
+    Some(live.node)
 }
 
 /// The first live event from the cursor on that is before the tag, sought: the walk ends at the first place that is not.
-#[inline(never)]
+#[inline(always)]
 fn seek_before(arena: &Arena, cursor: Option<NodeId>, tag: Tag) -> Option<Live>
     requires { (rest : List Place) × Reaches arena.now.places rest cursor }
     ensures { (rest : List Place) → Reaches arena.now.places rest cursor → FindsBefore arena.now.places rest tag result }

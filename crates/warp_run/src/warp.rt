@@ -20,7 +20,7 @@ use crate::walk::{
 use std::alloc::Global;
 use std::slice;
 use warp_arena::law::{changes_found, changes_new, finds_known};
-use warp_arena::{Arena, NodeId};
+use warp_arena::{Arena, Cursor, NodeId};
 use warp_line::Timeline;
 use warp_step::{Given, Meter, Out, Program, State};
 use warp_tag::{OutOfMemory, Tag};
@@ -33,7 +33,7 @@ use warp_tag::{OutOfMemory, Tag};
 pub struct Warp {
     arena: Arena,
     /// The first place after the last row.
-    cursor: Option<NodeId>,
+    cursor: Cursor,
     /// A tag after which no live event is.
     latest: Option<Tag>,
     tip: Tip,
@@ -77,7 +77,7 @@ impl Timeline for Warp {
         program.valid();
         Ok(Warp {
             arena: Arena::start(alloc, program.origins())?,
-            cursor: None,
+            cursor: Cursor::end(),
             latest: None,
             tip: Tip::start(alloc, program)?,
             given: Vec::new(alloc),
@@ -200,7 +200,8 @@ impl Warp {
     {
         let rejoined = self.tip.rejoin();
         if let Some(last) = self.tip.last() {
-            self.cursor = first_from(&self.arena, self.cursor, last);
+            let place = first_from(&self.arena, self.cursor.node(), last);
+            self.cursor = self.arena.cursor_at(place);
         }
         rejoined
     }
@@ -219,10 +220,10 @@ impl Warp {
     {
         self.arena.ordered();
         let Some(pending) = self.tip.state().next() else {
-            let live = next_event(&self.arena, self.cursor, &self.latest)?;
+            let live = next_event(&self.arena, self.cursor.node(), self.latest)?;
             return Some(Next::AtEvent(live));
         };
-        match event_before(&self.arena, self.cursor, pending) {
+        match event_before(&self.arena, self.cursor.node(), pending) {
             Some(live) => Some(Next::AtEvent(live)),
             None => Some(Next::AtEntry(pending)),
         }
@@ -277,7 +278,7 @@ impl Warp {
             return self.turn_at(program, first.tag, meter);
         }
         self.tip.get_ready(program)?;
-        self.cursor = behind;
+        self.cursor = self.arena.cursor_at(behind);
         let alone = slice::from_ref(&first.given);
         self.tip.step_at_event(program, first.tag, alone, meter);
         Ok(())
@@ -301,7 +302,7 @@ impl Warp {
         ensures floor { self.new.tip.floor ≡ self.old.tip.floor }
     {
         self.arena.ordered();
-        if !is_past(&self.arena, &self.cursor, tag) {
+        if !is_past(&self.arena, &self.cursor.node(), tag) {
             return self.turn_at(program, tag, meter);
         }
         self.tip.get_ready(program)?;
@@ -328,9 +329,9 @@ impl Warp {
     {
         self.arena.ordered();
         self.given.clear();
-        let cursor = gather_from(&self.arena, self.cursor, tag, &mut self.given)?;
+        let cursor = gather_from(&self.arena, self.cursor.node(), tag, &mut self.given)?;
         self.tip.get_ready(program)?;
-        self.cursor = cursor;
+        self.cursor = self.arena.cursor_at(cursor);
         self.tip.step_at_event(program, tag, &self.given, meter);
         Ok(())
     }
@@ -352,9 +353,9 @@ impl Warp {
         }
         self.arena.ordered();
         if is_after(self.tip.last(), tag) {
-            match self.cursor {
+            match self.cursor.node() {
                 Some(cursor) if self.arena.entry(cursor).comes_before(origin, tag) => {}
-                _ => self.cursor = Some(node),
+                _ => self.cursor = self.arena.cursor_at(Some(node)),
             }
         }
         node
@@ -386,7 +387,8 @@ impl Warp {
         }
         if !is_after(self.tip.last(), tag) {
             self.tip.go_back(tag);
-            self.cursor = first_after(&self.arena, node, self.tip.last());
+            let place = first_after(&self.arena, node, self.tip.last());
+            self.cursor = self.arena.cursor_at(place);
         } else {
             self.tip.let_go_before(tag);
         }

@@ -75,11 +75,18 @@ returns-in-Some-clause-names c =
     let absent = absent_by old.arena new.new.self new.result (node_of c.args.origin c.args.tag ps) new.ensures.known c.len.result c.len-known.result c.len.ensures c.len-known.ensures c.if-len-known.false in
     let later = ap (λ last. is_after last c.args.tag) (sym c.last.ensures) ∙ sym c.is_after.ensures ∙ c.if-is_after.true in
     let named = named_before ps new.new.self.places new.result at c.entry.result (new.ensures.new_handle absent) (new.ensures.others absent)
-    (subst (λ x. IfSome x (λ n. IsSome (entry_of n ps))) c.in-Some.is r.used) c.entry.ensures.entry in
+    (subst (λ x. IfSome x (λ n. IsSome (entry_of n ps))) (sym c.node.ensures ∙ c.in-Some.is) r.used) c.entry.ensures.entry in
     names_new old c.args.origin c.args.tag new.result new.new.self old.cursor (new.ensures.places absent) (new.ensures.new_handle absent) (new.ensures.entry absent)
     c.finds_known.ensures absent c.changes_new.ensures c.ordered.ensures.order
-    (stays_first old.tip.last c.args.origin c.args.tag new.result ps old.cursor r later at c.entry.result c.in-Some.is named
+    (stays_first old.tip.last c.args.origin c.args.tag new.result ps old.cursor r later at c.entry.result (sym c.node.ensures ∙ c.in-Some.is) named
     (sym c.comes_before.ensures ∙ c.if-comes_before.true))
+
+pub cursor_at-self-requires : goal.cursor_at-self-requires
+cursor_at-self-requires c =
+    let old = c.args.self.now in
+    let new = c.enter-node in
+    let absent = absent_by old.arena new.new.self new.result (node_of c.args.origin c.args.tag old.arena.places) new.ensures.known c.len.result c.len-known.result c.len.ensures c.len-known.ensures c.if-len-known.false in
+    ap is_some (new.ensures.entry absent)
 
 pub returns-in_default-clause-names : goal.returns-in_default-clause-names
 returns-in_default-clause-names c =
@@ -95,11 +102,13 @@ returns-in_default-clause-names c =
       | in_default-via-in-Some+else-comes_before w ↦
           let at = w.in-Some.cursor in
           let named = named_before ps new.new.self.places new.result at w.entry.result (new.ensures.new_handle absent) (new.ensures.others absent)
-          (subst (λ x. IfSome x (λ n. IsSome (entry_of n ps))) w.in-Some.is r.used) w.entry.ensures.entry in
-          comes_first old.tip.last c.args.origin c.args.tag new.result ps old.cursor r later at w.entry.result w.in-Some.is named nothing
+          (subst (λ x. IfSome x (λ n. IsSome (entry_of n ps))) (sym c.node.ensures ∙ w.in-Some.is) r.used) w.entry.ensures.entry in
+          c.cursor_at-self.ensures
+          ∙ comes_first old.tip.last c.args.origin c.args.tag new.result ps old.cursor r later at w.entry.result (sym c.node.ensures ∙ w.in-Some.is) named nothing
           (sym w.comes_before.ensures ∙ w.if-comes_before.false)
       | in_default-via-in_default w ↦
-          comes_alone old.tip.last c.args.origin c.args.tag new.result ps old.cursor r later w.in_default.is
+          c.cursor_at-self.ensures
+          ∙ comes_alone old.tip.last c.args.origin c.args.tag new.result ps old.cursor r later (sym c.node.ensures ∙ w.in_default.is)
     ])
 
 pub returns-else-is_after-clause-names : goal.returns-else-is_after-clause-names

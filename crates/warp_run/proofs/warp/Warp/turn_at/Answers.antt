@@ -1,6 +1,7 @@
 -- the row at the next tag is done, with what all events at it give, and the cursor goes behind it
 use Rattle.std.proofs.Common.{◌++◌, ap, ◌∙◌, refl, arith}
 use Rattle.warp_run.specs.Walk.{ahead}
+use Rattle.warp_run.proofs.PlacesWalks.{reaches_as}
 use Rattle.warp_run.proofs.TurnsRow.{are_few, given_through, is_at, may_give, may_step, row_done, row_failed, same_tip}
 use Rattle.warp_run.proofs.warp.Warp.turn_at.Goals as goal
 
@@ -15,17 +16,22 @@ pub returns-in_err-get_ready-clause-goes : goal.returns-in_err-get_ready-clause-
 returns-in_err-get_ready-clause-goes g c =
     row_failed c.args.program.now c.args.self.now _ _ refl refl refl refl c.get_ready.ensures.same (omega arith)
 
+pub cursor_at-self-requires : goal.cursor_at-self-requires
+cursor_at-self-requires g c =
+    let w = c.args.self.now in
+    (c.in_ok-cursor.ensures (ahead w.tip.last w.arena.places) (reaches_as _ _ _ _ c.node.ensures c.requires.next.1.cursor)).0.used
+
 pub step_at_event-requires-clause-at : goal.step_at_event-requires-clause-at
 step_at_event-requires-clause-at g c =
     let w = c.args.self.now in
-    let gathered = c.in_ok-cursor.ensures (ahead w.tip.last w.arena.places) c.requires.next.1.cursor in
+    let gathered = c.in_ok-cursor.ensures (ahead w.tip.last w.arena.places) (reaches_as _ _ _ _ c.node.ensures c.requires.next.1.cursor) in
     may_step c.args.program.now w c.args.tag c.requires.next c.get_ready.new.self c.deref.result.now c.get_ready.ensures.same
     (c.deref.ensures.value ∙ gathered.1 ∙ ap (λ xs. xs ++ given_through w c.args.tag) c.clear.ensures.items)
 
 pub step_at_event-requires-clause-given : goal.step_at_event-requires-clause-given
 step_at_event-requires-clause-given g c =
     let w = c.args.self.now in
-    let gathered = c.in_ok-cursor.ensures (ahead w.tip.last w.arena.places) c.requires.next.1.cursor in
+    let gathered = c.in_ok-cursor.ensures (ahead w.tip.last w.arena.places) (reaches_as _ _ _ _ c.node.ensures c.requires.next.1.cursor) in
     may_give c.args.program.now w c.args.tag c.requires.next c.deref.result.now
     (c.deref.ensures.value ∙ gathered.1 ∙ ap (λ xs. xs ++ given_through w c.args.tag) c.clear.ensures.items) c.ordered.ensures.order
 
@@ -38,7 +44,7 @@ returns-clause-goes g c =
     let w = c.args.self.now in
     let did = c.step_at_event.ensures in
     let ticked = did.ticked in
-    let gathered = c.in_ok-cursor.ensures (ahead w.tip.last w.arena.places) c.requires.next.1.cursor in
+    let gathered = c.in_ok-cursor.ensures (ahead w.tip.last w.arena.places) (reaches_as _ _ _ _ c.node.ensures c.requires.next.1.cursor) in
     row_done c.args.program.now w c.args.tag c.requires.next _ c.get_ready.new.self c.deref.result.now _ c.get_ready.ensures.same
     (c.deref.ensures.value ∙ gathered.1 ∙ ap (λ xs. xs ++ given_through w c.args.tag) c.clear.ensures.items)
-    c.requires.unsettled refl refl refl did.last did.floor gathered.0 did.stepped (omega arith)
+    c.requires.unsettled refl refl refl did.last did.floor (reaches_as _ _ _ _ c.cursor_at-self.ensures gathered.0) did.stepped (omega arith)

@@ -1,6 +1,7 @@
 -- the row at the next tag is done with what the event there gives, and the cursor goes behind it
 use Rattle.std.proofs.Common.{◌∙◌, refl, arith}
 use Rattle.warp_arena.specs.Places.{places_after}
+use Rattle.warp_run.proofs.PlacesWalks.{reaches_as}
 use Rattle.warp_run.proofs.TurnsRow.{alone_given, are_few, cursor_behind, is_at, may_give, may_step, row_done, row_failed}
 use Rattle.warp_run.proofs.warp.Warp.turn_at_event.Goals as goal
 
@@ -10,6 +11,9 @@ get_ready-requires g c = is_at c.args.program.now c.args.self.now c.args.first.n
 pub returns-in_err-get_ready-clause-goes : goal.returns-in_err-get_ready-clause-goes
 returns-in_err-get_ready-clause-goes g c =
     row_failed c.args.program.now c.args.self.now _ _ refl refl refl refl c.get_ready.ensures.same (omega arith)
+
+pub cursor_at-self-requires : goal.cursor_at-self-requires
+cursor_at-self-requires g c = c.next-behind.ensures.used
 
 pub step_at_event-requires-clause-at : goal.step_at_event-requires-clause-at
 step_at_event-requires-clause-at g c =
@@ -37,4 +41,4 @@ returns-clause-goes g c =
     let ticked = did.ticked in
     let past = c.is_past.ensures c.if-not-is_past.false (places_after l.node w.arena.places) c.next-behind.ensures in
     row_done c.args.program.now w l.tag c.requires.next _ c.get_ready.new.self c.from_ref-alone.result.now _ c.get_ready.ensures.same (c.from_ref-alone.ensures.value ∙ alone_given w l c.requires.event past.1)
-    c.requires.unsettled refl refl refl did.last did.floor (cursor_behind w l c.requires.event _ past.0) did.stepped (omega arith)
+    c.requires.unsettled refl refl refl did.last did.floor (reaches_as _ _ _ _ c.cursor_at-self.ensures (cursor_behind w l c.requires.event _ past.0)) did.stepped (omega arith)

@@ -2,6 +2,7 @@
 use Rattle.std.proofs.Common.{◌≡◌, [], None, ap, ◌∙◌, refl, subst, sym, true, false}
 use Rattle.warp_arena.specs.Places.{Reaches, entries_of}
 use Rattle.warp_run.specs.Walk.{ahead}
+use Rattle.warp_run.proofs.PlacesWalks.{reaches_as}
 use Rattle.warp_run.proofs.RowsFloor.{no_floor}
 use Rattle.warp_run.proofs.warp.WarpTimeline.start.Goals as goal
 
@@ -16,7 +17,8 @@ returns-clause-stands c =
       ordered = tt;
       events = refl;
       tip = c.in_ok-start-2.ensures [];
-      cursor = subst (λ a. Reaches a.places (ahead last a.places) None) (sym arena) (record { handle = refl; used = tt; left = refl });
+      cursor = reaches_as _ _ _ _ c.end.ensures
+          (subst (λ a. Reaches a.places (ahead last a.places) None) (sym arena) (record { handle = refl; used = tt; left = refl }));
       latest = refl;
       settled = λ yes. let no : false ≡ true = yes in cc;
     }
