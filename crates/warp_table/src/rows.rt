@@ -2,7 +2,9 @@
 //!
 //! Names come nearly in order of tags, so a row is looked for at the end first, and put there; only a tag that comes
 //! late is sought by halves.
-ghost use Rattle.std.specs.Prelude.{◌≡◌, ◌≤◌, IsTrue, is_some, length, map};
+ghost use Rattle.std.specs.Prelude.{◌≡◌, ◌<◌, ◌≤◌, IsTrue, is_some, length, map, true};
+ghost use Rattle.std.specs.Vec.{vec_items};
+ghost use Rattle.warp_table.specs.inner.Blocks.{AreBlocks, IsBlockOf, flat};
 ghost use Rattle.warp_table.specs.inner.NamesByOrigin.{AreInOrder, IsWith, row_of, row_place};
 
 use crate::announcer::Announcer;
@@ -127,6 +129,34 @@ fn known_at(rows: &[NameRow], tag: Tag, behind: usize) -> (Option<Known>, usize)
     }
 }
 
+/// Whether the row at this place of this block is the tag's.
+fn is_row_of(blocks: &[Vec<NameRow>], tag: Tag, at: usize, place: usize) -> bool
+    requires { AreInOrder (flat vec_items blocks.now) }
+    ensures { result ≡ true → IsBlockOf vec_items (λ r. r.tag) tag blocks.now at }
+{
+    if blocks.len() <= at {
+        return false;
+    }
+    let rows = &blocks[at];
+    if rows.len() <= place {
+        return false;
+    }
+    rows[place].tag.is_same(tag)
+}
+
+/// The block of a tag: this one, where its row stands at this place, or else sought.
+fn block_with(blocks: &[Vec<NameRow>], tag: Tag, near: usize, place: usize) -> usize
+    requires some { 0 < length blocks.now }
+    requires kept { AreBlocks vec_items blocks.now }
+    requires in_order { AreInOrder (flat vec_items blocks.now) }
+    ensures { IsBlockOf vec_items (λ r. r.tag) tag blocks.now result }
+{
+    if is_row_of(blocks, tag, near, place) {
+        return near;
+    }
+    block_near(blocks, tag, near)
+}
+
 /// Has this known of the name of this tag, which has a row; it is looked for at this place first.
 fn set_at(rows: &mut [NameRow], tag: Tag, known: Known, near: usize)
     requires in_order { AreInOrder rows.old }
@@ -213,7 +243,7 @@ impl Rows {
         ensures { IsWith tag known self.old self.new }
     {
         let place = self.place;
-        let at = block_near(&self.blocks, tag, self.near);
+        let at = block_with(&self.blocks, tag, self.near, place);
         set_at(&mut self.blocks[at], tag, known, place);
     }
 
