@@ -11,7 +11,7 @@ use Rattle.warp_table.specs.declared.rows.Known.{Known}
 use Rattle.warp_table.specs.declared.rows.NameRow.{NameRow}
 use Rattle.warp_table.specs.inner.Blocks.{AreOrdered, IsBlockOf, flat, with_item}
 use Rattle.warp_table.specs.inner.NamesByOrigin.{AreInOrder, IsWith, row_of}
-use Rattle.warp_table.proofs.BlockLists.{All-with_item, insert_item, pairs_left, pairs_right, parted, parted_set}
+use Rattle.warp_table.proofs.BlockLists.{All-left, All-right, All-with_item, insert_item, pairs_left, pairs_right, parted, parted_set}
 use Rattle.warp_table.proofs.InOrder.{before_not_behind}
 use Rattle.warp_table.proofs.Members.{AllPairs-first, AllPairs-one, AllPairs-tail}
 use Rattle.warp_table.proofs.OriginRows.{none_behind, says_with}
@@ -121,9 +121,33 @@ same_order xs ys same h =
     let R : Moment → Moment → Type 0 = λ t u. IsTrue (is_before t u) in
     pairs_of_map tag_of R ys (subst (AllPairs R) (sym same) (pairs_to_map tag_of R xs h))
 
+-- each of a front is before each behind it
+across : (xs ys : List NameRow) → AreInOrder (xs ++ ys) → All (λ x. All (Before x) ys) xs
+across [] ys h = All-nil (λ (x : NameRow). All (Before x) ys)
+across (x ∷ xs) ys h =
+    All-cons (λ (y : NameRow). All (Before y) ys) x xs (All-right (Before x) xs ys (AllPairs-first Before x (xs ++ ys) h)) (across xs ys (AllPairs-tail Before x (xs ++ ys) h))
+
 -- Blocks of rows
 
 module _ {B : Type 0} (items : B → List NameRow) where
+  -- a row of a tag stands in the tag's block
+  pub block_of_row : (bs : List B) (n : ℕ) (d : B) (i : ℕ) (r : NameRow) → n < length bs → i < length (items (get_or bs n d)) → r ≡ get_or (items (get_or bs n d)) i r → AreInOrder (flat items bs)
+      → IsBlockOf items tag_of r.tag bs n
+  block_of_row bs n d i r within inside is h =
+      let front = flat items (take n bs) in
+      let own = items (get_or bs n d) in
+      let back = flat items (drop (suc n) bs) in
+      let whole : AreInOrder (front ++ (own ++ back)) = subst AreInOrder (parted items bs n d within) h in
+      let before : All (λ (x : NameRow). IsTrue (is_before x.tag r.tag)) front =
+      All-weaker (λ (x : NameRow). All (Before x) (own ++ back)) (λ (x : NameRow). IsTrue (is_before x.tag r.tag))
+      (λ x all. subst (Before x) (sym is) (All-left (Before x) own back all i r inside)) front (across front (own ++ back) whole) in
+      record {
+        within = within;
+        front = All-weaker (λ (x : NameRow). IsTrue (is_before x.tag r.tag)) (λ (x : NameRow). is_before r.tag x.tag ≡ false) (λ x k. before_not_behind x.tag r.tag k) front before;
+        back = subst (λ (q : NameRow). All (Before q) back) (sym is) (across own back (pairs_right Before front (own ++ back) whole) i r inside);
+        strict = λ strict. before;
+      }
+
   pub some_blocks : (tag : Moment) (bs : List B) → is_some (row_of tag (flat items bs)) ≡ true → 0 < length bs
   some_blocks tag [] some = absurd (false≢true some)
   some_blocks tag (b ∷ bs) some = omega arith

@@ -17,6 +17,7 @@ mod table;
 mod tag_log;
 mod tags;
 mod tally;
+mod ways;
 
 pub use honest_law::{honest_within, later_horizon, one_horizon, same_below, some_reach};
 pub use law::{

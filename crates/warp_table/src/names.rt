@@ -33,9 +33,6 @@ fn keep_up_to(origins: &mut Vec<Rows>, origin: u32) -> Result<(), OutOfMemory>
 pub(crate) struct Names {
     origins: Vec<Rows>,
     order: Vec<Name>,
-    /// In which block, and where there, the row of the name stands that was sought last. It only shortens the search.
-    near: usize,
-    place: usize,
 }
 
 impl Model for Names {
@@ -66,8 +63,6 @@ impl Names {
         Names {
             origins: Vec::new(alloc),
             order: Vec::new(alloc),
-            near: 0,
-            place: 0,
         }
     }
 
@@ -76,8 +71,7 @@ impl Names {
         ensures { result ≡ lookup (is_named name.origin name.tag) self.now }
     {
         let rows = self.origins.get(name.origin as usize)?;
-        let (known, _near, _place) = rows.seek(name.tag, self.near);
-        known
+        rows.known(name.tag)
     }
 
     /// What is known of a name, which may change next; `None` where it is not there.
@@ -85,11 +79,11 @@ impl Names {
         ensures known { result ≡ lookup (is_named name.origin name.tag) self.old }
         ensures same { self.new ≡ self.old }
     {
-        let rows = self.origins.get(name.origin as usize)?;
-        let (known, near, place) = rows.seek(name.tag, self.near);
-        self.near = near;
-        self.place = place;
-        known
+        if self.origins.len() <= name.origin as usize {
+            return None;
+        }
+        let rows = &mut self.origins[name.origin as usize];
+        rows.seek(name.tag)
     }
 
     /// A name by the number of its first coming, from 0, and what is known of it; `None` where there are not so many.
@@ -107,7 +101,7 @@ impl Names {
         requires { IsTrue (is_some (lookup (is_named name.origin name.tag) self.old)) }
         ensures { self.new ≡ put_known self.old name known }
     {
-        self.origins[name.origin as usize].set(name.tag, known, self.near, self.place);
+        self.origins[name.origin as usize].set(name.tag, known);
     }
 
     /// Puts in a name of which this is known, where it comes behind all of its origin's and there is room at once, and
@@ -160,7 +154,7 @@ impl Names {
         keep_up_to(&mut self.origins, name.origin)?;
         self.order.reserve(1)?;
         let rows = &mut self.origins[name.origin as usize];
-        rows.insert(name.tag, known, kind, announcer, self.near, self.place)?;
+        rows.insert(name.tag, known, kind, announcer)?;
         self.order.push_reserved(name);
         Ok(())
     }

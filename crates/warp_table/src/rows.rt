@@ -2,7 +2,9 @@
 //!
 //! Names come nearly in order of tags, so a row is looked for at the end first, and put there; only a tag that comes
 //! late is sought by halves.
-ghost use Rattle.std.specs.Prelude.{◌≡◌, ◌≤◌, IsTrue, is_some, length, map};
+ghost use Rattle.std.specs.Prelude.{◌≡◌, ◌<◌, ◌≤◌, IsTrue, is_some, length, map, true};
+ghost use Rattle.std.specs.Vec.{vec_items};
+ghost use Rattle.warp_table.specs.inner.Blocks.{AreBlocks, IsBlockOf, flat};
 ghost use Rattle.warp_table.specs.inner.NamesByOrigin.{AreInOrder, IsWith, row_of, row_place};
 
 use crate::announcer::Announcer;
@@ -96,23 +98,6 @@ fn place_of(rows: &[NameRow], tag: Tag) -> usize
     rows.len() - 1
 }
 
-/// What is known of the name of this tag, `None` where it has no row; and the place of the first row that is not before
-/// it.
-fn known_at(rows: &[NameRow], tag: Tag) -> (Option<Known>, usize)
-    requires { AreInOrder rows.now }
-    ensures { result.0 ≡ row_of tag rows.now }
-{
-    let place = place_of(rows, tag);
-    let Some(row) = rows.get(place) else {
-        return (None, place);
-    };
-    if tag.is_before(row.tag) {
-        (None, place)
-    } else {
-        (Some(row.known), place)
-    }
-}
-
 /// The place of the first row that is not before the tag: this one, where it is the tag's, or else sought.
 fn place_near(rows: &[NameRow], tag: Tag, near: usize) -> usize
     requires { AreInOrder rows.now }
@@ -124,6 +109,52 @@ fn place_near(rows: &[NameRow], tag: Tag, near: usize) -> usize
         }
     }
     place_of(rows, tag)
+}
+
+/// What is known of the name of this tag, `None` where it has no row; and the place of the first row that is not before
+/// it. It is looked for in front of this place first, since names are withdrawn newest first.
+fn known_at(rows: &[NameRow], tag: Tag, behind: usize) -> (Option<Known>, usize)
+    requires { AreInOrder rows.now }
+    ensures { result.0 ≡ row_of tag rows.now }
+{
+    let near = if behind > 0 { behind - 1 } else { 0 };
+    let place = place_near(rows, tag, near);
+    let Some(row) = rows.get(place) else {
+        return (None, place);
+    };
+    if tag.is_before(row.tag) {
+        (None, place)
+    } else {
+        (Some(row.known), place)
+    }
+}
+
+/// Whether the row at this place of this block is the tag's.
+fn is_row_of(blocks: &[Vec<NameRow>], tag: Tag, at: usize, place: usize) -> bool
+    requires { AreInOrder (flat vec_items blocks.now) }
+    ensures { result ≡ true → IsBlockOf vec_items (λ r. r.tag) tag blocks.now at }
+{
+    if blocks.len() <= at {
+        return false;
+    }
+    let rows = &blocks[at];
+    if rows.len() <= place {
+        return false;
+    }
+    rows[place].tag.is_same(tag)
+}
+
+/// The block of a tag: this one, where its row stands at this place, or else sought.
+fn block_with(blocks: &[Vec<NameRow>], tag: Tag, near: usize, place: usize) -> usize
+    requires some { 0 < length blocks.now }
+    requires kept { AreBlocks vec_items blocks.now }
+    requires in_order { AreInOrder (flat vec_items blocks.now) }
+    ensures { IsBlockOf vec_items (λ r. r.tag) tag blocks.now result }
+{
+    if is_row_of(blocks, tag, near, place) {
+        return near;
+    }
+    block_near(blocks, tag, near)
 }
 
 /// Has this known of the name of this tag, which has a row; it is looked for at this place first.
@@ -142,6 +173,9 @@ fn set_at(rows: &mut [NameRow], tag: Tag, known: Known, near: usize)
 #[derive(Drop)]
 pub(crate) struct Rows {
     blocks: Vec<Vec<NameRow>>,
+    /// In which block, and where there, the row stands that was sought last. It only shortens the search.
+    near: usize,
+    place: usize,
 }
 
 impl Model for Rows {
@@ -170,30 +204,46 @@ impl Rows {
     {
         Rows {
             blocks: Vec::new(alloc),
+            near: 0,
+            place: 0,
         }
     }
 
-    /// What is known of the name of this tag, `None` where it has no row; and the block and the place in it where to
-    /// look for its row. It is looked for near this block first.
-    #[inline(never)]
-    pub(crate) fn seek(&self, tag: Tag, near: usize) -> (Option<Known>, usize, usize)
-        ensures { result.0 ≡ row_of tag self.now }
+    /// What is known of the name of this tag; `None` where it has no row.
+    pub(crate) fn known(&self, tag: Tag) -> Option<Known>
+        ensures { result ≡ row_of tag self.now }
     {
         if self.blocks.is_empty() {
-            return (None, 0, 0);
+            return None;
         }
-        let at = block_near(&self.blocks, tag, near);
-        let (known, place) = known_at(&self.blocks[at], tag);
-        (known, at, place)
+        let at = block_near(&self.blocks, tag, self.near);
+        let (known, _place) = known_at(&self.blocks[at], tag, self.place);
+        known
     }
 
-    /// Has this known of the name of this tag, which has a row; it is looked for near this block and at this place
-    /// first.
-    pub(crate) fn set(&mut self, tag: Tag, known: Known, near: usize, place: usize)
+    /// What is known of the name of this tag, which may change next; `None` where it has no row.
+    #[inline(never)]
+    pub(crate) fn seek(&mut self, tag: Tag) -> Option<Known>
+        ensures known { result ≡ row_of tag self.old }
+        ensures same { self.new ≡ self.old }
+    {
+        if self.blocks.is_empty() {
+            return None;
+        }
+        let at = block_near(&self.blocks, tag, self.near);
+        let (known, place) = known_at(&self.blocks[at], tag, self.place);
+        self.near = at;
+        self.place = place;
+        known
+    }
+
+    /// Has this known of the name of this tag, which has a row.
+    pub(crate) fn set(&mut self, tag: Tag, known: Known)
         requires { IsTrue (is_some (row_of tag self.old)) }
         ensures { IsWith tag known self.old self.new }
     {
-        let at = block_near(&self.blocks, tag, near);
+        let place = self.place;
+        let at = block_with(&self.blocks, tag, self.near, place);
         set_at(&mut self.blocks[at], tag, known, place);
     }
 
@@ -218,8 +268,8 @@ impl Rows {
         true
     }
 
-    /// Puts in the row of a new name of which this is known, near this block and place, and tells its origin that it
-    /// has an event or a withdrawal. An `Err` changes nothing.
+    /// Puts in the row of a new name of which this is known, and tells its origin that it has an event or a withdrawal.
+    /// An `Err` changes nothing.
     #[inline(always)]
     pub(crate) fn insert(
         &mut self,
@@ -227,8 +277,6 @@ impl Rows {
         known: Known,
         kind: Kind,
         announcer: &mut Announcer,
-        near: usize,
-        place: usize,
     ) -> Result<(), OutOfMemory>
         requires new { row_of tag self.old ≡ None }
         requires fresh { ¬ Contains (tags_of kind announcer.old) tag }
@@ -236,7 +284,8 @@ impl Rows {
         ensures heard { OnOk result (announcer.new ≡ with_noted kind tag announcer.old) }
         ensures err { OnErr result ((self.new ≡ self.old) × (announcer.new ≡ announcer.old)) }
     {
-        let at = make_room_anywhere(&mut self.blocks, tag, near)?;
+        let place = self.place;
+        let at = make_room_anywhere(&mut self.blocks, tag, self.near)?;
         announcer.note(kind, tag)?;
         put(&mut self.blocks, at, NameRow { tag, known }, place);
         Ok(())

@@ -16,6 +16,6 @@ returns-in_err-rows c =
 pub returns : goal.returns
 returns c =
     let is = c.self.inside in
-    c.seek-known.ensures
+    c.known.ensures
     ∙ ap (row_of c.args.name.tag) (c.in_ok-rows.ensures.lookup.3.1 [] ∙ ap (λ (os : List (List NameRow)). get_or os c.args.name.origin []) c.deref.ensures.value)
     ∙ sym (found_in is.origins.items is.order.items c.args.self.now c.self.view_is c.self.invariant c.args.name)

@@ -19,8 +19,8 @@ known_at-known-requires c =
     let held : c.deref-2.result.now ≡ (get_or bs at c.index.result.now).items = c.deref-2.ensures.value ∙ ap (λ (v : Vec NameRow Global). v.items) c.index.ensures in
     subst AreInOrder (sym held) (row_block vec_items bs at c.index.result.now block.within c.self.invariant.1)
 
-pub returns : goal.returns
-returns c =
+pub returns-clause-known : goal.returns-clause-known
+returns-clause-known c =
     let bs = c.self.inside.blocks.items in
     let at = c.block_near-at.result in
     let block : IsBlockOf vec_items tag_of c.args.tag bs at = subst (λ (cs : List (Vec NameRow Global)). IsBlockOf vec_items tag_of c.args.tag cs at) c.deref.ensures.value c.block_near-at.ensures in

@@ -2,42 +2,42 @@
 use Rattle.std.proofs.Common.{◌≡◌, Vec, Global, List, drop, get_or, length, map, set, ap, subst, sym, ◌∙◌, is_some, Option, arith}
 use Rattle.std.specs.Vec.{vec_items, with_items}
 use Rattle.warp_table.specs.declared.rows.NameRow.{NameRow}
-use Rattle.warp_table.specs.inner.Blocks.{AreOrdered, IsBlockOf, flat}
+use Rattle.warp_table.specs.inner.Blocks.{IsBlockOf, flat}
 use Rattle.warp_table.specs.inner.NamesByOrigin.{AreInOrder, IsWith, row_of}
 use Rattle.warp_tag.specs.Moment.{Moment}
 use Rattle.warp_table.specs.declared.rows.Known.{Known}
 use Rattle.warp_table.proofs.BlockLists.{long_kept}
-use Rattle.warp_table.proofs.RowBlocks.{block_says, map_long, ordered_rows, refill, row_block, same_order, says_set, tag_of, tags_set}
+use Rattle.warp_table.proofs.RowBlocks.{block_says, map_long, refill, row_block, same_order, says_set, tag_of, tags_set}
 use Rattle.warp_table.proofs.rows.Rows.set.Goals as goal
 
-pub block_near-at-requires-clause-in_order : goal.block_near-at-requires-clause-in_order
-block_near-at-requires-clause-in_order c =
-    subst (λ (bs : List (Vec NameRow Global)). AreOrdered tag_of (flat vec_items bs)) (sym c.deref.ensures.value) (ordered_rows (flat vec_items c.self.inside.blocks.items) c.self.invariant.1)
+pub block_with-at-requires-clause-in_order : goal.block_with-at-requires-clause-in_order
+block_with-at-requires-clause-in_order c =
+    subst (λ (bs : List (Vec NameRow Global)). AreInOrder (flat vec_items bs)) (sym c.deref.ensures.value) c.self.invariant.1
 
 pub set_at-requires-clause-in_order : goal.set_at-requires-clause-in_order
 set_at-requires-clause-in_order c =
     let bs = c.self.inside.blocks.items in
-    let at = c.block_near-at.result in
+    let at = c.block_with-at.result in
     let v = c.index_mut.result.now in
-    let block : IsBlockOf vec_items tag_of c.args.tag bs at = subst (λ (cs : List (Vec NameRow Global)). IsBlockOf vec_items tag_of c.args.tag cs at) c.deref.ensures.value c.block_near-at.ensures in
+    let block : IsBlockOf vec_items tag_of c.args.tag bs at = subst (λ (cs : List (Vec NameRow Global)). IsBlockOf vec_items tag_of c.args.tag cs at) c.deref.ensures.value c.block_with-at.ensures in
     let held : c.deref_mut.result.now ≡ (get_or bs at v).items = c.deref_mut.ensures.value ∙ ap (λ (b : Vec NameRow Global). b.items) c.index_mut.ensures.value in
     subst AreInOrder (sym held) (row_block vec_items bs at v block.within c.self.invariant.1)
 
 pub set_at-requires-clause-there : goal.set_at-requires-clause-there
 set_at-requires-clause-there c =
     let bs = c.self.inside.blocks.items in
-    let at = c.block_near-at.result in
+    let at = c.block_with-at.result in
     let v = c.index_mut.result.now in
-    let block : IsBlockOf vec_items tag_of c.args.tag bs at = subst (λ (cs : List (Vec NameRow Global)). IsBlockOf vec_items tag_of c.args.tag cs at) c.deref.ensures.value c.block_near-at.ensures in
+    let block : IsBlockOf vec_items tag_of c.args.tag bs at = subst (λ (cs : List (Vec NameRow Global)). IsBlockOf vec_items tag_of c.args.tag cs at) c.deref.ensures.value c.block_with-at.ensures in
     let held : c.deref_mut.result.now ≡ (get_or bs at v).items = c.deref_mut.ensures.value ∙ ap (λ (b : Vec NameRow Global). b.items) c.index_mut.ensures.value in
     ap (λ (k : Option Known). is_some k) (ap (row_of c.args.tag) held ∙ block_says vec_items c.args.tag bs at v block c.self.invariant.1 ∙ ap (row_of c.args.tag) c.self.view_is) ∙ c.requires
 
 pub invariant_of-self : goal.invariant_of-self
 invariant_of-self c =
     let bs = c.self.inside.blocks.items in
-    let at = c.block_near-at.result in
+    let at = c.block_with-at.result in
     let v = c.index_mut.result.now in
-    let block : IsBlockOf vec_items tag_of c.args.tag bs at = subst (λ (cs : List (Vec NameRow Global)). IsBlockOf vec_items tag_of c.args.tag cs at) c.deref.ensures.value c.block_near-at.ensures in
+    let block : IsBlockOf vec_items tag_of c.args.tag bs at = subst (λ (cs : List (Vec NameRow Global)). IsBlockOf vec_items tag_of c.args.tag cs at) c.deref.ensures.value c.block_with-at.ensures in
     let held : c.deref_mut.result.now ≡ (get_or bs at v).items = c.deref_mut.ensures.value ∙ ap (λ (b : Vec NameRow Global). b.items) c.index_mut.ensures.value in
     let rows = c.set_at.new.rows in
     let long : length rows ≡ length c.deref_mut.result.now = sym (map_long tag_of rows) ∙ ap (λ (l : List Moment). length l) c.set_at.ensures.tags ∙ map_long tag_of c.deref_mut.result.now in
@@ -51,9 +51,9 @@ invariant_of-self c =
 pub returns : goal.returns
 returns c =
     let bs = c.self.inside.blocks.items in
-    let at = c.block_near-at.result in
+    let at = c.block_with-at.result in
     let v = c.index_mut.result.now in
-    let block : IsBlockOf vec_items tag_of c.args.tag bs at = subst (λ (cs : List (Vec NameRow Global)). IsBlockOf vec_items tag_of c.args.tag cs at) c.deref.ensures.value c.block_near-at.ensures in
+    let block : IsBlockOf vec_items tag_of c.args.tag bs at = subst (λ (cs : List (Vec NameRow Global)). IsBlockOf vec_items tag_of c.args.tag cs at) c.deref.ensures.value c.block_with-at.ensures in
     let held : c.deref_mut.result.now ≡ (get_or bs at v).items = c.deref_mut.ensures.value ∙ ap (λ (b : Vec NameRow Global). b.items) c.index_mut.ensures.value in
     let rows = c.set_at.new.rows in
     let long : length rows ≡ length c.deref_mut.result.now = sym (map_long tag_of rows) ∙ ap (λ (l : List Moment). length l) c.set_at.ensures.tags ∙ map_long tag_of c.deref_mut.result.now in

@@ -11,7 +11,7 @@ use Rattle.warp_table.specs.inner.Kept.{IsAdded, NotesEvent, known_of, nothing_k
 use Rattle.warp_table.proofs.AddedRecords.{event_added, event_fresh}
 use Rattle.warp_table.proofs.EventPlaces.{first_event}
 use Rattle.warp_table.proofs.HeardNews.{all_heard, looked_up, own_heard}
-use Rattle.warp_table.proofs.table.note_last.Goals as goal
+use Rattle.warp_table.proofs.ways.note_last.Goals as goal
 
 pub insert_last-requires : goal.insert_last-requires
 insert_last-requires c =

@@ -4,7 +4,7 @@ use Rattle.warp_table.specs.inner.Kept.{known_of, nothing_known, put_known, with
 use Rattle.warp_table.specs.declared.names.Name.{Name}
 use Rattle.warp_table.specs.declared.rows.Known.{Known}
 use Rattle.warp_table.proofs.EventPlaces.{first_event}
-use Rattle.warp_table.proofs.table.add_event.Goals as goal
+use Rattle.warp_table.proofs.ways.add_event.Goals as goal
 
 pub returns-in_ok-insert-in-None-clause-new : goal.returns-in_ok-insert-in-None-clause-new
 returns-in_ok-insert-in-None-clause-new c = λ new.

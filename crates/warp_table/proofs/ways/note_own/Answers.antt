@@ -11,7 +11,7 @@ use Rattle.warp_table.specs.declared.names.Name.{Name}
 use Rattle.warp_table.specs.inner.Heard.{Announced, IsHeard}
 use Rattle.warp_table.specs.inner.Kept.{IsAdded, other_place, put_other}
 use Rattle.warp_table.proofs.AddedRecords.{announcement_added, event_added, event_fresh, holds, withdrawal_added, withdrawal_fresh}
-use Rattle.warp_table.proofs.table.note_own.Goals as goal
+use Rattle.warp_table.proofs.ways.note_own.Goals as goal
 
 pub add_event-requires-clause-kept : goal.add_event-requires-clause-kept
 add_event-requires-clause-kept c =

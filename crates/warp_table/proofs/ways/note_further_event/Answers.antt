@@ -4,7 +4,7 @@ use Rattle.warp_record.specs.declared.record.Record.{Record}
 use Rattle.warp_record.specs.declared.record.Record.TheVariants.{Event}
 use Rattle.warp_table.specs.inner.Kept.{event_place, parted_of}
 use Rattle.warp_table.proofs.EventPlaces.{further_noted}
-use Rattle.warp_table.proofs.table.note_further_event.Goals as goal
+use Rattle.warp_table.proofs.ways.note_further_event.Goals as goal
 
 pub returns-clause-new : goal.returns-clause-new
 returns-clause-new c = λ new.

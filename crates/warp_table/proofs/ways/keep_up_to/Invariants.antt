@@ -2,7 +2,7 @@
 use Rattle.std.proofs.Common.{◌≡◌, ℕ, ◌+◌, ◌-◌, ◌≤◌, length}
 use Rattle.warp_tag.specs.Limits.{most_origins, widest}
 use Rattle.warp_table.specs.inner.Heard.{heard_at}
-use Rattle.warp_table.proofs.table.keep_up_to.Given as goal
+use Rattle.warp_table.proofs.ways.keep_up_to.Given as goal
 
 abbrev pub invariant-loop-alloc : goal.invariant-loop-alloc
 invariant-loop-alloc l = record {

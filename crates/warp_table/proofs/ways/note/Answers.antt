@@ -5,7 +5,7 @@ use Rattle.warp_record.specs.declared.record.Record.{Record}
 use Rattle.warp_table.specs.Names.{origin_of}
 use Rattle.warp_table.specs.inner.Heard.{AreHeard, Heard}
 use Rattle.warp_table.proofs.HeardNews.{all_heard, looked_up, own_heard}
-use Rattle.warp_table.proofs.table.note.Goals as goal
+use Rattle.warp_table.proofs.ways.note.Goals as goal
 
 pub note_own-requires-clause-heard : goal.note_own-requires-clause-heard
 note_own-requires-clause-heard c =

@@ -8,7 +8,7 @@ use Rattle.warp_record.specs.contracts.record.RecordPartialEq.TheImpl.{eq-value}
 use Rattle.warp_table.specs.Records.{same_record}
 use Rattle.warp_table.specs.inner.Kept.{other_place}
 use Rattle.warp_table.proofs.SameRecords.{equal_same}
-use Rattle.warp_table.proofs.table.add_announcement.Goals as goal
+use Rattle.warp_table.proofs.ways.add_announcement.Goals as goal
 
 -- what is found by `==` is what is found by sameness
 found_same : (others : List (Record × ℕ)) (said : Record) → other_place others said ≡ lookup ((eq-value).it said) others
