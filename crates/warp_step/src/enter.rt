@@ -142,7 +142,10 @@ impl State {
         let end = first + links.len();
         let mut mark = due.next(first);
         while mark < end {
-            if present.get(Target::Port(links[mark - first].source)).is_some() {
+            if present
+                .get(Target::Port(links[mark - first].source))
+                .is_some()
+            {
                 return self.deliver_from(program, tag, due, present, mark);
             }
             mark = due.after(mark);

@@ -1,5 +1,5 @@
 -- what the body does is the reaction's effect, and the wishes of the others stay
-use Rattle.std.proofs.Common.{◌≡◌, List, [], IsTrue, length, filter, ap, sym, ◌∙◌, subst, get_or, refl, arith}
+use Rattle.std.proofs.Common.{◌≡◌, List, [], IsTrue, length, filter, ap, sym, ◌∙◌, subst, refl, arith}
 use Rattle.std.specs.List.{list_all}
 use Rattle.std.specs.Prelude.{slice_set}
 use Rattle.std.proofs.lemmas.Bool.{cond-true}

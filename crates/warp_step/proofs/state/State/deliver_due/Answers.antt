@@ -1,5 +1,5 @@
 -- a valid program's links lead from ports; links that are not marked, and those whose source is not present, deliver nothing
-use Rattle.std.proofs.Common.{◌≡◌, ℕ, ◌+◌, ◌-◌, ◌<◌, ◌≤◌, false, List, None, Some, is_some, IsTrue, length, drop, get_or, ap, sym, ◌∙◌, subst, arith, rules}
+use Rattle.std.proofs.Common.{◌≡◌, ℕ, ◌+◌, ◌-◌, ◌<◌, ◌≤◌, false, List, None, is_some, IsTrue, length, drop, get_or, ap, sym, ◌∙◌, subst, arith, rules}
 use Rattle.std.proofs.lemmas.Bool.{lt-ltb}
 use Rattle.std.proofs.lemmas.List.{at_drop_all}
 use Rattle.warp_body.specs.Presence.{present_at}
