@@ -58,7 +58,8 @@ impl State {
         requires places { places_of present.now ≡ program_places program.now }
         requires plan { plan.now ≡ plan_of program.now }
         requires due { AreDue program.now present.now due.word }
-        requires wishes { IsTrue (list_all (list_all (wish_fits (program_sizes program.now))) (lists_of wishes.old.items)) }
+        requires wishes { IsTrue (list_all (list_all (wish_fits (program_sizes program.now)))
+            (lists_of wishes.old.items)) }
         requires none { HasNone wished (lists_of wishes.old.items) }
         ensures state { self.new ≡ with_links program.now tag present.now program.now.links
             (with_all_wishes program.now tag (lists_of wishes.old.items) self.old) }
@@ -73,7 +74,8 @@ impl State {
     fn enter_wishes(&mut self, program: &Program, tag: Tag, wishes: &mut Vec<Wishes>, wished: bool)
         requires time { tag.time ≤ program.now.stop }
         requires microstep { tag.microstep ≤ top_of program.now }
-        requires wishes { IsTrue (list_all (list_all (wish_fits (program_sizes program.now))) (lists_of wishes.old.items)) }
+        requires wishes { IsTrue (list_all (list_all (wish_fits (program_sizes program.now)))
+            (lists_of wishes.old.items)) }
         requires none { HasNone wished (lists_of wishes.old.items) }
         ensures state { self.new ≡ with_all_wishes program.now tag (lists_of wishes.old.items) self.old }
         ensures none { lists_of wishes.new.items ≡ replicate (length wishes.old.items) [] }

@@ -299,9 +299,9 @@ fn move_up(items: &mut [Waiting], at: usize, end: usize)
     }
 }
 
-/// Makes the targets of entries from a place on and before another present, as long as they are at the tag and have this
-/// period, and puts them behind these entries too, at a later tag and without a value. Answers how many they are. Whom
-/// they concern is due, and the first reaction that the last one triggers is sure.
+/// Makes the targets of entries from a place on and before another present, as long as they are at the tag and have
+/// this period, and puts them behind these entries too, at a later tag and without a value. Answers how many they are.
+/// Whom they concern is due, and the first reaction that the last one triggers is sure.
 #[inline(always)]
 fn shift_alike(
     items: &mut [Waiting],

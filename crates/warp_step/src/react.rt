@@ -121,9 +121,9 @@ fn run_reaction(
     false
 }
 
-/// Runs the reactions that are triggered, in the program's order, and says whether one may have wishes then. It looks at
-/// those that are due, which all are that something present triggers, and tests them but the first one where that is
-/// sure.
+/// Runs the reactions that are triggered, in the program's order, and says whether one may have wishes then. It looks
+/// at those that are due, which all are that something present triggers, and tests them but the first one where that
+/// is sure.
 #[inline(always)]
 pub(crate) fn run_reactions(
     program: &Program,
