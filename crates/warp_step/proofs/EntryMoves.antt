@@ -127,28 +127,6 @@ module _ {X : Type 0} where
       ap (λ l. slice_range l s (e + 1)) parts
       ∙ around (take s old) rest old s s e (e + 1) i x (omega (arith, here, to)) (omega (arith, room)) (length-take-le s old (omega (arith, from, to, room))) (omega (arith, from, to))
 
-  -- what moved up and then down again stands where it stood
-  pub moved_back : (old new : List X) (s e at : ℕ) → IsMoved old new at e → s ≤ at → at ≤ e → e < length old → length new ≡ length old
-      → slice_range (copy_within new (at + 1) (e + 1) at) s e ≡ slice_range old s e
-  moved_back old new s e at moved from to room len =
-      let n = e - at in
-      let many : e + 1 - (at + 1) ≡ n = omega arith in
-      let all : at + n ≡ e = omega (arith, to) in
-      let span : s + (e - s) ≡ e = omega (arith, from, to) in
-      let tail = drop (at + 1) new in
-      let zs = paste new at tail n in
-      let long : length (take n (drop at old)) ≡ n = length-take-le n (drop at old) (omega (arith, length-drop at old, room)) in
-      let some : n ≤ length tail = omega (arith, length-drop (at + 1) new, len, room, to) in
-      let exact : n ≡ length (take n (drop at old)) + 0 = omega (arith, long) in
-      let low : take at new ≡ take at old = sym (take-take at (at + 1) new (omega arith)) ∙ ap (take at) moved.0 ∙ take-take at (at + 1) old (omega arith) in
-      let high : take n tail ≡ take n (drop at old) =
-      ap (take n) moved.1 ∙ ap (λ k. take k (take n (drop at old) ++ drop (e + 1) old)) exact ∙ take-append-add (take n (drop at old)) (drop (e + 1) old) 0 ∙ append-nil (take n (drop at old)) in
-      let same : take e zs ≡ take e old =
-      ap (λ k. take k zs) (sym all) ∙ take-paste new at tail n (omega (arith, to, room, len)) some ∙ ap (λ l. l ++ take n tail) low ∙ ap (λ l. take at old ++ l) high
-      ∙ sym (take-add at n old) ∙ ap (λ k. take k old) all in
-      let between : (xs : List X) → slice_range xs s e ≡ drop s (take e xs) = λ xs. sym (drop-take s (e - s) xs) ∙ ap (λ k. drop s (take k xs)) span in
-      ap (λ k. slice_range (paste new at tail k) s e) many ∙ between zs ∙ ap (drop s) same ∙ sym (between old)
-
   -- an entry comes in, and what is in front of it moved down
   pub came_in_front : (xs : List X) (s e at : ℕ) (x : X) → 0 < s → s + at ≤ e → e ≤ length xs
       → slice_range (set (copy_within xs s (s + at) (s - 1)) (s - 1 + at) x) (s - 1) e ≡ insert (slice_range xs s e) at x

@@ -21,8 +21,8 @@ ghost use Rattle.warp_tag.specs.Limits.{most_pending};
 ghost use Rattle.warp_step.specs.declared.pending.Waiting.{Waiting};
 ghost use Rattle.warp_step.specs.inner.Sure.{IsSure};
 
-use crate::given::Given;
 use crate::entries::MOST_PENDING;
+use crate::given::Given;
 use crate::marks::Marks;
 use crate::pending::Waiting;
 use crate::plan::{Concerned, NO_REACTION, Plan};

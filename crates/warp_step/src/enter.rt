@@ -1,6 +1,7 @@
 //! What a step enters into the pending entries: timers that repeat, wishes, and what links with a delay deliver.
 ghost use Rattle.std.specs.Prelude.{◌≡◌, ◌<◌, ◌≤◌, IsTrue, length, map, nat_lt, pos, replicate, List, []};
-ghost use Rattle.std.specs.Prelude.{if◌then◌else◌};
+ghost use Rattle.std.specs.Prelude.{if◌then◌else◌, ◌-◌, drop};
+ghost use Rattle.warp_step.specs.inner.Marks.{first_link};
 ghost use Rattle.std.specs.List.{list_all};
 ghost use Rattle.warp_tag.specs.Limits.{longest_period, widest};
 ghost use Rattle.warp_body.specs.Presence.{places_of, present_at};
@@ -49,7 +50,7 @@ impl State {
         tag: Tag,
         due: Marks,
         present: &Present,
-        wishes: &mut [Wishes],
+        wishes: &mut Vec<Wishes>,
         wished: bool,
     )
         requires time { tag.time ≤ program.now.stop }
@@ -57,11 +58,12 @@ impl State {
         requires places { places_of present.now ≡ program_places program.now }
         requires plan { plan.now ≡ plan_of program.now }
         requires due { AreDue program.now present.now due.word }
-        requires wishes { IsTrue (list_all (list_all (wish_fits (program_sizes program.now))) (lists_of wishes.old)) }
-        requires none { HasNone wished (lists_of wishes.old) }
+        requires wishes { IsTrue (list_all (list_all (wish_fits (program_sizes program.now)))
+            (lists_of wishes.old.items)) }
+        requires none { HasNone wished (lists_of wishes.old.items) }
         ensures state { self.new ≡ with_links program.now tag present.now program.now.links
-            (with_all_wishes program.now tag (lists_of wishes.old) self.old) }
-        ensures none { lists_of wishes.new ≡ replicate (length wishes.old) [] }
+            (with_all_wishes program.now tag (lists_of wishes.old.items) self.old) }
+        ensures none { lists_of wishes.new.items ≡ replicate (length wishes.old.items) [] }
     {
         self.enter_wishes(program, tag, wishes, wished);
         self.deliver(program, plan, tag, due, present);
@@ -69,13 +71,14 @@ impl State {
 
     /// Enters the wishes of the reactions, of which there may be some where the flag says so, and empties their lists.
     #[inline(always)]
-    fn enter_wishes(&mut self, program: &Program, tag: Tag, wishes: &mut [Wishes], wished: bool)
+    fn enter_wishes(&mut self, program: &Program, tag: Tag, wishes: &mut Vec<Wishes>, wished: bool)
         requires time { tag.time ≤ program.now.stop }
         requires microstep { tag.microstep ≤ top_of program.now }
-        requires wishes { IsTrue (list_all (list_all (wish_fits (program_sizes program.now))) (lists_of wishes.old)) }
-        requires none { HasNone wished (lists_of wishes.old) }
-        ensures state { self.new ≡ with_all_wishes program.now tag (lists_of wishes.old) self.old }
-        ensures none { lists_of wishes.new ≡ replicate (length wishes.old) [] }
+        requires wishes { IsTrue (list_all (list_all (wish_fits (program_sizes program.now)))
+            (lists_of wishes.old.items)) }
+        requires none { HasNone wished (lists_of wishes.old.items) }
+        ensures state { self.new ≡ with_all_wishes program.now tag (lists_of wishes.old.items) self.old }
+        ensures none { lists_of wishes.new.items ≡ replicate (length wishes.old.items) [] }
     {
         if wished {
             self.enter_lists(program, tag, wishes);
@@ -93,7 +96,7 @@ impl State {
     {
         for list in wishes.iter_mut() {
             self.enter_list(program, tag, list);
-            list.clear();
+            empty(list);
         }
     }
 
@@ -125,7 +128,8 @@ impl State {
         }
     }
 
-    /// Looks at the links that are due, and enters what each with a delay delivers whose source is present.
+    /// Looks at the links that are due, up to the first whose source is present. The rest is left to a call at the end,
+    /// so where none is present no register is saved.
     #[inline(never)]
     fn deliver_due(&mut self, program: &Program, tag: Tag, due: Marks, present: &Present)
         requires time { tag.time ≤ program.now.stop }
@@ -139,6 +143,41 @@ impl State {
         let first = first_link(program);
         let end = first + links.len();
         let mut mark = due.next(first);
+        while mark < end {
+            if present
+                .get(Target::Port(links[mark - first].source))
+                .is_some()
+            {
+                return self.deliver_from(program, tag, due, present, mark);
+            }
+            mark = due.after(mark);
+        }
+    }
+
+    /// Looks at the links that are due from a mark on, and enters what each with a delay delivers whose source is
+    /// present.
+    #[inline(never)]
+    fn deliver_from(
+        &mut self,
+        program: &Program,
+        tag: Tag,
+        due: Marks,
+        present: &Present,
+        from: usize,
+    )
+        requires time { tag.time ≤ program.now.stop }
+        requires microstep { tag.microstep ≤ top_of program.now }
+        requires places { places_of present.now ≡ program_places program.now }
+        requires due { AreDue program.now present.now due.word }
+        requires from { first_link program.now ≤ from }
+        ensures { self.new ≡
+            with_links program.now tag present.now (drop (from - first_link program.now) program.now.links) self.old }
+    {
+        program.valid();
+        let links = program.links();
+        let first = first_link(program);
+        let end = first + links.len();
+        let mut mark = from;
         while mark < end {
             self.deliver_link(program, tag, present, &links[mark - first]);
             mark = due.after(mark);
@@ -160,5 +199,17 @@ impl State {
         {
             self.land(program, tag, delay, Target::Port(link.target), value);
         }
+    }
+}
+
+/// Empties a list of wishes. Mostly it has one, and to take that out costs less than a call.
+#[inline(always)]
+fn empty(list: &mut Wishes)
+    ensures { list.new.items ≡ [] }
+{
+    if list.len() == 1 {
+        list.pop();
+    } else {
+        list.clear();
     }
 }

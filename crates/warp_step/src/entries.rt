@@ -2,7 +2,7 @@
 //! moves those on its shorter side, where there is room.
 ghost use Rattle.std.specs.Prelude.{◌≡◌, ℕ, ◌+◌, ◌-◌, ◌<◌, ◌≤◌, ◌++◌, [], true, false, length, take, drop};
 ghost use Rattle.std.specs.Prelude.{slice_index_or, slice_range, slice_set, if◌then◌else◌, IsTrue, map};
-ghost use Rattle.std.specs.List.{copy_within, insert, list_all};
+ghost use Rattle.std.specs.List.{insert, list_all};
 ghost use Rattle.warp_tag.specs.Limits.{most_pending};
 ghost use Rattle.warp_tag.specs.Moment.{is_before};
 ghost use Rattle.warp_step.specs.declared.pending.Waiting.{Waiting as Entry};
@@ -266,32 +266,42 @@ impl fmt::Debug for Entries {
     }
 }
 
-/// Moves those of the entries from a place up to another up by one that are later than a tag, and says where the first
-/// of them stood.
+/// Where the first of the entries from a place up to another stands that is later than a tag, as are all behind it.
 #[inline(always)]
-fn move_later(items: &mut [Waiting], start: usize, end: usize, tag: Tag) -> usize
+fn first_later(items: &[Waiting], start: usize, end: usize, tag: Tag) -> usize
     requires order { start ≤ end }
-    requires room { end < length items.old }
+    requires room { end < length items.now }
     ensures from { start ≤ result }
     ensures to { result ≤ end }
-    ensures front { take (result + 1) items.new ≡ take (result + 1) items.old }
-    ensures behind { drop (result + 1) items.new ≡ take (end - result) (drop result items.old) ++
-        drop (end + 1) items.old }
     ensures later { (k : ℕ) (d : Entry) → result ≤ k → k < end →
-        is_before tag (slice_index_or items.old k d).tag ≡ true }
-    ensures len { length items.new ≡ length items.old }
+        is_before tag (slice_index_or items.now k d).tag ≡ true }
 {
     let mut at = end;
     while at > start && tag.is_before(items[at - 1].tag) {
-        items[at] = items[at - 1];
         at -= 1;
     }
     at
 }
 
-/// Makes the targets of entries from a place on and before another present, as long as they are at the tag and have this
-/// period, and puts them behind these entries too, at a later tag and without a value. Answers how many they are. Whom
-/// they concern is due, and the first reaction that the last one triggers is sure.
+/// Moves the entries from a place up to another up by one. They are few, and a call would cost more than they do.
+#[inline(always)]
+fn move_up(items: &mut [Waiting], at: usize, end: usize)
+    requires order { at ≤ end }
+    requires room { end < length items.old }
+    ensures front { take (at + 1) items.new ≡ take (at + 1) items.old }
+    ensures behind { drop (at + 1) items.new ≡ take (end - at) (drop at items.old) ++ drop (end + 1) items.old }
+    ensures len { length items.new ≡ length items.old }
+{
+    let mut place = end;
+    while place > at {
+        items[place] = items[place - 1];
+        place -= 1;
+    }
+}
+
+/// Makes the targets of entries from a place on and before another present, as long as they are at the tag and have
+/// this period, and puts them behind these entries too, at a later tag and without a value. Answers how many they are.
+/// Whom they concern is due, and the first reaction that the last one triggers is sure.
 #[inline(always)]
 fn shift_alike(
     items: &mut [Waiting],
@@ -344,17 +354,6 @@ fn shift_alike(
     count
 }
 
-/// Moves the entries behind a place down by one.
-#[inline(never)]
-fn move_back(items: &mut [Waiting], at: usize, end: usize)
-    requires order { at ≤ end }
-    requires room { end < length items.old }
-    ensures items { items.new ≡ copy_within items.old (at + 1) (end + 1) at }
-    ensures len { length items.new ≡ length items.old }
-{
-    items.copy_within(at + 1..end + 1, at);
-}
-
 /// Inserts an entry among those from a place up to another, if it comes behind all that are not later. Answers whether
 /// it is in.
 #[inline(always)]
@@ -368,11 +367,11 @@ fn insert_later(items: &mut [Waiting], start: usize, end: usize, entry: Waiting)
     ensures same { result ≡ false → slice_range items.new start end ≡ slice_range items.old start end }
     ensures len { length items.new ≡ length items.old }
 {
-    let at = move_later(items, start, end, entry.tag);
+    let at = first_later(items, start, end, entry.tag);
     if at > start && !items[at - 1].comes_before(entry.tag, entry.target) {
-        move_back(items, at, end);
         return false;
     }
+    move_up(items, at, end);
     items[at] = entry;
     true
 }

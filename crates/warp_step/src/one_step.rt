@@ -169,7 +169,7 @@ fn advance(
     state: &mut State,
     plan: &Plan,
     present: &mut Present,
-    wishes: &mut [Wishes],
+    wishes: &mut Vec<Wishes>,
     tag: Tag,
     given: &[Given],
 ) -> Marks
@@ -177,16 +177,16 @@ fn advance(
     requires can { CanStep program.now state.old tag given.now }
     requires places { places_of present.old ≡ program_places program.now }
     requires sources { present.old.sources ≡ sources_of program.now }
-    requires bodies { length wishes.old ≡ length program.now.reactions }
-    requires none { lists_of wishes.old ≡ replicate (length wishes.old) [] }
+    requires bodies { length wishes.old.items ≡ length program.now.reactions }
+    requires none { lists_of wishes.old.items ≡ replicate (length wishes.old.items) [] }
     ensures state { state.new ≡ state_after program.now state.old tag given.now }
     ensures present { present.new ≡ (reacted program.now state.old tag given.now).present }
     ensures of_program { IsStateOf program.now state.new }
     ensures later { IsTrue (list_all (λ w. is_before tag w.tag) state.new.pending) }
     ensures places { places_of present.new ≡ places_of present.old }
     ensures sources { present.new.sources ≡ present.old.sources }
-    ensures bodies { length wishes.new ≡ length wishes.old }
-    ensures none { lists_of wishes.new ≡ replicate (length wishes.new) [] }
+    ensures bodies { length wishes.new.items ≡ length wishes.old.items }
+    ensures none { lists_of wishes.new.items ≡ replicate (length wishes.new.items) [] }
     ensures due { AreDue program.now present.new result.word }
 {
     program.valid();

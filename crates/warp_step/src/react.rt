@@ -86,27 +86,28 @@ fn run_reaction(
     due: &mut Marks,
     vars: &mut Vars,
     present: &mut Present,
-    wishes: &mut [Wishes],
+    wishes: &mut Vec<Wishes>,
 ) -> bool
-    requires number { (ready_turn ready.now).number < length wishes.old }
+    requires number { (ready_turn ready.now).number < length wishes.old.items }
     requires sure { is_sure ≡ true → is_triggered (turn_rule (ready_turn ready.now)) present.old ≡ true }
     requires triggers { IsTrue (list_all (target_fits (places_of present.old)) (ready_turn ready.now).triggers) }
     requires body { IsTrue (body_fits (sizes_of vars.old present.old) (ready_turn ready.now).body) }
     requires room { schedules_of (ready_turn ready.now).body ≤ most_wishes }
-    requires none { slice_index_or (lists_of wishes.old) (ready_turn ready.now).number [] ≡ [] }
+    requires none { slice_index_or (lists_of wishes.old.items) (ready_turn ready.now).number [] ≡ [] }
     requires wish { (ready_turn ready.now).may_wish ≡ false → schedules_of (ready_turn ready.now).body ≤ 0 }
-    ensures effect { record { vars = vars.new; present = present.new; wishes = lists_of wishes.new }
+    ensures effect { record { vars = vars.new; present = present.new; wishes = lists_of wishes.new.items }
         ≡ react (ready_turn ready.now).number (turn_rule (ready_turn ready.now)) (record {
           vars = vars.old;
           present = present.old;
-          wishes = lists_of wishes.old;
+          wishes = lists_of wishes.old.items;
         }) }
     ensures vars { length vars.new ≡ length vars.old }
     ensures places { places_of present.new ≡ places_of present.old }
     ensures sources { present.new.sources ≡ present.old.sources }
-    ensures wishes { IsTrue (list_all (list_all (wish_fits (sizes_of vars.old present.old))) (lists_of wishes.old)) →
-        IsTrue (list_all (list_all (wish_fits (sizes_of vars.old present.old))) (lists_of wishes.new)) }
-    ensures none { result ≡ false → lists_of wishes.new ≡ lists_of wishes.old }
+    ensures wishes { IsTrue (list_all (list_all (wish_fits (sizes_of vars.old present.old))) (lists_of wishes.old.items)) →
+        IsTrue (list_all (list_all (wish_fits (sizes_of vars.old present.old))) (lists_of wishes.new.items)) }
+    ensures bodies { length wishes.new.items ≡ length wishes.old.items }
+    ensures none { result ≡ false → lists_of wishes.new.items ≡ lists_of wishes.old.items }
     ensures due { (P : Program) (rule : Rule) → IsTrue (is_valid P) → IsTrue (rule_fits P rule) →
         rule.body ≡ (ready_turn ready.now).body → present.old.sources ≡ sources_of P →
         (ready_turn ready.now).after ≡ marks_of P (filter is_port rule.writes) →
@@ -120,9 +121,9 @@ fn run_reaction(
     false
 }
 
-/// Runs the reactions that are triggered, in the program's order, and says whether one may have wishes then. It looks at
-/// those that are due, which all are that something present triggers, and tests them but the first one where that is
-/// sure.
+/// Runs the reactions that are triggered, in the program's order, and says whether one may have wishes then. It looks
+/// at those that are due, which all are that something present triggers, and tests them but the first one where that
+/// is sure.
 #[inline(always)]
 pub(crate) fn run_reactions(
     program: &Program,
@@ -131,16 +132,16 @@ pub(crate) fn run_reactions(
     sure: usize,
     vars: &mut Vars,
     present: &mut Present,
-    wishes: &mut [Wishes],
+    wishes: &mut Vec<Wishes>,
 ) -> bool
     requires vars { length vars.old ≡ length program.now.variables }
     requires places { places_of present.old ≡ program_places program.now }
-    requires wishes { lists_of wishes.old ≡ no_wishes program.now }
+    requires wishes { lists_of wishes.old.items ≡ no_wishes program.now }
     requires plan { plan.now ≡ plan_of program.now }
     requires own { present.old.sources ≡ sources_of program.now }
     requires due { AreDue program.now present.old due.old.word }
     requires sure { IsSure program.now present.old sure }
-    ensures effect { record { vars = vars.new; present = present.new; wishes = lists_of wishes.new }
+    ensures effect { record { vars = vars.new; present = present.new; wishes = lists_of wishes.new.items }
         ≡ after_reactions program.now program.now.order (record {
           vars = vars.old;
           present = present.old;
@@ -149,9 +150,9 @@ pub(crate) fn run_reactions(
     ensures vars { length vars.new ≡ length vars.old }
     ensures places { places_of present.new ≡ places_of present.old }
     ensures sources { present.new.sources ≡ present.old.sources }
-    ensures wishes { IsTrue (list_all (list_all (wish_fits (program_sizes program.now))) (lists_of wishes.new)) }
-    ensures bodies { length wishes.new ≡ length wishes.old }
-    ensures none { HasNone result (lists_of wishes.new) }
+    ensures wishes { IsTrue (list_all (list_all (wish_fits (program_sizes program.now))) (lists_of wishes.new.items)) }
+    ensures bodies { length wishes.new.items ≡ length wishes.old.items }
+    ensures none { HasNone result (lists_of wishes.new.items) }
     ensures due { AreDue program.now present.new due.new.word }
 {
     program.valid();

@@ -47,10 +47,10 @@ returns-clause-places c =
     ∙ cleared_places c.args.present.now
 
 -- what the reactions make
-abbrev reacting : goal.After-wishes-2-1 → Reacting
-reacting c = record { vars = c.run_reactions-wished.new.vars; present = c.run_reactions-wished.new.present; wishes = lists_of c.run_reactions-wished.new.wishes }
+abbrev reacting : goal.After-enter_later → Reacting
+reacting c = record { vars = c.run_reactions-wished.new.vars; present = c.run_reactions-wished.new.present; wishes = lists_of c.run_reactions-wished.new.wishes.items }
 
-made : (c : goal.After-wishes-2-1) → Made c.args.program.now c.args.state.now c.args.tag c.args.given.now c.arrive.new.present c.take_entries-taken.new.self (reacting c) c.enter_later.new.self
+made : (c : goal.After-enter_later) → Made c.args.program.now c.args.state.now c.args.tag c.args.given.now c.arrive.new.present c.take_entries-taken.new.self (reacting c) c.enter_later.new.self
 made c =
     let P = c.args.program.now in
     let t = c.args.tag in
@@ -66,7 +66,7 @@ made c =
           ∙ ap (λ (s : Snapshot). after_reactions P P.order (record { vars = s.vars; present = c.arrive.new.present; wishes = no_wishes P })) c.state.view_is;
       enters =
           c.enter_later.ensures.state
-          ∙ ap (λ (s : Snapshot). with_links P t c.run_reactions-wished.new.present P.links (with_all_wishes P t (lists_of c.run_reactions-wished.new.wishes) (record s { vars = c.run_reactions-wished.new.vars }))) c.state.view_is;
+          ∙ ap (λ (s : Snapshot). with_links P t c.run_reactions-wished.new.present P.links (with_all_wishes P t (lists_of c.run_reactions-wished.new.wishes.items) (record s { vars = c.run_reactions-wished.new.vars }))) c.state.view_is;
     }
 
 pub returns-clause-state : goal.returns-clause-state

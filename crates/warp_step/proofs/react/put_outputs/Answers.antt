@@ -1,5 +1,5 @@
 -- where the marks of all program outputs are apart from those that are due, none is present
-use Rattle.std.proofs.Common.{◌≡◌, ℕ, ◌++◌, List, length, refl, sym, ap, ◌∙◌, append-nil}
+use Rattle.std.proofs.Common.{◌≡◌, ℕ, ◌++◌, List, length, sym, ap, ◌∙◌, append-nil}
 use Rattle.warp_step.specs.inner.Marks.{first_output, mark_at, marks_from}
 use Rattle.warp_step.specs.inner.Plan.{Plan}
 use Rattle.warp_tag.specs.declared.out.Out.{Out}

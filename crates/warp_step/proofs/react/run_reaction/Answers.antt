@@ -1,5 +1,5 @@
 -- what the body does is the reaction's effect, and the wishes of the others stay
-use Rattle.std.proofs.Common.{◌≡◌, List, [], IsTrue, length, filter, ap, sym, ◌∙◌, subst, get_or, refl, arith}
+use Rattle.std.proofs.Common.{◌≡◌, List, [], IsTrue, length, filter, ap, sym, ◌∙◌, subst, refl, arith}
 use Rattle.std.specs.List.{list_all}
 use Rattle.std.specs.Prelude.{slice_set}
 use Rattle.std.proofs.lemmas.Bool.{cond-true}
@@ -22,14 +22,14 @@ pub returns-then-triggered-clause-effect : goal.returns-then-triggered-clause-ef
 returns-then-triggered-clause-effect c =
     let ready = ready_turn c.args.ready.now in
     let rule = turn_rule ready in
-    let W = c.args.wishes.now in
+    let W = c.args.wishes.now.items in
     let n = ready.number in
-    let room = c.index-wishes-ready.result in
+    let room = c.index_mut.result.now in
     let vars = c.args.vars.now in
     let present = c.args.present.now in
     let now : Reacting = record { vars = vars; present = present; wishes = lists_of W } in
-    let none : (get_or W n room).items ≡ [] =
-    sym (get_or-map (λ (w : ArrayVec Wish). w.items) W n room [] c.requires.number) ∙ c.requires.none in
+    let none : room.items ≡ [] =
+    ap (λ (w : ArrayVec Wish). w.items) c.index_mut.ensures.value ∙ sym (get_or-map (λ (w : ArrayVec Wish). w.items) W n room [] c.requires.number) ∙ c.requires.none in
     let effect =
     c.run.ensures.effect
     ∙ ap (λ (ws : List Wish). effect_of rule.body (record { vars = vars; present = present; wishes = ws })) none in
@@ -45,12 +45,12 @@ returns-then-triggered-clause-effect c =
 
 pub returns-then-triggered-clause-wishes : goal.returns-then-triggered-clause-wishes
 returns-then-triggered-clause-wishes c = λ all.
-    let W = c.args.wishes.now in
+    let W = c.args.wishes.now.items in
     let n = (ready_turn c.args.ready.now).number in
-    let room = c.index-wishes-ready.result in
+    let room = c.index_mut.result.now in
     let fits = wish_fits (sizes_of c.args.vars.now c.args.present.now) in
-    let none : [] ≡ (get_or W n room).items =
-    sym (sym (get_or-map (λ (w : ArrayVec Wish). w.items) W n room [] c.requires.number) ∙ c.requires.none) in
+    let none : [] ≡ room.items =
+    sym (ap (λ (w : ArrayVec Wish). w.items) c.index_mut.ensures.value ∙ sym (get_or-map (λ (w : ArrayVec Wish). w.items) W n room [] c.requires.number) ∙ c.requires.none) in
     let own : IsTrue (list_all fits c.run.new.wishes.items) =
     c.run.ensures.wishes (subst (λ (ws : List Wish). IsTrue (list_all fits ws)) none refl) in
     subst (λ (wss : List (List Wish)). IsTrue (list_all (list_all fits) wss))
@@ -59,9 +59,8 @@ returns-then-triggered-clause-wishes c = λ all.
 
 pub returns-then-triggered-clause-due : goal.returns-then-triggered-clause-due
 returns-then-triggered-clause-due c = λ P rule valid fits body own after_is were.
-    let W = c.args.wishes.now in
-    let room = c.index-wishes-ready.result in
-    let now : Effect = record { vars = c.args.vars.now; present = c.args.present.now; wishes = (get_or W (ready_turn c.args.ready.now).number room).items } in
+    let room = c.index_mut.result.now in
+    let now : Effect = record { vars = c.args.vars.now; present = c.args.present.now; wishes = room.items } in
     let effect =
     c.run.ensures.effect ∙ ap (λ (b : Body). effect_of b now) (sym body) in
     subst (λ (p : Presence). AreDue P p c.add_all.new.self.word) (sym (ap (λ (e : Effect). e.present) effect))
@@ -70,11 +69,11 @@ returns-then-triggered-clause-due c = λ P rule valid fits body own after_is wer
 
 pub returns-then-triggered-clause-none : goal.returns-then-triggered-clause-none
 returns-then-triggered-clause-none c = λ h.
-    let W = c.args.wishes.now in
+    let W = c.args.wishes.now.items in
     let n = (ready_turn c.args.ready.now).number in
-    let room = c.index-wishes-ready.result in
-    let none : (get_or W n room).items ≡ [] =
-    sym (get_or-map (λ (w : ArrayVec Wish). w.items) W n room [] c.requires.number) ∙ c.requires.none in
+    let room = c.index_mut.result.now in
+    let none : room.items ≡ [] =
+    ap (λ (w : ArrayVec Wish). w.items) c.index_mut.ensures.value ∙ sym (get_or-map (λ (w : ArrayVec Wish). w.items) W n room [] c.requires.number) ∙ c.requires.none in
     let few = c.requires.wish h in
     let before = ap (λ (ws : List Wish). length ws) none in
     let after : c.run.new.wishes.items ≡ [] = nil_from_length c.run.new.wishes.items (omega (arith, few, before, c.run.ensures.room)) in

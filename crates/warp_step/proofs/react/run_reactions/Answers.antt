@@ -64,7 +64,7 @@ pub loop-turn-init : goal.loop-turn-init
 loop-turn-init c =
     let P = c.args.program.now in
     let start = λ (wss : List (List Wish)). after_reactions P P.order (record { vars = c.args.vars.now; present = c.args.present.now; wishes = wss }) in
-    let now : Reacting = record { vars = c.args.vars.now; present = c.args.present.now; wishes = lists_of c.args.wishes.now } in
+    let now : Reacting = record { vars = c.args.vars.now; present = c.args.present.now; wishes = lists_of c.args.wishes.now.items } in
     let skipped = skip_reactions P now c.args.due.now.word c.valid.ensures c.requires.due.reactions 0 c.next-turn.result c.next-turn.ensures.from
     c.next-turn.ensures.between in
     record {
@@ -72,6 +72,7 @@ loop-turn-init c =
       vars = refl;
       places = refl;
       sources = refl;
+      bodies = refl;
       none = λ k h within. ap (λ (wss : List (List Wish)). get_or wss (get_or P.order k 0) []) c.requires.wishes ∙ empty_at (length P.reactions) (get_or P.order k 0);
       wishes = subst (λ (wss : List (List Wish)). IsTrue (list_all (list_all (wish_fits (program_sizes P))) wss))
           (sym c.requires.wishes) (empty_pass (wish_fits (program_sizes P)) (length P.reactions));
@@ -93,8 +94,8 @@ run_reaction-wished-requires c =
     let places : program_places P ≡ places_of c.loop-turn.present = sym (c.loop-turn.invariant.places ∙ c.requires.places) in
     let vars : length P.variables ≡ length c.loop-turn.vars = sym (c.loop-turn.invariant.vars ∙ c.requires.vars) in
     let sizes : program_sizes P ≡ sizes_of c.loop-turn.vars c.loop-turn.present = λ i. record { vars = vars i; places = places i } in
-    let lists : length c.args.wishes.now ≡ length P.reactions =
-    sym (length-map c.args.wishes.now (λ (w : ArrayVec Wish). w.items)) ∙ ap length c.requires.wishes ∙ length-replicate (length P.reactions) [] in
+    let lists : length c.loop-turn.wishes.items ≡ length P.reactions =
+    c.loop-turn.invariant.bodies ∙ sym (length-map c.args.wishes.now.items (λ (w : ArrayVec Wish). w.items)) ∙ ap length c.requires.wishes ∙ length-replicate (length P.reactions) [] in
     let below = kept.mine.below in
     let same = ap (λ (t : TurnPlan). t.number) kept.is in
     record {
@@ -106,7 +107,7 @@ run_reaction-wished-requires c =
       body = subst (λ (t : TurnPlan). IsTrue (body_fits (sizes_of c.loop-turn.vars c.loop-turn.present) t.body)) own
           (subst (λ (s : Sizes). IsTrue (body_fits s rule.body)) sizes fits.body);
       room = subst (λ (t : TurnPlan). schedules_of t.body ≤ most_wishes) own fits.room;
-      none = ap (λ (t : TurnPlan). get_or (lists_of c.loop-turn.wishes) t.number []) kept.is ∙ c.loop-turn.invariant.none turn (omega arith) kept.mine.within;
+      none = ap (λ (t : TurnPlan). get_or (lists_of c.loop-turn.wishes.items) t.number []) kept.is ∙ c.loop-turn.invariant.none turn (omega arith) kept.mine.within;
       wish = λ h. subst (λ (t : TurnPlan). schedules_of t.body ≤ 0) own (wishless P rule (sym (ap (λ (t : TurnPlan). t.may_wish) kept.is) ∙ h));
     }
 
@@ -124,8 +125,8 @@ loop-turn-preserved c =
     let sizes : program_sizes P ≡ sizes_of c.loop-turn.vars c.loop-turn.present = λ i. record { vars = vars i; places = places i } in
     let own = c.loop-turn.invariant.sources ∙ c.requires.own in
     let ran = c.run_reaction-wished in
-    let after : Reacting = record { vars = ran.new.vars; present = ran.new.present; wishes = lists_of ran.new.wishes } in
-    let now : Reacting = record { vars = c.loop-turn.vars; present = c.loop-turn.present; wishes = lists_of c.loop-turn.wishes } in
+    let after : Reacting = record { vars = ran.new.vars; present = ran.new.present; wishes = lists_of ran.new.wishes.items } in
+    let now : Reacting = record { vars = c.loop-turn.vars; present = c.loop-turn.present; wishes = lists_of c.loop-turn.wishes.items } in
     let effect : after ≡ react n rule now = ran.ensures.effect ∙ ap (λ (t : TurnPlan). react t.number (turn_rule t) now) kept.is in
     let due = ran.ensures.due P rule c.valid.ensures kept.may (sym (ap (λ (t : TurnPlan). t.body) kept.is)) own (ap (λ (t : TurnPlan). t.after) kept.is)
     c.loop-turn.invariant.due in
@@ -137,6 +138,7 @@ loop-turn-preserved c =
       vars = ran.ensures.vars ∙ c.loop-turn.invariant.vars;
       places = ran.ensures.places ∙ c.loop-turn.invariant.places;
       sources = ran.ensures.sources ∙ c.loop-turn.invariant.sources;
+      bodies = ran.ensures.bodies ∙ c.loop-turn.invariant.bodies;
       none = λ k h within.
           let later : turn + 1 ≤ next.result = next.ensures.from in
           let past : turn < k = omega (arith, later, h) in
@@ -144,9 +146,9 @@ loop-turn-preserved c =
           let m = get_or P.order k 0 in
           ap (λ (r : Reacting). get_or r.wishes m []) effect
           ∙ react_other n rule now m (other_turn P turn n k c.valid.ensures mine past within) ∙ c.loop-turn.invariant.none k before within;
-      wishes = subst (λ (s : Sizes). IsTrue (list_all (list_all (wish_fits s)) (lists_of ran.new.wishes))) (sym sizes)
+      wishes = subst (λ (s : Sizes). IsTrue (list_all (list_all (wish_fits s)) (lists_of ran.new.wishes.items))) (sym sizes)
           (ran.ensures.wishes
-          (subst (λ (s : Sizes). IsTrue (list_all (list_all (wish_fits s)) (lists_of c.loop-turn.wishes))) sizes c.loop-turn.invariant.wishes));
+          (subst (λ (s : Sizes). IsTrue (list_all (list_all (wish_fits s)) (lists_of c.loop-turn.wishes.items))) sizes c.loop-turn.invariant.wishes));
       unwished = λ h.
           let both = or_parts c.loop-turn.wished ran.result h in
           subst (λ (wss : List (List Wish)). wss ≡ replicate (length wss) []) (sym (ran.ensures.none both.1)) (c.loop-turn.invariant.unwished both.0);
@@ -164,7 +166,7 @@ pub returns-clause-effect : goal.returns-clause-effect
 returns-clause-effect c =
     let P = c.args.program.now in
     let turn = c.loop-turn.turn in
-    let now : Reacting = record { vars = c.loop-turn.vars; present = c.loop-turn.present; wishes = lists_of c.loop-turn.wishes } in
+    let now : Reacting = record { vars = c.loop-turn.vars; present = c.loop-turn.present; wishes = lists_of c.loop-turn.wishes.items } in
     let turns = turns_are P c.args.plan.now c.requires.plan in
     let end : length P.order ≤ turn = omega (arith, turns, c.turns-count.ensures, c.loop-turn-test.false) in
     sym (at_drop_all (λ (ns : List ℕ). after_reactions P ns now) P.order turn end) ∙ c.loop-turn.invariant.rest

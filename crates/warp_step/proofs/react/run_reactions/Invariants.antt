@@ -15,15 +15,16 @@ use Rattle.warp_step.proofs.react.run_reactions.Given as goal
 abbrev pub invariant-loop-turn : goal.invariant-loop-turn
 invariant-loop-turn l = record {
   rest : after_reactions l.program (drop l.turn l.program.order)
-      (record { vars = l.vars; present = l.present; wishes = lists_of l.wishes })
+      (record { vars = l.vars; present = l.present; wishes = lists_of l.wishes.items })
       ≡ after_reactions l.program l.program.order
       (record { vars = l.fn.vars; present = l.fn.present; wishes = no_wishes l.program });
   vars : length l.vars ≡ length l.fn.vars;
   places : places_of l.present ≡ places_of l.fn.present;
   sources : l.present.sources ≡ l.fn.present.sources;
-  none : (k : ℕ) → l.turn ≤ k → k < length l.program.order → get_or (lists_of l.wishes) (get_or l.program.order k 0) [] ≡ [];
-  wishes : IsTrue (list_all (list_all (wish_fits (program_sizes l.program))) (lists_of l.wishes));
-  unwished : HasNone l.wished (lists_of l.wishes);
+  bodies : length l.wishes.items ≡ length l.fn.wishes.items;
+  none : (k : ℕ) → l.turn ≤ k → k < length l.program.order → get_or (lists_of l.wishes.items) (get_or l.program.order k 0) [] ≡ [];
+  wishes : IsTrue (list_all (list_all (wish_fits (program_sizes l.program))) (lists_of l.wishes.items));
+  unwished : HasNone l.wished (lists_of l.wishes.items);
   due : AreDue l.program l.present l.due.word;
   sure : l.is_sure ≡ true → IsSure l.program l.present l.turn;
 }

@@ -1,4 +1,4 @@
--- the links that are left deliver as all do at the start
+-- the links that are left deliver as all do
 use Rattle.std.proofs.Common.{◌≡◌, ◌-◌, ◌≤◌, drop}
 use Rattle.warp_step.specs.Step.{with_links}
 use Rattle.warp_step.proofs.state.State.deliver_due.Given as goal

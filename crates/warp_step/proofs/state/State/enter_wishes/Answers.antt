@@ -8,6 +8,6 @@ use Rattle.warp_step.proofs.state.State.enter_wishes.Goals as goal
 
 pub returns-else-wished-clause-state : goal.returns-else-wished-clause-state
 returns-else-wished-clause-state c =
-    let lists = lists_of c.args.wishes.now in
+    let lists = lists_of c.args.wishes.now.items in
     sym (ap (λ (wss : List (List Wish)). with_all_wishes c.args.program.now c.args.tag wss c.args.self.now) (c.requires.none c.if-wished.false)
     ∙ none_enter c.args.program.now c.args.tag (length lists) c.args.self.now)
