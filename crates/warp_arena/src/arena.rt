@@ -391,7 +391,7 @@ impl Arena {
         requires { IfSome node (λ at. IsSome (entry_of at self.now.places)) }
         ensures { result ≡ node }
     {
-        let _ = &self.used;
+        let _ = &self.nodes;
         match node {
             Some(node) => Cursor::new(node.index()),
             None => Cursor::end(),

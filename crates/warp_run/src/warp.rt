@@ -220,7 +220,7 @@ impl Warp {
     {
         self.arena.ordered();
         let Some(pending) = self.tip.state().next() else {
-            let live = next_event(&self.arena, self.cursor.node(), self.latest)?;
+            let live = next_event(&self.arena, self.cursor.node(), &self.latest)?;
             return Some(Next::AtEvent(live));
         };
         match event_before(&self.arena, self.cursor.node(), pending) {
@@ -337,6 +337,7 @@ impl Warp {
     }
 
     /// The handle of a name: one of which nothing is known comes in.
+    #[inline(always)]
     fn node(&mut self, origin: u32, tag: Tag) -> NodeId
         requires room { HasRoom self.old }
         requires name { (m : Standing) × StandsFor self.old m × IsNameOf m.program origin tag }
