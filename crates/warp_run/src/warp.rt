@@ -387,11 +387,28 @@ impl Warp {
             self.latest = Some(tag);
         }
         if !is_after(self.tip.last(), tag) {
-            self.tip.go_back(tag);
-            let place = first_after(&self.arena, node, self.tip.last());
-            self.cursor = self.arena.cursor_at(place);
+            self.go_back(node, tag);
         } else {
             self.tip.let_go_before(tag);
         }
+    }
+
+    /// Goes back behind a tag after the floor that is executed, of which this is a place.
+    #[inline(never)]
+    fn go_back(&mut self, node: NodeId, tag: Tag)
+        requires named { IsSomeAnd (entry_of node self.old.arena.places) (λ e. e.tag ≡ tag) }
+        requires tip { (P : Program) × (E : List Event) × (done : List Row) × IsAt P E self.old.tip done }
+        requires late { is_after self.old.tip.last tag ≡ false }
+        requires ahead { is_after self.old.tip.floor tag ≡ true }
+        ensures others { self.new ≡ record self.old { tip = self.new.tip; cursor = self.new.cursor } }
+        ensures room { KeepsRoom self.old.tip self.new.tip }
+        ensures tip { (P : Program) (E : List Event) (done : List Row) → IsAt P E self.old.tip done →
+            GoesBack P E tag done self.new.tip }
+        ensures cursor { Reaches self.new.arena.places (ahead self.new.tip.last self.new.arena.places) self.new.cursor }
+        ensures floor { self.new.tip.floor ≡ self.old.tip.floor }
+    {
+        self.tip.go_back(tag);
+        let place = first_after(&self.arena, node, self.tip.last());
+        self.cursor = self.arena.cursor_at(place);
     }
 }
