@@ -1,17 +1,7 @@
-use Rattle.std.proofs.Common.{◌≡◌, ◌≢◌, ℕ, ◌-◌, arith, refl, sym, ap, ◌∙◌, subst, length, Option, Some, None, unwrap_or, IfSome, IsSome}
-use Rattle.std.specs.Option.{is_some, option_and_then}
-use Rattle.std.proofs.lemmas.Bool.{false≢true}
-use Rattle.warp_tag.specs.Moment.{Moment}
-use Rattle.warp_tag.specs.Table.{fresh}
-use Rattle.warp_tag.specs.declared.entry.Entry.{Entry}
+use Rattle.std.proofs.Common.{sym, ap, ◌∙◌, subst, IfSome, IsSome}
+use Rattle.std.specs.Option.{is_some}
 use Rattle.warp_step.specs.Run.{is_after}
-use Rattle.warp_arena.specs.Laws.{FindsKnown, ChangesFound}
-use Rattle.warp_arena.specs.Places.{Contents, Reaches, entry_of, node_of, with_place}
-use Rattle.warp_arena.proofs.Inserted.{length-with_place}
-use Rattle.warp_run.specs.Walk.{ahead}
-use Rattle.warp_run.specs.Warp.{NamesAt}
-use Rattle.warp_run.specs.declared.warp.Warp.{Warp}
-use Rattle.warp_run.proofs.PlacesWalks.{place}
+use Rattle.warp_arena.specs.Places.{Contents, entry_of}
 use Rattle.warp_run.proofs.PlacesCursor.{stays_before, comes_alone, stays_first, comes_first, named_before, unknown, names_new}
 use Rattle.warp_run.proofs.warp.Warp.come_in.Goals as goal
 use Rattle.warp_run.proofs.warp.Warp.come_in.Goals.{in_default-via-in-Some+else-comes_before, in_default-via-in_default}
