@@ -208,7 +208,8 @@ impl Arena {
     }
 
     /// Where this name comes in, where it comes behind the last entry of all, and so behind the last one of its origin.
-    fn gap_at_end(&self, origin: u32, tag: Tag) -> Option<Gap>
+    #[inline(always)]
+    pub fn gap_at_end(&self, origin: u32, tag: Tag) -> Option<Gap>
         requires { origin < self.now.origins }
         ensures gap { IfSome result (λ gap. IsGap origin tag self.now.places gap) }
         ensures absent { IfSome result (λ gap. node_of origin tag self.now.places ≡ None) }
@@ -284,7 +285,7 @@ impl Arena {
 
     /// Takes in this name at this gap, and notes no hint.
     #[inline(always)]
-    fn thread_in(&mut self, origin: u32, tag: Tag, gap: &Gap) -> NodeId
+    pub fn thread_in(&mut self, origin: u32, tag: Tag, gap: &Gap) -> NodeId
         requires origin { origin < self.old.origins }
         requires reserved { 0 < self.old.free }
         requires absent { node_of origin tag self.old.places ≡ None }
@@ -300,6 +301,7 @@ impl Arena {
         let at = self.free;
         self.free = self.nodes[at as usize].by_tag.next;
         let own = &mut self.by_origin[origin as usize];
+        own.touched = at;
         let entry = Packed::fresh(origin, tag);
         thread_node(
             &mut self.nodes,
@@ -309,7 +311,6 @@ impl Arena {
             at,
             entry,
         );
-        own.touched = at;
         self.used += 1;
         NodeId::new(at)
     }
@@ -391,7 +392,7 @@ impl Arena {
         requires { IfSome node (λ at. IsSome (entry_of at self.now.places)) }
         ensures { result ≡ node }
     {
-        let _ = &self.used;
+        let _ = &self.nodes;
         match node {
             Some(node) => Cursor::new(node.index()),
             None => Cursor::end(),
@@ -473,7 +474,7 @@ impl Arena {
     /// Notes that the node of this name is a hint, where its index says so and there is room, and gives its handle
     /// back.
     #[inline(always)]
-    fn note_hint(&mut self, node: NodeId, origin: u32, tag: Tag) -> NodeId
+    pub fn note_hint(&mut self, node: NodeId, origin: u32, tag: Tag) -> NodeId
         requires { IsSome (entry_of node self.old.places) }
         ensures same { self.new ≡ self.old }
         ensures node { result ≡ node }

@@ -1,8 +1,7 @@
 //! Hints: nodes from which a walk back along a list may start. On them hangs what a walk costs; what it finds hangs
 //! only on what is tested of one where it is used.
-ghost use Rattle.std.specs.Prelude.{◌≡◌, ℕ, ◌<◌, ◌≢◌, ◌≤◌, All, length, IsOk, IsTrue};
+ghost use Rattle.std.specs.Prelude.{◌≡◌, ℕ, ◌+◌, ◌/◌, ◌<◌, ◌≢◌, ◌≤◌, All, length, IsOk, IsTrue, OnOk, vec_len, vec_capacity};
 ghost use Rattle.std.specs.List.{AllByRecursion};
-ghost use Rattle.std.specs.Vec.{vec_capacity};
 ghost use Rattle.warp_tag.specs.Table.{name_before};
 ghost use Rattle.warp_arena.specs.Shape.{IsOwnAfter, entry_at};
 
@@ -18,6 +17,10 @@ pub(crate) fn reserve_hints(
 ) -> Result<(), OutOfMemory>
     ensures items { hints.new.items ≡ hints.old.items }
     ensures own_items { own_hints.new.items ≡ own_hints.old.items }
+    ensures room { OnOk result (vec_capacity nodes.now ≤ length nodes.now.items →
+        vec_len hints.new + (length nodes.now.items / 8 + 4) ≤ vec_capacity hints.new) }
+    ensures own_room { OnOk result (vec_capacity nodes.now ≤ length nodes.now.items →
+        vec_len own_hints.new + (length nodes.now.items / 16 + 4) ≤ vec_capacity own_hints.new) }
     ensures spare { length nodes.now.items < vec_capacity nodes.now → IsOk result }
 {
     if nodes.len() < nodes.capacity() {

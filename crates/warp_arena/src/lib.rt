@@ -19,5 +19,5 @@ mod node;
 mod packed;
 
 pub use arena::Arena;
-pub use node::{Cursor, MAX_USED, NodeId};
+pub use node::{Cursor, Gap, MAX_USED, NodeId};
 pub use warp_tag::{Entry, OutOfMemory};

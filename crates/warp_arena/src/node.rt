@@ -118,11 +118,11 @@ impl Links {
 
 /// Where a node comes in: the places between which it stands in the tag list and in its origin's list.
 #[derive(Clone, Copy)]
-pub(crate) struct Gap {
-    pub before: u32,
-    pub after: u32,
-    pub own_before: u32,
-    pub own_after: u32,
+pub struct Gap {
+    pub(crate) before: u32,
+    pub(crate) after: u32,
+    pub(crate) own_before: u32,
+    pub(crate) own_after: u32,
 }
 
 /// The end of a walk back along a list: the node where it stopped, or `NO_NODE`, and how many nodes it passed.

@@ -1,5 +1,5 @@
 -- The next tag that waits: the earlier of the first event after the last row and the least pending entry.
-use Rattle.std.proofs.Common.{arith, ◌≡◌, inl, inr, Bool, true, false, not, ◌||◌, List, [], ◌∷◌, ap, sym, subst, ◌∙◌, refl, filter, IsTrue, Option, Some, None}
+use Rattle.std.proofs.Common.{arith, ◌≡◌, inl, inr, Bool, true, not, ◌||◌, List, [], ◌∷◌, ap, sym, subst, ◌∙◌, refl, filter, IsTrue, Option, Some, None}
 use Rattle.std.specs.List.{cons_option, list_all}
 use Rattle.std.proofs.lemmas.Bool.{cases_Bool}
 use Rattle.std.proofs.lemmas.Bool.Decides.{nat_tests}

@@ -307,6 +307,30 @@ impl Tip {
         ensures room { OnOk result (self.new.rows + spacing ≤ reach self.new.base self.new.history.saves) }
         ensures fits { HasRoomFor self.old.history self.old.state → IsOk result }
     {
+        if self.has_one_value() && self.add_in_room() {
+            return Ok(());
+        }
+        self.add_any()
+    }
+
+    /// Whether the state is one value, with nothing pending, as where a checkpoint is made without a call.
+    #[inline(always)]
+    fn has_one_value(&self) -> bool {
+        self.state.vars().len() == 1 && self.state.pending().is_empty()
+    }
+
+    /// Makes a checkpoint of a state of any size.
+    #[inline(never)]
+    fn add_any(&mut self) -> Result<(), OutOfMemory>
+        requires { (P : Program) × (E : List Event) × (done : List Row) × IsAt P E self.old done }
+        ensures others { self.new ≡
+            record self.old { due = self.new.due; history = self.new.history; aside = self.new.aside } }
+        ensures aside { IsSameAside self.old.aside self.new.aside }
+        ensures kept { (P : Program) (E : List Event) (done : List Row) → IsAt P E self.old done →
+            IsAt P E self.new done }
+        ensures room { OnOk result (self.new.rows + spacing ≤ reach self.new.base self.new.history.saves) }
+        ensures fits { HasRoomFor self.old.history self.old.state → IsOk result }
+    {
         if self.add_in_room() {
             return Ok(());
         }

@@ -83,10 +83,10 @@ fn add_given(entry: &Entry, given: &mut Vec<Given>) -> Result<(), OutOfMemory>
 pub(crate) fn next_event(
     arena: &Arena,
     cursor: Option<NodeId>,
-    latest: Option<Tag>,
+    latest: &Option<Tag>,
 ) -> Option<Live>
-    requires { (rest : List Place) × Reaches arena.now.places rest cursor × AreThrough latest (live_of rest) }
-    ensures { (rest : List Place) → Reaches arena.now.places rest cursor → AreThrough latest (live_of rest) →
+    requires { (rest : List Place) × Reaches arena.now.places rest cursor × AreThrough latest.now (live_of rest) }
+    ensures { (rest : List Place) → Reaches arena.now.places rest cursor → AreThrough latest.now (live_of rest) →
         FindsFirst arena.now.places rest result }
 {
     let node = cursor?;
@@ -100,9 +100,9 @@ pub(crate) fn next_event(
 
 /// The place of the first live event from a place on, sought apart from where it is mostly that of the first place.
 #[inline(never)]
-fn later_event(arena: &Arena, node: NodeId, latest: Option<Tag>) -> Option<NodeId>
-    requires { (rest : List Place) × Reaches arena.now.places rest (Some node) × AreThrough latest (live_of rest) }
-    ensures { (rest : List Place) → Reaches arena.now.places rest (Some node) → AreThrough latest (live_of rest) →
+fn later_event(arena: &Arena, node: NodeId, latest: &Option<Tag>) -> Option<NodeId>
+    requires { (rest : List Place) × Reaches arena.now.places rest (Some node) × AreThrough latest.now (live_of rest) }
+    ensures { (rest : List Place) → Reaches arena.now.places rest (Some node) → AreThrough latest.now (live_of rest) →
         FindsPlace arena.now.places rest result }
 {
     let live = seek_event(arena, Some(node), latest)?;
@@ -111,13 +111,13 @@ fn later_event(arena: &Arena, node: NodeId, latest: Option<Tag>) -> Option<NodeI
 
 /// The first live event from the cursor on, sought. No live event is after the latest tag, so the walk ends there.
 #[inline(always)]
-fn seek_event(arena: &Arena, cursor: Option<NodeId>, latest: Option<Tag>) -> Option<Live>
-    requires { (rest : List Place) × Reaches arena.now.places rest cursor × AreThrough latest (live_of rest) }
-    ensures { (rest : List Place) → Reaches arena.now.places rest cursor → AreThrough latest (live_of rest) →
+fn seek_event(arena: &Arena, cursor: Option<NodeId>, latest: &Option<Tag>) -> Option<Live>
+    requires { (rest : List Place) × Reaches arena.now.places rest cursor × AreThrough latest.now (live_of rest) }
+    ensures { (rest : List Place) → Reaches arena.now.places rest cursor → AreThrough latest.now (live_of rest) →
         FindsFirst arena.now.places rest result }
 {
     arena.ordered();
-    let Some(latest) = latest else {
+    let Some(latest) = *latest else {
         return None;
     };
     let mut at = cursor;

@@ -1,16 +1,17 @@
 //! The timeline with rollback.
 ghost use Rattle.std.specs.Prelude.{◌≡◌, ◌+◌, ◌-◌, ◌≤◌, false, true, IsTrue, List, None, IfSome, OnOk, OnErr};
 ghost use Rattle.std.specs.Prelude.{IsSomeAnd, length};
-ghost use Rattle.warp_tag.specs.Table.{Event, live};
+ghost use Rattle.warp_tag.specs.Table.{Event, changed, live, with_event};
 ghost use Rattle.warp_step.specs.Program.{Program};
-ghost use Rattle.warp_step.specs.Events.{IsNameOf};
+ghost use Rattle.warp_step.specs.Events.{IsEventOf, IsNameOf};
 ghost use Rattle.warp_step.specs.Run.{Row, IsNext, is_after};
-ghost use Rattle.warp_arena.specs.Places.{Reaches, entries_of, entry_of};
+ghost use Rattle.warp_arena.specs.Places.{Reaches, entries_of, entry_of, node_of};
+ghost use Rattle.warp_arena.specs.Shape.{IsGap};
 ghost use Rattle.warp_line.specs.Begin.{last_after};
-ghost use Rattle.warp_line.specs.Timeline.{Standing, IsDone};
+ghost use Rattle.warp_line.specs.Timeline.{NowStands, Standing, IsDone, is_behind};
 ghost use Rattle.warp_run.specs.Walk.{IsAhead, IsAtFirst, ahead, tag_of_next};
 ghost use Rattle.warp_run.specs.Tip.{GoesBack, IsAt, KeepsRoom};
-ghost use Rattle.warp_run.specs.Warp.{Goes, HasRoom, NamesAt, StandsFor, ahead_of, floor_of, latest_with};
+ghost use Rattle.warp_run.specs.Warp.{Goes, HasRoom, NamesAt, StandsFor, ahead_of, floor_of, latest_with, room_in};
 
 use crate::tip::Tip;
 use crate::walk::{
@@ -20,7 +21,7 @@ use crate::walk::{
 use std::alloc::Global;
 use std::slice;
 use warp_arena::law::{changes_found, changes_new, finds_known};
-use warp_arena::{Arena, Cursor, NodeId};
+use warp_arena::{Arena, Cursor, Gap, NodeId};
 use warp_line::Timeline;
 use warp_step::{Given, Meter, Out, Program, State};
 use warp_tag::{OutOfMemory, Tag};
@@ -94,11 +95,15 @@ impl Timeline for Warp {
     }
 
     fn put(&mut self, origin: u32, tag: Tag, input: u32, value: i64) {
-        let node = self.node(origin, tag);
-        let changes = self.arena.entry(node).note_event(input, value);
-        self.arena.set_event(node, input, value);
+        let Some(gap) = self.arena.gap_at_end(origin, tag) else {
+            return self.put_among(origin, tag, input, value);
+        };
+        let place = self.come_in(origin, tag, &gap);
+        let changes = self.arena.entry(place).note_event(input, value);
+        self.arena.set_event(place, input, value);
+        self.arena.note_hint(place, origin, tag);
         if changes {
-            self.undo_from(node, tag);
+            self.undo_from(place, tag);
         }
     }
 
@@ -220,7 +225,7 @@ impl Warp {
     {
         self.arena.ordered();
         let Some(pending) = self.tip.state().next() else {
-            let live = next_event(&self.arena, self.cursor.node(), self.latest)?;
+            let live = next_event(&self.arena, self.cursor.node(), &self.latest)?;
             return Some(Next::AtEvent(live));
         };
         match event_before(&self.arena, self.cursor.node(), pending) {
@@ -336,6 +341,51 @@ impl Warp {
         Ok(())
     }
 
+    /// Takes an event that is not behind, as `put`, where its name may stand among others.
+    #[inline(never)]
+    fn put_among(&mut self, origin: u32, tag: Tag, input: u32, value: i64)
+        requires prepared { HasRoom self.old }
+        requires ahead { is_behind (floor_of self.old) tag ≡ false }
+        requires event { (m : Standing) × StandsFor self.old m × IsEventOf m.program origin tag input }
+        ensures stands { (m : Standing) → StandsFor self.old m → IsEventOf m.program origin tag input →
+            NowStands StandsFor 16 0 tag self.new m (changed (with_event input value) origin tag m.table) }
+        ensures settled { (m : Standing) → StandsFor self.old m → IsEventOf m.program origin tag input →
+            live (changed (with_event input value) origin tag m.table) ≡ live m.table →
+            self.new.settled ≡ self.old.settled }
+        ensures floor { floor_of self.new ≡ floor_of self.old }
+        ensures room { room_in self.new ≡ room_in self.old }
+    {
+        let node = self.node(origin, tag);
+        let changes = self.arena.entry(node).note_event(input, value);
+        self.arena.set_event(node, input, value);
+        if changes {
+            self.undo_from(node, tag);
+        }
+    }
+
+    /// Has a name of which nothing is known come in at this gap, and answers its handle.
+    #[inline(always)]
+    fn come_in(&mut self, origin: u32, tag: Tag, gap: &Gap) -> NodeId
+        requires room { HasRoom self.old }
+        requires name { (m : Standing) × StandsFor self.old m × IsNameOf m.program origin tag }
+        requires absent { node_of origin tag self.old.arena.places ≡ None }
+        requires gap { IsGap origin tag self.old.arena.places gap.now }
+        ensures names { NamesAt self.old self.new origin tag result }
+        ensures room { self.new.arena.room ≡ self.old.arena.room }
+    {
+        finds_known(&self.arena, origin, tag);
+        changes_new(&self.arena, origin, tag);
+        let new = self.arena.thread_in(origin, tag, gap);
+        self.arena.ordered();
+        if is_after(self.tip.last(), tag) {
+            match self.cursor.node() {
+                Some(cursor) if self.arena.entry(cursor).comes_before(origin, tag) => {}
+                _ => self.cursor = self.arena.cursor_at(Some(new)),
+            }
+        }
+        new
+    }
+
     /// The handle of a name: one of which nothing is known comes in.
     fn node(&mut self, origin: u32, tag: Tag) -> NodeId
         requires room { HasRoom self.old }
@@ -386,11 +436,28 @@ impl Warp {
             self.latest = Some(tag);
         }
         if !is_after(self.tip.last(), tag) {
-            self.tip.go_back(tag);
-            let place = first_after(&self.arena, node, self.tip.last());
-            self.cursor = self.arena.cursor_at(place);
+            self.go_back(node, tag);
         } else {
             self.tip.let_go_before(tag);
         }
+    }
+
+    /// Goes back behind a tag after the floor that is executed, of which this is a place.
+    #[inline(never)]
+    fn go_back(&mut self, node: NodeId, tag: Tag)
+        requires named { IsSomeAnd (entry_of node self.old.arena.places) (λ e. e.tag ≡ tag) }
+        requires tip { (P : Program) × (E : List Event) × (done : List Row) × IsAt P E self.old.tip done }
+        requires late { is_after self.old.tip.last tag ≡ false }
+        requires ahead { is_after self.old.tip.floor tag ≡ true }
+        ensures others { self.new ≡ record self.old { tip = self.new.tip; cursor = self.new.cursor } }
+        ensures room { KeepsRoom self.old.tip self.new.tip }
+        ensures tip { (P : Program) (E : List Event) (done : List Row) → IsAt P E self.old.tip done →
+            GoesBack P E tag done self.new.tip }
+        ensures cursor { Reaches self.new.arena.places (ahead self.new.tip.last self.new.arena.places) self.new.cursor }
+        ensures floor { self.new.tip.floor ≡ self.old.tip.floor }
+    {
+        self.tip.go_back(tag);
+        let place = first_after(&self.arena, node, self.tip.last());
+        self.cursor = self.arena.cursor_at(place);
     }
 }
