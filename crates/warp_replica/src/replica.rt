@@ -171,6 +171,7 @@ impl<T: Timeline> Replica<T> {
 
     /// Takes a record that the program has no reason against, where the log is not full. An `Err` changes neither the
     /// records nor what is done.
+    #[inline(always)]
     fn add(&mut self, alloc: Global, record: &Record) -> Result<Took, OutOfMemory>
         requires allowed { refusal_of self.old.program «record».now ≡ None }
         requires room { length self.old.records < most_records }

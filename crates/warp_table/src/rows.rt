@@ -1,7 +1,8 @@
 //! What is known of the names of one origin, in the order of their tags, in blocks.
 //!
 //! Names come nearly in order of tags, so a row is looked for at the end first, and put there; only a tag that comes
-//! late is sought by halves.
+//! late is sought by halves. Before that it is looked for in front of the row that was sought last, since names are
+//! often withdrawn newest first.
 ghost use Rattle.std.specs.Prelude.{◌≡◌, ◌<◌, ◌≤◌, IsTrue, is_some, length, map, true};
 ghost use Rattle.std.specs.Vec.{vec_items};
 ghost use Rattle.warp_table.specs.inner.Blocks.{AreBlocks, IsBlockOf, flat};
@@ -112,7 +113,7 @@ fn place_near(rows: &[NameRow], tag: Tag, near: usize) -> usize
 }
 
 /// What is known of the name of this tag, `None` where it has no row; and the place of the first row that is not before
-/// it. It is looked for in front of this place first, since names are withdrawn newest first.
+/// it. It is looked for in front of the place `behind` first.
 fn known_at(rows: &[NameRow], tag: Tag, behind: usize) -> (Option<Known>, usize)
     requires { AreInOrder rows.now }
     ensures { result.0 ≡ row_of tag rows.now }
