@@ -281,7 +281,7 @@ fn payload_at(records: &[Record], place: u32) -> Option<(u32, i64)>
 }
 
 /// Whether the record stands at this place.
-pub(crate) fn stands(records: &[Record], place: u32, record: &Record) -> bool
+fn stands(records: &[Record], place: u32, record: &Record) -> bool
     ensures { result ≡ stands records.now place «record».now }
 {
     match record_at(records, place) {
@@ -363,13 +363,6 @@ fn counts_less(one: Option<(u32, i64)>, other: (u32, i64)) -> bool
         Some(payload) => is_lesser(payload, other),
         None => false,
     }
-}
-
-/// Whether the payload of the event at the place `kept` counts less than this one.
-pub(crate) fn is_outdone(records: &[Record], kept: u32, payload: (u32, i64)) -> bool
-    ensures { result ≡ counts_less (payload_at records.now kept) payload }
-{
-    counts_less(payload_at(records, kept), payload)
 }
 
 /// Of the event at the place `kept` and a new one of the same name with this payload the one that counts less, which

@@ -13,7 +13,7 @@ ghost use Rattle.warp_record.specs.declared.record.Record.{Record};
 ghost use Rattle.warp_table.specs.Log.{IsAt};
 ghost use Rattle.warp_table.specs.Names.{origin_of};
 ghost use Rattle.warp_table.specs.Records.{set_of};
-ghost use Rattle.warp_table.specs.inner.Heard.{Announced, AreHeard, IsHeard, earlier_of, heard_at, with_tag};
+ghost use Rattle.warp_table.specs.inner.Heard.{Announced, AreHeard, IsHeard, heard_at, with_tag};
 ghost use Rattle.warp_table.specs.inner.Kept.{HoldsEvent, IsAdded, Keeps, NotesEvent};
 ghost use Rattle.warp_table.specs.inner.Kept.{event_place, is_named, known_of, other_place};
 ghost use Rattle.warp_table.specs.inner.Kept.{put_known, put_other, with_event_at};
@@ -22,7 +22,7 @@ ghost use Rattle.warp_table.specs.inner.Kept.{with_withdrawal_at, withdrawal_pla
 use crate::announcer::Announcer;
 use crate::names::{Name, Names};
 use crate::rows::Known;
-use crate::table::{Added, event_place, is_outdone, part, stands};
+use crate::table::{Added, event_place, part};
 use crate::tally::Kind;
 use indexmap::IndexMap;
 use indexmap::map::Entry as Place;
@@ -50,10 +50,8 @@ fn note_other(
 }
 
 /// Notes an event of a name that has one, at the place `kept`: known where it stands there or among the others, and
-/// else a second payload, which is told to its origin. Of the two the one that counts less goes to the others. An `Err`
-/// changes nothing.
-#[inline(never)]
-fn note_either_event(
+/// else a second payload, which is told to its origin. An `Err` changes nothing.
+fn note_further_event(
     records: &[Record],
     others: &mut IndexMap<Record, u32>,
     announcer: &mut Announcer,
@@ -98,84 +96,6 @@ fn note_either_event(
         added,
         event: parted.event,
     })
-}
-
-/// Notes an event that counts less than the one that its name keeps, and so goes to the others, behind `next - 1`
-/// records: known where they have it, and else a second payload, which is told to its origin. An `Err` changes nothing.
-fn note_lesser_event(
-    others: &mut IndexMap<Record, u32>,
-    announcer: &mut Announcer,
-    said: &Record,
-    tag: Tag,
-    next: u32,
-) -> Result<Added, OutOfMemory>
-    ensures new { IfOk result (λ added. IsTrue added.is_new → (added.place ≡ next) ×
-        (other_place others.old.entries said.now ≡ None) ×
-        (others.new.entries ≡ put_other others.old.entries said.now next) ×
-        (announcer.new ≡ record announcer.old { doubled = Some (earlier_of announcer.old.doubled tag) })) }
-    ensures known { IfOk result
-        (λ added. added.is_new ≡ false → (others.new.entries ≡ others.old.entries) × (announcer.new ≡ announcer.old) ×
-        (other_place others.old.entries said.now ≡ Some added.place)) }
-    ensures err { OnErr result ((others.new.entries ≡ others.old.entries) × (announcer.new ≡ announcer.old)) }
-{
-    match others.entry(*said)? {
-        Place::Occupied(found) => Ok(Added {
-            place: *found.get(),
-            is_new: false,
-        }),
-        Place::Vacant(free) => {
-            announcer.note_two_payloads(tag);
-            free.insert(next);
-            Ok(Added {
-                place: next,
-                is_new: true,
-            })
-        }
-    }
-}
-
-/// Notes an event of a name that has one, at the place `kept`, as `note_either_event` does. One that counts less is
-/// looked for among the others, and put there, in one step.
-fn note_further_event(
-    records: &[Record],
-    others: &mut IndexMap<Record, u32>,
-    announcer: &mut Announcer,
-    kept: u32,
-    name: &Name,
-    payload: (u32, i64),
-) -> Result<Noted, OutOfMemory>
-    requires room { length records.now < most_records }
-    requires kept { (before : ℕ × ℤ) ×
-        IsAt records.now kept (Record.Event name.now.origin name.now.tag before.0 before.1) }
-    ensures new { IfOk result (λ noted. IsTrue noted.added.is_new → (noted.added.place ≡ length records.now + 1) ×
-        NotesEvent records.now name.now payload kept noted.event others.old.entries others.new.entries
-        announcer.old announcer.new) }
-    ensures known { IfOk result
-        (λ noted. noted.added.is_new ≡ false → (others.new.entries ≡ others.old.entries) ×
-        (announcer.new ≡ announcer.old) ×
-        (event_place records.now kept others.old.entries
-        (Record.Event name.now.origin name.now.tag payload.0 payload.1) ≡ Some noted.added.place)) }
-    ensures err { OnErr result ((others.new.entries ≡ others.old.entries) × (announcer.new ≡ announcer.old)) }
-{
-    let record = Record::Event {
-        origin: name.origin,
-        tag: name.tag,
-        input: payload.0,
-        value: payload.1,
-    };
-    if stands(records, kept, &record) {
-        let added = Added {
-            place: kept,
-            is_new: false,
-        };
-        return Ok(Noted { added, event: kept });
-    }
-    if is_outdone(records, kept, payload) {
-        return note_either_event(records, others, announcer, kept, name, payload);
-    }
-    let next = records.len() as u32 + 1;
-    let added = note_lesser_event(others, announcer, &record, name.tag, next)?;
-    Ok(Noted { added, event: kept })
 }
 
 /// What comes of the first event of a name, which goes behind these records.
