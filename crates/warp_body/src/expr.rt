@@ -35,7 +35,7 @@ pub fn eval(expr: &Expr, vars: &Vars, present: &Present) -> i64
 }
 
 /// The value of an expression over the values of the variables.
-pub(crate) fn evaluate(expr: &Expr, vars: &[i64], present: &Present) -> i64
+fn evaluate(expr: &Expr, vars: &[i64], present: &Present) -> i64
     requires { IsTrue (term_fits (sizes_of vars.now present.now) (term_of expr.now)) }
     ensures { result ≡ value_of (term_of expr.now) vars.now present.now }
 {
