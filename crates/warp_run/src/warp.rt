@@ -387,6 +387,7 @@ impl Warp {
     }
 
     /// The handle of a name: one of which nothing is known comes in.
+    #[inline(always)]
     fn node(&mut self, origin: u32, tag: Tag) -> NodeId
         requires room { HasRoom self.old }
         requires name { (m : Standing) × StandsFor self.old m × IsNameOf m.program origin tag }
