@@ -159,31 +159,8 @@ impl Arena {
 
     /// The handle of this name, which comes in where the arena does not hold it: what `find` answers, and else
     /// `insert`.
-    pub fn enter(&mut self, origin: u32, tag: Tag) -> NodeId
-        requires origin { origin < self.old.origins }
-        requires reserved { 0 < self.old.free }
-        ensures known { (node : ℕ) → node_of origin tag self.old.places ≡ Some node → (result ≡ node) ×
-            (self.new ≡ self.old) }
-        ensures places { node_of origin tag self.old.places ≡ None → self.new ≡ record self.old {
-          places = with_place (record { node = result; entry = fresh origin tag }) self.old.places;
-          free = self.old.free - 1;
-        } }
-        ensures new_handle { node_of origin tag self.old.places ≡ None → entry_of result self.old.places ≡ None }
-        ensures entry { node_of origin tag self.old.places ≡ None →
-            entry_of result self.new.places ≡ Some (fresh origin tag) }
-        ensures others { node_of origin tag self.old.places ≡ None
-            → (node : ℕ) → node ≢ result → entry_of node self.new.places ≡ entry_of node self.old.places }
-        ensures named { IsSomeAnd (entry_of result self.new.places) (λ e. IsTrue (has_name origin tag e)) }
-    {
-        if let Some(gap) = self.gap_at_end(origin, tag) {
-            return self.insert_into(origin, tag, &gap);
-        }
-        self.enter_among(origin, tag)
-    }
-
-    /// `enter` where the name may stand among others.
     #[inline(never)]
-    fn enter_among(&mut self, origin: u32, tag: Tag) -> NodeId
+    pub fn enter(&mut self, origin: u32, tag: Tag) -> NodeId
         requires origin { origin < self.old.origins }
         requires reserved { 0 < self.old.free }
         ensures known { (node : ℕ) → node_of origin tag self.old.places ≡ Some node → (result ≡ node) ×
@@ -301,7 +278,6 @@ impl Arena {
         let at = self.free;
         self.free = self.nodes[at as usize].by_tag.next;
         let own = &mut self.by_origin[origin as usize];
-        own.touched = at;
         let entry = Packed::fresh(origin, tag);
         thread_node(
             &mut self.nodes,
@@ -311,6 +287,7 @@ impl Arena {
             at,
             entry,
         );
+        own.touched = at;
         self.used += 1;
         NodeId::new(at)
     }

@@ -1,6 +1,7 @@
 //! Hints: nodes from which a walk back along a list may start. On them hangs what a walk costs; what it finds hangs
 //! only on what is tested of one where it is used.
-ghost use Rattle.std.specs.Prelude.{◌≡◌, ℕ, ◌+◌, ◌/◌, ◌<◌, ◌≢◌, ◌≤◌, All, length, IsOk, IsTrue, OnOk, vec_len, vec_capacity};
+ghost use Rattle.std.specs.Prelude.{◌≡◌, ℕ, ◌+◌, ◌/◌, ◌<◌, ◌≢◌, ◌≤◌, All, length, IsOk, IsTrue, OnOk};
+ghost use Rattle.std.specs.Prelude.{vec_len, vec_capacity};
 ghost use Rattle.std.specs.List.{AllByRecursion};
 ghost use Rattle.warp_tag.specs.Table.{name_before};
 ghost use Rattle.warp_arena.specs.Shape.{IsOwnAfter, entry_at};

@@ -55,7 +55,8 @@ FindsFirst places rest found = MatchOption found (live_of rest ≡ []) (IsFound 
 
 -- it is the place of the first live event of these places; where there is none, they have none
 abbrev pub FindsPlace : List Place → List Place → Option ℕ → Type 0
-FindsPlace places rest found = MatchOption found (live_of rest ≡ []) (λ node. (l : Live) × IsFound places rest l × (l.node ≡ node))
+FindsPlace places rest found =
+    MatchOption found (live_of rest ≡ []) (λ node. (l : Live) × IsFound places rest l × (l.node ≡ node))
 
 -- no event is before this tag
 abbrev pub AreNotBefore : Moment → List Event → Type 0

@@ -5,7 +5,8 @@ ghost use Rattle.std.specs.Option.{option_map};
 ghost use Rattle.warp_tag.specs.Table.{live, live_event};
 ghost use Rattle.warp_step.specs.Run.{given_of, is_after};
 ghost use Rattle.warp_arena.specs.Places.{Place, Reaches, entry_of};
-ghost use Rattle.warp_run.specs.Walk.{AreThrough, FindsBefore, FindsFirst, FindsPlace, FindsPlaceBefore, ahead, event_at, given_by, live_of, through};
+ghost use Rattle.warp_run.specs.Walk.{AreThrough, FindsBefore, FindsFirst, FindsPlace, FindsPlaceBefore};
+ghost use Rattle.warp_run.specs.Walk.{ahead, event_at, given_by, live_of, through};
 
 use warp_arena::{Arena, NodeId};
 use warp_step::Given;

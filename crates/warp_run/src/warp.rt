@@ -94,6 +94,7 @@ impl Timeline for Warp {
         self.arena.reserve_one(alloc)
     }
 
+    #[inline(never)]
     fn put(&mut self, origin: u32, tag: Tag, input: u32, value: i64) {
         let Some(gap) = self.arena.gap_at_end(origin, tag) else {
             return self.put_among(origin, tag, input, value);
@@ -107,6 +108,7 @@ impl Timeline for Warp {
         }
     }
 
+    #[inline(never)]
     fn withdraw(&mut self, origin: u32, tag: Tag) {
         let node = self.node(origin, tag);
         let changes = self.arena.entry(node).withdraw();
@@ -387,6 +389,7 @@ impl Warp {
     }
 
     /// The handle of a name: one of which nothing is known comes in.
+    #[inline(always)]
     fn node(&mut self, origin: u32, tag: Tag) -> NodeId
         requires room { HasRoom self.old }
         requires name { (m : Standing) × StandsFor self.old m × IsNameOf m.program origin tag }

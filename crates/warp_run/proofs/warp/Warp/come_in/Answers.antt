@@ -65,7 +65,6 @@ returns-else-is_after-clause-names c =
 
 -- the room stays as it is
 
-
 pub returns-in-Some-clause-room : goal.returns-in-Some-clause-room
 returns-in-Some-clause-room c =
     let old = c.args.self.now in
