@@ -19,7 +19,7 @@ use Rattle.warp_tag.specs.declared.out.Out.{Out}
 use Rattle.warp_step.specs.declared.pending.Waiting.{Waiting}
 use Rattle.warp_step.proofs.TagsOfRun.{start_after}
 use Rattle.warp_step.proofs.TraceExists.{exists}
-use Rattle.warp_line.specs.inner.Replay.{GoesOn, HasOtherHead, Passes, is_waiting, next_of, none_before}
+use Rattle.warp_line.specs.inner.Replay.{StepsWhereWaiting, HasOtherHead, Passes, is_waiting, next_of, none_before}
 use Rattle.warp_line.proofs.LiveLemmas.{live-append}
 use Rattle.warp_line.proofs.NextLemmas.{next_moves}
 use Rattle.warp_line.proofs.ReplayLemmas.{live_tags, all_tags_drop, all_tags_take}
@@ -141,7 +141,7 @@ stood t G ws at waiting = elim (cases_Bool (nat_lt 0 (length (map given_of G))))
 
 -- past the entries of one tag, where nothing waits there
 passed : (P : Program) (entries rest : List Entry) (s s' : Snapshot) (outs outs' : List Out) (before now now' n : ℕ) (t : Moment) → Progress P entries rest s outs before now → Passes t rest n
-    → is_waiting t (map given_of (live (take n rest))) s.pending ≡ false → GoesOn P t (map given_of (live (take n rest))) s s' outs outs' now now' → Progress P entries (drop n rest) s' outs' before now'
+    → is_waiting t (map given_of (live (take n rest))) s.pending ≡ false → StepsWhereWaiting P t (map given_of (live (take n rest))) s s' outs outs' now now' → Progress P entries (drop n rest) s' outs' before now'
 passed P entries rest s s' outs outs' before now now' n t p passes idle goes =
     let same : s' ≡ s = rw idle at goes.state in
     let same_outs : outs' ≡ outs ++ [] = rw idle at goes.outputs in
@@ -162,7 +162,7 @@ passed P entries rest s s' outs outs' before now now' n t p passes idle goes =
 
 -- and with the step at it, where something does
 stepped : (P : Program) (entries rest : List Entry) (s s' : Snapshot) (outs outs' : List Out) (before now now' n : ℕ) (t : Moment) → Progress P entries rest s outs before now → Passes t rest n
-    → IsTrue (none_before t s.pending) → is_waiting t (map given_of (live (take n rest))) s.pending ≡ true → GoesOn P t (map given_of (live (take n rest))) s s' outs outs' now now'
+    → IsTrue (none_before t s.pending) → is_waiting t (map given_of (live (take n rest))) s.pending ≡ true → StepsWhereWaiting P t (map given_of (live (take n rest))) s s' outs outs' now now'
     → IsTrue (list_all (λ w. is_before t w.tag) s'.pending) → Progress P entries (drop n rest) s' outs' before now'
 stepped P entries rest s s' outs outs' before now now' n t p passes none waiting goes later =
     let A = live p.front in
@@ -198,7 +198,7 @@ stepped P entries rest s s' outs outs' before now now' n t p passes none waiting
     }
 
 pub progress_on : (P : Program) (entries rest : List Entry) (s s' : Snapshot) (outs outs' : List Out) (before now now' n : ℕ) (t : Moment) → Progress P entries rest s outs before now → Passes t rest n
-    → IsTrue (none_before t s.pending) → GoesOn P t (map given_of (live (take n rest))) s s' outs outs' now now'
+    → IsTrue (none_before t s.pending) → StepsWhereWaiting P t (map given_of (live (take n rest))) s s' outs outs' now now'
     → IsTrue (list_all (λ w. is_before t w.tag) s'.pending) → Progress P entries (drop n rest) s' outs' before now'
 progress_on P entries rest s s' outs outs' before now now' n t p passes none goes later = elim (cases_Bool (is_waiting t (map given_of (live (take n rest))) s.pending)) [
   | inl waiting ↦ stepped P entries rest s s' outs outs' before now now' n t p passes none waiting goes later
@@ -211,7 +211,7 @@ rows_left P entries done = length (exists P (live entries)).0 - done
 
 -- each turn leaves fewer entries or fewer rows
 pub progress_ends : (P : Program) (entries rest : List Entry) (s s' : Snapshot) (outs outs' : List Out) (before now now' n : ℕ) (t : Moment) → Progress P entries (drop n rest) s' outs' before now' → Passes t rest n
-    → GoesOn P t (map given_of (live (take n rest))) s s' outs outs' now now' → next_of rest (least_pending s.pending) ≡ Some t → HasOtherHead t (drop n rest) → before ≤ now
+    → StepsWhereWaiting P t (map given_of (live (take n rest))) s s' outs outs' now now' → next_of rest (least_pending s.pending) ≡ Some t → HasOtherHead t (drop n rest) → before ≤ now
     → length (drop n rest) + rows_left P entries (now' - before) < length rest + rows_left P entries (now - before)
 progress_ends P entries rest s s' outs outs' before now now' n t p passes goes next other from =
     let all = length (exists P (live entries)).0 in

@@ -9,7 +9,7 @@ ghost use Rattle.warp_step.specs.Step.{CanStep};
 ghost use Rattle.warp_step.specs.Scratch.{IsRoomOf};
 ghost use Rattle.warp_step.specs.Run.{Row, Run, given_of, state_at_end, outputs_of};
 ghost use Rattle.warp_step.specs.Events.{event_fits};
-ghost use Rattle.warp_line.specs.inner.Replay.{HasOtherHead, GoesOn, is_waiting, next_of, none_before};
+ghost use Rattle.warp_line.specs.inner.Replay.{HasOtherHead, StepsWhereWaiting, is_waiting, next_of, none_before};
 
 use std::alloc::Global;
 use warp_step::{Given, Meter, Out, Program, Scratch, State, step};
@@ -82,7 +82,7 @@ fn advance<M: Meter>(
     requires none_before { IsTrue (none_before tag state.old.pending) }
     requires state { IsStateOf program.now state.old }
     requires scratch { IsRoomOf program.now scratch.old }
-    ensures goes { OnOk result (GoesOn program.now tag given.now
+    ensures goes { OnOk result (StepsWhereWaiting program.now tag given.now
         state.old state.new outputs.old.items outputs.new.items (M.ticks meter.old) (M.ticks meter.new)) }
     ensures state { OnOk result (IsStateOf program.now state.new) }
     ensures later { OnOk result (IsTrue (list_all (λ w. is_before tag w.tag) state.new.pending)) }

@@ -16,7 +16,7 @@ use Rattle.warp_step.specs.Run.{is_after}
 use Rattle.warp_arena.specs.Places.{Contents, Place, Reaches, entries_of, entry_of, first_node, places_from}
 use Rattle.warp_arena.proofs.Tables.{filter-map_at}
 use Rattle.warp_line.specs.Timeline.{MovesFloor, Standing, is_behind}
-use Rattle.warp_run.specs.Tip.{IsAt}
+use Rattle.warp_run.specs.Tip.{HasExecuted}
 use Rattle.warp_run.specs.Walk.{ahead}
 use Rattle.warp_run.specs.Warp.{StandsFor, ahead_of}
 use Rattle.warp_run.specs.declared.tip.Tip.{Tip}
@@ -225,7 +225,7 @@ module _ (floor last : Option Moment) (narrow : (t : Moment) → is_after last t
 
 -- the nodes behind the floor are free, and what is executed is the same
 pub collected : (w : Warp) (a : Contents) (x : Tip) (m : Standing) (below : Moment) → StandsFor w m
-    → a ≡ record w.arena { places = ahead x.floor w.arena.places; free = a.free } → IsAt m.program (live m.table) x m.done
+    → a ≡ record w.arena { places = ahead x.floor w.arena.places; free = a.free } → HasExecuted m.program (live m.table) x m.done
     → MovesFloor below w.tip.floor x.floor → x.last ≡ w.tip.last → StandsFor (record w { arena = a; tip = x }) m
 collected w a x m below h is at moves same =
     let places : a.places ≡ ahead x.floor w.arena.places = ap (λ (b : Contents). b.places) is in

@@ -17,7 +17,7 @@ use Rattle.warp_step.specs.Events.{event_fits}
 use Rattle.warp_arena.specs.Places.{Contents, Reaches, entries_of, entry_of, with_change}
 use Rattle.warp_arena.proofs.Handles.{entry_of-with_change_same}
 use Rattle.warp_line.specs.Timeline.{Standing, NowStands}
-use Rattle.warp_run.specs.Tip.{GoesBack, IsAt, KeepsRoom}
+use Rattle.warp_run.specs.Tip.{GoesBack, HasExecuted, KeepsRoom}
 use Rattle.warp_run.specs.History.{spacing}
 use Rattle.warp_run.specs.Walk.{AreThrough, ahead}
 use Rattle.warp_run.specs.Warp.{NamesAt, StandsFor, ahead_of, latest_with, room_in}
@@ -60,8 +60,8 @@ module _ (f : Entry → Entry) (names : KeepsNames f) {origin : ℕ} {tag : Mome
     ordered_is : IsTable (changed f origin tag m.table)
     ordered_is = table_changed f names origin tag m.table h.ordered
 
-    front_at : IsAt m.program (live m.table) new.tip m.done
-    front_at = subst (λ x. IsAt m.program (live m.table) x m.done) (sym (ap (λ w. w.tip) is.others)) h.tip
+    front_at : HasExecuted m.program (live m.table) new.tip m.done
+    front_at = subst (λ x. HasExecuted m.program (live m.table) x m.done) (sym (ap (λ w. w.tip) is.others)) h.tip
 
     change_from : before_change origin tag m.table ≡ e
     change_from =
@@ -73,7 +73,7 @@ module _ (f : Entry → Entry) (names : KeepsNames f) {origin : ℕ} {tag : Mome
     pub undone_stands : (live_event d ≡ live_event e → ⊥) → IsTrue (list_all (event_fits m.program) (live (changed f origin tag m.table)))
         → AreThrough (latest_with tag old.latest) (live (changed f origin tag m.table))
         → (w : Warp) → w.arena ≡ arena → w.tip.floor ≡ new.tip.floor → w.latest ≡ latest_with tag new.latest → w.settled ≡ false
-        → ((P : Program) (E : List Event) (done : List Row) → IsAt P E new.tip done → GoesBack P E tag done w.tip)
+        → ((P : Program) (E : List Event) (done : List Row) → HasExecuted P E new.tip done → GoesBack P E tag done w.tip)
         → (Reaches arena.places (ahead new.tip.last arena.places) new.cursor → Reaches w.arena.places (ahead w.tip.last w.arena.places) w.cursor)
         → NowStands StandsFor spacing 0 tag w m (changed f origin tag m.table)
     undone_stands differs fits through w kept floor latest unsettled back cursor =
@@ -117,7 +117,7 @@ module _ (f : Entry → Entry) (names : KeepsNames f) {origin : ℕ} {tag : Mome
             table = table_is ∙ ap (λ o. ahead_of o (changed f origin tag m.table)) (sym (ap (λ v. v.tip.floor) is.others));
             ordered = ordered_is;
             events = subst (λ E. IsTrue (list_all (event_fits m.program) E)) lives h.events;
-            tip = subst (λ E. IsAt m.program E new.tip m.done) lives front_at;
+            tip = subst (λ E. HasExecuted m.program E new.tip m.done) lives front_at;
             cursor = cursor_stays;
             latest = subst (AreThrough new.latest) lives (subst (λ l. AreThrough l (live m.table)) (sym (ap (λ w. w.latest) is.others)) h.latest);
             settled = λ yes. subst (λ E. Run m.program E m.done) lives (h.settled (sym (ap (λ w. w.settled) is.others) ∙ yes));

@@ -19,7 +19,7 @@ use Rattle.warp_line.specs.Timeline.{rows_before}
 use Rattle.warp_line.proofs.Begins.{front_begins}
 use Rattle.warp_run.specs.History.{IsReady, Saved, Saves, before, newest, reach, spacing}
 use Rattle.warp_run.specs.Aside.{KeepsFrom, set_aside}
-use Rattle.warp_run.specs.Tip.{AreSaved, GoesBack, IsAt}
+use Rattle.warp_run.specs.Tip.{AreSaved, GoesBack, HasExecuted}
 use Rattle.warp_run.specs.declared.tip.Tip.{Tip}
 use Rattle.warp_run.specs.declared.history.Done.{Done}
 use Rattle.warp_run.proofs.RowsAside.{taken_aside}
@@ -84,7 +84,7 @@ is_cut base P done tag (c ∷ cs) n h from least few late = elim (cases_Bool (is
 ]
 
 -- so it is with what is executed, at a tag that is not after the last row
-pub cut_or_bare : (P : Program) (E : List Event) (tag : Moment) (x : Tip) (done : List Row) → IsAt P E x done → is_after x.last tag ≡ false
+pub cut_or_bare : (P : Program) (E : List Event) (tag : Moment) (x : Tip) (done : List Row) → HasExecuted P E x done → is_after x.last tag ≡ false
     → IsCut x.base P done tag x.history.saves ⊎ IsBare x.base done tag x.history.saves
 cut_or_bare P E tag x done h late =
     let rows = h.rows in
@@ -93,7 +93,7 @@ cut_or_bare P E tag x done h late =
     is_cut x.base P done tag x.history.saves (length done) h.saved h.from h.base (omega arith) (ap (λ (o : Option Moment). is_after o tag) all ∙ late)
 
 -- and where the tag is after the floor, one is left, since the oldest is not after the floor
-cut : (P : Program) (E : List Event) (tag : Moment) (x : Tip) (done : List Row) → IsAt P E x done → is_after x.last tag ≡ false
+cut : (P : Program) (E : List Event) (tag : Moment) (x : Tip) (done : List Row) → HasExecuted P E x done → is_after x.last tag ≡ false
     → is_after x.floor tag ≡ true → IsCut x.base P done tag x.history.saves
 cut P E tag x done h late ahead = elim (cut_or_bare P E tag x done h late) [
   | inl left ↦ left
@@ -101,7 +101,7 @@ cut P E tag x done h late ahead = elim (cut_or_bare P E tag x done h late) [
 ]
 
 -- a checkpoint is left there
-pub always_left : (P : Program) (E : List Event) (tag : Moment) (x : Tip) (done : List Row) → IsAt P E x done → is_after x.last tag ≡ false
+pub always_left : (P : Program) (E : List Event) (tag : Moment) (x : Tip) (done : List Row) → HasExecuted P E x done → is_after x.last tag ≡ false
     → is_after x.floor tag ≡ true → newest (before tag x.history.saves) ≡ None → ⊥
 always_left P E tag x done h late ahead none =
     let left = cut P E tag x done h late ahead in
@@ -165,7 +165,7 @@ pub record Returns (x y : Tip) (tag : Moment) (c : Done) : Type 0 where
   pub floor : y.floor ≡ x.floor
 
 -- then what was executed is cut to a front that ends before the tag
-pub goes_back : (P : Program) (E : List Event) (tag : Moment) (x y : Tip) (c : Done) (done : List Row) → Returns x y tag c → IsAt P E x done
+pub goes_back : (P : Program) (E : List Event) (tag : Moment) (x y : Tip) (c : Done) (done : List Row) → Returns x y tag c → HasExecuted P E x done
     → is_after x.last tag ≡ false → is_after x.floor tag ≡ true → GoesBack P E tag done y
 goes_back P E tag x y c done back h late ahead =
     let left = cut P E tag x done h late ahead in

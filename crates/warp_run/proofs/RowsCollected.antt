@@ -12,7 +12,7 @@ use Rattle.warp_step.specs.Run.{Row, Run, is_after}
 use Rattle.warp_line.specs.Begin.{Begin, last_after}
 use Rattle.warp_line.specs.Timeline.{MovesFloor, is_behind, rows_before, rows_behind}
 use Rattle.warp_run.specs.Aside.{AreAside, SetAside}
-use Rattle.warp_run.specs.Tip.{AreSaved, IsAt, IsSaved}
+use Rattle.warp_run.specs.Tip.{AreSaved, HasExecuted, IsSaved}
 use Rattle.warp_run.specs.History.{ArePartedBy, Saved, Saves, before, down_to, newest, reach, spacing}
 use Rattle.warp_run.specs.declared.tip.Tip.{Tip}
 use Rattle.warp_run.specs.declared.history.Done.{Done}
@@ -167,18 +167,18 @@ moves_to below old new early later = record {
 pub stays_there : (below : Moment) (floor : Option Moment) → MovesFloor below floor floor
 stays_there below floor = record { kept = λ t h. h; bound = λ t h. inl h }
 
-module _ (P : Program) (E : List Event) (x : Tip) (done : List Row) (h : IsAt P E x done) (a : SetAside) (width : a.history.width ≡ x.aside.history.width)
+module _ (P : Program) (E : List Event) (x : Tip) (done : List Row) (h : HasExecuted P E x done) (a : SetAside) (width : a.history.width ≡ x.aside.history.width)
     (none : a.history.saves ≡ []) where
   nothing_aside : AreAside P E a.first a.outputs a.history.saves
   nothing_aside = subst (AreAside P E a.first a.outputs) (sym none) tt
 
   -- the base is what is executed
   pub base_here : (y : Tip) → y ≡ record x { due = x.rows; base = x.rows; floor = x.last; history = y.history; aside = a }
-      → y.history ≡ record x.history { saves = [] } → IsAt P E y done
+      → y.history ≡ record x.history { saves = [] } → HasExecuted P E y done
   base_here y is history =
       let rows = h.rows in
       let all : take x.rows done ≡ done = take_all x.rows done (omega arith) in
-      let made : IsAt P E (record x { due = x.rows; base = x.rows; floor = x.last; history = record x.history { saves = [] }; aside = a }) done =
+      let made : HasExecuted P E (record x { due = x.rows; base = x.rows; floor = x.last; history = record x.history { saves = [] }; aside = a }) done =
       record {
         begin = h.begin;
         rows = h.rows;
@@ -198,18 +198,18 @@ module _ (P : Program) (E : List Event) (x : Tip) (done : List Row) (h : IsAt P 
         aside = nothing_aside;
         scratch = h.scratch;
       } in
-      subst (λ (f : Tip). IsAt P E f done) (sym (is ∙ ap (λ (z : Saves). record x { due = x.rows; base = x.rows; floor = x.last; history = z; aside = a }) history)) made
+      subst (λ (f : Tip). HasExecuted P E f done) (sym (is ∙ ap (λ (z : Saves). record x { due = x.rows; base = x.rows; floor = x.last; history = z; aside = a }) history)) made
 
   -- or a checkpoint
   pub base_at : (below : Moment) (c : Saved) (others : List Saved) (d : Done) (y : Tip) → before below x.history.saves ≡ c ∷ others → d ≡ c.done
       → y ≡ record x { base = d.rows; floor = d.last; history = y.history; aside = a }
-      → y.history ≡ record x.history { saves = down_to below x.history.saves } → IsAt P E y done
+      → y.history ≡ record x.history { saves = down_to below x.history.saves } → HasExecuted P E y done
   base_at below c others d y is same made history =
       let down = from_down x.base P done below x.history.saves c others h.saved is in
       let there = saved_there x.base P done below x.history.saves c others h.saved is in
       let far : reach c.done.rows (down_to below x.history.saves) ≡ reach x.base x.history.saves =
       reach_down below x.history.saves c others c.done.rows x.base is in
-      let at : IsAt P E (record x { base = c.done.rows; floor = c.done.last; history = record x.history { saves = down_to below x.history.saves }; aside = a }) done =
+      let at : HasExecuted P E (record x { base = c.done.rows; floor = c.done.last; history = record x.history { saves = down_to below x.history.saves }; aside = a }) done =
       record {
         begin = h.begin;
         rows = h.rows;
@@ -229,14 +229,14 @@ module _ (P : Program) (E : List Event) (x : Tip) (done : List Row) (h : IsAt P 
         aside = nothing_aside;
         scratch = h.scratch;
       } in
-      subst (λ (f : Tip). IsAt P E f done)
+      subst (λ (f : Tip). HasExecuted P E f done)
       (sym (made ∙ (λ i. record x { base = (same i).rows; floor = (same i).last; history = history i; aside = a }))) at
 
   -- or stays
   pub base_stays : (below : Moment) (y : Tip) → newest (before below x.history.saves) ≡ None → y ≡ record x { history = y.history; aside = a }
-      → y.history ≡ record x.history { saves = down_to below x.history.saves } → IsAt P E y done
+      → y.history ≡ record x.history { saves = down_to below x.history.saves } → HasExecuted P E y done
   base_stays below y bare made history =
-      let at : IsAt P E (record x { aside = a }) done =
+      let at : HasExecuted P E (record x { aside = a }) done =
       record {
         begin = h.begin;
         rows = h.rows;
@@ -257,11 +257,11 @@ module _ (P : Program) (E : List Event) (x : Tip) (done : List Row) (h : IsAt P 
         scratch = h.scratch;
       } in
       let all : y.history ≡ x.history = history ∙ ap (λ (cs : List Saved). record x.history { saves = cs }) (down_all below x.history.saves bare) in
-      subst (λ (f : Tip). IsAt P E f done) (sym (made ∙ ap (λ (z : Saves). record x { history = z; aside = a }) all)) at
+      subst (λ (f : Tip). HasExecuted P E f done) (sym (made ∙ ap (λ (z : Saves). record x { history = z; aside = a }) all)) at
 
 -- ---- what is behind then
 
-module _ (P : Program) (E : List Event) (x : Tip) (done : List Row) (h : IsAt P E x done) (below : Moment) where
+module _ (P : Program) (E : List Event) (x : Tip) (done : List Row) (h : HasExecuted P E x done) (below : Moment) where
   pub behind_here : rows_before below done ≤ rows_behind x.last done + spacing
   behind_here =
       let most = count_by-le-length (λ (row : Row). is_before row.tag below) done in

@@ -15,7 +15,7 @@ use Rattle.warp_step.proofs.PartedLists.{filter_all}
 use Rattle.warp_step.proofs.TagsOfRun.{after_trans, waits_after}
 use Rattle.warp_line.specs.Begin.{Begin, BeginFrom, last_after}
 use Rattle.warp_line.specs.Timeline.{is_behind, rows_behind}
-use Rattle.warp_run.specs.Tip.{IsAt}
+use Rattle.warp_run.specs.Tip.{HasExecuted}
 use Rattle.warp_run.specs.History.{Saves, reach}
 use Rattle.warp_run.specs.declared.tip.Tip.{Tip}
 use Rattle.warp_run.proofs.RowsBegun.{begin_behind, begin_take}
@@ -100,7 +100,7 @@ behind_base P E done n begin within =
     omega arith
 
 -- what is after the last row is after the floor
-pub after_floor : (P : Program) (E : List Event) (x : Tip) (done : List Row) → IsAt P E x done → (t : Moment) → is_after x.last t ≡ true
+pub after_floor : (P : Program) (E : List Event) (x : Tip) (done : List Row) → HasExecuted P E x done → (t : Moment) → is_after x.last t ≡ true
     → is_after x.floor t ≡ true
 after_floor P E x done h t after =
     let all : is_after (last_after None (take (length done) done)) t ≡ true =

@@ -17,7 +17,7 @@ use Rattle.warp_tag.specs.declared.out.Out.{Out}
 use Rattle.warp_step.proofs.TagsOfRun.{after_trans, waits_after}
 use Rattle.warp_line.specs.Begin.{BeginFrom, last_after}
 use Rattle.warp_run.specs.Aside.{AreAside, IsFrom, Leads}
-use Rattle.warp_run.specs.Tip.{IsAt}
+use Rattle.warp_run.specs.Tip.{HasExecuted}
 use Rattle.warp_run.specs.History.{Saved}
 use Rattle.warp_run.specs.declared.tip.Tip.{Tip}
 
@@ -168,7 +168,7 @@ module _ (tag : Moment) (D E : List Event) (same : events_past tag D ≡ events_
 -- those after it are.
 pub moved : (P : Program) (D E : List Event) (tag : Moment) (x : Tip) (done : List Row) → events_until tag D ≡ events_until tag E
     → events_past tag D ≡ events_past tag E
-    → is_after x.last tag ≡ true → IsFrom tag x.aside.history.saves → IsAt P D x done → IsAt P E x done
+    → is_after x.last tag ≡ true → IsFrom tag x.aside.history.saves → HasExecuted P D x done → HasExecuted P E x done
 moved P D E tag x done same past before from h = record {
   begin = begin_same tag D E same P None (start_state P) done (ap (λ (o : Option Moment). is_after o tag) (sym h.last) ∙ before) h.begin;
   rows = h.rows;

@@ -12,7 +12,7 @@ use Rattle.warp_step.specs.Run.{Row, is_after, state_at_end, outputs_of}
 use Rattle.warp_tag.specs.declared.out.Out.{Out}
 use Rattle.warp_line.specs.Begin.{BeginFrom, last_after}
 use Rattle.warp_run.specs.Aside.{AreAside, IsFrom, IsMet, IsSameAside, Leads, SetAside, outputs_between, since}
-use Rattle.warp_run.specs.Tip.{AreSaved, GoesBack, GoesOn, IsAt}
+use Rattle.warp_run.specs.Tip.{AreSaved, GoesBack, ExecutesMore, HasExecuted}
 use Rattle.warp_run.specs.History.{IsOfState, IsReady, Saved, Saves, newest, reach, spacing}
 use Rattle.warp_run.specs.declared.tip.Tip.{Tip}
 use Rattle.warp_run.specs.declared.history.Done.{Done}
@@ -37,8 +37,8 @@ leads_next P E first outputs saves c d cs ds h is next =
     (all.1, all.2.0)
 
 -- all but what is aside stays
-module _ (P : Program) (E : List Event) (x : Tip) (done : List Row) (h : IsAt P E x done) (a : SetAside) where
-  with_aside : a.history.width ≡ x.aside.history.width → AreAside P E a.first a.outputs a.history.saves → IsAt P E (record x { aside = a }) done
+module _ (P : Program) (E : List Event) (x : Tip) (done : List Row) (h : HasExecuted P E x done) (a : SetAside) where
+  with_aside : a.history.width ≡ x.aside.history.width → AreAside P E a.first a.outputs a.history.saves → HasExecuted P E (record x { aside = a }) done
   with_aside width aside = record {
     begin = h.begin;
     rows = h.rows;
@@ -61,7 +61,7 @@ module _ (P : Program) (E : List Event) (x : Tip) (done : List Row) (h : IsAt P 
 
   -- where the earliest is let go
   pub without_earliest : a ≡ record x.aside { history = record x.aside.history { saves = drop 1 x.aside.history.saves } }
-      → IsAt P E (record x { aside = a }) done
+      → HasExecuted P E (record x { aside = a }) done
   without_earliest is =
       with_aside (ap (λ (b : SetAside). b.history.width) is)
       (subst (λ (b : SetAside). AreAside P E b.first b.outputs b.history.saves) (sym is) (rest x.aside.history.saves h.aside))
@@ -72,7 +72,7 @@ module _ (P : Program) (E : List Event) (x : Tip) (done : List Row) (h : IsAt P 
 
   -- where those before a tag are
   pub without_past : (tag : Moment) → a ≡ record x.aside { history = record x.aside.history { saves = since tag x.aside.history.saves } }
-      → IsAt P E (record x { aside = a }) done
+      → HasExecuted P E (record x { aside = a }) done
   without_past tag is =
       with_aside (ap (λ (b : SetAside). b.history.width) is)
       (subst (λ (b : SetAside). AreAside P E b.first b.outputs b.history.saves) (sym is)
@@ -86,20 +86,20 @@ is_met t s (c ∷ cs) last state = record { earliest = c; others = cs; aside = r
 
 -- so no row is gone over
 pub past_none : (x : Tip) (a : SetAside) (tag : Moment)
-    → a ≡ record x.aside { history = record x.aside.history { saves = since tag x.aside.history.saves } } → GoesOn x (record x { aside = a })
+    → a ≡ record x.aside { history = record x.aside.history { saves = since tag x.aside.history.saves } } → ExecutesMore x (record x { aside = a })
 past_none x a tag is = record {
   floor = refl;
-  rows = λ P E done at. ([], subst (IsAt P E (record x { aside = a })) (sym (append-nil done)) (without_past P E x done at a tag is));
+  rows = λ P E done at. ([], subst (HasExecuted P E (record x { aside = a })) (sym (append-nil done)) (without_past P E x done at a tag is));
 }
 
 -- and what is executed is all kept at a tag after the last row
 pub lets_go : (P : Program) (E : List Event) (x : Tip) (done : List Row) (a : SetAside) (tag : Moment) → is_after x.last tag ≡ true
-    → a ≡ record x.aside { history = record x.aside.history { saves = since tag x.aside.history.saves } } → IsAt P E x done
+    → a ≡ record x.aside { history = record x.aside.history { saves = since tag x.aside.history.saves } } → HasExecuted P E x done
     → GoesBack P E tag done (record x { aside = a })
 lets_go P E x done a tag after is h = record {
   left = length done;
   within = omega arith;
-  at = subst (IsAt P E (record x { aside = a })) (sym (take_all (length done) done (omega arith))) (without_past P E x done h a tag is);
+  at = subst (HasExecuted P E (record x { aside = a })) (sym (take_all (length done) done (omega arith))) (without_past P E x done h a tag is);
   before = after;
   aside = subst (λ (b : SetAside). IsFrom tag b.history.saves) (sym is) (from_since tag x.aside.history.saves);
   ahead = λ later. refl;
@@ -107,19 +107,19 @@ lets_go P E x done a tag after is h = record {
 }
 
 -- rows are gone over, and then more
-pub goes_further : (x y z : Tip) → GoesOn x y → GoesOn y z → GoesOn x z
+pub goes_further : (x y z : Tip) → ExecutesMore x y → ExecutesMore y z → ExecutesMore x z
 goes_further x y z h k = record {
   floor = k.floor ∙ h.floor;
   rows = λ P E done at.
       let first = h.rows P E done at in
       let second = k.rows P E (done ++ first.0) first.1 in
-      (first.0 ++ second.0, subst (IsAt P E z) (append_assoc done first.0 second.0) second.1);
+      (first.0 ++ second.0, subst (HasExecuted P E z) (append_assoc done first.0 second.0) second.1);
 }
 
 -- a front that differs in room alone is of the same rows
 pub same_rows : (P : Program) (E : List Event) (x y : Tip) (done : List Row)
     → y ≡ record x { outputs = y.outputs; history = y.history; aside = y.aside } → y.outputs.items ≡ x.outputs.items
-    → y.history ≡ record x.history { room = y.history.room } → IsSameAside x.aside y.aside → IsAt P E x done → IsAt P E y done
+    → y.history ≡ record x.history { room = y.history.room } → IsSameAside x.aside y.aside → HasExecuted P E x done → HasExecuted P E y done
 same_rows P E x y done is same history aside h = record {
   begin = h.begin;
   rows = ap (λ (f : Tip). f.rows) is ∙ h.rows;
@@ -147,10 +147,10 @@ same_rows P E x y done is same history aside h = record {
 -- so by it no row is gone over
 pub goes_none : (P : Program) (E : List Event) (x y : Tip) (done : List Row)
     → y ≡ record x { outputs = y.outputs; history = y.history; aside = y.aside } → y.outputs.items ≡ x.outputs.items
-    → y.history ≡ record x.history { room = y.history.room } → IsSameAside x.aside y.aside → IsAt P E x done
-    → (rows : List Row) × IsAt P E y (done ++ rows)
+    → y.history ≡ record x.history { room = y.history.room } → IsSameAside x.aside y.aside → HasExecuted P E x done
+    → (rows : List Row) × HasExecuted P E y (done ++ rows)
 goes_none P E x y done is same history aside h =
-    ([], subst (IsAt P E y) (sym (append-nil done)) (same_rows P E x y done is same history aside h))
+    ([], subst (HasExecuted P E y) (sym (append-nil done)) (same_rows P E x y done is same history aside h))
 
 -- from a front that is at one checkpoint to one at the next
 pub record Jumps (x y : Tip) (c d : Saved) : Type 0 where
@@ -171,7 +171,7 @@ pub record Jumps (x y : Tip) (c d : Saved) : Type 0 where
 
 -- then the rows between are executed
 pub jumps : (P : Program) (E : List Event) (x y : Tip) (done : List Row) (c d : Saved) → Jumps x y c d → Leads P E x.aside.first x.aside.outputs c d
-    → IsReady P d.done.last d.state → IsAt P E x done → (rows : List Row) × IsAt P E y (done ++ rows)
+    → IsReady P d.done.last d.state → HasExecuted P E x done → (rows : List Row) × HasExecuted P E y (done ++ rows)
 jumps P E x y done c d j on ready h =
     let s : Snapshot = start_state P in
     let rows : List Row = on.rows in

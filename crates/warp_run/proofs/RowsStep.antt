@@ -17,7 +17,7 @@ use Rattle.warp_step.proofs.TagsOfRun.{none_before}
 use Rattle.warp_line.specs.Begin.{BeginFrom, last_after}
 use Rattle.warp_line.proofs.ProgressLemmas.{turned}
 use Rattle.warp_run.specs.Aside.{AreAside}
-use Rattle.warp_run.specs.Tip.{AreSaved, CanGive, IsAt}
+use Rattle.warp_run.specs.Tip.{AreSaved, CanGive, HasExecuted}
 use Rattle.warp_run.specs.History.{IsReady, reach, spacing}
 use Rattle.warp_run.specs.declared.tip.Tip.{Tip}
 use Rattle.warp_run.proofs.RowsFloor.{few_more, still_floor, still_from, still_near}
@@ -45,7 +45,7 @@ some_there E last s t next = elim (cases_Bool (list_any (λ e. is_same t e.tag) 
 ]
 
 -- a step can be made at the next tag, with what is given there
-pub can_step : (P : Program) (E : List Event) (x : Tip) (done : List Row) (tag : Moment) (X : List Given) → IsAt P E x done
+pub can_step : (P : Program) (E : List Event) (x : Tip) (done : List Row) (tag : Moment) (X : List Given) → HasExecuted P E x done
     → IsNext E x.last x.state tag → X ≡ given_at tag E → CanGive P tag X → CanStep P x.state tag X
 can_step P E x done tag X h next is can = record {
   state = h.ready.of_program;
@@ -82,7 +82,7 @@ pub record Steps (P : Program) (x y : Tip) (tag : Moment) (X : List Given) (outs
 
 -- then one more row is executed
 pub stepped : (P : Program) (E : List Event) (x y : Tip) (done : List Row) (tag : Moment) (X : List Given) (outs : List Out)
-    → Steps P x y tag X outs → IsAt P E x done → IsNext E x.last x.state tag → X ≡ given_at tag E → (row : Row) × IsAt P E y (done ++ row ∷ [])
+    → Steps P x y tag X outs → HasExecuted P E x done → IsNext E x.last x.state tag → X ≡ given_at tag E → (row : Row) × HasExecuted P E y (done ++ row ∷ [])
 stepped P E x y done tag X outs steps h next is =
     let row : Row = record { tag = tag; state = y.state; outputs = outs } in
     let there : IsNext E (last_after None done) (state_at_end (start_state P) done) tag =

@@ -9,7 +9,7 @@ use Rattle.warp_step.proofs.TagsOfRun.{waits_after}
 use Rattle.warp_line.specs.Begin.{BeginFrom, last_after}
 use Rattle.warp_line.specs.Timeline.{Standing}
 use Rattle.warp_arena.specs.Places.{Place, Reaches}
-use Rattle.warp_run.specs.Tip.{AreFew, GoesOn, IsAt}
+use Rattle.warp_run.specs.Tip.{AreFew, ExecutesMore, HasExecuted}
 use Rattle.warp_run.specs.Walk.{AreThrough, ahead}
 use Rattle.warp_run.specs.Warp.{Goes, StandsFor}
 use Rattle.warp_run.specs.declared.tip.Tip.{Tip}
@@ -41,7 +41,7 @@ ahead_begun P E last s (r ∷ rows) places h =
     ∙ ahead_begun P E (Some r.tag) r.state rows places h.2
 
 -- so it is between two fronts of which one goes on from the other
-ahead_on : (P : Program) (E : List Event) (x y : Tip) (done rows : List Row) (places : List Place) → IsAt P E x done → IsAt P E y (done ++ rows)
+ahead_on : (P : Program) (E : List Event) (x y : Tip) (done rows : List Row) (places : List Place) → HasExecuted P E x done → HasExecuted P E y (done ++ rows)
     → ahead y.last (ahead x.last places) ≡ ahead y.last places
 ahead_on P E x y done rows places h k =
     let s : Snapshot = start_state P in
@@ -56,7 +56,7 @@ pub may_rejoin : (w : Warp) (m : Standing) → StandsFor w m → AreFew m.progra
 may_rejoin w m h = begin_names m.program (live m.table) h.program h.events
 
 -- a value that went on over what was aside, with a cursor behind
-pub rejoined : (P : Program) (w v : Warp) → w.settled ≡ false → v.arena ≡ w.arena → v.latest ≡ w.latest → v.settled ≡ w.settled → GoesOn w.tip v.tip
+pub rejoined : (P : Program) (w v : Warp) → w.settled ≡ false → v.arena ≡ w.arena → v.latest ≡ w.latest → v.settled ≡ w.settled → ExecutesMore w.tip v.tip
     → ((m : Standing) → StandsFor w m → Reaches w.arena.places (ahead v.tip.last (ahead w.tip.last w.arena.places)) v.cursor)
     → Goes P w v 0
 rejoined P w v unsettled arena latest settled on cursor = λ m h same.

@@ -9,7 +9,7 @@ use Rattle.warp_step.specs.Snapshot.{Snapshot}
 use Rattle.warp_step.specs.declared.given.Given.{Given}
 use Rattle.warp_arena.specs.Places.{IsOrdered, Reaches, places_after}
 use Rattle.warp_line.specs.Timeline.{Standing}
-use Rattle.warp_run.specs.Tip.{CanGive, IsAt, IsSame}
+use Rattle.warp_run.specs.Tip.{CanGive, HasExecuted, IsSame}
 use Rattle.warp_run.specs.Walk.{AreThrough, IsAhead, ahead, given_by, through}
 use Rattle.warp_run.specs.Warp.{Goes, StandsFor}
 use Rattle.warp_run.specs.declared.tip.Tip.{Tip}
@@ -37,8 +37,8 @@ given_through w t = given_by (through t (ahead w.tip.last w.arena.places))
 
 module _ (P : Program) (w : Warp) (t : Moment) (n : NextAt P w t) where
   -- of what is executed
-  pub is_at : (E : List Event) × (done : List Row) × IsAt P E w.tip done
-  is_at = (live n.0.table, n.0.done, subst (λ (Q : Program). IsAt Q (live n.0.table) w.tip n.0.done) n.2 n.1.tip)
+  pub is_at : (E : List Event) × (done : List Row) × HasExecuted P E w.tip done
+  is_at = (live n.0.table, n.0.done, subst (λ (Q : Program). HasExecuted Q (live n.0.table) w.tip n.0.done) n.2 n.1.tip)
 
   -- there are fewer rows than names, so no more where the same is executed
   pub are_few : (x : Tip) → IsSame w.tip x → x.rows < most_names
@@ -53,11 +53,11 @@ module _ (P : Program) (w : Warp) (t : Moment) (n : NextAt P w t) where
       subst (λ (Q : Program). CanGive Q t X) n.2 (can_give w n.0 n.1 t n.3 X ordered (given_is w n.0 n.1 t n.3 X X refl is))
 
   pub may_step : (x : Tip) (X : List Given) → IsSame w.tip x → X ≡ given_through w t
-      → (E : List Event) × (done : List Row) × IsAt P E x done × IsNext E x.last x.state t × (X ≡ given_at t E)
+      → (E : List Event) × (done : List Row) × HasExecuted P E x done × IsNext E x.last x.state t × (X ≡ given_at t E)
   may_step x X same is = (
     live n.0.table,
     n.0.done,
-    same.kept P (live n.0.table) n.0.done (subst (λ (Q : Program). IsAt Q (live n.0.table) w.tip n.0.done) n.2 n.1.tip),
+    same.kept P (live n.0.table) n.0.done (subst (λ (Q : Program). HasExecuted Q (live n.0.table) w.tip n.0.done) n.2 n.1.tip),
     still_next (live n.0.table) t w.tip x same n.3,
     given_is w n.0 n.1 t n.3 X X refl is,
   )
@@ -66,16 +66,16 @@ module _ (P : Program) (w : Warp) (t : Moment) (n : NextAt P w t) where
   pub row_done : (v : Warp) (x : Tip) (X : List Given) (count : ℕ) → IsSame w.tip x → X ≡ given_through w t → w.settled ≡ false
       → v.arena ≡ w.arena → v.latest ≡ w.latest → v.settled ≡ w.settled → v.tip.last ≡ Some t → v.tip.floor ≡ x.floor
       → Reaches w.arena.places (ahead (Some t) (ahead w.tip.last w.arena.places)) v.cursor
-      → ((E : List Event) (done : List Row) → IsAt P E x done → IsNext E x.last x.state t → X ≡ given_at t E
-      → (row : Row) × IsAt P E v.tip (done ++ row ∷ []))
+      → ((E : List Event) (done : List Row) → HasExecuted P E x done → IsNext E x.last x.state t → X ≡ given_at t E
+      → (row : Row) × HasExecuted P E v.tip (done ++ row ∷ []))
       → count ≤ 1 → Goes P w v count
   row_done v x X count alike is waits arena latest settled last floor cursor stepped most = λ m h same.
       let next = same_next w n.0 m t n.1 h n.3 in
-      let at = alike.kept P (live m.table) m.done (subst (λ (Q : Program). IsAt Q (live m.table) w.tip m.done) same h.tip) in
+      let at = alike.kept P (live m.table) m.done (subst (λ (Q : Program). HasExecuted Q (live m.table) w.tip m.done) same h.tip) in
       let row = stepped (live m.table) m.done at (still_next (live m.table) t w.tip x alike next) (given_is w m h t next X X refl is) in (
         row.0 ∷ [],
         stands_on w v m (m.done ++ row.0 ∷ []) h arena (floor ∙ alike.floor)
-            (subst (λ (Q : Program). IsAt Q (live m.table) v.tip (m.done ++ row.0 ∷ [])) (sym same) row.1)
+            (subst (λ (Q : Program). HasExecuted Q (live m.table) v.tip (m.done ++ row.0 ∷ [])) (sym same) row.1)
             (cursor_next w m h t next v.cursor cursor v.tip.last last)
             (subst (λ (l : Option Moment). AreThrough l (live m.table)) (sym latest) h.latest)
             (λ is_settled. let never : true ≡ false = sym is_settled ∙ settled ∙ waits in cc),

@@ -23,7 +23,7 @@ use Rattle.warp_line.specs.Begin.{last_after}
 use Rattle.warp_line.specs.inner.Replay.{is_waiting}
 use Rattle.warp_line.proofs.ReplayLemmas.{can_step}
 use Rattle.warp_line.proofs.RunLemmas.{stands}
-use Rattle.warp_run.specs.Tip.{CanGive, IsAt}
+use Rattle.warp_run.specs.Tip.{CanGive, HasExecuted}
 use Rattle.warp_run.specs.Walk.{AreThrough, ahead, given_by, through}
 use Rattle.warp_run.specs.Warp.{StandsFor, ahead_of}
 use Rattle.warp_run.specs.declared.warp.Warp.{Warp}
@@ -58,7 +58,7 @@ waiting_given E last s t next =
     ]
 
 -- a value with the same arena, of which these rows are done
-pub stands_on : (w v : Warp) (m : Standing) (done : List Row) → StandsFor w m → v.arena ≡ w.arena → v.tip.floor ≡ w.tip.floor → IsAt m.program (live m.table) v.tip done
+pub stands_on : (w v : Warp) (m : Standing) (done : List Row) → StandsFor w m → v.arena ≡ w.arena → v.tip.floor ≡ w.tip.floor → HasExecuted m.program (live m.table) v.tip done
     → Reaches w.arena.places (ahead v.tip.last w.arena.places) v.cursor → AreThrough v.latest (live m.table)
     → (IsTrue v.settled → IsDone (record m { done = done })) → StandsFor v (record m { done = done })
 stands_on w v m done h arena floor tip cursor latest settled = record {
@@ -74,7 +74,7 @@ stands_on w v m done h arena floor tip cursor latest settled = record {
 }
 
 -- where no row was done more
-pub stays : (w v : Warp) (m : Standing) → StandsFor w m → v.arena ≡ w.arena → v.tip.floor ≡ w.tip.floor → IsAt m.program (live m.table) v.tip m.done
+pub stays : (w v : Warp) (m : Standing) → StandsFor w m → v.arena ≡ w.arena → v.tip.floor ≡ w.tip.floor → HasExecuted m.program (live m.table) v.tip m.done
     → Reaches w.arena.places (ahead v.tip.last w.arena.places) v.cursor → v.latest ≡ w.latest → v.settled ≡ w.settled
     → StandsFor v (record m { done = m.done ++ [] })
 stays w v m h arena floor tip cursor latest settled =

@@ -36,7 +36,7 @@ AreSaved base P rows (c ∷ cs) =
 -- most sixteen are after the newest checkpoint, also where the next is made as late as it is due; no checkpoint is
 -- before the base, so many of the rows, of which the last is at the floor; what is set aside may be gone on over where
 -- the run meets it.
-pub record IsAt (P : Program) (E : List Event) (x : Tip) (done : List Row) : Type 0 where
+pub record HasExecuted (P : Program) (E : List Event) (x : Tip) (done : List Row) : Type 0 where
   pub begin : Begin P E done
   pub rows : x.rows ≡ length done
   pub last : x.last ≡ last_after None done
@@ -66,17 +66,17 @@ abbrev pub AreFew : Program → List Event → Type 0
 AreFew P E = (rows : List Row) → Begin P E rows → length rows ≤ most_names
 
 -- more rows are executed, and the floor stays
-pub record GoesOn (x y : Tip) : Type 0 where
+pub record ExecutesMore (x y : Tip) : Type 0 where
   pub floor : y.floor ≡ x.floor
-  pub rows : (P : Program) (E : List Event) (done : List Row) → IsAt P E x done
-      → (rows : List Row) × IsAt P E y (done ++ rows)
+  pub rows : (P : Program) (E : List Event) (done : List Row) → HasExecuted P E x done
+      → (rows : List Row) × HasExecuted P E y (done ++ rows)
 
 -- What was executed is cut to rows that end before the tag, with nothing aside that is before the tag: it is all of
 -- it, as where the tag is after the last row, or the run has at most sixteen rows more before the tag.
 pub record GoesBack (P : Program) (E : List Event) (tag : Moment) (done : List Row) (x : Tip) : Type 0 where
   pub left : ℕ
   pub within : left ≤ length done
-  pub at : IsAt P E x (take left done)
+  pub at : HasExecuted P E x (take left done)
   pub before : is_after x.last tag ≡ true
   pub aside : IsFrom tag x.aside.history.saves
   pub ahead : is_after (last_after None done) tag ≡ true → left ≡ length done
@@ -90,7 +90,7 @@ pub record IsSame (x y : Tip) : Type 0 where
   pub outputs : y.outputs.items ≡ x.outputs.items
   pub floor : y.floor ≡ x.floor
   pub aside : IsSameAside x.aside y.aside
-  pub kept : (P : Program) (E : List Event) (done : List Row) → IsAt P E x done → IsAt P E y done
+  pub kept : (P : Program) (E : List Event) (done : List Row) → HasExecuted P E x done → HasExecuted P E y done
 
 -- each list has the room that it had
 pub record KeepsRoom (x y : Tip) : Type 0 where

@@ -11,7 +11,7 @@ use Rattle.warp_step.specs.Valid.{is_valid}
 use Rattle.warp_step.specs.Events.{event_fits}
 use Rattle.warp_arena.specs.Places.{Reaches, entries_of, entry_of, with_change}
 use Rattle.warp_line.specs.Timeline.{Standing, IsDone}
-use Rattle.warp_run.specs.Tip.{IsAt}
+use Rattle.warp_run.specs.Tip.{HasExecuted}
 use Rattle.warp_run.specs.Walk.{AreThrough, ahead}
 use Rattle.warp_run.specs.declared.warp.Warp.{Warp}
 
@@ -32,7 +32,7 @@ pub record StandsFor (w : Warp) (m : Standing) : Type 0 where
   pub table : entries_of w.arena.places ≡ ahead_of w.tip.floor m.table
   pub ordered : IsTable m.table
   pub events : IsTrue (list_all (event_fits m.program) (live m.table))
-  pub tip : IsAt m.program (live m.table) w.tip m.done
+  pub tip : HasExecuted m.program (live m.table) w.tip m.done
   pub cursor : Reaches w.arena.places (ahead w.tip.last w.arena.places) w.cursor
   pub latest : AreThrough w.latest (live m.table)
   pub settled : IsTrue w.settled → IsDone m

@@ -7,7 +7,7 @@ ghost use Rattle.warp_step.specs.Program.{Program};
 ghost use Rattle.warp_step.specs.Run.{Row, Run, IsNext, given_at, is_after};
 ghost use Rattle.warp_line.specs.Timeline.{MovesFloor, rows_before, rows_behind};
 ghost use Rattle.warp_run.specs.Aside.{IsMet, IsSameAside};
-ghost use Rattle.warp_run.specs.Tip.{AreFew, CanGive, GoesBack, GoesOn, IsAt, IsRoom, IsSame, KeepsRoom};
+ghost use Rattle.warp_run.specs.Tip.{AreFew, CanGive, GoesBack, ExecutesMore, HasExecuted, IsRoom, IsSame, KeepsRoom};
 ghost use Rattle.warp_run.specs.History.{HasRoomFor, IsAtLeast, reach, spacing};
 
 use crate::aside::Aside;
@@ -104,7 +104,7 @@ pub(crate) struct Tip {
 impl Tip {
     /// Nothing is executed of the run of this program.
     pub fn start(alloc: Global, program: &Program) -> Result<Tip, OutOfMemory>
-        ensures { IfOk result (λ x. (E : List Event) → IsAt program.now E x []) }
+        ensures { IfOk result (λ x. (E : List Event) → HasExecuted program.now E x []) }
     {
         program.valid();
         Ok(Tip {
@@ -156,7 +156,7 @@ impl Tip {
     /// Where there is room for a checkpoint and for the outputs, there is none.
     #[inline(always)]
     pub fn get_ready(&mut self, program: &Program) -> Result<(), OutOfMemory>
-        requires { (E : List Event) × (done : List Row) × IsAt program.now E self.old done }
+        requires { (E : List Event) × (done : List Row) × HasExecuted program.now E self.old done }
         ensures same { IsSame self.old self.new }
         ensures room { OnOk result (IsRoom program.now self.new) }
         ensures fits { HasRoomFor self.old.history self.old.state →
@@ -169,14 +169,14 @@ impl Tip {
     /// Executes one more row, at the next tag that waits, with what is given there.
     #[inline(always)]
     pub fn step<M: Meter>(&mut self, program: &Program, tag: Tag, given: &[Given], meter: &mut M)
-        requires at { (E : List Event) × (done : List Row) × IsAt program.now E self.old done
+        requires at { (E : List Event) × (done : List Row) × HasExecuted program.now E self.old done
             × IsNext E self.old.last self.old.state tag × (given.now ≡ given_at tag E) }
         requires given { CanGive program.now tag given.now }
         requires few { self.old.rows < most_names }
         requires room { IsRoom program.now self.old }
-        ensures stepped { (E : List Event) (done : List Row) → IsAt program.now E self.old done →
+        ensures stepped { (E : List Event) (done : List Row) → HasExecuted program.now E self.old done →
             IsNext E self.old.last self.old.state tag → given.now ≡ given_at tag E →
-            (row : Row) × IsAt program.now E self.new (done ++ row ∷ []) }
+            (row : Row) × HasExecuted program.now E self.new (done ++ row ∷ []) }
         ensures last { self.new.last ≡ Some tag }
         ensures floor { self.new.floor ≡ self.old.floor }
         ensures ticked { M.ticks meter.new ≡ M.ticks meter.old + 1 }
@@ -203,14 +203,14 @@ impl Tip {
         given: &[Given],
         meter: &mut M,
     )
-        requires at { (E : List Event) × (done : List Row) × IsAt program.now E self.old done
+        requires at { (E : List Event) × (done : List Row) × HasExecuted program.now E self.old done
             × IsNext E self.old.last self.old.state tag × (given.now ≡ given_at tag E) }
         requires given { CanGive program.now tag given.now }
         requires few { self.old.rows < most_names }
         requires room { IsRoom program.now self.old }
-        ensures stepped { (E : List Event) (done : List Row) → IsAt program.now E self.old done →
+        ensures stepped { (E : List Event) (done : List Row) → HasExecuted program.now E self.old done →
             IsNext E self.old.last self.old.state tag → given.now ≡ given_at tag E →
-            (row : Row) × IsAt program.now E self.new (done ++ row ∷ []) }
+            (row : Row) × HasExecuted program.now E self.new (done ++ row ∷ []) }
         ensures last { self.new.last ≡ Some tag }
         ensures floor { self.new.floor ≡ self.old.floor }
         ensures ticked { M.ticks meter.new ≡ M.ticks meter.old + 1 }
@@ -225,8 +225,8 @@ impl Tip {
     #[inline(always)]
     fn save_behind(&mut self, tag: Tag)
         ensures others { self.new ≡ record self.old { due = self.new.due; history = self.new.history } }
-        ensures kept { (P : Program) (E : List Event) (done : List Row) → IsAt P E self.old done →
-            IsAt P E self.new done }
+        ensures kept { (P : Program) (E : List Event) (done : List Row) → HasExecuted P E self.old done →
+            HasExecuted P E self.new done }
     {
         if self.every == SPACING && tag.is_same(self.changed) {
             self.save_here();
@@ -237,8 +237,8 @@ impl Tip {
     #[inline(never)]
     fn save_here(&mut self)
         ensures others { self.new ≡ record self.old { due = 0; history = self.new.history } }
-        ensures kept { (P : Program) (E : List Event) (done : List Row) → IsAt P E self.old done →
-            IsAt P E self.new done }
+        ensures kept { (P : Program) (E : List Event) (done : List Row) → HasExecuted P E self.old done →
+            HasExecuted P E self.new done }
     {
         self.due = 0;
         let Some(older) = self.history.before_newest() else {
@@ -262,12 +262,12 @@ impl Tip {
     /// Makes a checkpoint, where one more row is not to be executed without.
     #[inline(always)]
     fn save_if_due(&mut self) -> Result<(), OutOfMemory>
-        requires { (P : Program) × (E : List Event) × (done : List Row) × IsAt P E self.old done }
+        requires { (P : Program) × (E : List Event) × (done : List Row) × HasExecuted P E self.old done }
         ensures others { self.new ≡
             record self.old { due = self.new.due; history = self.new.history; aside = self.new.aside } }
         ensures aside { IsSameAside self.old.aside self.new.aside }
-        ensures kept { (P : Program) (E : List Event) (done : List Row) → IsAt P E self.old done →
-            IsAt P E self.new done }
+        ensures kept { (P : Program) (E : List Event) (done : List Row) → HasExecuted P E self.old done →
+            HasExecuted P E self.new done }
         ensures room { OnOk result (self.new.rows + 1 ≤ reach self.new.base self.new.history.saves) }
         ensures fits { HasRoomFor self.old.history self.old.state → IsOk result }
     {
@@ -279,13 +279,13 @@ impl Tip {
 
     /// Makes a checkpoint, where none stands or so many rows more are more than `SPACING` after the newest.
     fn save_for(&mut self, more: usize) -> Result<(), OutOfMemory>
-        requires at { (P : Program) × (E : List Event) × (done : List Row) × IsAt P E self.old done }
+        requires at { (P : Program) × (E : List Event) × (done : List Row) × HasExecuted P E self.old done }
         requires few { more ≤ spacing }
         ensures others { self.new ≡
             record self.old { due = self.new.due; history = self.new.history; aside = self.new.aside } }
         ensures aside { IsSameAside self.old.aside self.new.aside }
-        ensures kept { (P : Program) (E : List Event) (done : List Row) → IsAt P E self.old done →
-            IsAt P E self.new done }
+        ensures kept { (P : Program) (E : List Event) (done : List Row) → HasExecuted P E self.old done →
+            HasExecuted P E self.new done }
         ensures room { OnOk result (self.new.rows + more ≤ reach self.new.base self.new.history.saves) }
         ensures fits { HasRoomFor self.old.history self.old.state → IsOk result }
     {
@@ -298,12 +298,12 @@ impl Tip {
     /// Makes a checkpoint.
     #[inline(never)]
     fn add_checkpoint(&mut self) -> Result<(), OutOfMemory>
-        requires { (P : Program) × (E : List Event) × (done : List Row) × IsAt P E self.old done }
+        requires { (P : Program) × (E : List Event) × (done : List Row) × HasExecuted P E self.old done }
         ensures others { self.new ≡
             record self.old { due = self.new.due; history = self.new.history; aside = self.new.aside } }
         ensures aside { IsSameAside self.old.aside self.new.aside }
-        ensures kept { (P : Program) (E : List Event) (done : List Row) → IsAt P E self.old done →
-            IsAt P E self.new done }
+        ensures kept { (P : Program) (E : List Event) (done : List Row) → HasExecuted P E self.old done →
+            HasExecuted P E self.new done }
         ensures room { OnOk result (self.new.rows + spacing ≤ reach self.new.base self.new.history.saves) }
         ensures fits { HasRoomFor self.old.history self.old.state → IsOk result }
     {
@@ -322,12 +322,12 @@ impl Tip {
     /// Makes a checkpoint of a state of any size.
     #[inline(never)]
     fn add_any(&mut self) -> Result<(), OutOfMemory>
-        requires { (P : Program) × (E : List Event) × (done : List Row) × IsAt P E self.old done }
+        requires { (P : Program) × (E : List Event) × (done : List Row) × HasExecuted P E self.old done }
         ensures others { self.new ≡
             record self.old { due = self.new.due; history = self.new.history; aside = self.new.aside } }
         ensures aside { IsSameAside self.old.aside self.new.aside }
-        ensures kept { (P : Program) (E : List Event) (done : List Row) → IsAt P E self.old done →
-            IsAt P E self.new done }
+        ensures kept { (P : Program) (E : List Event) (done : List Row) → HasExecuted P E self.old done →
+            HasExecuted P E self.new done }
         ensures room { OnOk result (self.new.rows + spacing ≤ reach self.new.base self.new.history.saves) }
         ensures fits { HasRoomFor self.old.history self.old.state → IsOk result }
     {
@@ -340,12 +340,12 @@ impl Tip {
     /// Makes room for a checkpoint, and at least as much room for checkpoints that are aside, and makes the checkpoint.
     #[inline(never)]
     fn add_with_room(&mut self) -> Result<(), OutOfMemory>
-        requires { (P : Program) × (E : List Event) × (done : List Row) × IsAt P E self.old done }
+        requires { (P : Program) × (E : List Event) × (done : List Row) × HasExecuted P E self.old done }
         ensures others { self.new ≡
             record self.old { due = self.new.due; history = self.new.history; aside = self.new.aside } }
         ensures aside { IsSameAside self.old.aside self.new.aside }
-        ensures kept { (P : Program) (E : List Event) (done : List Row) → IsAt P E self.old done →
-            IsAt P E self.new done }
+        ensures kept { (P : Program) (E : List Event) (done : List Row) → HasExecuted P E self.old done →
+            HasExecuted P E self.new done }
         ensures room { OnOk result (self.new.rows + spacing ≤ reach self.new.base self.new.history.saves) }
         ensures covered { OnOk result (IsAtLeast self.new.history.room self.new.aside.history.room) }
     {
@@ -359,10 +359,10 @@ impl Tip {
     /// Makes a checkpoint, if there is room for it, and answers whether there is. The room stays as it is.
     #[inline(always)]
     fn add_in_room(&mut self) -> bool
-        requires { (P : Program) × (E : List Event) × (done : List Row) × IsAt P E self.old done }
+        requires { (P : Program) × (E : List Event) × (done : List Row) × HasExecuted P E self.old done }
         ensures others { self.new ≡ record self.old { due = self.new.due; history = self.new.history } }
-        ensures kept { (P : Program) (E : List Event) (done : List Row) → IsAt P E self.old done →
-            IsAt P E self.new done }
+        ensures kept { (P : Program) (E : List Event) (done : List Row) → HasExecuted P E self.old done →
+            HasExecuted P E self.new done }
         ensures room { IsTrue result → self.new.rows + spacing ≤ reach self.new.base self.new.history.saves }
         ensures fits { HasRoomFor self.old.history self.old.state → IsTrue result }
         ensures capacity { self.new.history.room ≡ self.old.history.room }
@@ -381,7 +381,7 @@ impl Tip {
 
     /// Whether so many rows more are at most `SPACING` after the newest checkpoint.
     fn is_near(&self, more: usize) -> bool
-        requires at { (P : Program) × (E : List Event) × (done : List Row) × IsAt P E self.now done }
+        requires at { (P : Program) × (E : List Event) × (done : List Row) × HasExecuted P E self.now done }
         requires few { more ≤ spacing }
         ensures { IsTrue result → self.now.rows + more ≤ reach self.now.base self.now.history.saves }
     {
@@ -395,10 +395,10 @@ impl Tip {
     /// those after it aside. The room of each list stays as it is.
     #[inline(never)]
     pub fn go_back(&mut self, tag: Tag)
-        requires at { (P : Program) × (E : List Event) × (done : List Row) × IsAt P E self.old done }
+        requires at { (P : Program) × (E : List Event) × (done : List Row) × HasExecuted P E self.old done }
         requires late { is_after self.old.last tag ≡ false }
         requires ahead { is_after self.old.floor tag ≡ true }
-        ensures back { (P : Program) (E : List Event) (done : List Row) → IsAt P E self.old done →
+        ensures back { (P : Program) (E : List Event) (done : List Row) → HasExecuted P E self.old done →
             GoesBack P E tag done self.new }
         ensures floor { self.new.floor ≡ self.old.floor }
         ensures room { KeepsRoom self.old self.new }
@@ -418,7 +418,7 @@ impl Tip {
     pub fn let_go_before(&mut self, tag: Tag)
         requires { is_after self.old.last tag ≡ true }
         ensures others { self.new ≡ record self.old { aside = self.new.aside } }
-        ensures kept { (P : Program) (E : List Event) (done : List Row) → IsAt P E self.old done →
+        ensures kept { (P : Program) (E : List Event) (done : List Row) → HasExecuted P E self.old done →
             GoesBack P E tag done self.new }
         ensures room { KeepsRoom self.old self.new }
     {
@@ -436,11 +436,11 @@ impl Tip {
           history = self.new.history;
           aside = self.new.aside;
         } }
-        ensures kept { (P : Program) (E : List Event) (done : List Row) → IsAt P E self.old done →
-            IsAt P E self.new done }
-        ensures floor { (P : Program) (E : List Event) (done : List Row) → IsAt P E self.old done →
+        ensures kept { (P : Program) (E : List Event) (done : List Row) → HasExecuted P E self.old done →
+            HasExecuted P E self.new done }
+        ensures floor { (P : Program) (E : List Event) (done : List Row) → HasExecuted P E self.old done →
             MovesFloor below self.old.floor self.new.floor }
-        ensures behind { (P : Program) (E : List Event) (done : List Row) → IsAt P E self.old done → Run P E done →
+        ensures behind { (P : Program) (E : List Event) (done : List Row) → HasExecuted P E self.old done → Run P E done →
             rows_before below done ≤ rows_behind self.new.floor done + spacing }
         ensures room { KeepsRoom self.old self.new }
     {
@@ -472,8 +472,8 @@ impl Tip {
     /// the last row is let go. An `Err` comes behind the rows that are gone over.
     #[inline(never)]
     pub fn rejoin(&mut self) -> Result<(), OutOfMemory>
-        requires at { (P : Program) × (E : List Event) × (done : List Row) × IsAt P E self.old done × AreFew P E }
-        ensures { GoesOn self.old self.new }
+        requires at { (P : Program) × (E : List Event) × (done : List Row) × HasExecuted P E self.old done × AreFew P E }
+        ensures { ExecutesMore self.old self.new }
     {
         let Some(last) = self.last else {
             return Ok(());
@@ -486,9 +486,9 @@ impl Tip {
 
     /// Goes on from the earliest checkpoint that is aside to the next one, if there is one.
     fn jump(&mut self) -> Result<bool, OutOfMemory>
-        requires at { (P : Program) × (E : List Event) × (done : List Row) × IsAt P E self.old done × AreFew P E }
+        requires at { (P : Program) × (E : List Event) × (done : List Row) × HasExecuted P E self.old done × AreFew P E }
         requires met { IsMet self.old.last self.old.state self.old.aside.history.saves }
-        ensures on { GoesOn self.old self.new }
+        ensures on { ExecutesMore self.old self.new }
         ensures met { IfOk result
             (λ more. IsTrue more → IsMet self.new.last self.new.state self.new.aside.history.saves) }
         ensures fewer { IfOk result (λ more. IsTrue more →

@@ -10,7 +10,7 @@ ghost use Rattle.warp_arena.specs.Shape.{IsGap};
 ghost use Rattle.warp_line.specs.Begin.{last_after};
 ghost use Rattle.warp_line.specs.Timeline.{NowStands, Standing, IsDone, is_behind};
 ghost use Rattle.warp_run.specs.Walk.{IsAhead, IsAtFirst, ahead, tag_of_next};
-ghost use Rattle.warp_run.specs.Tip.{GoesBack, IsAt, KeepsRoom};
+ghost use Rattle.warp_run.specs.Tip.{GoesBack, HasExecuted, KeepsRoom};
 ghost use Rattle.warp_run.specs.Warp.{Goes, HasRoom, NamesAt, StandsFor, ahead_of, floor_of, latest_with, room_in};
 
 use crate::tip::Tip;
@@ -417,7 +417,7 @@ impl Warp {
     /// Goes back behind a tag after the floor at which the live events changed, if it is executed.
     fn undo_from(&mut self, node: NodeId, tag: Tag)
         requires named { IsSomeAnd (entry_of node self.old.arena.places) (λ e. e.tag ≡ tag) }
-        requires tip { (P : Program) × (E : List Event) × (done : List Row) × IsAt P E self.old.tip done }
+        requires tip { (P : Program) × (E : List Event) × (done : List Row) × HasExecuted P E self.old.tip done }
         requires ahead { is_after self.old.tip.floor tag ≡ true }
         ensures arena { self.new.arena ≡ self.old.arena }
         ensures latest { self.new.latest ≡ latest_with tag self.old.latest }
@@ -427,7 +427,7 @@ impl Warp {
         // A change after the last row leaves what is executed.
         ensures ahead { is_after self.old.tip.last tag ≡ true →
             self.new.tip ≡ record self.old.tip { aside = self.new.tip.aside } }
-        ensures tip { (P : Program) (E : List Event) (done : List Row) → IsAt P E self.old.tip done →
+        ensures tip { (P : Program) (E : List Event) (done : List Row) → HasExecuted P E self.old.tip done →
             GoesBack P E tag done self.new.tip }
         ensures cursor { Reaches self.old.arena.places
             (ahead self.old.tip.last self.old.arena.places) self.old.cursor →
@@ -449,12 +449,12 @@ impl Warp {
     #[inline(never)]
     fn go_back(&mut self, node: NodeId, tag: Tag)
         requires named { IsSomeAnd (entry_of node self.old.arena.places) (λ e. e.tag ≡ tag) }
-        requires tip { (P : Program) × (E : List Event) × (done : List Row) × IsAt P E self.old.tip done }
+        requires tip { (P : Program) × (E : List Event) × (done : List Row) × HasExecuted P E self.old.tip done }
         requires late { is_after self.old.tip.last tag ≡ false }
         requires ahead { is_after self.old.tip.floor tag ≡ true }
         ensures others { self.new ≡ record self.old { tip = self.new.tip; cursor = self.new.cursor } }
         ensures room { KeepsRoom self.old.tip self.new.tip }
-        ensures tip { (P : Program) (E : List Event) (done : List Row) → IsAt P E self.old.tip done →
+        ensures tip { (P : Program) (E : List Event) (done : List Row) → HasExecuted P E self.old.tip done →
             GoesBack P E tag done self.new.tip }
         ensures cursor { Reaches self.new.arena.places (ahead self.new.tip.last self.new.arena.places) self.new.cursor }
         ensures floor { self.new.tip.floor ≡ self.old.tip.floor }

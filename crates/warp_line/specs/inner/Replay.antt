@@ -31,7 +31,7 @@ abbrev pub is_waiting : Moment → List Given → List Waiting → Bool
 is_waiting t X ws = nat_lt 0 (length X) || list_any (λ w. is_same w.tag t) ws
 
 -- a step with what is given, if something is given or pending at the tag; else all stays
-pub record GoesOn (P : Program) (t : Moment) (X : List Given) (old new : Snapshot) (outs outs' : List Out)
+pub record StepsWhereWaiting (P : Program) (t : Moment) (X : List Given) (old new : Snapshot) (outs outs' : List Out)
     (ticks ticks' : ℕ) : Type 0 where
   pub state : new ≡ (if is_waiting t X old.pending then state_after P old t X else old)
   pub outputs : outs' ≡ outs ++ (if is_waiting t X old.pending then outputs_after P old t X else [])

@@ -8,7 +8,7 @@ use Rattle.warp_step.specs.Run.{given_of}
 use Rattle.warp_step.specs.Events.{event_fits}
 use Rattle.warp_step.specs.declared.given.Given.{Given}
 use Rattle.warp_tag.specs.declared.out.Out.{Out}
-use Rattle.warp_line.specs.inner.Replay.{GoesOn, Passes, next_of}
+use Rattle.warp_line.specs.inner.Replay.{StepsWhereWaiting, Passes, next_of}
 use Rattle.warp_line.proofs.NextLemmas.{next_entries, next_pending, none_next}
 use Rattle.warp_line.proofs.ReplayLemmas.{can_step, fits_drop, fits_take, passes, table_drop, table_take}
 use Rattle.warp_line.proofs.ProgressLemmas.{Progress, progress_start, progress_bound, progress_end, progress_on, progress_ends, rows_left}
@@ -60,7 +60,7 @@ returns-in_err-advance-clause-bound g c = λ trace run.
 record Turn (g : Rattle.warp_line.proofs.replay.replay.Given.Over) (c : goal.After-skip-rest g) : Type 0 where
   next : next_of c.rows.rest.now (least_pending c.rows.state.pending) ≡ Some c.in-Some.tag
   passes : Passes c.in-Some.tag c.rows.rest.now c.in_ok-count.count
-  goes : GoesOn c.args.program.now c.in-Some.tag (map given_of (live (take c.in_ok-count.count c.rows.rest.now))) c.rows.state c.advance.new.state
+  goes : StepsWhereWaiting c.args.program.now c.in-Some.tag (map given_of (live (take c.in_ok-count.count c.rows.rest.now))) c.rows.state c.advance.new.state
       c.rows.outputs.items c.advance.new.outputs.items (g.M.Meter.ticks c.rows.meter) (g.M.Meter.ticks c.advance.new.meter)
   on : Progress c.args.program.now c.args.entries.now (drop c.in_ok-count.count c.rows.rest.now) c.advance.new.state c.advance.new.outputs.items
       (g.M.Meter.ticks c.args.meter.now) (g.M.Meter.ticks c.advance.new.meter)
@@ -76,7 +76,7 @@ turn g c =
     let past : Passes t rest n = passes t rest n c.rows.invariant.table (next_entries rest (least_pending s.pending) t c.rows.invariant.table next)
     c.in_ok-count.ensures.within c.in_ok-count.ensures.here c.in_ok-count.ensures.other in
     let given : c.deref.result.now ≡ map given_of (live (take n rest)) = c.deref.ensures.value ∙ c.in_ok-count.ensures.given in
-    let goes = subst (λ (X : List Given). GoesOn P t X s c.advance.new.state c.rows.outputs.items c.advance.new.outputs.items
+    let goes = subst (λ (X : List Given). StepsWhereWaiting P t X s c.advance.new.state c.rows.outputs.items c.advance.new.outputs.items
     (g.M.Meter.ticks c.rows.meter) (g.M.Meter.ticks c.advance.new.meter)) given c.in_ok-advance.ensures.goes in
     record {
       next = next;
