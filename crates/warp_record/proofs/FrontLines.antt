@@ -1,7 +1,6 @@
 -- Lines that stand in front of longer texts.
-use Rattle.std.proofs.Common.{◌≡◌, ℕ, ℤ, ◌+◌, ◌<◌, ◌≤◌, ◌^◌, suc, inl, inr, Option, Some, None, IfSome, List, [], ◌∷◌, ◌++◌, length, get_or, take, drop, codes, decimal, sym, ap, ◌∙◌, refl, arith, append_assoc, length-append, take-append-drop}
+use Rattle.std.proofs.Common.{◌≡◌, ℕ, ◌+◌, ◌<◌, ◌≤◌, ◌^◌, suc, inl, inr, Option, Some, None, IfSome, List, [], ◌∷◌, ◌++◌, length, get_or, take, drop, codes, decimal, sym, ap, ◌∙◌, refl, arith, append_assoc, length-append, take-append-drop}
 use Rattle.std.specs.Char.{digit_value}
-use Rattle.std.specs.Fmt.{signed_decimal}
 use Rattle.std.specs.List.{before_first, join_with_byte}
 use Rattle.std.specs.Str.Parse.{AllDigits, digits_value}
 use Rattle.std.proofs.lemmas.List.{drop_more, length-take}
@@ -35,13 +34,13 @@ digit_front bytes end long digit is =
     ∙ ap (λ (l : List ℕ). l ++ end ∷ drop 2 bytes) (sym (digit_text (get_or bytes 0 0) digit))
 
 -- some digits and a byte in front
-pub digits_front : (bytes : List ℕ) (count value end : ℕ) → 0 < count → count < 8 → 8 ≤ length bytes → AllDigits 10 (take count bytes)
+pub digits_front : (bytes : List ℕ) (count value end : ℕ) → 0 < count → count < length bytes → AllDigits 10 (take count bytes)
     → digits_value 10 (take count bytes) ≡ value → value < 2 ^ 64
     → (1 < length (take count bytes) → get_or (take count bytes) 0 0 ≡ 48 → ⊥) → get_or bytes count 0 ≡ end
     → bytes ≡ decimal value ++ end ∷ drop (count + 1) bytes
-digits_front bytes count value end some few long all is fits unpadded here =
+digits_front bytes count value end some long all is fits unpadded here =
     let word : List ℕ = take count bytes in
-    let size : length word ≡ count = omega (arith, length-take count bytes, few, long) in
+    let size : length word ≡ count = omega (arith, length-take count bytes, long) in
     let one : get_or word 0 0 ≡ 48 → length word ≡ 1 = λ first.
     elim (cases_lt 1 (length word)) [
       | inl more ↦ absurd (unpadded more first)
@@ -50,7 +49,7 @@ digits_front bytes count value end some few long all is fits unpadded here =
     let text : word ≡ decimal value = rw is at (text_of_digits word all (omega (arith, size, some)) one (omega (arith, is, fits))) in
     sym (take-append-drop count bytes)
     ∙ ap (λ (l : List ℕ). l ++ drop count bytes) text
-    ∙ ap (λ (l : List ℕ). decimal value ++ l) (byte_more bytes _ count end (omega (arith, few, long)) here refl)
+    ∙ ap (λ (l : List ℕ). decimal value ++ l) (byte_more bytes _ count end long here refl)
 
 -- the word of an event and a space in front
 pub event_front : (bytes : List ℕ) → 6 ≤ length bytes → get_or bytes 0 0 ≡ 101 → get_or bytes 1 0 ≡ 118 → get_or bytes 2 0 ≡ 101
@@ -90,7 +89,7 @@ line_front f line bytes rest fits is =
 
 -- the same of what was read there, if anything was
 pub line_fronts : (f : Form) (bytes : List ℕ) (taken : Option (Line × ℕ))
-    → IfSome taken (λ t. IsLine f t.0 × ((rest : List ℕ) × (bytes ≡ spelling t.0 ++ 10 ∷ rest) × (length bytes ≡ length rest + t.1) × (t.1 ≤ 31)))
+    → IfSome taken (λ t. IsLine f t.0 × ((rest : List ℕ) × (bytes ≡ spelling t.0 ++ 10 ∷ rest) × (length bytes ≡ length rest + t.1) × (t.1 ≤ 40)))
     → IfSome taken (λ t. IsLine f t.0 × (before_first is_end bytes ≡ spelling t.0) × (t.1 ≡ first_end bytes + 1)
     × (first_end bytes < length bytes) × (first_end bytes ≤ longest_line))
 line_fronts f bytes None taken = tt

@@ -1,6 +1,6 @@
 //! Cutting a stream of bytes into lines, however the stream is cut into pieces.
-ghost use Rattle.std.specs.Prelude.{◌≡◌, ℕ, ◌+◌, ◌<◌, ◌≤◌, ◌↔◌, [], ◌++◌, List, take, length, min, not, IsSome, IfSome, IsTrue};
-ghost use Rattle.std.specs.Prelude.{IfNone, OnSome, position};
+ghost use Rattle.std.specs.Prelude.{◌≡◌, ℕ, ◌+◌, ◌<◌, ◌≤◌, ◌↔◌, [], ◌++◌, List, take, length, min, not};
+ghost use Rattle.std.specs.Prelude.{IsSome, IfSome, IfNone, IsTrue, OnSome, position};
 ghost use Rattle.std.specs.Option.{option_map};
 ghost use Rattle.std.specs.List.{before_first, prefix_len};
 ghost use Rattle.std.specs.Simd.Lanes.{chunk};

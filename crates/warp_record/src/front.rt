@@ -1,8 +1,8 @@
 //! Lines that are read where they stand in a longer text, with no look for their end first: those that come most often.
 //!
 //! What is read here is a line. What is not may be one all the same, and is read as any other.
-ghost use Rattle.std.specs.Prelude.{◌≡◌, ℕ, ◌+◌, ◌<◌, ◌≤◌, ◌^◌, ◌∷◌, ◌++◌, List, IfSome, FitsSigned, codes, decimal, drop};
-ghost use Rattle.std.specs.Prelude.{length};
+ghost use Rattle.std.specs.Prelude.{◌≡◌, ℕ, ◌+◌, ◌<◌, ◌≤◌, ◌^◌, ◌∷◌, ◌++◌, List, IfSome, FitsSigned, codes, decimal};
+ghost use Rattle.std.specs.Prelude.{drop, length};
 ghost use Rattle.std.specs.Fmt.{signed_decimal};
 ghost use Rattle.std.specs.Int.{w64};
 ghost use Rattle.std.specs.List.{before_first};
@@ -13,10 +13,10 @@ ghost use Rattle.warp_record.specs.Lines.{first_end, is_end};
 ghost use Rattle.warp_record.specs.Record.{IsRecord, record_spelling};
 
 use crate::count::Count;
-use crate::cut::are_four;
+use crate::cut::{are_four, digits_up_to};
 use crate::eight::{EIGHT, count_digits, value_of_first};
 use crate::line::{Line, Query};
-use crate::number::{digit, is_padded, with_sign};
+use crate::number::{FEW_DIGITS, digit, is_padded, with_sign};
 use crate::record::Record;
 use warp_tag::{Form, Tag};
 
@@ -89,15 +89,50 @@ fn take_u32(bytes: &[u8], end: u8) -> Option<(u32, &[u8])>
     Some((number as u32, rest))
 }
 
-/// The signed number of up to seven digits in front, with this byte behind it, and what is left behind that.
+/// The number of up to eighteen digits in front, with this byte behind it, and what is left behind that.
+#[cold]
+#[inline(never)]
+fn take_many(bytes: &[u8], end: u8) -> Option<(u64, &[u8])>
+    requires { 19 ≤ length bytes.now }
+    ensures { IfSome result (λ taken. (taken.0 < 10 ^ 18) × (bytes.now ≡ decimal taken.0 ++ end ∷ taken.1.now)
+        × (length bytes.now ≤ length taken.1.now + 19)) }
+{
+    let (number, count) = digits_up_to(bytes, FEW_DIGITS);
+    if count == 0 {
+        return None;
+    }
+    if bytes[count] != end {
+        return None;
+    }
+    if is_padded(&bytes[..count]) {
+        return None;
+    }
+    Some((number, behind(bytes, count + 1)))
+}
+
+/// The number in front, of few digits as a rule and of up to eighteen, with this byte behind it, and what is left
+/// behind that.
+#[inline(always)]
+fn take_size(bytes: &[u8], end: u8) -> Option<(u64, &[u8])>
+    requires { 19 ≤ length bytes.now }
+    ensures { IfSome result (λ taken. (taken.0 < 10 ^ 18) × (bytes.now ≡ decimal taken.0 ++ end ∷ taken.1.now)
+        × (length bytes.now ≤ length taken.1.now + 19)) }
+{
+    if let Some((number, rest)) = take_number(bytes, end) {
+        return Some((number, rest));
+    }
+    take_many(bytes, end)
+}
+
+/// The signed number of up to eighteen digits in front, with this byte behind it, and what is left behind that.
 #[inline(always)]
 fn take_int(bytes: &[u8], end: u8) -> Option<(i64, &[u8])>
-    requires { 9 ≤ length bytes.now }
+    requires { 20 ≤ length bytes.now }
     ensures { IfSome result (λ taken. FitsSigned w64 taken.0 × (bytes.now ≡ signed_decimal taken.0 ++ end ∷ taken.1.now)
-        × (length bytes.now ≤ length taken.1.now + 9)) }
+        × (length bytes.now ≤ length taken.1.now + 20)) }
 {
     let minus = bytes[0] == b'-';
-    let (size, rest) = take_number(behind(bytes, usize::from(minus)), end)?;
+    let (size, rest) = take_size(behind(bytes, usize::from(minus)), end)?;
     if size == 0 {
         return if minus { None } else { Some((0, rest)) };
     }
@@ -150,10 +185,10 @@ fn behind_announcement(bytes: &[u8]) -> Option<&[u8]>
 /// bytes these are.
 #[inline(always)]
 fn take_event(form: Form, bytes: &[u8]) -> Option<(Record, usize)>
-    requires { 32 ≤ length bytes.now }
+    requires { 34 ≤ length bytes.now }
     ensures { IfSome result (λ taken. IsRecord form taken.0 × ((rest : List ℕ)
         × (codes "event " ++ bytes.now ≡ record_spelling taken.0 ++ 10 ∷ rest)
-        × (length bytes.now ≡ length rest + taken.1) × (taken.1 ≤ 23))) }
+        × (length bytes.now ≡ length rest + taken.1) × (taken.1 ≤ 34))) }
 {
     let (origin, text) = take_digit(bytes, b' ')?;
     let (time, text) = take_number(text, b' ')?;
@@ -180,10 +215,10 @@ fn take_event(form: Form, bytes: &[u8]) -> Option<(Record, usize)>
 /// bytes these are.
 #[inline(always)]
 fn front_event(form: Form, bytes: &[u8]) -> Option<(Record, usize)>
-    requires { 32 ≤ length bytes.now }
+    requires { 34 ≤ length bytes.now }
     ensures { IfSome result (λ taken. IsRecord form taken.0 × ((rest : List ℕ)
         × (codes "event " ++ bytes.now ≡ record_spelling taken.0 ++ 10 ∷ rest)
-        × (length bytes.now ≡ length rest + taken.1) × (taken.1 ≤ 23))) }
+        × (length bytes.now ≡ length rest + taken.1) × (taken.1 ≤ 34))) }
 {
     // Written once for each form, whose limits are constants then.
     match form {
@@ -250,7 +285,7 @@ fn front_query(bytes: &[u8]) -> Option<(Line, usize)>
     requires { 6 ≤ length bytes.now }
     ensures { (f : Form) → IfSome result (λ taken. IsLine f taken.0 × ((rest : List ℕ)
         × (bytes.now ≡ spelling taken.0 ++ 10 ∷ rest)
-        × (length bytes.now ≡ length rest + taken.1) × (taken.1 ≤ 31))) }
+        × (length bytes.now ≡ length rest + taken.1) × (taken.1 ≤ 40))) }
 {
     if !are_four(bytes, 0, *b"var ") {
         return None;
@@ -266,7 +301,7 @@ fn front_line(form: Form, bytes: &[u8]) -> Option<(Line, usize)>
     requires { 64 ≤ length bytes.now }
     ensures { IfSome result (λ taken. IsLine form taken.0 × ((rest : List ℕ)
         × (bytes.now ≡ spelling taken.0 ++ 10 ∷ rest)
-        × (length bytes.now ≡ length rest + taken.1) × (taken.1 ≤ 31))) }
+        × (length bytes.now ≡ length rest + taken.1) × (taken.1 ≤ 40))) }
 {
     if let Some(text) = behind_event_word(bytes) {
         let (event, count) = front_event(form, text)?;
@@ -284,8 +319,8 @@ fn front_line(form: Form, bytes: &[u8]) -> Option<(Line, usize)>
 }
 
 /// The line in range in this form that these bytes begin with, and how many bytes it has with its line feed, where it
-/// is one of those that come most often: a record of short numbers, or a query for a variable of one digit. `None` says
-/// nothing of what they begin with.
+/// is one of those that come most often: a record with an origin, a microstep, an input and a count of withdrawn events
+/// of one digit, or a query for a variable of one digit. `None` says nothing of what they begin with.
 #[inline(always)]
 pub fn read_front(form: Form, bytes: &[u8]) -> Option<(Line, usize)>
     ensures { IfSome result (λ front. IsLine form front.0 × (before_first is_end bytes.now ≡ spelling front.0)

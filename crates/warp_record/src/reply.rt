@@ -11,8 +11,8 @@ ghost use Rattle.warp_record.specs.declared.record.Record.{Record};
 ghost use Rattle.warp_record.specs.declared.reply.Refusal.{Refusal};
 ghost use Rattle.warp_record.specs.declared.reply.Reply.{Reply};
 ghost use Rattle.warp_record.specs.Record.{IsRecord, record_words, tag_words};
-ghost use Rattle.warp_record.specs.Reply.{IsOut, IsReply, flag_word, out_words, refusal_number, reply_line, reply_spelling};
-ghost use Rattle.warp_record.specs.Reply.{reply_words};
+ghost use Rattle.warp_record.specs.Reply.{IsOut, IsReply, flag_word, out_words, refusal_number, reply_line};
+ghost use Rattle.warp_record.specs.Reply.{reply_spelling, reply_words};
 
 use crate::count::MAX_COUNT;
 use crate::line::{BOARD, BREACH, HORIZON, LOG, LOST, OUTPUT, OUTPUTS, RELEASED, ROW, VAR};

@@ -1,4 +1,4 @@
-use Rattle.std.proofs.Common.{◌≡◌, ◌∷◌, [], ◌++◌, ℕ, List, codes, decimal, sym, ap, ◌∙◌, refl, arith}
+use Rattle.std.proofs.Common.{◌∷◌, [], ◌++◌, ℕ, List, codes, decimal, sym, ap, ◌∙◌, refl, arith}
 use Rattle.warp_record.specs.Record.{record_spelling}
 use Rattle.warp_record.specs.declared.record.Record.TheVariants.{Announce}
 use Rattle.warp_tag.specs.Moment.{Moment}

@@ -1,4 +1,4 @@
-use Rattle.std.proofs.Common.{◌≡◌, ◌∷◌, ◌++◌, ℕ, List, length, drop, decimal, sym, ap, ◌∙◌, length-drop, arith}
+use Rattle.std.proofs.Common.{◌∷◌, ◌++◌, ℕ, List, length, drop, decimal, sym, ap, ◌∙◌, length-drop, arith}
 use Rattle.warp_record.proofs.FrontLines.{digit_front}
 use Rattle.warp_record.proofs.front.take_digit.Goals as goal
 

@@ -1,4 +1,4 @@
-use Rattle.std.proofs.Common.{◌≡◌, ◌∷◌, [], ◌++◌, ℕ, ℤ, List, codes, decimal, sym, ap, ◌∙◌, refl, arith, to_z-of_z}
+use Rattle.std.proofs.Common.{◌∷◌, [], ◌++◌, ℕ, ℤ, List, codes, decimal, sym, ap, ◌∙◌, refl, arith, to_z-of_z}
 use Rattle.std.specs.Fmt.{signed_decimal}
 use Rattle.warp_record.specs.Record.{record_spelling}
 use Rattle.warp_record.specs.declared.record.Record.TheVariants.{Event}

@@ -1,4 +1,4 @@
-use Rattle.std.proofs.Common.{◌≡◌, ◌+◌, ◌<◌, ◌∷◌, ◌++◌, ◌^◌, ℕ, List, true, false, length, take, drop, decimal, sym, ap, ◌∙◌, length-drop, arith}
+use Rattle.std.proofs.Common.{◌≡◌, ◌+◌, ◌<◌, ◌∷◌, ◌++◌, ◌^◌, ℕ, List, true, false, length, decimal, sym, ap, ◌∙◌, length-drop, arith}
 use Rattle.warp_record.proofs.FrontLines.{digits_front}
 use Rattle.warp_record.proofs.Numerals.{few_fit}
 use Rattle.warp_record.proofs.front.take_number.Goals as goal
@@ -16,7 +16,7 @@ returns c =
     let small = few_fit bytes count 7 (omega (arith, few)) digits.all_digits in
     let fits : value < 10 ^ 8 = omega (arith, small, c.value_of_first.ensures) in (
       fits,
-      digits_front bytes count value end some few c.requires digits.all_digits c.value_of_first.ensures (omega (arith, fits))
+      digits_front bytes count value end some (omega (arith, few, c.requires)) digits.all_digits c.value_of_first.ensures (omega (arith, fits))
           (λ long zero. let padded = c.is_padded.ensures.1 (long, zero) in let no : true ≡ false = sym padded ∙ c.if-is_padded.false in cc)
           c.if-bytes-count.false
           ∙ ap (λ (l : List ℕ). decimal value ++ end ∷ l) (sym left),
