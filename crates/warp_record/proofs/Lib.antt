@@ -1,4 +1,5 @@
 pub mod EightDigits
+pub mod FrontLines
 pub mod LineCuts
 pub mod LineForms
 pub mod LineWords

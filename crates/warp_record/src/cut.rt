@@ -34,7 +34,7 @@ pub(crate) fn are_four(bytes: &[u8], place: usize, four: [u8; 4]) -> bool
 
 /// The number that the digits at the front write, of which it takes up to `most`, and how many these are.
 #[inline(always)]
-fn digits_up_to(bytes: &[u8], most: usize) -> (u64, usize)
+pub(crate) fn digits_up_to(bytes: &[u8], most: usize) -> (u64, usize)
     requires { (most ≤ length bytes.now) × (most ≤ FEW_DIGITS) }
     ensures within { result.1 ≤ position_or_len is_space bytes.now }
     ensures short { result.1 ≤ most }

@@ -1,6 +1,6 @@
 //! Cutting a stream of bytes into lines, however the stream is cut into pieces.
-ghost use Rattle.std.specs.Prelude.{◌≡◌, ℕ, ◌+◌, ◌<◌, ◌≤◌, ◌↔◌, [], ◌++◌, List, take, length, min, not, IsSome, IfSome};
-ghost use Rattle.std.specs.Prelude.{IfNone, OnSome, position};
+ghost use Rattle.std.specs.Prelude.{◌≡◌, ℕ, ◌+◌, ◌<◌, ◌≤◌, ◌↔◌, [], ◌++◌, List, take, length, min, not};
+ghost use Rattle.std.specs.Prelude.{IsSome, IfSome, IfNone, IsTrue, OnSome, position};
 ghost use Rattle.std.specs.Option.{option_map};
 ghost use Rattle.std.specs.List.{before_first, prefix_len};
 ghost use Rattle.std.specs.Simd.Lanes.{chunk};
@@ -136,6 +136,17 @@ impl Feed {
             Fed::Text(whole.kept)
         };
         (end + 1, Some(fed))
+    }
+
+    /// Whether nothing is kept of an unfinished line.
+    #[inline(always)]
+    pub fn is_fresh(&self) -> bool
+        ensures { IsTrue result ↔ (self.now ≡ kept_of []) }
+    {
+        if self.is_long {
+            return false;
+        }
+        self.kept.is_empty()
     }
 
     /// The line that these bytes begin with, without its line feed, where nothing is kept of it and it is no longer

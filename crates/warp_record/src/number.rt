@@ -10,7 +10,7 @@ ghost use Rattle.std.specs.Str.Parse.{AllDigits, digits_value};
 use itoa::{Buffer, Integer, write_digits};
 
 /// The end of the numbers that `append_u32` writes as one block.
-const BLOCK_END: u32 = 100_000_000;
+pub(crate) const BLOCK_END: u32 = 100_000_000;
 
 /// Where the text of a number of 64 bits ends in a block: in front of it is room for the text and a space.
 const WIDE_END: usize = 22;
@@ -123,7 +123,7 @@ pub fn read_u32(word: &[u8], max: u32) -> Option<u32>
 /// The number of this size, below 0 where `minus` says so. It is compiled to a choice of two values without a branch,
 /// since nothing foretells a sign.
 #[inline(always)]
-fn with_sign(size: u64, minus: bool) -> i64
+pub(crate) fn with_sign(size: u64, minus: bool) -> i64
     requires sign { minus ≡ true → 0 < size }
     requires fits { size < 2 ^ 63 + (if minus then 1 else 0) }
     ensures { signed_decimal result ≡ (if minus then 45 ∷ decimal size else decimal size) }

@@ -11,14 +11,14 @@ ghost use Rattle.warp_record.specs.declared.record.Record.{Record};
 ghost use Rattle.warp_record.specs.declared.reply.Refusal.{Refusal};
 ghost use Rattle.warp_record.specs.declared.reply.Reply.{Reply};
 ghost use Rattle.warp_record.specs.Record.{IsRecord, record_words, tag_words};
-ghost use Rattle.warp_record.specs.Reply.{IsOut, IsReply, flag_word, out_words, refusal_number, reply_spelling};
-ghost use Rattle.warp_record.specs.Reply.{reply_words};
+ghost use Rattle.warp_record.specs.Reply.{IsOut, IsReply, flag_word, out_words, refusal_number, reply_line};
+ghost use Rattle.warp_record.specs.Reply.{reply_spelling, reply_words};
 
 use crate::count::MAX_COUNT;
 use crate::line::{BOARD, BREACH, HORIZON, LOG, LOST, OUTPUT, OUTPUTS, RELEASED, ROW, VAR};
 use crate::number::{
-    append, append_from, append_int, append_u32, append_u64, read_int, read_number, read_u32,
-    write_int, write_word,
+    BLOCK_END, append, append_from, append_int, append_u32, append_u64, read_int, read_number,
+    read_u32, write_int, write_word,
 };
 use crate::record::{Record, append_record, append_tag, read_record, read_tag};
 use crate::room::REPLY_ROOM;
@@ -479,21 +479,24 @@ pub fn read_reply(form: Form, bytes: &[u8]) -> Option<Reply>
     read_words(form, &words)
 }
 
-/// The room for the reply that tells a place, and how many bytes are copied for it.
+/// How many bytes are copied for the line that tells a place.
 const TAKEN_ROOM: usize = 16;
 
-/// Appends the reply that tells the place of a new record, for which there is room: the most frequent reply.
+/// Where the digits of a place end in a block: the line feed is behind them.
+const TAKEN_END: usize = 15;
+
+/// Appends the line that tells the place of a new record, for which there is room: the most frequent reply.
 #[inline(never)]
 fn append_taken(out: &mut Vec<u8>, place: u32)
-    requires { vec_len out.old + TAKEN_ROOM ≤ vec_capacity out.old }
-    ensures items { out.new.items ≡ out.old.items ++ join_with_byte 32 (codes "taken" ∷ decimal place ∷ []) }
-    ensures len { vec_len out.new ≤ vec_len out.old + TAKEN_ROOM }
+    requires fits { place < BLOCK_END }
+    requires room { vec_len out.old + TAKEN_ROOM ≤ vec_capacity out.old }
+    ensures items { out.new.items ≡ out.old.items ++ reply_line (Reply.Taken place) }
     ensures capacity { vec_capacity out.old ≤ vec_capacity out.new }
 {
-    let mut block = [0; 2 * TAKEN_ROOM];
-    let digits = write_digits(u64::from(place), &mut block, TAKEN_ROOM);
+    let mut block = [b'\n'; 2 * TAKEN_ROOM];
+    let digits = write_digits(u64::from(place), &mut block, TAKEN_END);
     let start = write_word(b"taken ", &mut block, digits);
-    append_from(out, &block, start, TAKEN_ROOM, TAKEN_ROOM);
+    append_from(out, &block, start, TAKEN_END + 1, TAKEN_ROOM);
 }
 
 /// Appends a space and the number, for which there is room.
@@ -544,24 +547,25 @@ fn append_count(out: &mut Vec<u8>, word: &[u8], number: u32, count: u64)
     append_length_and_count(out, number, count);
 }
 
-/// The room for the reply that tells a variable's value, and how many bytes are copied for it.
+/// How many bytes are copied for the line that tells a variable's value.
 const VAR_ROOM: usize = 40;
 
-/// Appends the reply that tells a variable's value, for which there is room.
+/// Where the digits of a value end in a block: the line feed is behind them.
+const VAR_END: usize = 39;
+
+/// Appends the line that tells a variable's value, for which there is room.
 #[inline(never)]
 fn append_var(out: &mut Vec<u8>, log: u32, value: i64)
     requires { vec_len out.old + VAR_ROOM ≤ vec_capacity out.old }
-    ensures items { out.new.items ≡ out.old.items ++
-        join_with_byte 32 (codes "var" ∷ decimal log ∷ signed_decimal value ∷ []) }
-    ensures len { vec_len out.new ≤ vec_len out.old + VAR_ROOM }
+    ensures items { out.new.items ≡ out.old.items ++ reply_line (Reply.Var log value) }
     ensures capacity { vec_capacity out.old ≤ vec_capacity out.new }
 {
-    let mut block = [0; 2 * VAR_ROOM];
-    let text = write_int(value, &mut block, VAR_ROOM);
+    let mut block = [b'\n'; 2 * VAR_ROOM];
+    let text = write_int(value, &mut block, VAR_END);
     let space = write_word(b" ", &mut block, text);
     let digits = write_digits(u64::from(log), &mut block, space);
     let start = write_word(b"var ", &mut block, digits);
-    append_from(out, &block, start, VAR_ROOM, VAR_ROOM);
+    append_from(out, &block, start, VAR_END + 1, VAR_ROOM);
 }
 
 /// Appends the word, a number and a flag, for which there is room.
@@ -597,10 +601,13 @@ fn append_any(out: &mut Vec<u8>, reply: &Reply)
     ensures capacity { vec_capacity out.old ≤ vec_capacity out.new }
 {
     match *reply {
-        Reply::Taken(place) => append_taken(out, place),
+        Reply::Taken(place) => append_numbered(out, TAKEN, place),
         Reply::Known(place) => append_numbered(out, KNOWN, place),
         Reply::Refused(refusal) => append_numbered(out, REFUSED, refusal.number()),
-        Reply::Var { log, value } => append_var(out, log, value),
+        Reply::Var { log, value } => {
+            append_numbered(out, VAR, log);
+            append_int(out, value);
+        }
         Reply::Outputs { log, count } => append_count(out, OUTPUTS, log, count),
         Reply::Output { log, output } => {
             append_numbered(out, OUTPUT, log);
@@ -630,20 +637,42 @@ fn append_any(out: &mut Vec<u8>, reply: &Reply)
 }
 
 /// Appends the reply's spelling, for which there is room, and leaves room for a line feed.
-#[inline(always)]
 pub fn write_reply(out: &mut Vec<u8>, reply: &Reply)
     requires { vec_len out.old + REPLY_ROOM ≤ vec_capacity out.old }
     ensures items { out.new.items ≡ out.old.items ++ reply_spelling reply.now }
     ensures len { vec_len out.new < vec_len out.old + REPLY_ROOM }
     ensures capacity { vec_capacity out.old ≤ vec_capacity out.new }
 {
+    append_any(out, reply);
+}
+
+/// Appends the spelling of any reply and a line feed, for which there is room.
+#[inline(never)]
+fn append_line(out: &mut Vec<u8>, reply: &Reply)
+    requires { vec_len out.old + REPLY_ROOM ≤ vec_capacity out.old }
+    ensures items { out.new.items ≡ out.old.items ++ reply_line reply.now }
+    ensures capacity { vec_capacity out.old ≤ vec_capacity out.new }
+{
+    append_any(out, reply);
+    out.push_reserved(b'\n');
+}
+
+/// Appends the reply's spelling and a line feed, for which there is room.
+#[inline(always)]
+pub fn write_reply_line(out: &mut Vec<u8>, reply: &Reply)
+    requires { vec_len out.old + REPLY_ROOM ≤ vec_capacity out.old }
+    ensures items { out.new.items ≡ out.old.items ++ reply_line reply.now }
+    ensures capacity { vec_capacity out.old ≤ vec_capacity out.new }
+{
     // The most frequent replies are told apart here, one after another, so that they pay nothing for the others.
     if let Reply::Taken(place) = *reply {
-        append_taken(out, place);
-        return;
+        if place < BLOCK_END {
+            append_taken(out, place);
+            return;
+        }
     }
     match *reply {
         Reply::Var { log, value } => append_var(out, log, value),
-        other => append_any(out, &other),
+        other => append_line(out, &other),
     }
 }

@@ -1,5 +1,5 @@
 -- Lemmas on how far a session has come.
-use Rattle.std.proofs.Common.{◌≡◌, ℕ, ◌+◌, ◌-◌, ◌<◌, ◌≤◌, List, [], ◌∷◌, ◌++◌, length, take, drop, length-append, length-take-le, get_or, Option, Some, None, false, true≢false, not, min, IsSome, IfSome, IfNone, OnSome, ◌↔◌, inl, inr, refl, sym, ap, subst, ◌∙◌, append_assoc, append-nil, arith}
+use Rattle.std.proofs.Common.{◌≡◌, ℕ, ◌+◌, ◌-◌, ◌<◌, ◌≤◌, List, [], ◌∷◌, ◌++◌, length, take, drop, length-append, length-take-le, get_or, Option, Some, None, Bool, true, false, cond, leb, true≢false, not, min, IsSome, IfSome, IfNone, OnSome, ◌↔◌, inl, inr, refl, sym, ap, subst, ◌∙◌, append_assoc, append-nil, arith}
 use Rattle.std.specs.List.{flat_map, before_first}
 use Rattle.std.specs.Option.{option_map, option_to_list}
 use Rattle.std.specs.Io.KnownBytes.{Appends, Consumes, IsAtEnd}
@@ -8,12 +8,13 @@ use Rattle.std.proofs.lemmas.List.{take_more, take_all}
 use Rattle.std.proofs.lemmas.List.Concat.{flat_map-append}
 use Rattle.std.proofs.lemmas.List.Elements.{All-nil, All-append}
 use Rattle.std.proofs.lemmas.List.Sums.{passes_at_first, prefix_len-le-length}
-use Rattle.std.proofs.lemmas.Bool.{eqb-true}
+use Rattle.std.proofs.lemmas.Bool.{cond-true, eqb-true, le-leb}
+use Rattle.warp_tag.specs.Limits.{longest_line}
 use Rattle.warp_tag.specs.declared.form.Form.{Form}
 use Rattle.warp_record.specs.declared.line.Line.{Line}
 use Rattle.warp_record.specs.declared.reply.Reply.{Reply}
 use Rattle.warp_record.specs.declared.feed.Fed.{Fed}
-use Rattle.warp_record.specs.Lines.{Piece, is_end, IsOneLine, ended, unended, lines_of, first_end, kept_of, piece_of}
+use Rattle.warp_record.specs.Lines.{Piece, Whole, Long, is_end, IsOneLine, ended, unended, lines_of, first_end, kept_of, piece_of}
 use Rattle.warp_record.proofs.LineCuts.{lines_of-ended, lines_of-unended, one_line_before, one_line_more}
 use Rattle.warp_session.proofs.Fronts.{more_of_rest}
 use Rattle.warp_record.specs.Reply.{reply_line}
@@ -43,6 +44,17 @@ pub up_to_end : (piece : List ℕ) → first_end piece < length piece → take (
 up_to_end piece some =
     let is_lf : get_or piece (first_end piece) 0 ≡ 10 = eqb-true (get_or piece (first_end piece) 0) 10 (passes_at_first is_end piece 0 some) in
     take_more piece (first_end piece) 0 some ∙ ap (λ (byte : ℕ). before_first is_end piece ++ byte ∷ []) is_lf
+
+not_kept : (test : Bool) (line : List ℕ) → Some [] ≡ cond test (Some line) None → line ≡ []
+not_kept true line same = cc
+not_kept false line same = cc
+
+-- where nothing was kept, a short line is whole
+pub fresh_line : (line text : List ℕ) → kept_of [] ≡ kept_of line → length text ≤ longest_line → Whole text ≡ ended (line ++ text)
+fresh_line line text same short =
+    let none : line ≡ [] = not_kept (leb (length line) longest_line) line same in
+    sym (cond-true (leb (length text) longest_line) (Whole text) Long (le-leb (length text) longest_line short))
+    ∙ ap (λ (l : List ℕ). ended (l ++ text)) (sym none)
 
 -- a session is over any desk, and reads lines of one form
 module _ {S : Type 0} (f : Form) (gives : S → Line → Reply → S → Type 0) where

@@ -5,12 +5,13 @@ ghost use Rattle.std.specs.Prelude.{◌≡◌, ◌≢◌, ℕ, ◌<◌, ◌≤�
 ghost use Rattle.std.specs.Prelude.{length, take, vec_len};
 ghost use Rattle.std.specs.Io.KnownBytes.{Appends};
 ghost use Rattle.warp_tag.specs.Limits.{most_reads};
+ghost use Rattle.warp_tag.specs.declared.form.Form.{Form};
 ghost use Rattle.warp_step.specs.Counter.{IsUnused};
 ghost use Rattle.warp_record.specs.Lines.{piece_of};
 ghost use Rattle.warp_record.specs.Lines.Piece.{Whole};
 ghost use Rattle.warp_record.specs.Reply.{reply_line};
 ghost use Rattle.warp_session.specs.Session.{FailsSo, GivesPiece, ReadsSo, Transcribes, TranscribesFront};
-ghost use Rattle.warp_session.specs.Session.{TranscribesLines};
+ghost use Rattle.warp_session.specs.Session.{SpellsLine, TranscribesLines};
 ghost use Rattle.warp_session.specs.Stream.{CountsFailures, WritesFront};
 ghost use Rattle.warp_session.specs.inner.Turns.{Replied, BreaksAtEnd, BreaksBytes, Broken, Ends, TakesBytes, Turn};
 ghost use Rattle.warp_session.specs.inner.Turns.{at, nothing_held, pieces_fed};
@@ -20,7 +21,9 @@ use std::alloc::{AllocError, Global};
 use std::marker::Model;
 use std::mem;
 use warp_exchange::Desk;
-use warp_record::{Fed, Feed, REPLY_ROOM, Refusal, Reply, read_line, write_reply};
+use warp_record::{
+    Fed, Feed, Line, REPLY_ROOM, Refusal, Reply, read_front, read_line, write_reply_line,
+};
 use warp_tag::Form;
 
 /// The most reads of a session.
@@ -45,17 +48,6 @@ pub enum SessionEnd {
     TooManyReads,
     /// No memory was to be had; nothing was read.
     NoMemory,
-}
-
-/// The reply to a whole line of this form, without its line feed.
-#[inline(always)]
-fn reply_to_text<D: Desk>(form: Form, desk: &mut D, text: &[u8]) -> Reply
-    ensures { GivesPiece form D.gives (D.state desk.old) (Whole text.now) result (D.state desk.new) }
-{
-    match read_line(form, text) {
-        Some(line) => desk.ask(line),
-        None => Reply::Refused(Refusal::Syntax),
-    }
 }
 
 /// Cuts what comes in into lines, and gathers the replies that wait to be written.
@@ -116,8 +108,31 @@ impl Transcriber {
         if is_full {
             self.flush(sink)?;
         }
-        write_reply(&mut self.gathered, reply);
-        self.gathered.push_reserved(b'\n');
+        write_reply_line(&mut self.gathered, reply);
+        Ok(())
+    }
+
+    /// Answers a line, and gathers the reply.
+    #[inline(always)]
+    fn answer_line<D: Desk, W: Sink>(
+        &mut self,
+        desk: &mut D,
+        sink: &mut W,
+        line: Line,
+    ) -> Result<(), Failed>
+        ensures answered { (f : Form) (text : List ℕ) → SpellsLine f text «line» →
+            OnOk result (Replied f D.gives (Whole text ∷ [])
+            (at (D.state desk.old) self.old (W.written sink.old) (W.failures sink.old))
+            (at (D.state desk.new) self.new (W.written sink.new) (W.failures sink.new))) }
+        ensures broken { (f : Form) (text : List ℕ) → SpellsLine f text «line» →
+            OnErr result (Broken f D.gives (Whole text ∷ [])
+            (at (D.state desk.old) self.old (W.written sink.old) (W.failures sink.old))
+            (at (D.state desk.new) self.new (W.written sink.new) (W.failures sink.new))) }
+        ensures kept { self.new.kept ≡ self.old.kept }
+        ensures failures { CountsFailures (W.failures sink.old) (W.failures sink.new) result }
+    {
+        let reply = desk.ask(line);
+        self.gather(sink, &reply)?;
         Ok(())
     }
 
@@ -139,9 +154,11 @@ impl Transcriber {
         ensures kept { self.new.kept ≡ self.old.kept }
         ensures failures { CountsFailures (W.failures sink.old) (W.failures sink.new) result }
     {
-        let reply = reply_to_text(form, desk, text);
-        self.gather(sink, &reply)?;
-        Ok(())
+        let Some(line) = read_line(form, text) else {
+            self.gather(sink, &Reply::Refused(Refusal::Syntax))?;
+            return Ok(());
+        };
+        self.answer_line(desk, sink, line)
     }
 
     /// Answers a line that was cut from the stream, if there is one, and gathers the reply.
@@ -173,7 +190,34 @@ impl Transcriber {
 
     /// Takes bytes up to and with the first line feed, or all where there is none, and answers the line that it ends.
     /// Gives how many bytes it took.
+    #[inline(never)]
     fn take_line<D: Desk, W: Sink>(
+        &mut self,
+        form: Form,
+        desk: &mut D,
+        sink: &mut W,
+        bytes: &[u8],
+    ) -> Result<usize, Failed>
+        requires { 0 < length bytes.now }
+        ensures count { IfOk result (λ n. (0 < n) × (n ≤ length bytes.now)) }
+        ensures turn { Turn (λ n. TakesBytes form D.gives (take n bytes.now)) (BreaksBytes form D.gives bytes.now)
+            (at (D.state desk.old) self.old (W.written sink.old) (W.failures sink.old))
+            (at (D.state desk.new) self.new (W.written sink.new) (W.failures sink.new)) result }
+    {
+        if !self.feed.is_fresh() {
+            return self.take_any(form, desk, sink, bytes);
+        }
+        // A line of those that come most is read with no look for its end.
+        let Some((line, count)) = read_front(form, bytes) else {
+            return self.take_any(form, desk, sink, bytes);
+        };
+        self.answer_line(desk, sink, line)?;
+        Ok(count)
+    }
+
+    /// Takes bytes as `take_line` does, whatever line they begin with.
+    #[inline(never)]
+    fn take_any<D: Desk, W: Sink>(
         &mut self,
         form: Form,
         desk: &mut D,

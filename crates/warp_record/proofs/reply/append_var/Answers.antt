@@ -1,4 +1,4 @@
-use Rattle.std.proofs.Common.{◌≡◌, ◌+◌, ◌++◌, ◌∷◌, ℕ, List, codes, decimal, length, sym, ap, ◌∙◌, arith, append_assoc, length-append, to_z-of_z}
+use Rattle.std.proofs.Common.{◌≡◌, ◌+◌, ◌++◌, ◌∷◌, [], ℕ, List, codes, decimal, length, sym, ap, ◌∙◌, arith, append_assoc, length-append, to_z-of_z}
 use Rattle.std.specs.Fmt.{signed_decimal}
 use Rattle.std.proofs.lemmas.Fmt.{length-decimal-le}
 use Rattle.warp_record.proofs.reply.append_var.Goals as goal
@@ -28,12 +28,16 @@ returns-clause-items c =
     let written = rw back at t.written in
     let start = rw back at t.start in
     let value = signed_decimal c.args.value in
-    let behind : List ℕ = 32 ∷ value in
+    let end : List ℕ = 10 ∷ [] in
+    let behind : List ℕ = 32 ∷ (value ++ end) in
     let text : List ℕ = codes "var " ++ (decimal c.from.result ++ behind) in
-    let size : length text ≡ 5 + length (decimal c.from.result) + length value = omega (arith, length-append (decimal c.from.result) behind) in
+    let size : length text ≡ 6 + length (decimal c.from.result) + length value =
+    omega (arith, length-append (decimal c.from.result) behind, length-append value end) in
+    let said : List ℕ → List ℕ = λ number. codes "var " ++ (number ++ behind) in
     c.append_from.ensures.items text _
     (w.written
-    ∙ ap (λ l. codes "var " ++ l) (d.written ∙ ap (λ l. decimal c.from.result ++ l) (s.written ∙ ap (λ l. 32 ∷ l) written)
+    ∙ ap (λ l. codes "var " ++ l) (d.written ∙ ap (λ l. decimal c.from.result ++ l) (s.written ∙ ap (λ l. 32 ∷ l) (written ∙ sym (append_assoc value end _)))
     ∙ sym (append_assoc (decimal c.from.result) behind _)))
     (omega (arith, size, w.start, d.start, s.start, start))
-    ∙ ap (λ n. c.args.out.now.items ++ (codes "var " ++ (decimal n ++ behind))) c.from.ensures
+    ∙ ap (λ n. c.args.out.now.items ++ said (decimal n)) c.from.ensures
+    ∙ ap (λ l. c.args.out.now.items ++ (codes "var " ++ l)) (sym (append_assoc (decimal c.args.log) (32 ∷ value) end))
