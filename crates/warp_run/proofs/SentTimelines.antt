@@ -22,7 +22,7 @@ operand_send = search sendable depth 60
 place_send : IsSend place.the_row
 place_send = search sendable depth 60
 
--- an instruction, variant after variant: one may hold an expression
+-- an instruction, variant after variant
 instruction_send : IsSend instruction.the_row
 instruction_send = variants_send instruction.enum (
   (place_send, (operand_send, tt)),
@@ -31,30 +31,66 @@ instruction_send = variants_send instruction.enum (
     (
       (search sendable depth 60, (place_send, (operand_send, (operand_send, tt)))),
       (
-        (place_send, (operand_send, (operand_send, (operand_send, tt)))),
+        (place_send, (operand_send, (search sendable, tt))),
         (
-          (search sendable, (search sendable, (search sendable, (operand_send, tt)))),
+          (place_send, (operand_send, (search sendable, tt))),
           (
-            (search sendable, (search sendable, (operand_send, tt))),
+            (place_send, (operand_send, (search sendable, tt))),
             (
-              (search sendable, (search sendable, (operand_send, tt))),
+              (place_send, (operand_send, (operand_send, (operand_send, tt)))),
               (
                 (search sendable, (search sendable, (search sendable, (operand_send, tt)))),
                 (
-                  (search sendable, (search sendable, tt)),
+                  (search sendable, (search sendable, (search sendable, (search sendable, tt)))),
                   (
-                    (search sendable, (search sendable, (operand_send, tt))),
+                    (search sendable, (search sendable, (search sendable, tt))),
                     (
-                      (place_send, (search (crosses, expr.crosses, sendable) depth 60 fits 20000, tt)),
+                      (search sendable, (search sendable, (operand_send, tt))),
                       (
-                        (search sendable, tt),
+                        (search sendable, (search sendable, (search sendable, tt))),
                         (
-                          (operand_send, (search sendable, (search sendable, tt))),
+                          (search sendable, (search sendable, (operand_send, tt))),
                           (
-                            (operand_send, (operand_send, (search sendable, (search sendable, tt)))),
+                            (search sendable, (search sendable, (search sendable, tt))),
                             (
-                              (operand_send, (operand_send, (search sendable, (search sendable, tt)))),
-                              ((operand_send, (search sendable, (search sendable, (search sendable, tt)))), tt),
+                              (search sendable, (search sendable, (search sendable, (operand_send, tt)))),
+                              (
+                                (search sendable, (search sendable, (search sendable, (search sendable, tt)))),
+                                (
+                                  (search sendable, (search sendable, tt)),
+                                  (
+                                    (search sendable, (search sendable, (operand_send, tt))),
+                                    (
+                                      (search sendable, tt),
+                                      (
+                                        (operand_send, (search sendable, (search sendable, tt))),
+                                        (
+                                          (search sendable, (search sendable, (search sendable, tt))),
+                                          (
+                                            (operand_send, (search sendable, (search sendable, (search sendable, tt)))),
+                                            (
+                                              (operand_send, (operand_send, (search sendable, (search sendable, tt)))),
+                                              (
+                                                (operand_send, (operand_send, (search sendable, (search sendable, tt)))),
+                                                (
+                                                  (operand_send, (search sendable, (search sendable, (search sendable, tt)))),
+                                                  (
+                                                    (search sendable, (search sendable, (search sendable, (search sendable, tt)))),
+                                                    (
+                                                      (search sendable, (search sendable, (search sendable, (search sendable, tt)))),
+                                                      tt,
+                                                    ),
+                                                  ),
+                                                ),
+                                              ),
+                                            ),
+                                          ),
+                                        ),
+                                      ),
+                                    ),
+                                  ),
+                                ),
+                              ),
                             ),
                           ),
                         ),
