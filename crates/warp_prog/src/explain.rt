@@ -146,10 +146,21 @@ fn file_fails<'f>(file: &'f ProgramFile, error: LoadError, at: &mut Trail<'f>) -
 fn written(alloc: Global, value: &Value, at: &Trail) -> Result<String, AllocError> {
     let mut text = String::new(alloc);
     if let Some(reason) = at.reason() {
-        at.write(&mut text, value)?;
-        text.push_str(": ")?;
-        write_reason(alloc, &mut text, &reason)?;
-        text.push('\n')?;
+        write_fault(alloc, &mut text, value, at, &reason)?;
     }
     Ok(text)
+}
+
+/// Writes the place of a fault and its reason in a line.
+fn write_fault(
+    alloc: Global,
+    text: &mut String,
+    value: &Value,
+    at: &Trail,
+    reason: &Reason<'_>,
+) -> Result<(), AllocError> {
+    at.write(text, value)?;
+    text.push_str(": ")?;
+    write_reason(alloc, text, reason)?;
+    text.push('\n')
 }

@@ -44,10 +44,10 @@ pub(crate) fn numbered(alloc: Global, file: &ProgramFile) -> Result<Parts, OutOf
     ensures { IfOk result (λ parts. program_of parts ≡ unordered (file_tree file.now)) }
 {
     let reactors: &[Reactor] = &file.reactors;
-    let contents = contents_of(alloc, reactors)?;
     let links = numbered_links(alloc, reactors, &file.links)?;
     let inputs = numbered_inputs(alloc, reactors, &file.inputs)?;
     let outputs = numbered_outputs(alloc, reactors, &file.outputs)?;
+    let contents = contents_of(alloc, reactors)?;
     let order = Vec::new(alloc);
     Ok(Parts {
         form: form_of(file),

@@ -11,7 +11,7 @@ mod expression;
 pub(crate) mod json;
 mod parts;
 mod reaction;
-mod reactor;
+pub(crate) mod reactor;
 mod statement;
 pub(crate) mod word;
 

@@ -109,13 +109,18 @@ fn write_unread(
     word: &str,
     vocabulary: Vocabulary,
 ) -> Result<(), AllocError> {
-    let shown = Value::String(String::from_str(alloc, word)?);
-    write_form(alloc, text, &shown, vocabulary.kind)?;
+    write_word(alloc, text, word, vocabulary.kind)?;
     let mut nearest = Nearest::new(alloc, word);
     for other in vocabulary.words {
         nearest.compare(*other);
     }
     nearest.write(text)
+}
+
+/// Writes a word as a JSON value that is not what these words say.
+fn write_word(alloc: Global, text: &mut String, word: &str, words: &str) -> Result<(), AllocError> {
+    let shown = Value::String(String::from_str(alloc, word)?);
+    write_form(alloc, text, &shown, words)
 }
 
 fn write_unknown(

@@ -2,6 +2,9 @@
 
 use crate::explain::reason::Reason;
 use crate::explain::text::push_all;
+use crate::name::Name;
+use crate::shape::json::items;
+use crate::shape::reactor::name;
 use arrayvec::ArrayVec;
 use serde_json::Value;
 use std::alloc::AllocError;
@@ -86,16 +89,19 @@ fn write_step(text: &mut String, step: Step, file: &Value) -> Result<(), AllocEr
             write_comma(text)?;
             push_all(text, &["\"", key, "\""])
         }
-        Step::Of(key, place) => {
-            write_comma(text)?;
-            write!(text, "{key}[{place}]")?;
-            if key == "reactors" {
-                write_name(text, place, file)?;
-            }
-            Ok(())
-        }
+        Step::Of(key, place) => write_part(text, key, place, file),
         Step::Item(place) => write!(text, "[{place}]"),
     }
+}
+
+/// Writes the step to an item of the list under a key.
+fn write_part(text: &mut String, key: &str, place: usize, file: &Value) -> Result<(), AllocError> {
+    write_comma(text)?;
+    write!(text, "{key}[{place}]")?;
+    if key == "reactors" {
+        return write_name(text, place, file);
+    }
+    Ok(())
 }
 
 /// Writes a comma if something stands before it.
@@ -109,17 +115,18 @@ fn write_comma(text: &mut String) -> Result<(), AllocError> {
 /// Writes the name of the reactor at this place, if it has one.
 fn write_name(text: &mut String, place: usize, file: &Value) -> Result<(), AllocError> {
     match reactor_name(file, place) {
-        Some(name) => push_all(text, &[" \"", name, "\""]),
+        Some(name) => push_all(text, &[" \"", name.as_str(), "\""]),
         None => Ok(()),
     }
 }
 
-/// The name of the reactor at this place of the file, if it is a name.
-fn reactor_name(file: &Value, place: usize) -> Option<&str> {
-    let reactors = file.get("reactors")?.as_array()?;
-    let name = reactors.get(place)?.get("name")?.as_str()?;
-    if crate::name::Name::read(name).is_none() {
+/// The name of the reactor at this place of the file, if it has one.
+fn reactor_name(file: &Value, place: usize) -> Option<Name> {
+    let Some(reactors) = items(file, "reactors") else {
         return None;
+    };
+    match reactors.get(place) {
+        Some(reactor) => name(reactor),
+        None => None,
     }
-    Some(name)
 }

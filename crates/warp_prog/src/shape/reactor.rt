@@ -17,7 +17,7 @@ use serde_json::Value;
 use std::alloc::Global;
 
 /// The name, which is there.
-fn name(value: &Value) -> Option<Name>
+pub(crate) fn name(value: &Value) -> Option<Name>
     ensures { result ≡ option_and_then name_at (get (codes "name") (view value.now)) }
 {
     name_at(value.get("name")?)
