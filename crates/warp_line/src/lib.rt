@@ -7,7 +7,7 @@
 mod plain;
 mod replay;
 mod rework_law;
-mod table;
+mod sorted_names;
 mod timeline;
 
 pub use plain::Plain;

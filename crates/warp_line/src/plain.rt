@@ -1,6 +1,6 @@
 //! The slow twin: a sorted table, and a run from the start after each change.
 use crate::replay::replay;
-use crate::table::{note_event, note_withdrawal};
+use crate::sorted_names::{note_event, note_withdrawal};
 use crate::timeline::Timeline;
 use std::alloc::Global;
 use warp_step::{Meter, Out, Program, State};

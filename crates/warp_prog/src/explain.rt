@@ -1,7 +1,7 @@
 //! Why a file is no program, in words for who wrote it: where its first fault stands, and what is wrong there.
 //!
 //! `load` says which fault is the first. Here it is looked for a second time, with its place: a walk goes down the
-//! file, notes what is wrong, and on its way back each level adds its step to the trail. So each function of a walk says
+//! file, notes what is wrong, and on its way back each level adds its segment to the trail. So each function of a walk says
 //! whether it found a fault, and which and where stands in the trail then.
 
 mod account;
@@ -26,7 +26,7 @@ use crate::explain::links::order_fails;
 use crate::explain::names::{declared_fail, names_fail};
 use crate::explain::reason::{Reason, write_reason};
 use crate::explain::shape::shape_fails;
-use crate::explain::trail::{Step, Trail};
+use crate::explain::trail::{Segment, Trail};
 use crate::explain::twice::once_fails;
 use crate::file::{ProgramFile, Reactor};
 use crate::limits::FIRST_VERSION;
@@ -124,8 +124,8 @@ fn circle_fails<'f>(circle: &'f [u32], reactors: &'f [Reactor], at: &mut Trail<'
         return false;
     };
     if let Some((reactor, reaction)) = seat_of(reactors, *first) {
-        at.back(Step::Of("reactions", reaction));
-        at.back(Step::Of("reactors", reactor));
+        at.back(Segment::Of("reactions", reaction));
+        at.back(Segment::Of("reactors", reactor));
     }
     at.fault(Reason::Circle(circle, reactors))
 }

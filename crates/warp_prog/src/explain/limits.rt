@@ -4,7 +4,7 @@ mod body;
 
 use crate::explain::limits::body::body_fails;
 use crate::explain::reason::Reason;
-use crate::explain::trail::{Step, Trail};
+use crate::explain::trail::{Segment, Trail};
 use crate::file::{ActionPart, InputPart, LinkPart, ProgramFile, Reaction, Reactor, TimerPart};
 use crate::limits::{
     FIRST_VERSION, LAST_VERSION, MOST_ACTIONS, MOST_INPUTS, MOST_LINKS, MOST_OUTPUTS, MOST_PORTS,
@@ -16,12 +16,12 @@ use warp_tag::Form;
 /// Whether a file goes past a limit. Whether its version is known is looked at last.
 pub(crate) fn limits_fail(file: &ProgramFile, at: &mut Trail) -> bool {
     let form = form_of_version(file.version);
-    range_fails(file.stop, 0, longest_stop(form), Step::Key("stop"), at)
+    range_fails(file.stop, 0, longest_stop(form), Segment::Key("stop"), at)
         || range_fails(
             file.origins,
             1,
             most_origins(form),
-            Step::Key("origins"),
+            Segment::Key("origins"),
             at,
         )
         || lengths_fail(file, at)
@@ -32,14 +32,14 @@ pub(crate) fn limits_fail(file: &ProgramFile, at: &mut Trail) -> bool {
         || version_fails(file.version, at)
 }
 
-/// Whether a number is not one of these; this step leads to it.
-fn range_fails(number: i64, low: i64, high: i64, step: Step, at: &mut Trail) -> bool {
-    is_outside(number, low, high) && at.fault_at(step, Reason::Range(number, low, high))
+/// Whether a number is not one of these; this segment leads to it.
+fn range_fails(number: i64, low: i64, high: i64, segment: Segment, at: &mut Trail) -> bool {
+    is_outside(number, low, high) && at.fault_at(segment, Reason::Range(number, low, high))
 }
 
 /// Whether a list is longer than this; it stands under this key.
 fn length_fails(length: usize, most: usize, key: &'static str, at: &mut Trail) -> bool {
-    length > most && at.fault_at(Step::Key(key), Reason::Many(key, most))
+    length > most && at.fault_at(Segment::Key(key), Reason::Many(key, most))
 }
 
 fn lengths_fail(file: &ProgramFile, at: &mut Trail) -> bool {
@@ -51,7 +51,7 @@ fn lengths_fail(file: &ProgramFile, at: &mut Trail) -> bool {
 
 fn version_fails(version: i64, at: &mut Trail) -> bool {
     let reason = Reason::Plain("this version of the format is not known");
-    is_outside(version, FIRST_VERSION, LAST_VERSION) && at.fault_at(Step::Key("version"), reason)
+    is_outside(version, FIRST_VERSION, LAST_VERSION) && at.fault_at(Segment::Key("version"), reason)
 }
 
 /// How many things of each kind may still come.
@@ -74,7 +74,7 @@ fn totals_fail(reactors: &[Reactor], at: &mut Trail) -> bool {
     };
     for (i, reactor) in reactors.iter().enumerate() {
         if exceeds_room(&mut room, reactor, at) {
-            return at.back(Step::Of("reactors", i));
+            return at.back(Segment::Of("reactors", i));
         }
     }
     false
@@ -141,7 +141,7 @@ fn reactors_fail(reactors: &[Reactor], form: Form, at: &mut Trail) -> bool {
             || timers_fail(&reactor.timers, form, at)
             || reactions_fail(&reactor.reactions, form, at)
         {
-            return at.back(Step::Of("reactors", i));
+            return at.back(Segment::Of("reactors", i));
         }
     }
     false
@@ -150,8 +150,8 @@ fn reactors_fail(reactors: &[Reactor], form: Form, at: &mut Trail) -> bool {
 fn actions_fail(actions: &[ActionPart], form: Form, at: &mut Trail) -> bool {
     let longest = longest_period(form);
     for (i, action) in actions.iter().enumerate() {
-        if range_fails(action.delay, 0, longest, Step::Item(1), at) {
-            return at.back(Step::Of("actions", i));
+        if range_fails(action.delay, 0, longest, Segment::Item(1), at) {
+            return at.back(Segment::Of("actions", i));
         }
     }
     false
@@ -160,10 +160,10 @@ fn actions_fail(actions: &[ActionPart], form: Form, at: &mut Trail) -> bool {
 fn timers_fail(timers: &[TimerPart], form: Form, at: &mut Trail) -> bool {
     let longest = longest_period(form);
     for (i, timer) in timers.iter().enumerate() {
-        if range_fails(timer.offset, 0, longest, Step::Item(1), at)
-            || range_fails(timer.period, 0, longest, Step::Item(2), at)
+        if range_fails(timer.offset, 0, longest, Segment::Item(1), at)
+            || range_fails(timer.period, 0, longest, Segment::Item(2), at)
         {
-            return at.back(Step::Of("timers", i));
+            return at.back(Segment::Of("timers", i));
         }
     }
     false
@@ -172,7 +172,7 @@ fn timers_fail(timers: &[TimerPart], form: Form, at: &mut Trail) -> bool {
 fn reactions_fail(reactions: &[Reaction], form: Form, at: &mut Trail) -> bool {
     for (i, reaction) in reactions.iter().enumerate() {
         if body_fails(&reaction.body, form, at) {
-            return at.back(Step::Of("reactions", i));
+            return at.back(Segment::Of("reactions", i));
         }
     }
     false
@@ -181,8 +181,8 @@ fn reactions_fail(reactions: &[Reaction], form: Form, at: &mut Trail) -> bool {
 fn links_fail(links: &[LinkPart], form: Form, at: &mut Trail) -> bool {
     let longest = longest_period(form);
     for (i, link) in links.iter().enumerate() {
-        if range_fails(link.delay.unwrap_or(0), 0, longest, Step::Item(2), at) {
-            return at.back(Step::Of("links", i));
+        if range_fails(link.delay.unwrap_or(0), 0, longest, Segment::Item(2), at) {
+            return at.back(Segment::Of("links", i));
         }
     }
     false
@@ -191,8 +191,8 @@ fn links_fail(links: &[LinkPart], form: Form, at: &mut Trail) -> bool {
 fn inputs_fail(inputs: &[InputPart], origins: i64, at: &mut Trail) -> bool {
     let last = origins.saturating_sub(1);
     for (i, input) in inputs.iter().enumerate() {
-        if range_fails(input.origin, 0, last, Step::Item(0), at) {
-            return at.back(Step::Of("inputs", i));
+        if range_fails(input.origin, 0, last, Segment::Item(0), at) {
+            return at.back(Segment::Of("inputs", i));
         }
     }
     false

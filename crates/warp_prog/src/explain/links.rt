@@ -3,7 +3,7 @@
 use crate::backward::is_backward;
 use crate::explain::reason::Reason;
 use crate::explain::role::{INPUT, OUTPUT, Role, fits};
-use crate::explain::trail::{Step, Trail};
+use crate::explain::trail::{Segment, Trail};
 use crate::file::{InputPart, LinkPart, PortName, ProgramFile, Reactor};
 use crate::limits::FIRST_VERSION;
 use crate::named::is_same;
@@ -17,10 +17,10 @@ pub(crate) fn ports_fail<'f>(file: &'f ProgramFile, at: &mut Trail<'f>) -> bool 
 
 fn links_fail<'f>(reactors: &'f [Reactor], links: &'f [LinkPart], at: &mut Trail<'f>) -> bool {
     for (i, link) in links.iter().enumerate() {
-        if port_fails(reactors, &link.source, OUTPUT, Step::Item(0), at)
-            || port_fails(reactors, &link.target, INPUT, Step::Item(1), at)
+        if port_fails(reactors, &link.source, OUTPUT, Segment::Item(0), at)
+            || port_fails(reactors, &link.target, INPUT, Segment::Item(1), at)
         {
-            return at.back(Step::Of("links", i));
+            return at.back(Segment::Of("links", i));
         }
     }
     false
@@ -28,8 +28,8 @@ fn links_fail<'f>(reactors: &'f [Reactor], links: &'f [LinkPart], at: &mut Trail
 
 fn inputs_fail<'f>(reactors: &'f [Reactor], inputs: &'f [InputPart], at: &mut Trail<'f>) -> bool {
     for (i, input) in inputs.iter().enumerate() {
-        if port_fails(reactors, &input.port, INPUT, Step::Item(1), at) {
-            return at.back(Step::Of("inputs", i));
+        if port_fails(reactors, &input.port, INPUT, Segment::Item(1), at) {
+            return at.back(Segment::Of("inputs", i));
         }
     }
     false
@@ -37,20 +37,20 @@ fn inputs_fail<'f>(reactors: &'f [Reactor], inputs: &'f [InputPart], at: &mut Tr
 
 fn outputs_fail<'f>(reactors: &'f [Reactor], outputs: &'f [PortName], at: &mut Trail<'f>) -> bool {
     for (i, port) in outputs.iter().enumerate() {
-        if port_fails(reactors, port, OUTPUT, Step::Of("outputs", i), at) {
+        if port_fails(reactors, port, OUTPUT, Segment::Of("outputs", i), at) {
             return true;
         }
     }
     false
 }
 
-/// Whether no reactor of the port's name has such a port in this role. This step leads to the port. Where none has, the
+/// Whether no reactor of the port's name has such a port in this role. This segment leads to the port. Where none has, the
 /// last that has the name is told.
 fn port_fails<'f>(
     reactors: &'f [Reactor],
     port: &'f PortName,
     role: Role,
-    step: Step,
+    segment: Segment,
     at: &mut Trail<'f>,
 ) -> bool {
     let mut reason = Reason::NoReactor(port, reactors);
@@ -62,7 +62,7 @@ fn port_fails<'f>(
             reason = Reason::Unknown(&port.port, role, reactor);
         }
     }
-    at.fault_at(step, reason)
+    at.fault_at(segment, reason)
 }
 
 /// Whether a link without delay leads back, in a file of version 1.
@@ -73,7 +73,7 @@ pub(crate) fn order_fails<'f>(file: &'f ProgramFile, at: &mut Trail<'f>) -> bool
     for (i, link) in file.links.iter().enumerate() {
         if is_backward(&file.reactors, link) {
             let reason = Reason::Backward(&link.source.reactor, &link.target.reactor);
-            return at.fault_at(Step::Of("links", i), reason);
+            return at.fault_at(Segment::Of("links", i), reason);
         }
     }
     false

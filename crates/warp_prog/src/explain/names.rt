@@ -3,7 +3,7 @@
 use crate::explain::links::ports_fail;
 use crate::explain::reason::Reason;
 use crate::explain::role::{ACTION, CAUSE, OUTPUT, Role, VALUE, VARIABLE, WRITTEN, fits};
-use crate::explain::trail::{Step, Trail};
+use crate::explain::trail::{Segment, Trail};
 use crate::file::{Expression, ProgramFile, Reaction, Reactor, Statement};
 use crate::name::Name;
 use crate::uses::{Rule, Use};
@@ -12,7 +12,7 @@ use crate::uses::{Rule, Use};
 pub(crate) fn names_fail<'f>(file: &'f ProgramFile, at: &mut Trail<'f>) -> bool {
     for (i, reactor) in file.reactors.iter().enumerate() {
         if reactor_fails(reactor, at) {
-            return at.back(Step::Of("reactors", i));
+            return at.back(Segment::Of("reactors", i));
         }
     }
     ports_fail(file, at)
@@ -21,7 +21,7 @@ pub(crate) fn names_fail<'f>(file: &'f ProgramFile, at: &mut Trail<'f>) -> bool 
 fn reactor_fails<'f>(reactor: &'f Reactor, at: &mut Trail<'f>) -> bool {
     for (i, reaction) in reactor.reactions.iter().enumerate() {
         if reaction_fails(reactor, reaction, at) {
-            return at.back(Step::Of("reactions", i));
+            return at.back(Segment::Of("reactions", i));
         }
     }
     false
@@ -31,7 +31,12 @@ fn reaction_fails<'f>(reactor: &'f Reactor, reaction: &'f Reaction, at: &mut Tra
     list_fails(reactor, &reaction.triggers, CAUSE, "on", at)
         || list_fails(reactor, &reaction.reads, CAUSE, "reads", at)
         || list_fails(reactor, &reaction.writes, WRITTEN, "writes", at)
-        || body_fails(&Rule::Known(reactor), &reaction.body, Step::Key("body"), at)
+        || body_fails(
+            &Rule::Known(reactor),
+            &reaction.body,
+            Segment::Key("body"),
+            at,
+        )
 }
 
 /// Whether one of the names under this key has not this role in the reactor.
@@ -44,7 +49,7 @@ fn list_fails<'f>(
 ) -> bool {
     for name in names {
         if !fits(reactor, role, name) {
-            return at.fault_at(Step::Key(key), Reason::Unknown(name, role, reactor));
+            return at.fault_at(Segment::Key(key), Reason::Unknown(name, role, reactor));
         }
     }
     false
@@ -55,7 +60,7 @@ fn list_fails<'f>(
 pub(crate) fn declared_fail<'f>(file: &'f ProgramFile, at: &mut Trail<'f>) -> bool {
     for (i, reactor) in file.reactors.iter().enumerate() {
         if declared_fail_in(reactor, at) {
-            return at.back(Step::Of("reactors", i));
+            return at.back(Segment::Of("reactors", i));
         }
     }
     false
@@ -64,8 +69,8 @@ pub(crate) fn declared_fail<'f>(file: &'f ProgramFile, at: &mut Trail<'f>) -> bo
 fn declared_fail_in<'f>(reactor: &'f Reactor, at: &mut Trail<'f>) -> bool {
     for (i, reaction) in reactor.reactions.iter().enumerate() {
         let rule = Rule::Declared(reactor, reaction);
-        if body_fails(&rule, &reaction.body, Step::Key("body"), at) {
-            return at.back(Step::Of("reactions", i));
+        if body_fails(&rule, &reaction.body, Segment::Key("body"), at) {
+            return at.back(Segment::Of("reactions", i));
         }
     }
     false
@@ -112,15 +117,20 @@ fn use_fails<'f>(rule: &Rule<'f>, what: &Use<'f>, at: &mut Trail<'f>) -> bool {
 
 /// The same of a name that is the second item of its list.
 fn second_fails<'f>(rule: &Rule<'f>, what: &Use<'f>, at: &mut Trail<'f>) -> bool {
-    use_fails(rule, what, at) && at.back(Step::Item(1))
+    use_fails(rule, what, at) && at.back(Segment::Item(1))
 }
 
-/// Whether a use in the body to which this step leads breaks the rule.
+/// Whether a use in the body to which this segment leads breaks the rule.
 #[cycle(body_fails)]
-fn body_fails<'f>(rule: &Rule<'f>, body: &'f [Statement], step: Step, at: &mut Trail<'f>) -> bool {
+fn body_fails<'f>(
+    rule: &Rule<'f>,
+    body: &'f [Statement],
+    segment: Segment,
+    at: &mut Trail<'f>,
+) -> bool {
     for (i, statement) in body.iter().enumerate() {
         if statement_fails(rule, statement, at) {
-            return at.back(Step::Item(i)) && at.back(step);
+            return at.back(Segment::Item(i)) && at.back(segment);
         }
     }
     false
@@ -140,8 +150,8 @@ fn statement_fails<'f>(rule: &Rule<'f>, statement: &'f Statement, at: &mut Trail
         }
         Statement::If(test, first, second) => {
             term_fails(rule, test, 1, at)
-                || body_fails(rule, first, Step::Item(2), at)
-                || body_fails(rule, second, Step::Item(3), at)
+                || body_fails(rule, first, Segment::Item(2), at)
+                || body_fails(rule, second, Segment::Item(3), at)
         }
     }
 }
@@ -149,7 +159,7 @@ fn statement_fails<'f>(rule: &Rule<'f>, statement: &'f Statement, at: &mut Trail
 /// Whether a use in the expression at this place breaks the rule.
 #[cycle(term_fails)]
 fn term_fails<'f>(rule: &Rule<'f>, term: &'f Expression, place: usize, at: &mut Trail<'f>) -> bool {
-    parts_fail(rule, term, at) && at.back(Step::Item(place))
+    parts_fail(rule, term, at) && at.back(Segment::Item(place))
 }
 
 #[cycle(term_fails)]

@@ -7,7 +7,7 @@ use crate::explain::reason::Reason;
 use crate::explain::shape::body::body_fails;
 use crate::explain::shape::part::{Part, list_fails, part_fails};
 use crate::explain::terms::{FILE, REACTION, REACTOR, Vocabulary};
-use crate::explain::trail::{Step, Trail};
+use crate::explain::trail::{Segment, Trail};
 use crate::shape::json::is_one_of;
 use serde_json::Value;
 
@@ -39,7 +39,7 @@ fn keys_fail<'v>(value: &'v Value, keys: Vocabulary, at: &mut Trail<'v>) -> bool
 /// Whether a key is missing, or its value is not what it has to be.
 fn needed_fails<'v>(value: &'v Value, key: &'static str, part: Part, at: &mut Trail<'v>) -> bool {
     match value.get(key) {
-        Some(found) => part_fails(found, part, Step::Key(key), at),
+        Some(found) => part_fails(found, part, Segment::Key(key), at),
         None => at.fault(Reason::Missing(key)),
     }
 }
@@ -51,16 +51,19 @@ fn reactors_fail<'v>(value: &'v Value, at: &mut Trail<'v>) -> bool {
     };
     let Some(reactors) = found.as_array() else {
         return at.fault_at(
-            Step::Key("reactors"),
+            Segment::Key("reactors"),
             Reason::Form(found, "no list of reactors"),
         );
     };
     if reactors.is_empty() {
-        return at.fault_at(Step::Key("reactors"), Reason::Plain("there is no reactor"));
+        return at.fault_at(
+            Segment::Key("reactors"),
+            Reason::Plain("there is no reactor"),
+        );
     }
     for (i, reactor) in reactors.iter().enumerate() {
         if reactor_fails(reactor, at) {
-            return at.back(Step::Of("reactors", i));
+            return at.back(Segment::Of("reactors", i));
         }
     }
     false
@@ -83,13 +86,13 @@ fn reactions_fail<'v>(value: &'v Value, at: &mut Trail<'v>) -> bool {
     };
     let Some(reactions) = found.as_array() else {
         return at.fault_at(
-            Step::Key("reactions"),
+            Segment::Key("reactions"),
             Reason::Form(found, "no list of reactions"),
         );
     };
     for (i, reaction) in reactions.iter().enumerate() {
         if reaction_fails(reaction, at) {
-            return at.back(Step::Of("reactions", i));
+            return at.back(Segment::Of("reactions", i));
         }
     }
     false
@@ -108,14 +111,14 @@ fn triggers_fail<'v>(value: &'v Value, at: &mut Trail<'v>) -> bool {
         return at.fault(Reason::Missing("on"));
     };
     if found.as_array().is_some_and(Vec::is_empty) {
-        return at.fault_at(Step::Key("on"), Reason::Plain("there is no name"));
+        return at.fault_at(Segment::Key("on"), Reason::Plain("there is no name"));
     }
     list_fails(value, "on", Part::Name, at)
 }
 
 fn body_at_fails<'v>(value: &'v Value, at: &mut Trail<'v>) -> bool {
     match value.get("body") {
-        Some(body) => body_fails(body, Step::Key("body"), at),
+        Some(body) => body_fails(body, Segment::Key("body"), at),
         None => false,
     }
 }

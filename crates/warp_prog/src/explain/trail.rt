@@ -9,12 +9,12 @@ use arrayvec::ArrayVec;
 use serde_json::Value;
 use std::alloc::AllocError;
 
-/// More steps than a JSON text has levels.
-const MOST_STEPS: usize = 136;
+/// More segments than a JSON text has levels.
+const MOST_SEGMENTS: usize = 136;
 
-/// A step from a value of the file to a part of it.
+/// A segment of a path: from a value of the file to a part of it.
 #[derive(Clone, Copy)]
-pub(crate) enum Step {
+pub(crate) enum Segment {
     /// The value under this key of an object.
     Key(&'static str),
     /// The item at this place, from 0, of the list under this key of an object.
@@ -23,16 +23,16 @@ pub(crate) enum Step {
     Item(usize),
 }
 
-impl Default for Step {
-    fn default() -> Step {
-        Step::Item(0)
+impl Default for Segment {
+    fn default() -> Segment {
+        Segment::Item(0)
     }
 }
 
-/// The way to a fault: the steps from the file to the part that has it, the last of them first, and what is wrong there.
+/// The way to a fault: the segments from the file to the part that has it, the last of them first, and what is wrong there.
 #[derive(Drop)]
 pub(crate) struct Trail<'f> {
-    steps: ArrayVec<Step, MOST_STEPS>,
+    segments: ArrayVec<Segment, MOST_SEGMENTS>,
     reason: Option<Reason<'f>>,
 }
 
@@ -40,7 +40,7 @@ impl<'f> Trail<'f> {
     /// The trail of a file in which no fault was found so far.
     pub(crate) fn new() -> Trail<'f> {
         Trail {
-            steps: ArrayVec::new(),
+            segments: ArrayVec::new(),
             reason: None,
         }
     }
@@ -51,16 +51,16 @@ impl<'f> Trail<'f> {
         true
     }
 
-    /// Notes what is wrong behind this step. Always true.
-    pub(crate) fn fault_at(&mut self, step: Step, reason: Reason<'f>) -> bool {
+    /// Notes what is wrong behind this segment. Always true.
+    pub(crate) fn fault_at(&mut self, segment: Segment, reason: Reason<'f>) -> bool {
         self.reason = Some(reason);
-        self.back(step)
+        self.back(segment)
     }
 
-    /// Adds the step before those that are there, since a fault was found behind it. Always true.
-    pub(crate) fn back(&mut self, step: Step) -> bool {
-        if !self.steps.is_full() {
-            self.steps.push(step);
+    /// Adds the segment before those that are there, since a fault was found behind it. Always true.
+    pub(crate) fn back(&mut self, segment: Segment) -> bool {
+        if !self.segments.is_full() {
+            self.segments.push(segment);
         }
         true
     }
@@ -70,31 +70,31 @@ impl<'f> Trail<'f> {
         self.reason
     }
 
-    /// Writes the steps from the first on, with the names of the reactors of the file.
+    /// Writes the segments from the first on, with the names of the reactors of the file.
     pub(crate) fn write(&self, text: &mut String, file: &Value) -> Result<(), AllocError> {
-        if self.steps.is_empty() {
+        if self.segments.is_empty() {
             return text.push_str("the file");
         }
-        for step in self.steps.as_slice().iter().rev() {
-            write_step(text, *step, file)?;
+        for segment in self.segments.as_slice().iter().rev() {
+            write_segment(text, *segment, file)?;
         }
         Ok(())
     }
 }
 
-/// Writes a step behind those that are there.
-fn write_step(text: &mut String, step: Step, file: &Value) -> Result<(), AllocError> {
-    match step {
-        Step::Key(key) => {
+/// Writes a segment behind those that are there.
+fn write_segment(text: &mut String, segment: Segment, file: &Value) -> Result<(), AllocError> {
+    match segment {
+        Segment::Key(key) => {
             write_comma(text)?;
             push_all(text, &["\"", key, "\""])
         }
-        Step::Of(key, place) => write_part(text, key, place, file),
-        Step::Item(place) => write!(text, "[{place}]"),
+        Segment::Of(key, place) => write_part(text, key, place, file),
+        Segment::Item(place) => write!(text, "[{place}]"),
     }
 }
 
-/// Writes the step to an item of the list under a key.
+/// Writes the segment to an item of the list under a key.
 fn write_part(text: &mut String, key: &str, place: usize, file: &Value) -> Result<(), AllocError> {
     write_comma(text)?;
     write!(text, "{key}[{place}]")?;

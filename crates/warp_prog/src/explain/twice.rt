@@ -2,7 +2,7 @@
 
 use crate::backward::place;
 use crate::explain::reason::Reason;
-use crate::explain::trail::{Step, Trail};
+use crate::explain::trail::{Segment, Trail};
 use crate::file::{InputPart, LinkPart, PortName, ProgramFile, Reactor};
 use crate::name::Name;
 use crate::named::{Named, is_among, is_same, is_startup};
@@ -16,7 +16,7 @@ const FED: &str = "has a source already";
 pub(crate) fn once_fails<'f>(file: &'f ProgramFile, at: &mut Trail<'f>) -> bool {
     for (i, reactor) in file.reactors.iter().enumerate() {
         if reactor_fails(&file.reactors, i, reactor, at) {
-            return at.back(Step::Of("reactors", i));
+            return at.back(Segment::Of("reactors", i));
         }
     }
     links_fail(&file.links, at)
@@ -33,7 +33,7 @@ fn reactor_fails<'f>(
 ) -> bool {
     let before = place(reactors, &reactor.name);
     if before < i {
-        return at.fault_at(Step::Key("name"), Reason::SameReactor(before));
+        return at.fault_at(Segment::Key("name"), Reason::SameReactor(before));
     }
     names_fail(reactor, at)
 }
@@ -60,11 +60,11 @@ fn list_fails<'f, T: Named>(
         let name = thing.name();
         if is_startup(name) {
             let reason = Reason::Plain("\"startup\" names the start, and nothing else");
-            return at.fault_at(Step::Of(key, i), reason);
+            return at.fault_at(Segment::Of(key, i), reason);
         }
         if is_in_lists(reactor, lists, name) || place_in(things, name) < i {
             return at.fault_at(
-                Step::Of(key, i),
+                Segment::Of(key, i),
                 Reason::Named(name, "stands twice in its reactor"),
             );
         }
@@ -104,8 +104,8 @@ fn place_of<T: Refers>(things: &[T], port: &PortName) -> usize {
 fn links_fail<'f>(links: &'f [LinkPart], at: &mut Trail<'f>) -> bool {
     for (i, link) in links.iter().enumerate() {
         if place_of(links, &link.target) < i {
-            at.fault_at(Step::Item(1), Reason::Port(&link.target, FED));
-            return at.back(Step::Of("links", i));
+            at.fault_at(Segment::Item(1), Reason::Port(&link.target, FED));
+            return at.back(Segment::Of("links", i));
         }
     }
     false
@@ -115,8 +115,8 @@ fn links_fail<'f>(links: &'f [LinkPart], at: &mut Trail<'f>) -> bool {
 fn inputs_fail<'f>(links: &'f [LinkPart], inputs: &'f [InputPart], at: &mut Trail<'f>) -> bool {
     for (i, input) in inputs.iter().enumerate() {
         if place_of(links, &input.port) < links.len() || place_of(inputs, &input.port) < i {
-            at.fault_at(Step::Item(1), Reason::Port(&input.port, FED));
-            return at.back(Step::Of("inputs", i));
+            at.fault_at(Segment::Item(1), Reason::Port(&input.port, FED));
+            return at.back(Segment::Of("inputs", i));
         }
     }
     false
@@ -126,7 +126,7 @@ fn outputs_fail<'f>(outputs: &'f [PortName], at: &mut Trail<'f>) -> bool {
     for (i, port) in outputs.iter().enumerate() {
         if place_of(outputs, port) < i {
             let reason = Reason::Port(port, "stands there already");
-            return at.fault_at(Step::Of("outputs", i), reason);
+            return at.fault_at(Segment::Of("outputs", i), reason);
         }
     }
     false

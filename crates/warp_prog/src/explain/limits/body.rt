@@ -2,7 +2,7 @@
 
 use crate::explain::limits::range_fails;
 use crate::explain::reason::Reason;
-use crate::explain::trail::{Step, Trail};
+use crate::explain::trail::{Segment, Trail};
 use crate::file::{Expression, Statement};
 use crate::limits::body::{DEEPEST, MOST_WISHES, is_deeper_term, room_for_wishes};
 use crate::limits::longest_period;
@@ -10,26 +10,32 @@ use warp_tag::Form;
 
 /// Whether a body goes past a limit.
 pub(crate) fn body_fails(body: &[Statement], form: Form, at: &mut Trail) -> bool {
-    if statements_fail(body, DEEPEST, longest_period(form), Step::Key("body"), at) {
+    if statements_fail(
+        body,
+        DEEPEST,
+        longest_period(form),
+        Segment::Key("body"),
+        at,
+    ) {
         return true;
     }
     let reason = Reason::Many("\"schedule\"", MOST_WISHES);
-    room_for_wishes(body, MOST_WISHES).is_none() && at.fault_at(Step::Key("body"), reason)
+    room_for_wishes(body, MOST_WISHES).is_none() && at.fault_at(Segment::Key("body"), reason)
 }
 
-/// Whether one of the statements does, whose lists may have so many levels, and their delays be so long. This step leads
+/// Whether one of the statements does, whose lists may have so many levels, and their delays be so long. This segment leads
 /// to them.
 #[cycle(statements_fail)]
 fn statements_fail(
     body: &[Statement],
     levels: usize,
     longest: i64,
-    step: Step,
+    segment: Segment,
     at: &mut Trail,
 ) -> bool {
     for (i, statement) in body.iter().enumerate() {
         if statement_fails(statement, levels, longest, at) {
-            return at.back(Step::Item(i)) && at.back(step);
+            return at.back(Segment::Item(i)) && at.back(segment);
         }
     }
     false
@@ -43,12 +49,12 @@ fn statement_fails(statement: &Statement, levels: usize, longest: i64, at: &mut 
     match statement {
         Statement::Set(_, term) | Statement::Put(_, term) => term_fails(term, 2, at),
         Statement::Schedule(_, delay, term) => {
-            range_fails(*delay, 0, longest, Step::Item(2), at) || term_fails(term, 3, at)
+            range_fails(*delay, 0, longest, Segment::Item(2), at) || term_fails(term, 3, at)
         }
         Statement::If(test, first, second) => {
             term_fails(test, 1, at)
-                || statements_fail(first, below, longest, Step::Item(2), at)
-                || statements_fail(second, below, longest, Step::Item(3), at)
+                || statements_fail(first, below, longest, Segment::Item(2), at)
+                || statements_fail(second, below, longest, Segment::Item(3), at)
         }
     }
 }
@@ -56,5 +62,5 @@ fn statement_fails(statement: &Statement, levels: usize, longest: i64, at: &mut 
 /// Whether an expression is too deep; it stands at this place of its statement.
 fn term_fails(term: &Expression, place: usize, at: &mut Trail) -> bool {
     let reason = Reason::Plain("the expression is more than 24 deep");
-    is_deeper_term(term, DEEPEST) && at.fault_at(Step::Item(place), reason)
+    is_deeper_term(term, DEEPEST) && at.fault_at(Segment::Item(place), reason)
 }

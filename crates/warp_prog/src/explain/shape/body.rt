@@ -3,24 +3,24 @@
 use crate::explain::reason::Reason;
 use crate::explain::shape::part::{name_fails, number_fails};
 use crate::explain::terms::{OPERATORS, STATEMENTS, operands};
-use crate::explain::trail::{Step, Trail};
+use crate::explain::trail::{Segment, Trail};
 use crate::shape::json::first_word;
 use serde_json::Value;
 
-/// Whether a value is no list of statements; this step leads to it.
+/// Whether a value is no list of statements; this segment leads to it.
 #[cycle(statement_fails)]
-pub(crate) fn body_fails<'v>(value: &'v Value, step: Step, at: &mut Trail<'v>) -> bool {
+pub(crate) fn body_fails<'v>(value: &'v Value, segment: Segment, at: &mut Trail<'v>) -> bool {
     match value {
-        Value::Array(items) => statements_fail(items.as_slice(), step, at),
-        _ => at.fault_at(step, Reason::Form(value, "no list of statements")),
+        Value::Array(items) => statements_fail(items.as_slice(), segment, at),
+        _ => at.fault_at(segment, Reason::Form(value, "no list of statements")),
     }
 }
 
 #[cycle(statement_fails)]
-fn statements_fail<'v>(items: &'v [Value], step: Step, at: &mut Trail<'v>) -> bool {
+fn statements_fail<'v>(items: &'v [Value], segment: Segment, at: &mut Trail<'v>) -> bool {
     for (i, item) in items.iter().enumerate() {
         if statement_fails(item, at) {
-            return at.back(Step::Item(i)) && at.back(step);
+            return at.back(Segment::Item(i)) && at.back(segment);
         }
     }
     false
@@ -46,8 +46,8 @@ fn parts_fail<'v>(items: &'v [Value], at: &mut Trail<'v>) -> bool {
     match items {
         [_, test, first, second] => {
             expression_fails(test, 1, at)
-                || body_fails(first, Step::Item(2), at)
-                || body_fails(second, Step::Item(3), at)
+                || body_fails(first, Segment::Item(2), at)
+                || body_fails(second, Segment::Item(3), at)
         }
         _ => at.fault(Reason::Parts("[\"if\", expression, [..], [..]]")),
     }
@@ -66,7 +66,7 @@ fn simple_fails<'v>(word: &'v str, items: &'v [Value], at: &mut Trail<'v>) -> bo
 fn assignment_fails<'v>(items: &'v [Value], form: &'static str, at: &mut Trail<'v>) -> bool {
     match items {
         [_, name, value] => {
-            name_fails(name, Step::Item(1), at) || expression_fails(value, 2, at)
+            name_fails(name, Segment::Item(1), at) || expression_fails(value, 2, at)
         }
         _ => at.fault(Reason::Parts(form)),
     }
@@ -75,8 +75,8 @@ fn assignment_fails<'v>(items: &'v [Value], form: &'static str, at: &mut Trail<'
 fn scheduling_fails<'v>(items: &'v [Value], at: &mut Trail<'v>) -> bool {
     match items {
         [_, action, delay, value] => {
-            name_fails(action, Step::Item(1), at)
-                || number_fails(delay, Step::Item(2), at)
+            name_fails(action, Segment::Item(1), at)
+                || number_fails(delay, Segment::Item(2), at)
                 || expression_fails(value, 3, at)
         }
         _ => at.fault(Reason::Parts("[\"schedule\", action, delay, expression]")),
@@ -86,12 +86,12 @@ fn scheduling_fails<'v>(items: &'v [Value], at: &mut Trail<'v>) -> bool {
 /// Whether a value is no expression; it stands at this place of a list.
 #[cycle(expression_fails)]
 fn expression_fails<'v>(value: &'v Value, place: usize, at: &mut Trail<'v>) -> bool {
-    let step = Step::Item(place);
+    let segment = Segment::Item(place);
     match value {
-        Value::Number(_) => number_fails(value, step, at),
-        Value::String(_) => name_fails(value, step, at),
-        Value::Array(items) => operation_fails(items.as_slice(), at) && at.back(step),
-        _ => at.fault_at(step, Reason::Form(value, "no expression")),
+        Value::Number(_) => number_fails(value, segment, at),
+        Value::String(_) => name_fails(value, segment, at),
+        Value::Array(items) => operation_fails(items.as_slice(), at) && at.back(segment),
+        _ => at.fault_at(segment, Reason::Form(value, "no expression")),
     }
 }
 
@@ -120,7 +120,7 @@ fn operation_fails<'v>(items: &'v [Value], at: &mut Trail<'v>) -> bool {
 #[cycle(expression_fails)]
 fn operand_fails<'v>(word: &'v str, value: &'v Value, at: &mut Trail<'v>) -> bool {
     if word == "present" {
-        return name_fails(value, Step::Item(1), at);
+        return name_fails(value, Segment::Item(1), at);
     }
     expression_fails(value, 1, at)
 }

@@ -1,7 +1,7 @@
 //! Numbers, names and what is made of them.
 
 use crate::explain::reason::Reason;
-use crate::explain::trail::{Step, Trail};
+use crate::explain::trail::{Segment, Trail};
 use crate::shape::json::{pair, triple};
 use crate::shape::word::{name_at, port_at};
 use serde_json::Value;
@@ -33,23 +33,28 @@ pub(crate) fn list_fails<'v>(
         return false;
     };
     let Some(items) = found.as_array() else {
-        return at.fault_at(Step::Key(key), Reason::Form(found, "no list"));
+        return at.fault_at(Segment::Key(key), Reason::Form(found, "no list"));
     };
     for (i, item) in items.iter().enumerate() {
-        if part_fails(item, part, Step::Of(key, i), at) {
+        if part_fails(item, part, Segment::Of(key, i), at) {
             return true;
         }
     }
     false
 }
 
-/// Whether a value, to which this step leads, is not what it has to be.
-pub(crate) fn part_fails<'v>(value: &'v Value, part: Part, step: Step, at: &mut Trail<'v>) -> bool {
+/// Whether a value, to which this segment leads, is not what it has to be.
+pub(crate) fn part_fails<'v>(
+    value: &'v Value,
+    part: Part,
+    segment: Segment,
+    at: &mut Trail<'v>,
+) -> bool {
     match part {
-        Part::Number => number_fails(value, step, at),
-        Part::Name => name_fails(value, step, at),
-        Part::Port => port_fails(value, step, at),
-        _ => items_fail(value, part, at) && at.back(step),
+        Part::Number => number_fails(value, segment, at),
+        Part::Name => name_fails(value, segment, at),
+        Part::Port => port_fails(value, segment, at),
+        _ => items_fail(value, part, at) && at.back(segment),
     }
 }
 
@@ -65,29 +70,29 @@ fn items_fail<'v>(value: &'v Value, part: Part, at: &mut Trail<'v>) -> bool {
 }
 
 /// Whether a value is no number.
-pub(crate) fn number_fails<'v>(value: &'v Value, step: Step, at: &mut Trail<'v>) -> bool {
-    value.as_i64().is_none() && at.fault_at(step, Reason::Form(value, "no integer of 64 bits"))
+pub(crate) fn number_fails<'v>(value: &'v Value, segment: Segment, at: &mut Trail<'v>) -> bool {
+    value.as_i64().is_none() && at.fault_at(segment, Reason::Form(value, "no integer of 64 bits"))
 }
 
 /// Whether a value is no name.
-pub(crate) fn name_fails<'v>(value: &'v Value, step: Step, at: &mut Trail<'v>) -> bool {
+pub(crate) fn name_fails<'v>(value: &'v Value, segment: Segment, at: &mut Trail<'v>) -> bool {
     let words = "no name: 1 to 32 letters, digits and _, the first a letter";
-    name_at(value).is_none() && at.fault_at(step, Reason::Form(value, words))
+    name_at(value).is_none() && at.fault_at(segment, Reason::Form(value, words))
 }
 
 /// Whether a value is no reference to a port.
-fn port_fails<'v>(value: &'v Value, step: Step, at: &mut Trail<'v>) -> bool {
+fn port_fails<'v>(value: &'v Value, segment: Segment, at: &mut Trail<'v>) -> bool {
     let words = "no port: REACTOR.PORT, two names";
-    port_at(value).is_none() && at.fault_at(step, Reason::Form(value, words))
+    port_at(value).is_none() && at.fault_at(segment, Reason::Form(value, words))
 }
 
 /// Whether an item is no number, no name or no port, whichever it has to be; it stands at this place of a list.
 fn item_fails<'v>(value: &'v Value, place: usize, part: Part, at: &mut Trail<'v>) -> bool {
-    let step = Step::Item(place);
+    let segment = Segment::Item(place);
     match part {
-        Part::Number => number_fails(value, step, at),
-        Part::Name => name_fails(value, step, at),
-        _ => port_fails(value, step, at),
+        Part::Number => number_fails(value, segment, at),
+        Part::Name => name_fails(value, segment, at),
+        _ => port_fails(value, segment, at),
     }
 }
 
@@ -107,9 +112,9 @@ fn pair_fails<'v>(
 fn timer_fails<'v>(value: &'v Value, at: &mut Trail<'v>) -> bool {
     match triple(value) {
         Some((name, offset, period)) => {
-            name_fails(name, Step::Item(0), at)
-                || number_fails(offset, Step::Item(1), at)
-                || number_fails(period, Step::Item(2), at)
+            name_fails(name, Segment::Item(0), at)
+                || number_fails(offset, Segment::Item(1), at)
+                || number_fails(period, Segment::Item(2), at)
         }
         None => at.fault(Reason::Parts("[name, offset, period]")),
     }
@@ -121,7 +126,7 @@ fn link_fails<'v>(value: &'v Value, at: &mut Trail<'v>) -> bool {
     }
     match triple(value) {
         Some((from, to, delay)) => {
-            ends_fail(from, to, at) || number_fails(delay, Step::Item(2), at)
+            ends_fail(from, to, at) || number_fails(delay, Segment::Item(2), at)
         }
         None => at.fault(Reason::Parts("[from, to] or [from, to, delay]")),
     }
@@ -129,5 +134,5 @@ fn link_fails<'v>(value: &'v Value, at: &mut Trail<'v>) -> bool {
 
 /// The same of the ports of a link.
 fn ends_fail<'v>(from: &'v Value, to: &'v Value, at: &mut Trail<'v>) -> bool {
-    port_fails(from, Step::Item(0), at) || port_fails(to, Step::Item(1), at)
+    port_fails(from, Segment::Item(0), at) || port_fails(to, Segment::Item(1), at)
 }

@@ -1,7 +1,7 @@
 use Rattle.std.proofs.Common.{◌≤◌, length}
 use Rattle.std.specs.List.{prefix_len}
 use Rattle.warp_tag.proofs.Names.{ahead}
-use Rattle.warp_line.proofs.table.place.Given as goal
+use Rattle.warp_line.proofs.sorted_names.place.Given as goal
 
 -- what was passed stands behind the front
 abbrev pub invariant-loop-at : goal.invariant-loop-at

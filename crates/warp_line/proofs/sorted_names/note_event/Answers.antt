@@ -4,7 +4,7 @@ use Rattle.std.proofs.lemmas.Int.{to_z-of_z}
 use Rattle.warp_tag.specs.Table.{with_event}
 use Rattle.warp_tag.proofs.Tables.{with_event_names}
 use Rattle.warp_line.proofs.TableLemmas.{noted}
-use Rattle.warp_line.proofs.table.note_event.Goals as goal
+use Rattle.warp_line.proofs.sorted_names.note_event.Goals as goal
 
 pub returns : goal.returns
 returns c =

@@ -4,8 +4,8 @@ use Rattle.std.specs.List.{insert, prefix_len}
 use Rattle.warp_tag.specs.declared.entry.Entry.{Entry}
 use Rattle.warp_tag.proofs.Names.{ahead}
 use Rattle.warp_line.proofs.TableLemmas.{IsEntered, entered_there, entered_here}
-use Rattle.warp_line.proofs.table.enter_name.Goals as goal
-use Rattle.warp_line.proofs.table.enter_name.Goals.{then-at-len-via-then-at-len, then-at-len-via-else-at-len+then-not-is_of}
+use Rattle.warp_line.proofs.sorted_names.enter_name.Goals as goal
+use Rattle.warp_line.proofs.sorted_names.enter_name.Goals.{then-at-len-via-then-at-len, then-at-len-via-else-at-len+then-not-is_of}
 
 here : (c : goal.After-insert) → IsEntered c.args.origin c.args.tag c.args.entries.now.items c.insert.new.self.items c.place-at.result
 here c =

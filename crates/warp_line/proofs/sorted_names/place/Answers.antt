@@ -3,7 +3,7 @@ use Rattle.std.specs.List.{prefix_len}
 use Rattle.warp_tag.specs.declared.entry.Entry.{Entry}
 use Rattle.warp_tag.proofs.Names.{ahead}
 use Rattle.warp_tag.proofs.Tables.{stops, passes_front, front_le}
-use Rattle.warp_line.proofs.table.place.Goals as goal
+use Rattle.warp_line.proofs.sorted_names.place.Goals as goal
 
 pub loop-at-init : goal.loop-at-init
 loop-at-init c = record { front = front_le c.args.origin c.args.tag c.args.entries.now; within = omega arith }

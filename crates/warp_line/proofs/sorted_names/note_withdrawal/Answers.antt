@@ -2,7 +2,7 @@
 use Rattle.warp_tag.specs.Table.{with_withdrawal}
 use Rattle.warp_tag.proofs.Tables.{with_withdrawal_names}
 use Rattle.warp_line.proofs.TableLemmas.{noted}
-use Rattle.warp_line.proofs.table.note_withdrawal.Goals as goal
+use Rattle.warp_line.proofs.sorted_names.note_withdrawal.Goals as goal
 
 pub returns : goal.returns
 returns c =
