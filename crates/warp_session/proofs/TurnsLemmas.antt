@@ -57,14 +57,14 @@ none_is_no_piece : (text : List ℕ) → [] ≡ Whole text ∷ [] → ⊥
 none_is_no_piece text same = cc
 
 -- where nothing was kept, a short line is whole
-pub fresh_line : (line text : List ℕ) → kept_of [] ≡ kept_of line → length text ≤ longest_line → Whole text ≡ ended (line ++ text)
+fresh_line : (line text : List ℕ) → kept_of [] ≡ kept_of line → length text ≤ longest_line → Whole text ≡ ended (line ++ text)
 fresh_line line text same short =
     let none : line ≡ [] = not_kept (leb (length line) longest_line) line same in
     sym (cond-true (leb (length text) longest_line) (Whole text) Long (le-leb (length text) longest_line short))
     ∙ ap (λ (l : List ℕ). ended (l ++ text)) (sym none)
 
 -- the last line, which has no line feed, is no whole one
-pub not_whole : (line text : List ℕ) → Some (Whole text) ≡ unended line → ⊥
+not_whole : (line text : List ℕ) → Some (Whole text) ≡ unended line → ⊥
 not_whole [] text same = cc
 not_whole (byte ∷ line) text same = torn_or_long (leb (length (byte ∷ line)) longest_line) same
   where
@@ -184,7 +184,7 @@ module _ {S : Type 0} (f : Form) (gives : S → Line → Reply → S → Type 0)
       (TakesBytes-append (take front bytes) (take n (take (length bytes - front) (drop front bytes))) a b c first second)
 
   -- a line feed ended the unfinished line, which was answered
-  pub TakesBytes-line : (a b : At S) (piece : List ℕ) (given : Piece) → first_end piece < length piece
+  TakesBytes-line : (a b : At S) (piece : List ℕ) (given : Piece) → first_end piece < length piece
       → ((line : List ℕ) → a.held.kept ≡ kept_of line → given ≡ ended (line ++ before_first is_end piece))
       → b.held.kept ≡ kept_of [] → Replied f gives (given ∷ []) a b → TakesBytes f gives (take (first_end piece + 1) piece) a b
   TakesBytes-line a b piece given some is_line fresh answers start seen was =
@@ -223,27 +223,6 @@ module _ {S : Type 0} (f : Form) (gives : S → Line → Reply → S → Type 0)
         (Replied-append (lines_of was.lines) [] start a b was.answers answers);
   }
 
-  -- a push into the feed, and the answer to the line that it gave, if it gave one
-  pub TakesBytes-pushed : (a b : At S) (kept : Option (List ℕ)) (piece : List ℕ) (n : ℕ) (fed : Option Fed) → n ≡ min (first_end piece + 1) (length piece)
-      → IsSome fed ↔ (first_end piece < length piece)
-      → IfSome fed (λ given. (line : List ℕ) → a.held.kept ≡ kept_of line → piece_of given ≡ ended (line ++ before_first is_end piece))
-      → OnSome fed (kept ≡ kept_of [])
-      → IfNone fed ((line : List ℕ) → a.held.kept ≡ kept_of line → kept ≡ kept_of (line ++ piece))
-      → b.held.kept ≡ kept → Replied f gives (pieces_fed fed) (record a { held = record { kept = kept; gathered = a.held.gathered } }) b
-      → TakesBytes f gives (take n piece) a b
-  TakesBytes-pushed a b kept piece n (Some given) count some is_line fresh keeps same answers =
-      let here : first_end piece < length piece = some.0 refl in
-      let all : n ≡ first_end piece + 1 = omega arith in
-      subst (λ (m : ℕ). TakesBytes f gives (take m piece) a b) (sym all)
-      (TakesBytes-line a b piece (piece_of given) here is_line (same ∙ fresh) (Replied-from (piece_of given ∷ []) a b kept answers))
-  TakesBytes-pushed a b kept piece n None count some is_line fresh keeps same answers =
-      let within : first_end piece ≤ length piece = prefix_len-le-length (λ (byte : ℕ). not (is_end byte)) piece in
-      let past : first_end piece < length piece → ⊥ = λ here. true≢false (sym (some.1 here)) in
-      let all : first_end piece ≡ length piece = omega arith in
-      let whole : take n piece ≡ piece = take_all n piece (omega arith) in
-      subst (λ (l : List ℕ). TakesBytes f gives l a b) (sym whole)
-      (TakesBytes-rest a b piece all (λ line is. same ∙ keeps line is) (Replied-from [] a b kept answers))
-
   -- ---- lines that were found
 
   -- the line that a line feed ended was read
@@ -279,7 +258,12 @@ module _ {S : Type 0} (f : Form) (gives : S → Line → Reply → S → Type 0)
       let here : first_end piece < length piece = some.0 refl in
       Finds-line a b kept piece count (piece_of given) found (omega arith) here is_line fresh same sought
   Finds-pushed a b kept piece count None None counted some is_line fresh keeps same sought =
-      TakesBytes-pushed a b kept piece count None counted some is_line fresh keeps same sought
+      let within : first_end piece ≤ length piece = prefix_len-le-length (λ (byte : ℕ). not (is_end byte)) piece in
+      let past : first_end piece < length piece → ⊥ = λ here. true≢false (sym (some.1 here)) in
+      let all : first_end piece ≡ length piece = omega arith in
+      let whole : take count piece ≡ piece = take_all count piece (omega arith) in
+      subst (λ (l : List ℕ). TakesBytes f gives l a b) (sym whole)
+      (TakesBytes-rest a b piece all (λ line is. same ∙ keeps line is) (Replied-from [] a b kept sought))
   Finds-pushed a b kept piece count None (Some line) counted some is_line fresh keeps same sought = absurd (none_is_no_piece sought.0 sought.1)
 
   -- the last line spells none

@@ -1,6 +1,6 @@
 use Rattle.std.proofs.Common.{◌≡◌, ◌+◌, ap, sym, ◌∙◌}
 use Rattle.warp_record.specs.Lines.Piece.{Whole}
-use Rattle.warp_session.specs.inner.Turns.{Held, Finds, at}
+use Rattle.warp_session.specs.inner.Turns.{Held, at}
 use Rattle.warp_session.proofs.BreaksLemmas.{BreaksBytes-line, BreaksBytes-pushed, broke_off}
 use Rattle.warp_session.proofs.TurnsLemmas.{Finds-line, Finds-pushed}
 use Rattle.warp_session.proofs.desk_session.Transcriber.find_line.Goals as goal
