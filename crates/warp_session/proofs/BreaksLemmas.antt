@@ -10,12 +10,12 @@ use Rattle.warp_tag.specs.declared.form.Form.{Form}
 use Rattle.warp_record.specs.declared.line.Line.{Line}
 use Rattle.warp_record.specs.declared.reply.Reply.{Reply}
 use Rattle.warp_record.specs.declared.feed.Fed.{Fed}
-use Rattle.warp_record.specs.Lines.{Piece, is_end, IsOneLine, ended, unended, lines_of, first_end, kept_of, piece_of}
+use Rattle.warp_record.specs.Lines.{Piece, Whole, is_end, IsOneLine, ended, unended, lines_of, first_end, kept_of, piece_of}
 use Rattle.warp_record.specs.Reply.{reply_line}
 use Rattle.warp_record.proofs.LineCuts.{lines_of-ended, lines_of-unended, one_line_before}
 use Rattle.warp_session.specs.Stream.{WritesFront}
 use Rattle.warp_session.specs.Session.{GivesPiece, GivesText, TranscribesFront}
-use Rattle.warp_session.specs.inner.Turns.{At, Replied, Taken, TakesBytes, Broken, BreaksOff, BreaksBytes, BreaksAtEnd, Turn, pieces_fed}
+use Rattle.warp_session.specs.inner.Turns.{At, Awaits, at, Replied, Taken, TakesBytes, Broken, BreaksOff, BreaksBytes, BreaksAtEnd, Turn, pieces_fed}
 use Rattle.warp_session.proofs.Fronts.{front_behind}
 use Rattle.warp_session.proofs.TurnsLemmas.{GivesText-append, Replied-append, Replied-from, up_to_end}
 
@@ -110,6 +110,14 @@ module _ {S : Type 0} (f : Form) (gives : S → Line → Reply → S → Type 0)
       BreaksBytes-line a b piece (piece_of given) (some.0 refl) is_line (Broken-from (piece_of given ∷ []) a b kept broken)
   BreaksBytes-pushed a b kept piece None some is_line broken = BreaksBytes-none a b piece (Broken-from [] a b kept broken)
 
+  -- a write failed at the answer to the line that waited
+  pub BreaksBytes-awaited : (a b c : At S) (piece : List ℕ) (count : ℕ) (line : Line) (found : Awaits f piece count line a b)
+      → Broken f gives (Whole found.text ∷ []) b c → BreaksBytes f gives piece a c
+  BreaksBytes-awaited a b c piece count line found broken =
+      let answered : Broken f gives (Whole found.text ∷ []) (at a.state (record { kept = kept_of []; gathered = a.held.gathered }) a.written a.failures) c =
+      subst (λ (x : At S). Broken f gives (Whole found.text ∷ []) x c) found.same broken in
+      BreaksBytes-line a c piece (Whole found.text) found.within found.is_line (Broken-from (Whole found.text ∷ []) a c (kept_of []) answered)
+
   -- a front of the bytes was taken, and a write failed in the midst of the rest
   pub BreaksBytes-rest : (bytes : List ℕ) (front : ℕ) (a b c : At S) → TakesBytes f gives (take front bytes) a b
       → BreaksBytes f gives (take (length bytes - front) (drop front bytes)) b c → BreaksBytes f gives bytes a c
@@ -158,14 +166,15 @@ module _ {S : Type 0} (f : Form) (gives : S → Line → Reply → S → Type 0)
   -- or as what was gathered was to go out behind it
   pub BreaksAtEnd-flush : (a b c : At S) (kept : Option (List ℕ)) (fed : Option Fed)
       → ((line : List ℕ) → a.held.kept ≡ kept_of line → option_map piece_of fed ≡ unended line)
-      → Replied f gives (pieces_fed fed) (record a { held = record { kept = kept; gathered = a.held.gathered } }) b
+      → ((line : List ℕ) → a.held.kept ≡ kept_of line
+      → Replied f gives (pieces_fed fed) (record a { held = record { kept = kept; gathered = a.held.gathered } }) b)
       → c.state ≡ b.state → WritesFront b.written c.written b.held.gathered → BreaksAtEnd f gives a c
   BreaksAtEnd-flush a b c kept fed is_line answers same out start seen was = (
     lines_of was.lines ++ pieces_fed fed,
     [],
     all_pieces a start seen fed was is_line ∙ sym (append-nil (lines_of was.lines ++ pieces_fed fed)),
     Broken-flush (lines_of was.lines ++ pieces_fed fed) start b c
-        (Replied-append f gives (lines_of was.lines) (pieces_fed fed) start a b was.answers (Replied-from f gives (pieces_fed fed) a b kept answers)) same out,
+        (Replied-append f gives (lines_of was.lines) (pieces_fed fed) start a b was.answers (Replied-from f gives (pieces_fed fed) a b kept (answers was.line was.kept))) same out,
   )
 
   -- ---- whole sessions

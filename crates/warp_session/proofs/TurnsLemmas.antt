@@ -1,5 +1,5 @@
 -- Lemmas on how far a session has come.
-use Rattle.std.proofs.Common.{◌≡◌, ℕ, ◌+◌, ◌-◌, ◌<◌, ◌≤◌, List, [], ◌∷◌, ◌++◌, length, take, drop, length-append, length-take-le, get_or, Option, Some, None, Bool, true, false, cond, leb, true≢false, not, min, IsSome, IfSome, IfNone, OnSome, ◌↔◌, inl, inr, refl, sym, ap, subst, ◌∙◌, append_assoc, append-nil, arith}
+use Rattle.std.proofs.Common.{◌≡◌, ℕ, ◌+◌, ◌-◌, ◌<◌, ◌≤◌, List, [], ◌∷◌, ◌++◌, length, take, drop, length-append, length-take, length-take-le, get_or, Option, Some, None, Bool, true, false, cond, leb, true≢false, not, min, IsSome, IfSome, IfNone, OnSome, ◌↔◌, inl, inr, refl, sym, ap, subst, ◌∙◌, append_assoc, append-nil, arith}
 use Rattle.std.specs.List.{flat_map, before_first}
 use Rattle.std.specs.Option.{option_map, option_to_list}
 use Rattle.std.specs.Io.KnownBytes.{Appends, Consumes, IsAtEnd}
@@ -14,12 +14,12 @@ use Rattle.warp_tag.specs.declared.form.Form.{Form}
 use Rattle.warp_record.specs.declared.line.Line.{Line}
 use Rattle.warp_record.specs.declared.reply.Reply.{Reply}
 use Rattle.warp_record.specs.declared.feed.Fed.{Fed}
-use Rattle.warp_record.specs.Lines.{Piece, Whole, Long, is_end, IsOneLine, ended, unended, lines_of, first_end, kept_of, piece_of}
+use Rattle.warp_record.specs.Lines.{Piece, Whole, Long, Torn, is_end, IsOneLine, ended, unended, lines_of, first_end, kept_of, piece_of}
 use Rattle.warp_record.proofs.LineCuts.{lines_of-ended, lines_of-unended, one_line_before, one_line_more}
 use Rattle.warp_session.proofs.Fronts.{more_of_rest}
 use Rattle.warp_record.specs.Reply.{reply_line}
-use Rattle.warp_session.specs.Session.{GivesPiece, GivesAll, GivesText, Transcribes}
-use Rattle.warp_session.specs.inner.Turns.{At, AreCutOff, Replied, Taken, TakesBytes, Ends, pieces_fed}
+use Rattle.warp_session.specs.Session.{GivesPiece, GivesAll, GivesText, SpellsLine, Transcribes}
+use Rattle.warp_session.specs.inner.Turns.{At, AreCutOff, Replied, Taken, TakesBytes, Ends, Sought, Awaits, Finds, at, pieces_fed}
 
 -- ---- whole lines
 
@@ -49,12 +49,28 @@ not_kept : (test : Bool) (line : List ℕ) → Some [] ≡ cond test (Some line)
 not_kept true line same = cc
 not_kept false line same = cc
 
+-- the one piece is that whole one
+same_whole : (given : Piece) (text : List ℕ) → given ∷ [] ≡ Whole text ∷ [] → Whole text ≡ given
+same_whole given text same = cc
+
+none_is_no_piece : (text : List ℕ) → [] ≡ Whole text ∷ [] → ⊥
+none_is_no_piece text same = cc
+
 -- where nothing was kept, a short line is whole
-pub fresh_line : (line text : List ℕ) → kept_of [] ≡ kept_of line → length text ≤ longest_line → Whole text ≡ ended (line ++ text)
+fresh_line : (line text : List ℕ) → kept_of [] ≡ kept_of line → length text ≤ longest_line → Whole text ≡ ended (line ++ text)
 fresh_line line text same short =
     let none : line ≡ [] = not_kept (leb (length line) longest_line) line same in
     sym (cond-true (leb (length text) longest_line) (Whole text) Long (le-leb (length text) longest_line short))
     ∙ ap (λ (l : List ℕ). ended (l ++ text)) (sym none)
+
+-- the last line, which has no line feed, is no whole one
+not_whole : (line text : List ℕ) → Some (Whole text) ≡ unended line → ⊥
+not_whole [] text same = cc
+not_whole (byte ∷ line) text same = torn_or_long (leb (length (byte ∷ line)) longest_line) same
+  where
+    torn_or_long : (test : Bool) → Some (Whole text) ≡ Some (cond test Torn Long) → ⊥
+    torn_or_long true same = cc
+    torn_or_long false same = cc
 
 -- a session is over any desk, and reads lines of one form
 module _ {S : Type 0} (f : Form) (gives : S → Line → Reply → S → Type 0) where
@@ -168,7 +184,7 @@ module _ {S : Type 0} (f : Form) (gives : S → Line → Reply → S → Type 0)
       (TakesBytes-append (take front bytes) (take n (take (length bytes - front) (drop front bytes))) a b c first second)
 
   -- a line feed ended the unfinished line, which was answered
-  pub TakesBytes-line : (a b : At S) (piece : List ℕ) (given : Piece) → first_end piece < length piece
+  TakesBytes-line : (a b : At S) (piece : List ℕ) (given : Piece) → first_end piece < length piece
       → ((line : List ℕ) → a.held.kept ≡ kept_of line → given ≡ ended (line ++ before_first is_end piece))
       → b.held.kept ≡ kept_of [] → Replied f gives (given ∷ []) a b → TakesBytes f gives (take (first_end piece + 1) piece) a b
   TakesBytes-line a b piece given some is_line fresh answers start seen was =
@@ -207,26 +223,82 @@ module _ {S : Type 0} (f : Form) (gives : S → Line → Reply → S → Type 0)
         (Replied-append (lines_of was.lines) [] start a b was.answers answers);
   }
 
-  -- a push into the feed, and the answer to the line that it gave, if it gave one
-  pub TakesBytes-pushed : (a b : At S) (kept : Option (List ℕ)) (piece : List ℕ) (n : ℕ) (fed : Option Fed) → n ≡ min (first_end piece + 1) (length piece)
+  -- ---- lines that were found
+
+  -- the line that a line feed ended was read
+  pub Finds-line : (a b : At S) (kept : Option (List ℕ)) (piece : List ℕ) (count : ℕ) (given : Piece) (found : Option Line)
+      → count ≡ first_end piece + 1 → first_end piece < length piece
+      → ((line : List ℕ) → a.held.kept ≡ kept_of line → given ≡ ended (line ++ before_first is_end piece))
+      → kept ≡ kept_of [] → b.held.kept ≡ kept
+      → Sought f gives (given ∷ []) found (record a { held = record { kept = kept; gathered = a.held.gathered } }) b
+      → Finds f gives piece count found a b
+  Finds-line a b kept piece count given (Some line) counted within is_line fresh same sought = record {
+    text = sought.0;
+    spells = sought.2;
+    is_line = λ start is. same_whole given sought.0 sought.1 ∙ is_line start is;
+    within = within;
+    counted = counted;
+    same = sought.3 ∙ ap (λ (k : Option (List ℕ)). at a.state (record { kept = k; gathered = a.held.gathered }) a.written a.failures) fresh;
+  }
+  Finds-line a b kept piece count given None counted within is_line fresh same sought =
+      subst (λ (n : ℕ). TakesBytes f gives (take n piece) a b) (sym counted)
+      (TakesBytes-line a b piece given within is_line (same ∙ fresh) (Replied-from (given ∷ []) a b kept sought))
+
+  -- a push into the feed, and the line that it gave was read, if it gave one
+  pub Finds-pushed : (a b : At S) (kept : Option (List ℕ)) (piece : List ℕ) (count : ℕ) (fed : Option Fed) (found : Option Line)
+      → count ≡ min (first_end piece + 1) (length piece)
       → IsSome fed ↔ (first_end piece < length piece)
       → IfSome fed (λ given. (line : List ℕ) → a.held.kept ≡ kept_of line → piece_of given ≡ ended (line ++ before_first is_end piece))
       → OnSome fed (kept ≡ kept_of [])
       → IfNone fed ((line : List ℕ) → a.held.kept ≡ kept_of line → kept ≡ kept_of (line ++ piece))
-      → b.held.kept ≡ kept → Replied f gives (pieces_fed fed) (record a { held = record { kept = kept; gathered = a.held.gathered } }) b
-      → TakesBytes f gives (take n piece) a b
-  TakesBytes-pushed a b kept piece n (Some given) count some is_line fresh keeps same answers =
+      → b.held.kept ≡ kept
+      → Sought f gives (pieces_fed fed) found (record a { held = record { kept = kept; gathered = a.held.gathered } }) b
+      → Finds f gives piece count found a b
+  Finds-pushed a b kept piece count (Some given) found counted some is_line fresh keeps same sought =
       let here : first_end piece < length piece = some.0 refl in
-      let all : n ≡ first_end piece + 1 = omega arith in
-      subst (λ (m : ℕ). TakesBytes f gives (take m piece) a b) (sym all)
-      (TakesBytes-line a b piece (piece_of given) here is_line (same ∙ fresh) (Replied-from (piece_of given ∷ []) a b kept answers))
-  TakesBytes-pushed a b kept piece n None count some is_line fresh keeps same answers =
+      Finds-line a b kept piece count (piece_of given) found (omega arith) here is_line fresh same sought
+  Finds-pushed a b kept piece count None None counted some is_line fresh keeps same sought =
       let within : first_end piece ≤ length piece = prefix_len-le-length (λ (byte : ℕ). not (is_end byte)) piece in
       let past : first_end piece < length piece → ⊥ = λ here. true≢false (sym (some.1 here)) in
       let all : first_end piece ≡ length piece = omega arith in
-      let whole : take n piece ≡ piece = take_all n piece (omega arith) in
+      let whole : take count piece ≡ piece = take_all count piece (omega arith) in
       subst (λ (l : List ℕ). TakesBytes f gives l a b) (sym whole)
-      (TakesBytes-rest a b piece all (λ line is. same ∙ keeps line is) (Replied-from [] a b kept answers))
+      (TakesBytes-rest a b piece all (λ line is. same ∙ keeps line is) (Replied-from [] a b kept sought))
+  Finds-pushed a b kept piece count None (Some line) counted some is_line fresh keeps same sought = absurd (none_is_no_piece sought.0 sought.1)
+
+  -- the last line spells none
+  pub Replied-last : (a b : At S) (fed : Option Fed) (found : Option Line) (line : List ℕ) → option_map piece_of fed ≡ unended line
+      → Sought f gives (pieces_fed fed) found a b → Replied f gives (pieces_fed fed) a b
+  Replied-last a b fed None line is sought = sought
+  Replied-last a b None (Some asked) line is sought = absurd (none_is_no_piece sought.0 sought.1)
+  Replied-last a b (Some given) (Some asked) line is sought =
+      absurd (not_whole line sought.0 (ap Some (same_whole (piece_of given) sought.0 sought.1) ∙ is))
+
+  -- where nothing was kept, a line in front waits for its answer
+  pub Awaits-front : (a : At S) (piece : List ℕ) (count : ℕ) (line : Line)
+      → SpellsLine f (before_first is_end piece) line × (count ≡ first_end piece + 1) × (first_end piece < length piece) × (first_end piece ≤ longest_line)
+      → a.held.kept ≡ kept_of [] → Awaits f piece count line a a
+  Awaits-front a piece count line front fresh =
+      let text : List ℕ = before_first is_end piece in
+      let short : length text ≤ longest_line = omega (arith, length-take (first_end piece) piece, front.3) in
+      record {
+        text = text;
+        spells = front.0;
+        is_line = λ start is. fresh_line start text (sym fresh ∙ is) short;
+        within = front.2;
+        counted = front.1;
+        same = ap (λ (k : Option (List ℕ)). at a.state (record { kept = k; gathered = a.held.gathered }) a.written a.failures) fresh;
+      }
+
+  -- the line that waited was answered
+  pub TakesBytes-awaited : (a b c : At S) (piece : List ℕ) (count : ℕ) (line : Line) (found : Awaits f piece count line a b)
+      → c.held.kept ≡ b.held.kept → Replied f gives (Whole found.text ∷ []) b c → TakesBytes f gives (take count piece) a c
+  TakesBytes-awaited a b c piece count line found kept answers =
+      let answered : Replied f gives (Whole found.text ∷ []) (at a.state (record { kept = kept_of []; gathered = a.held.gathered }) a.written a.failures) c =
+      subst (λ (x : At S). Replied f gives (Whole found.text ∷ []) x c) found.same answers in
+      subst (λ (n : ℕ). TakesBytes f gives (take n piece) a c) (sym found.counted)
+      (TakesBytes-line a c piece (Whole found.text) found.within found.is_line (kept ∙ ap (λ (x : At S). x.held.kept) found.same)
+      (Replied-from (Whole found.text ∷ []) a c (kept_of []) answered))
 
   -- all bytes, and then all that was gathered went out
   pub TakesBytes-flushed : (bytes : List ℕ) (front : ℕ) (a b c : At S) → length bytes ≤ front → TakesBytes f gives (take front bytes) a b
@@ -247,7 +319,8 @@ module _ {S : Type 0} (f : Form) (gives : S → Line → Reply → S → Type 0)
   -- the last line was answered, if there was one, and all that was gathered went out
   pub Ends-last : (a b c : At S) (kept : Option (List ℕ)) (fed : Option Fed)
       → ((line : List ℕ) → a.held.kept ≡ kept_of line → option_map piece_of fed ≡ unended line)
-      → Replied f gives (pieces_fed fed) (record a { held = record { kept = kept; gathered = a.held.gathered } }) b
+      → ((line : List ℕ) → a.held.kept ≡ kept_of line
+      → Replied f gives (pieces_fed fed) (record a { held = record { kept = kept; gathered = a.held.gathered } }) b)
       → c.state ≡ b.state → c.held.gathered ≡ [] → Appends b.written c.written b.held.gathered → Ends f gives a c
   Ends-last a b c kept fed is_line answers same empty out start seen was =
       let is : lines_of seen ≡ lines_of was.lines ++ pieces_fed fed =
@@ -256,7 +329,7 @@ module _ {S : Type 0} (f : Form) (gives : S → Line → Reply → S → Type 0)
       ∙ ap (λ (o : Option Piece). lines_of was.lines ++ option_to_list o) (sym (is_line was.line was.kept)) in
       let all : Replied f gives (lines_of seen) start b =
       subst (λ (l : List Piece). Replied f gives l start b) (sym is)
-      (Replied-append (lines_of was.lines) (pieces_fed fed) start a b was.answers (Replied-from (pieces_fed fed) a b kept answers)) in
+      (Replied-append (lines_of was.lines) (pieces_fed fed) start a b was.answers (Replied-from (pieces_fed fed) a b kept (answers was.line was.kept))) in
       (Replied-flushed (lines_of seen) start b c all same empty out, empty)
 
   -- ---- whole sessions

@@ -1,20 +1,21 @@
 //! A session: lines come in as bytes, in any pieces, and their replies go out as bytes.
 //!
 //! It knows neither who answers them, a `Desk`, nor where bytes come from and go to, a `Source` and a `Sink`.
-ghost use Rattle.std.specs.Prelude.{◌≡◌, ◌≢◌, ℕ, ◌<◌, ◌≤◌, List, [], ◌∷◌, ◌++◌, Option, IfOk, OnErr, OnOk, IfSome};
-ghost use Rattle.std.specs.Prelude.{length, take, vec_len};
+ghost use Rattle.std.specs.Prelude.{◌≡◌, ◌≢◌, ℕ, ◌+◌, ◌<◌, ◌≤◌, List, [], ◌∷◌, ◌++◌, Option, IfOk, OnErr, OnOk, IfSome};
+ghost use Rattle.std.specs.Prelude.{OnSome, length, take, vec_len};
+ghost use Rattle.std.specs.List.{before_first};
 ghost use Rattle.std.specs.Io.KnownBytes.{Appends};
-ghost use Rattle.warp_tag.specs.Limits.{most_reads};
+ghost use Rattle.warp_tag.specs.Limits.{longest_line, most_reads};
 ghost use Rattle.warp_tag.specs.declared.form.Form.{Form};
 ghost use Rattle.warp_step.specs.Counter.{IsUnused};
-ghost use Rattle.warp_record.specs.Lines.{piece_of};
+ghost use Rattle.warp_record.specs.Lines.{first_end, is_end, kept_of, piece_of};
 ghost use Rattle.warp_record.specs.Lines.Piece.{Whole};
 ghost use Rattle.warp_record.specs.Reply.{reply_line};
 ghost use Rattle.warp_session.specs.Session.{FailsSo, GivesPiece, ReadsSo, Transcribes, TranscribesFront};
 ghost use Rattle.warp_session.specs.Session.{SpellsLine, TranscribesLines};
 ghost use Rattle.warp_session.specs.Stream.{CountsFailures, WritesFront};
 ghost use Rattle.warp_session.specs.inner.Turns.{Replied, BreaksAtEnd, BreaksBytes, Broken, Ends, TakesBytes, Turn};
-ghost use Rattle.warp_session.specs.inner.Turns.{at, nothing_held, pieces_fed};
+ghost use Rattle.warp_session.specs.inner.Turns.{Finds, Sought, at, nothing_held, pieces_fed};
 
 use crate::stream::{Failed, Sink, Source, write_all};
 use std::alloc::{AllocError, Global};
@@ -136,56 +137,94 @@ impl Transcriber {
         Ok(())
     }
 
-    /// Answers a whole line of this form, without its line feed, and gathers the reply.
+    /// The line of this form that a whole line spells, without its line feed; where it spells none, its refusal is
+    /// gathered.
     #[inline(never)]
-    fn answer_text<D: Desk, W: Sink>(
+    fn read_text<D: Desk, W: Sink>(
         &mut self,
         form: Form,
-        desk: &mut D,
         sink: &mut W,
         text: &[u8],
-    ) -> Result<(), Failed>
-        ensures answered { OnOk result (Replied form D.gives (Whole text.now ∷ [])
-            (at (D.state desk.old) self.old (W.written sink.old) (W.failures sink.old))
-            (at (D.state desk.new) self.new (W.written sink.new) (W.failures sink.new))) }
-        ensures broken { OnErr result (Broken form D.gives (Whole text.now ∷ [])
-            (at (D.state desk.old) self.old (W.written sink.old) (W.failures sink.old))
-            (at (D.state desk.new) self.new (W.written sink.new) (W.failures sink.new))) }
+    ) -> Result<Option<Line>, Failed>
+        ensures turn { (state : D.State) →
+            Turn (Sought form D.gives (Whole text.now ∷ [])) (Broken form D.gives (Whole text.now ∷ []))
+            (at state self.old (W.written sink.old) (W.failures sink.old))
+            (at state self.new (W.written sink.new) (W.failures sink.new)) result }
         ensures kept { self.new.kept ≡ self.old.kept }
-        ensures failures { CountsFailures (W.failures sink.old) (W.failures sink.new) result }
     {
         let Some(line) = read_line(form, text) else {
             self.gather(sink, &Reply::Refused(Refusal::Syntax))?;
-            return Ok(());
+            return Ok(None);
         };
-        self.answer_line(desk, sink, line)
+        Ok(Some(line))
     }
 
-    /// Answers a line that was cut from the stream, if there is one, and gathers the reply.
-    fn answer<D: Desk, W: Sink>(
+    /// The line that was cut from the stream, if there is one; where it spells none, its refusal is gathered.
+    fn read_fed<D: Desk, W: Sink>(
         &mut self,
         form: Form,
-        desk: &mut D,
         sink: &mut W,
         fed: Option<Fed>,
-    ) -> Result<(), Failed>
-        ensures turn { Turn (λ _. Replied form D.gives (pieces_fed fed)) (Broken form D.gives (pieces_fed fed))
-            (at (D.state desk.old) self.old (W.written sink.old) (W.failures sink.old))
-            (at (D.state desk.new) self.new (W.written sink.new) (W.failures sink.new)) result }
+    ) -> Result<Option<Line>, Failed>
+        ensures turn { (state : D.State) →
+            Turn (Sought form D.gives (pieces_fed fed)) (Broken form D.gives (pieces_fed fed))
+            (at state self.old (W.written sink.old) (W.failures sink.old))
+            (at state self.new (W.written sink.new) (W.failures sink.new)) result }
         ensures kept { self.new.kept ≡ self.old.kept }
     {
         match fed {
-            None => Ok(()),
-            Some(Fed::Text(bytes)) => self.answer_text(form, desk, sink, &bytes),
+            None => Ok(None),
+            Some(Fed::Text(bytes)) => self.read_text::<D, W>(form, sink, &bytes),
             Some(Fed::TooLong) => {
                 self.gather(sink, &Reply::Refused(Refusal::TooLong))?;
-                Ok(())
+                Ok(None)
             }
             Some(Fed::Torn) => {
                 self.gather(sink, &Reply::Refused(Refusal::Syntax))?;
-                Ok(())
+                Ok(None)
             }
         }
+    }
+
+    /// The line of those that come most that these bytes begin with, and how many bytes it has with its line feed,
+    /// where nothing came of it before. It is read with no look for its end.
+    #[inline(always)]
+    fn read_fresh(&self, form: Form, bytes: &[u8]) -> Option<(Line, usize)>
+        ensures front { IfSome result (λ front. SpellsLine form (before_first is_end bytes.now) front.0
+            × (front.1 ≡ first_end bytes.now + 1) × (first_end bytes.now < length bytes.now)
+            × (first_end bytes.now ≤ longest_line)) }
+        ensures fresh { OnSome result (self.now.kept ≡ kept_of []) }
+    {
+        if !self.feed.is_fresh() {
+            return None;
+        }
+        read_front(form, bytes)
+    }
+
+    /// Takes bytes up to and with the first line feed, or all where there is none. Gives how many it took, and the
+    /// line that they end, which waits for its answer; where they end one that spells none, its refusal is gathered.
+    #[inline(never)]
+    fn find_line<D: Desk, W: Sink>(
+        &mut self,
+        form: Form,
+        sink: &mut W,
+        bytes: &[u8],
+    ) -> Result<(usize, Option<Line>), Failed>
+        requires { 0 < length bytes.now }
+        ensures count { IfOk result (λ found. (0 < found.0) × (found.0 ≤ length bytes.now)) }
+        ensures turn { (state : D.State) →
+            Turn (λ found. Finds form D.gives bytes.now found.0 found.1) (BreaksBytes form D.gives bytes.now)
+            (at state self.old (W.written sink.old) (W.failures sink.old))
+            (at state self.new (W.written sink.new) (W.failures sink.new)) result }
+    {
+        // A line of which nothing came before is read where it stands.
+        if let Some(text) = self.feed.whole(bytes) {
+            let line = self.read_text::<D, W>(form, sink, text)?;
+            return Ok((text.len() + 1, line));
+        }
+        let (count, fed) = self.feed.push(bytes);
+        let line = self.read_fed::<D, W>(form, sink, fed)?;
+        Ok((count, line))
     }
 
     /// Takes bytes up to and with the first line feed, or all where there is none, and answers the line that it ends.
@@ -204,39 +243,17 @@ impl Transcriber {
             (at (D.state desk.old) self.old (W.written sink.old) (W.failures sink.old))
             (at (D.state desk.new) self.new (W.written sink.new) (W.failures sink.new)) result }
     {
-        if !self.feed.is_fresh() {
-            return self.take_any(form, desk, sink, bytes);
-        }
-        // A line of those that come most is read with no look for its end.
-        let Some((line, count)) = read_front(form, bytes) else {
-            return self.take_any(form, desk, sink, bytes);
+        let (line, count) = match self.read_fresh(form, bytes) {
+            Some(front) => front,
+            None => {
+                let (count, found) = self.find_line::<D, W>(form, sink, bytes)?;
+                let Some(line) = found else {
+                    return Ok(count);
+                };
+                (line, count)
+            }
         };
         self.answer_line(desk, sink, line)?;
-        Ok(count)
-    }
-
-    /// Takes bytes as `take_line` does, whatever line they begin with.
-    #[inline(never)]
-    fn take_any<D: Desk, W: Sink>(
-        &mut self,
-        form: Form,
-        desk: &mut D,
-        sink: &mut W,
-        bytes: &[u8],
-    ) -> Result<usize, Failed>
-        requires { 0 < length bytes.now }
-        ensures count { IfOk result (λ n. (0 < n) × (n ≤ length bytes.now)) }
-        ensures turn { Turn (λ n. TakesBytes form D.gives (take n bytes.now)) (BreaksBytes form D.gives bytes.now)
-            (at (D.state desk.old) self.old (W.written sink.old) (W.failures sink.old))
-            (at (D.state desk.new) self.new (W.written sink.new) (W.failures sink.new)) result }
-    {
-        // A line of which nothing came before is read where it stands.
-        if let Some(text) = self.feed.whole(bytes) {
-            self.answer_text(form, desk, sink, text)?;
-            return Ok(text.len() + 1);
-        }
-        let (count, fed) = self.feed.push(bytes);
-        self.answer(form, desk, sink, fed)?;
         Ok(count)
     }
 
@@ -261,7 +278,7 @@ impl Transcriber {
         Ok(())
     }
 
-    /// Answers the last line, which has no line feed, if there is one, and writes all that was gathered.
+    /// Refuses the last line, which has no line feed, if there is one, and writes all that was gathered.
     fn finish<D: Desk, W: Sink>(
         &mut self,
         form: Form,
@@ -273,7 +290,8 @@ impl Transcriber {
             (at (D.state desk.new) self.new (W.written sink.new) (W.failures sink.new)) result }
     {
         let last = mem::replace(&mut self.feed, Feed::new()).end();
-        self.answer(form, desk, sink, last)?;
+        // A last line spells none: it has no line feed.
+        self.read_fed::<D, W>(form, sink, last)?;
         self.flush(sink)?;
         Ok(())
     }

@@ -1,14 +1,15 @@
 -- How far a session has come: for its loops and the calls inside it alone. No contract of a public call cites this.
-use Rattle.std.specs.Prelude.{◌≡◌, ℕ, List, [], ◌++◌, Option, Result, IfErr, IfOk}
+use Rattle.std.specs.Prelude.{◌≡◌, ℕ, ◌+◌, ◌<◌, List, [], ◌∷◌, ◌++◌, Option, Some, None, Result, IfErr, IfOk, length, take}
+use Rattle.std.specs.List.{before_first}
 use Rattle.std.specs.Io.KnownBytes.{Appends}
 use Rattle.std.specs.Option.{option_map, option_to_list}
 use Rattle.warp_tag.specs.declared.form.Form.{Form}
 use Rattle.warp_record.specs.declared.line.Line.{Line}
 use Rattle.warp_record.specs.declared.reply.Reply.{Reply}
 use Rattle.warp_record.specs.declared.feed.Fed.{Fed}
-use Rattle.warp_record.specs.Lines.{Piece, IsOneLine, lines_of, kept_of, piece_of}
+use Rattle.warp_record.specs.Lines.{Piece, Whole, IsOneLine, ended, first_end, is_end, lines_of, kept_of, piece_of}
 use Rattle.warp_session.specs.Stream.{CountsFailures, WritesFront}
-use Rattle.warp_session.specs.Session.{GivesText, AreWholeLines}
+use Rattle.warp_session.specs.Session.{GivesText, AreWholeLines, SpellsLine}
 
 -- what waits in a session: what the feed keeps of the unfinished line, and the text gathered
 pub record Held : Type 0 where
@@ -91,6 +92,25 @@ BreaksAtEnd {S} f gives old new =
 abbrev pub Ends : {S : Type 0} → Form → (S → Line → Reply → S → Type 0) → At S → At S → Type 0
 Ends {S} f gives old new =
     (start : At S) → (seen : List ℕ) → Taken f gives seen start old → Replied f gives (lines_of seen) start new × (new.held.gathered ≡ [])
+
+-- these pieces were read: a line that they spell was found, with nothing done, or they were answered with no look at the desk
+abbrev pub Sought : {S : Type 0} → Form → (S → Line → Reply → S → Type 0) → List Piece → Option Line → At S → At S → Type 0
+Sought f gives pieces (Some line) old new = (text : List ℕ) × (pieces ≡ Whole text ∷ []) × SpellsLine f text line × (new ≡ old)
+Sought f gives pieces None old new = Replied f gives pieces old new
+
+-- the first line feed among these bytes ended a line that spells this one: so many were taken, and it waits for its answer
+pub record Awaits {S : Type 0} (f : Form) (bytes : List ℕ) (count : ℕ) (line : Line) (old new : At S) : Type 0 where
+  pub text : List ℕ
+  pub spells : SpellsLine f text line
+  pub is_line : (start : List ℕ) → old.held.kept ≡ kept_of start → Whole text ≡ ended (start ++ before_first is_end bytes)
+  pub within : first_end bytes < length bytes
+  pub counted : count ≡ first_end bytes + 1
+  pub same : new ≡ at old.state (record { kept = kept_of []; gathered = old.held.gathered }) old.written old.failures
+
+-- so many of these bytes were taken: with a line found that waits for its answer, or whatever was taken before
+abbrev pub Finds : {S : Type 0} → Form → (S → Line → Reply → S → Type 0) → List ℕ → ℕ → Option Line → At S → At S → Type 0
+Finds f gives bytes count (Some line) old new = Awaits f bytes count line old new
+Finds f gives bytes count None old new = TakesBytes f gives (take count bytes) old new
 
 -- the pieces that a feed gave: one or none
 abbrev pub pieces_fed : Option Fed → List Piece
