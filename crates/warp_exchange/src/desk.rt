@@ -44,6 +44,5 @@ pub trait Desk {
     /// Does what waits: no more lines are at hand.
     fn end_batch(&mut self)
         ensures { state self.new ≡ state self.old }
-    {
-    }
+    {}
 }
