@@ -32,8 +32,8 @@ pub trait Desk {
         ensures gives { gives (state self.old) «line» result (state self.new) }
         ensures reply { IsReply widest result };
 
-    /// Answers a line as `ask` does, where more lines are at hand, perhaps: what no reply needs yet may wait for these, or
-    /// for `end_batch`.
+    /// Answers a line as `ask` does, where more lines are at hand, perhaps: what no reply needs yet may wait for these,
+    /// or for `end_batch`.
     fn ask_in_batch(&mut self, line: Line) -> Reply
         ensures gives { gives (state self.old) «line» result (state self.new) }
         ensures reply { IsReply widest result }

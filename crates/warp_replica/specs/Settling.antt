@@ -31,8 +31,8 @@ SettlesUnless (Ask asked) reply after why = after ≡ false → why
 SettlesUnless Collect reply after why = after ≡ false → why
 SettlesUnless (Look look) reply after why = Unit {0}
 
--- Whether a replica is settled after it answered a line in a batch, by the line, the reply, and whether it was before: a
--- new record need not be settled, all is before a query and before collecting, and else it stays as it was.
+-- Whether a replica is settled after it answered a line in a batch, by the line, the reply, and whether it was before:
+-- a new record need not be settled, all is before a query and before collecting, and else it stays as it was.
 abbrev pub SettlesInBatch : Line → Reply → Bool → Bool → Type 0
 SettlesInBatch (Put said) (Taken place) before after = Unit {0}
 SettlesInBatch (Put said) other before after = after ≡ before
