@@ -31,4 +31,18 @@ pub trait Desk {
     fn ask(&mut self, line: Line) -> Reply
         ensures gives { gives (state self.old) «line» result (state self.new) }
         ensures reply { IsReply widest result };
+
+    /// Answers a line as `ask` does, where more lines are at hand, perhaps: what no reply needs yet may wait for these,
+    /// or for `end_batch`.
+    fn ask_in_batch(&mut self, line: Line) -> Reply
+        ensures gives { gives (state self.old) «line» result (state self.new) }
+        ensures reply { IsReply widest result }
+    {
+        self.ask(line)
+    }
+
+    /// Does what waits: no more lines are at hand.
+    fn end_batch(&mut self)
+        ensures { state self.new ≡ state self.old }
+    {}
 }

@@ -1,5 +1,5 @@
 -- What a program raised to version 2 answers over a log.
-use Rattle.std.proofs.Common.{◌≡◌, ◌+◌, ◌<◌, ◌≤◌, ℕ, Bool, true, false, List, None, Some, inl, inr, refl, sym, ap, subst, ◌∙◌, arith}
+use Rattle.std.proofs.Common.{◌≡◌, ℕ, List, sym, ap, ◌∙◌}
 use Rattle.warp_step.specs.Program.{Program, raised}
 use Rattle.warp_step.specs.Snapshot.{Snapshot}
 use Rattle.warp_step.proofs.RaisedRuns.{run_raised}
@@ -10,7 +10,7 @@ use Rattle.warp_record.specs.declared.reply.Reply.{Reply}
 use Rattle.warp_record.specs.declared.reply.Reply.TheVariants as reply
 use Rattle.warp_table.specs.Records.{Records, set_of}
 use Rattle.warp_replica.specs.Answers.{Answers, AreAnswers}
-use Rattle.warp_replica.specs.Gives.{GivesQuery, reply_to}
+use Rattle.warp_replica.specs.Gives.{GivesQuery}
 use Rattle.warp_replica.proofs.Replies.{one_answer, one_reply}
 
 -- the loss that a reply tells

@@ -1,10 +1,10 @@
 -- A record that a program takes is one that the program takes when it is raised, and a log is taken over whole.
-use Rattle.std.proofs.Common.{◌≡◌, ◌≢◌, ℕ, ℤ, ◌+◌, ◌-◌, ◌<◌, ◌≤◌, Bool, true, false, not, ◌&&◌, ◌||◌, List, [], ◌∷◌, ◌++◌, All, Contains}
-use Rattle.std.proofs.Common.{length, slice_get, take, Option, Some, None, Ok, Err, inl, inr, refl, sym, ap, subst, ◌∙◌, arith, length-append}
-use Rattle.std.specs.Prelude.{if◌then◌else◌, nat_le, nat_lt}
+use Rattle.std.proofs.Common.{◌≡◌, ◌≢◌, ℕ, ◌+◌, ◌≤◌, Bool, true, false, ◌&&◌, ◌||◌, List, [], ◌∷◌, ◌++◌, Contains}
+use Rattle.std.proofs.Common.{length, slice_get, take, Option, Some, None, Ok, Err, inl, inr, refl, sym, ap, subst, ◌∙◌, arith}
+use Rattle.std.specs.Prelude.{if◌then◌else◌, nat_lt}
 use Rattle.std.proofs.lemmas.Bool.Decides.{nat_tests}
 use Rattle.std.proofs.lemmas.List.{length-take-le, take_all, take_more}
-use Rattle.std.proofs.lemmas.List.Elements.{All-contains, All-filter}
+use Rattle.std.proofs.lemmas.List.Elements.{All-contains}
 use Rattle.std.proofs.lemmas.Option.{get_or_from_slice_get, none-some, slice_get_within}
 use Rattle.warp_tag.specs.Limits.{most_records}
 use Rattle.warp_tag.specs.Moment.{Moment, is_before}
@@ -16,8 +16,7 @@ use Rattle.warp_record.specs.declared.record.Record.TheVariants.{Event, Withdraw
 use Rattle.warp_record.specs.declared.reply.Refusal.{Refusal}
 use Rattle.warp_record.specs.declared.reply.Refusal.TheVariants.{NoOrigin, PastStop, NoInput, NotYours, LogFull, NoMemory}
 use Rattle.warp_table.specs.Check.{end_of, refusal_of}
-use Rattle.warp_table.specs.Log.{EachOnce, IsAt}
-use Rattle.warp_table.proofs.Sets.{in_set}
+use Rattle.warp_table.specs.Log.{EachOnce}
 use Rattle.warp_replica.specs.Floor.{comes_behind, floor_after}
 use Rattle.warp_replica.specs.Gives.{LacksRoom, Takes, came_in}
 use Rattle.warp_replica.specs.Replica.{ReplicaState}

@@ -30,3 +30,19 @@ SettlesUnless (Put said) other after why = Unit {0}
 SettlesUnless (Ask asked) reply after why = after ≡ false → why
 SettlesUnless Collect reply after why = after ≡ false → why
 SettlesUnless (Look look) reply after why = Unit {0}
+
+-- Whether a replica is settled after it answered a line in a batch, by the line, the reply, and whether it was before:
+-- a new record need not be settled, all is before a query and before collecting, and else it stays as it was.
+abbrev pub SettlesInBatch : Line → Reply → Bool → Bool → Type 0
+SettlesInBatch (Put said) (Taken place) before after = Unit {0}
+SettlesInBatch (Put said) other before after = after ≡ before
+SettlesInBatch (Ask asked) reply before after = SettlesOrRefuses reply after before after
+SettlesInBatch Collect reply before after = SettlesOrRefuses reply after before after
+SettlesInBatch (Look look) reply before after = after ≡ before
+
+-- A replica that answered a query or collected in a batch is settled, unless this is so.
+abbrev pub SettlesInBatchUnless : Line → Bool → Type 0 → Type 0
+SettlesInBatchUnless (Put said) after why = Unit {0}
+SettlesInBatchUnless (Ask asked) after why = after ≡ false → why
+SettlesInBatchUnless Collect after why = after ≡ false → why
+SettlesInBatchUnless (Look look) after why = Unit {0}

@@ -132,7 +132,7 @@ impl Transcriber {
         ensures kept { self.new.kept ≡ self.old.kept }
         ensures failures { CountsFailures (W.failures sink.old) (W.failures sink.new) result }
     {
-        let reply = desk.ask(line);
+        let reply = desk.ask_in_batch(line);
         self.gather(sink, &reply)?;
         Ok(())
     }
@@ -257,7 +257,8 @@ impl Transcriber {
         Ok(count)
     }
 
-    /// Takes bytes, answers the lines that they end, and writes all that was gathered.
+    /// Takes bytes, answers the lines that they end, and writes all that was gathered. What the replies did not need is
+    /// done behind them.
     fn take<D: Desk, W: Sink>(
         &mut self,
         form: Form,
@@ -275,6 +276,7 @@ impl Transcriber {
             at += self.take_line(form, desk, sink, &bytes[at..])?;
         }
         self.flush(sink)?;
+        desk.end_batch();
         Ok(())
     }
 

@@ -46,4 +46,16 @@ impl<'a, D: Desk, G: Gate> Desk for GatedDesk<'a, D, G> {
         self.asked = self.asked.saturating_add(1);
         reply
     }
+
+    fn ask_in_batch(&mut self, line: Line) -> Reply {
+        self.gate.before_ask(self.session, self.asked);
+        let reply = self.desk.ask_in_batch(line);
+        self.gate.after_reply(self.session, self.asked);
+        self.asked = self.asked.saturating_add(1);
+        reply
+    }
+
+    fn end_batch(&mut self) {
+        self.desk.end_batch();
+    }
 }

@@ -1,9 +1,6 @@
 -- All records of the other log come in, one by one, and nothing is let go of.
-use Rattle.std.proofs.Common.{◌≡◌, ◌+◌, None, refl, sym, subst, ◌∙◌, arith}
+use Rattle.std.proofs.Common.{refl, ◌∙◌, arith}
 use Rattle.std.proofs.lemmas.Option.{slice_get_within}
-use Rattle.warp_step.specs.Program.{raised}
-use Rattle.warp_table.specs.Check.{refusal_of}
-use Rattle.warp_table.specs.Log.{IsAt}
 use Rattle.warp_replica.proofs.Answering.{allowed_at}
 use Rattle.warp_replica.proofs.MergeProgress.{at_next, at_end}
 use Rattle.warp_replica.proofs.RaisedRecords.{all_first, fits_raised, first_of_none, floor_stays, no_memory, one_more}

@@ -7,10 +7,10 @@ use Rattle.warp_session.proofs.desk_session.Transcriber.answer_line.Goals as goa
 
 pub returns-clause-answered : goal.returns-clause-answered
 returns-clause-answered g c = λ f text spells.
-    Replied-gathered f g.D.Desk.gives (Whole text) c.ask-reply.result _ _
-    (inl (c.args.line, spells, c.ask-reply.ensures.gives)) c.in_ok-gather.ensures.gathered
+    Replied-gathered f g.D.Desk.gives (Whole text) c.ask_in_batch-reply.result _ _
+    (inl (c.args.line, spells, c.ask_in_batch-reply.ensures.gives)) c.in_ok-gather.ensures.gathered
 
 pub returns-in_err-gather-clause-broken : goal.returns-in_err-gather-clause-broken
 returns-in_err-gather-clause-broken g c = λ f text spells. on_err c.from_residual.result
-    (Broken-gathered f g.D.Desk.gives (Whole text) c.ask-reply.result _ _
-    (inl (c.args.line, spells, c.ask-reply.ensures.gives)) c.in_err-gather.ensures.front)
+    (Broken-gathered f g.D.Desk.gives (Whole text) c.ask_in_batch-reply.result _ _
+    (inl (c.args.line, spells, c.ask_in_batch-reply.ensures.gives)) c.in_err-gather.ensures.front)

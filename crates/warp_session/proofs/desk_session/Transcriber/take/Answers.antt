@@ -17,7 +17,7 @@ loop-at-preserved g c =
 pub returns-clause-turn : goal.returns-clause-turn
 returns-clause-turn g c = record {
   does = TakesBytes-flushed c.args.form g.D.Desk.gives c.args.bytes.now c.loop-at.at _ _ _ (omega arith)
-      c.loop-at.invariant.takes refl c.in_ok-flush.ensures.empty c.in_ok-flush.ensures.kept c.in_ok-flush.ensures.written;
+      c.loop-at.invariant.takes c.end_batch.ensures c.in_ok-flush.ensures.empty c.in_ok-flush.ensures.kept c.in_ok-flush.ensures.written;
   breaks = tt;
   failures = c.in_ok-flush.ensures.failures ∙ c.loop-at.invariant.sound;
 }
