@@ -61,24 +61,33 @@ instruction_send = variants_send instruction.enum (
                                   (
                                     (search sendable, (search sendable, (operand_send, tt))),
                                     (
-                                      (search sendable, tt),
+                                      (search sendable, (search sendable, (operand_send, (search sendable, tt)))),
                                       (
-                                        (operand_send, (search sendable, (search sendable, tt))),
+                                        (search sendable, tt),
                                         (
-                                          (search sendable, (search sendable, (search sendable, tt))),
+                                          (search sendable, tt),
                                           (
-                                            (operand_send, (search sendable, (search sendable, (search sendable, tt)))),
+                                            (operand_send, (search sendable, (search sendable, tt))),
                                             (
-                                              (operand_send, (operand_send, (search sendable, (search sendable, tt)))),
+                                              (search sendable, (search sendable, (search sendable, tt))),
                                               (
-                                                (operand_send, (operand_send, (search sendable, (search sendable, tt)))),
+                                                (operand_send, (search sendable, (search sendable, (search sendable, tt)))),
                                                 (
-                                                  (operand_send, (search sendable, (search sendable, (search sendable, tt)))),
+                                                  (operand_send, (search sendable, (search sendable, (search sendable, (search sendable, tt))))),
                                                   (
-                                                    (search sendable, (search sendable, (search sendable, (search sendable, tt)))),
+                                                    (operand_send, (operand_send, (search sendable, (search sendable, tt)))),
                                                     (
-                                                      (search sendable, (search sendable, (search sendable, (search sendable, tt)))),
-                                                      tt,
+                                                      (operand_send, (operand_send, (search sendable, (search sendable, tt)))),
+                                                      (
+                                                        (operand_send, (search sendable, (search sendable, (search sendable, tt)))),
+                                                        (
+                                                          (search sendable, (search sendable, (search sendable, (search sendable, tt)))),
+                                                          (
+                                                            (search sendable, (search sendable, (search sendable, (search sendable, tt)))),
+                                                            tt,
+                                                          ),
+                                                        ),
+                                                      ),
                                                     ),
                                                   ),
                                                 ),
