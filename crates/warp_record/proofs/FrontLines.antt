@@ -1,19 +1,17 @@
 -- Lines that stand in front of longer texts.
-use Rattle.std.proofs.Common.{◌≡◌, ℕ, ◌+◌, ◌-◌, ◌<◌, ◌≤◌, ◌^◌, suc, inl, inr, Option, Some, None, IfSome, List, [], ◌∷◌, ◌++◌, length, get_or, take, drop, codes, decimal, sym, ap, ◌∙◌, refl, arith, append-nil, append_assoc, length-append, length-drop, take-append-drop}
+use Rattle.std.proofs.Common.{◌≡◌, ℕ, ◌+◌, ◌-◌, ◌<◌, ◌≤◌, ◌^◌, suc, inl, inr, Option, Some, None, IfSome, List, [], ◌∷◌, ◌++◌, length, get_or, take, drop, codes, decimal, sym, ap, ◌∙◌, refl, arith, length-append, length-drop, take-append-drop}
 use Rattle.std.specs.Char.{digit_value}
-use Rattle.std.specs.List.{before_first, join_with_byte}
+use Rattle.std.specs.List.{before_first}
 use Rattle.std.specs.Str.Parse.{AllDigits, digits_value}
 use Rattle.std.proofs.lemmas.List.{drop-drop, drop_more, length-take}
 use Rattle.std.proofs.Math.Seq.{take-append_seam}
 use Rattle.std.proofs.lemmas.Bool.{cases_lt}
-use Rattle.warp_tag.specs.Limits.{last_microstep, last_time, longest_line, most_origins}
-use Rattle.warp_tag.specs.Moment.{Moment}
+use Rattle.warp_tag.specs.Limits.{last_microstep, longest_line, most_origins}
 use Rattle.warp_tag.specs.declared.form.Form.{Form}
 use Rattle.warp_tag.specs.declared.form.Form.TheVariants.{One, Two}
 use Rattle.warp_record.specs.declared.line.Line.{Line}
 use Rattle.warp_record.specs.Line.{IsLine, line_words, spelling}
 use Rattle.warp_record.specs.Lines.{IsOneLine, first_end, is_end}
-use Rattle.warp_record.specs.Record.{tag_words}
 use Rattle.warp_record.proofs.Numerals.{text_of_digits}
 use Rattle.warp_record.proofs.PlainWords.{joined_if_plain, plain_line}
 use Rattle.warp_record.proofs.Wider.{line_widens}
@@ -63,46 +61,6 @@ digits_at_place bytes text place count value there some long all is fits unpadde
     ∙ ap (λ (l : List ℕ). l ++ drop count text) digits
     ∙ ap (λ (l : List ℕ). decimal value ++ l) rest
 
--- the words, with a space in front of each
-abbrev pub spaced : List (List ℕ) → List ℕ
-spaced [] = []
-spaced (word ∷ words) = 32 ∷ word ++ spaced words
-
--- one word more in front of words, with a space in front of each
-pub word_more : (here there word : List ℕ) (words : List (List ℕ)) (rest : List ℕ) → here ≡ 32 ∷ word ++ there
-    → there ≡ spaced words ++ rest → here ≡ spaced (word ∷ words) ++ rest
-word_more here there word words rest is then =
-    is ∙ ap (λ (l : List ℕ). 32 ∷ word ++ l) then ∙ sym (append_assoc (32 ∷ word) (spaced words) rest)
-
-joined : (word : List ℕ) (words : List (List ℕ)) → join_with_byte 32 (word ∷ words) ≡ word ++ spaced words
-joined word [] = sym (append-nil word)
-joined word (next ∷ words) = ap (λ (l : List ℕ). word ++ 32 ∷ l) (joined next words)
-
--- a word, a name and what stands behind it
-pub name_front : (bytes here there word : List ℕ) (origin : ℕ) (tag : Moment) (words : List (List ℕ)) (rest : List ℕ)
-    → bytes ≡ word ++ here
-    → here ≡ 32 ∷ decimal origin ++ (32 ∷ decimal tag.time ++ (32 ∷ decimal tag.microstep ++ there))
-    → there ≡ spaced words ++ rest
-    → bytes ≡ join_with_byte 32 (word ∷ decimal origin ∷ tag_words tag ++ words) ++ rest
-name_front bytes here there word origin tag words rest first is then =
-    let micro : List ℕ = 32 ∷ decimal tag.microstep ++ there in
-    let time : List ℕ = 32 ∷ decimal tag.time ++ micro in
-    let all : List (List ℕ) = decimal origin ∷ tag_words tag ++ words in
-    let behind : here ≡ spaced all ++ rest =
-    word_more here time (decimal origin) (tag_words tag ++ words) rest is
-    (word_more time micro (decimal tag.time) (decimal tag.microstep ∷ words) rest refl
-    (word_more micro there (decimal tag.microstep) words rest refl then)) in
-    first ∙ ap (λ (l : List ℕ). word ++ l) behind ∙ sym (append_assoc word (spaced all) rest)
-    ∙ ap (λ (l : List ℕ). l ++ rest) (sym (joined word all))
-
--- a word whose bytes stand in front
-pub event_front : (bytes : List ℕ) → 5 ≤ length bytes → get_or bytes 0 0 ≡ 101 → get_or bytes 1 0 ≡ 118 → get_or bytes 2 0 ≡ 101
-    → get_or bytes 3 0 ≡ 110 → get_or bytes 4 0 ≡ 116 → bytes ≡ codes "event" ++ drop 5 bytes
-event_front bytes long b0 b1 b2 b3 b4 =
-    byte_more bytes _ 0 101 (omega (arith, long)) b0 (byte_more bytes _ 1 118 (omega (arith, long)) b1
-    (byte_more bytes _ 2 101 (omega (arith, long)) b2 (byte_more bytes _ 3 110 (omega (arith, long)) b3
-    (byte_more bytes _ 4 116 (omega (arith, long)) b4 refl))))
-
 -- a query for a variable of one digit in front
 pub var_front : (bytes : List ℕ) → 6 ≤ length bytes → get_or bytes 0 0 ≡ 118 → get_or bytes 1 0 ≡ 97 → get_or bytes 2 0 ≡ 114
     → get_or bytes 3 0 ≡ 32 → digit_value (get_or bytes 4 0) < 10 → get_or bytes 5 0 ≡ 10
@@ -146,11 +104,6 @@ line_fronts f bytes (Some t) long taken =
       omega (arith, front.1, size),
       omega (arith, front.1, size, left, long, taken.1),
     )
-
--- a time in range in the first form is in range in any
-pub any_time : (f : Form) (time : ℕ) → time ≤ last_time One → time ≤ last_time f
-any_time One time fits = fits
-any_time Two time fits = omega (arith, fits)
 
 -- small numbers are in range in any form
 pub small_origin : (f : Form) (n : ℕ) → n < 10 → n < most_origins f

@@ -1,25 +1,25 @@
 //! Lines that are read where they stand in a longer text, with no look for their end first: those that come most often.
 //!
 //! What is read here is a line. What is not may be one all the same, and is read as any other. What comes most often is
-//! put into the code that asks for a line; what does not is kept out of it, or it would be too large for that.
+//! put into the code that asks for a line, if it is not too large: so what records have in common stands once.
 ghost use Rattle.std.specs.Prelude.{◌≡◌, ◌+◌, ◌<◌, ◌≤◌, ◌^◌, ◌↔◌, ◌∷◌, ◌++◌, IfSome, IsTrue, FitsSigned, codes};
 ghost use Rattle.std.specs.Prelude.{decimal, drop, length};
 ghost use Rattle.std.specs.Fmt.{signed_decimal};
 ghost use Rattle.std.specs.Int.{w64};
 ghost use Rattle.std.specs.List.{before_first};
-ghost use Rattle.warp_tag.specs.Limits.{last_time, longest_line, most_origins};
+ghost use Rattle.warp_tag.specs.Limits.{last_time, longest_line, most_origins, most_records};
 ghost use Rattle.warp_tag.specs.Moment.{IsTagOf};
 ghost use Rattle.warp_tag.specs.declared.form.Form.{Form};
 ghost use Rattle.warp_record.specs.Line.{IsLine, spelling};
 ghost use Rattle.warp_record.specs.Lines.{first_end, is_end};
 ghost use Rattle.warp_record.specs.Record.{IsRecord, record_spelling};
+ghost use Rattle.warp_record.specs.inner.Front.{kind_word};
 
 use crate::count::Count;
 use crate::cut::{are_four, digits_up_to};
 use crate::eight::{EIGHT, count_digits, value_of_first};
 use crate::line::{Line, Query};
 use crate::number::{FEW_DIGITS, digit, is_padded, with_sign};
-use crate::query_text::read_word;
 use crate::record::Record;
 use warp_tag::{Form, Tag};
 
@@ -150,94 +150,6 @@ fn name_field(form: Form, bytes: &[u8], place: usize) -> Option<(u32, Tag, usize
     Some((origin, tag, behind + 2))
 }
 
-/// The event in range in this form whose spelling and a line feed are in front, and the place behind these.
-#[inline(always)]
-fn front_event(form: Form, bytes: &[u8]) -> Option<(Record, usize)>
-    requires room { 64 ≤ length bytes.now }
-    requires word { bytes.now ≡ codes "event" ++ drop 5 bytes.now }
-    ensures { IfSome result (λ taken. IsRecord form taken.0 × (taken.1 ≤ 64)
-        × (bytes.now ≡ record_spelling taken.0 ++ 10 ∷ drop taken.1 bytes.now)) }
-{
-    let (origin, tag, place) = name_field(form, bytes, 5)?;
-    let input = digit_field(bytes, place)?;
-    if bytes[place + 2] != b' ' {
-        return None;
-    }
-    let (value, end) = int_at(bytes, place + 3)?;
-    if bytes[end] != b'\n' {
-        return None;
-    }
-    Some((
-        Record::Event {
-            origin,
-            tag,
-            input,
-            value,
-        },
-        end + 1,
-    ))
-}
-
-/// The withdrawal in range in this form whose spelling and a line feed are in front, and the place behind these.
-#[inline(always)]
-fn front_withdrawal(form: Form, bytes: &[u8]) -> Option<(Record, usize)>
-    requires room { 64 ≤ length bytes.now }
-    requires word { bytes.now ≡ codes "withdraw" ++ drop 8 bytes.now }
-    ensures { IfSome result (λ taken. IsRecord form taken.0 × (taken.1 ≤ 64)
-        × (bytes.now ≡ record_spelling taken.0 ++ 10 ∷ drop taken.1 bytes.now)) }
-{
-    let (origin, tag, end) = name_field(form, bytes, 8)?;
-    if bytes[end] != b'\n' {
-        return None;
-    }
-    Some((Record::Withdraw { origin, tag }, end + 1))
-}
-
-/// The announcement in range in this form whose spelling and a line feed are in front, and the place behind these.
-#[inline(always)]
-fn front_announcement(form: Form, bytes: &[u8]) -> Option<(Record, usize)>
-    requires room { 64 ≤ length bytes.now }
-    requires word { bytes.now ≡ codes "announce" ++ drop 8 bytes.now }
-    ensures { IfSome result (λ taken. IsRecord form taken.0 × (taken.1 ≤ 64)
-        × (bytes.now ≡ record_spelling taken.0 ++ 10 ∷ drop taken.1 bytes.now)) }
-{
-    let (origin, tag, place) = name_field(form, bytes, 8)?;
-    if bytes[place] != b' ' {
-        return None;
-    }
-    let (some, behind) = short_number(bytes, place + 1)?;
-    let gone = digit_field(bytes, behind)?;
-    if bytes[behind + 2] != b'\n' {
-        return None;
-    }
-    let events = Count::new(some as u32)?;
-    let withdrawn = Count::new(gone)?;
-    Some((
-        Record::Announce {
-            origin,
-            tag,
-            events,
-            withdrawn,
-        },
-        behind + 3,
-    ))
-}
-
-/// The line of one word whose spelling and a line feed are in front, and the place behind these.
-#[inline(always)]
-fn front_word(bytes: &[u8]) -> Option<(Line, usize)>
-    requires { 64 ≤ length bytes.now }
-    ensures { (f : Form) → IfSome result (λ taken. IsLine f taken.0 × (taken.1 ≤ 64)
-        × (bytes.now ≡ spelling taken.0 ++ 10 ∷ drop taken.1 bytes.now)) }
-{
-    let end = if bytes[7] == b'\n' { 7 } else { 8 };
-    if bytes[end] != b'\n' {
-        return None;
-    }
-    let line = read_word(&bytes[..end])?;
-    Some((line, end + 1))
-}
-
 /// Whether the word `event` is in front.
 #[inline(always)]
 fn is_event(bytes: &[u8]) -> bool
@@ -265,23 +177,114 @@ fn is_announcement(bytes: &[u8]) -> bool
     are_four(bytes, 0, *b"anno") && are_four(bytes, 4, *b"unce")
 }
 
-/// The withdrawal, the announcement or the line of one word in range in this form whose spelling and a line feed are in
-/// front, and the place behind these.
-#[inline(never)]
-fn front_other(form: Form, bytes: &[u8]) -> Option<(Line, usize)>
-    requires { 64 ≤ length bytes.now }
-    ensures { IfSome result (λ taken. IsLine form taken.0 × (taken.1 ≤ 64)
-        × (bytes.now ≡ spelling taken.0 ++ 10 ∷ drop taken.1 bytes.now)) }
+/// An event's input and value, a space in front of each, and a line feed at the place, and the place behind these.
+#[inline(always)]
+fn event_fields(bytes: &[u8], place: usize) -> Option<(u32, i64, usize)>
+    requires { place + 23 ≤ length bytes.now }
+    ensures { IfSome result (λ taken. (taken.0 < 10) × FitsSigned w64 taken.1 × (taken.2 ≤ place + 23)
+        × (drop place bytes.now ≡ 32 ∷ decimal taken.0 ++ (32 ∷ signed_decimal taken.1
+        ++ (10 ∷ drop taken.2 bytes.now)))) }
 {
-    if is_withdrawal(bytes) {
-        let (withdrawal, behind) = front_withdrawal(form, bytes)?;
-        return Some((Line::Put(withdrawal), behind));
+    let input = digit_field(bytes, place)?;
+    if bytes[place + 2] != b' ' {
+        return None;
     }
-    if is_announcement(bytes) {
-        let (announcement, behind) = front_announcement(form, bytes)?;
-        return Some((Line::Put(announcement), behind));
+    let (value, end) = int_at(bytes, place + 3)?;
+    if bytes[end] != b'\n' {
+        return None;
     }
-    front_word(bytes)
+    Some((input, value, end + 1))
+}
+
+/// An announcement's counts, a space in front of each, and a line feed at the place, and the place behind these.
+#[inline(always)]
+fn count_fields(bytes: &[u8], place: usize) -> Option<(Count, Count, usize)>
+    requires { place + 11 ≤ length bytes.now }
+    ensures { IfSome result (λ taken. (taken.0 ≤ most_records) × (taken.1 ≤ most_records) × (taken.2 ≤ place + 11)
+        × (drop place bytes.now ≡ 32 ∷ decimal taken.0 ++ (32 ∷ decimal taken.1 ++ (10 ∷ drop taken.2 bytes.now)))) }
+{
+    if bytes[place] != b' ' {
+        return None;
+    }
+    let (some, behind) = short_number(bytes, place + 1)?;
+    let gone = digit_field(bytes, behind)?;
+    if bytes[behind + 2] != b'\n' {
+        return None;
+    }
+    let events = Count::new(some as u32)?;
+    let withdrawn = Count::new(gone)?;
+    Some((events, withdrawn, behind + 3))
+}
+
+/// What a record is, as its first word tells.
+#[derive(Clone, Copy)]
+enum Kind {
+    /// `event`.
+    Event,
+    /// `withdraw`.
+    Withdraw,
+    /// `announce`.
+    Announce,
+}
+
+/// The kind of the record whose first word is in front, and the place behind the word.
+#[inline(always)]
+fn first_word(bytes: &[u8]) -> Option<(Kind, usize)>
+    requires { 8 ≤ length bytes.now }
+    ensures { IfSome result (λ first. (first.1 ≤ 8) × (bytes.now ≡ kind_word first.0 ++ drop first.1 bytes.now)) }
+{
+    if is_event(bytes) {
+        Some((Kind::Event, 5))
+    } else if is_withdrawal(bytes) {
+        Some((Kind::Withdraw, 8))
+    } else if is_announcement(bytes) {
+        Some((Kind::Announce, 8))
+    } else {
+        None
+    }
+}
+
+/// The record in range in this form whose spelling and a line feed are in front, and the place behind these.
+#[inline(always)]
+fn front_record(form: Form, bytes: &[u8]) -> Option<(Record, usize)>
+    requires { 64 ≤ length bytes.now }
+    ensures { IfSome result (λ taken. IsRecord form taken.0 × (taken.1 ≤ 64)
+        × (bytes.now ≡ record_spelling taken.0 ++ 10 ∷ drop taken.1 bytes.now)) }
+{
+    let (kind, place) = first_word(bytes)?;
+    let (origin, tag, place) = name_field(form, bytes, place)?;
+    match kind {
+        Kind::Event => {
+            let (input, value, behind) = event_fields(bytes, place)?;
+            Some((
+                Record::Event {
+                    origin,
+                    tag,
+                    input,
+                    value,
+                },
+                behind,
+            ))
+        }
+        Kind::Withdraw => {
+            if bytes[place] != b'\n' {
+                return None;
+            }
+            Some((Record::Withdraw { origin, tag }, place + 1))
+        }
+        Kind::Announce => {
+            let (events, withdrawn, behind) = count_fields(bytes, place)?;
+            Some((
+                Record::Announce {
+                    origin,
+                    tag,
+                    events,
+                    withdrawn,
+                },
+                behind,
+            ))
+        }
+    }
 }
 
 /// The number of the variable that is asked for by a query whose spelling and a line feed are in front.
@@ -306,20 +309,16 @@ fn front_line(form: Form, bytes: &[u8]) -> Option<(Line, usize)>
     ensures { IfSome result (λ taken. IsLine form taken.0 × (taken.1 ≤ 64)
         × (bytes.now ≡ spelling taken.0 ++ 10 ∷ drop taken.1 bytes.now)) }
 {
-    if is_event(bytes) {
-        let (event, behind) = front_event(form, bytes)?;
-        return Some((Line::Put(event), behind));
-    }
     if let Some(number) = front_query(bytes) {
         return Some((Line::Ask(Query::Var(number)), 6));
     }
-    front_other(form, bytes)
+    let (record, behind) = front_record(form, bytes)?;
+    Some((Line::Put(record), behind))
 }
 
 /// The line in range in this form that these bytes begin with, and how many bytes it has with its line feed, where it
 /// is one of those that come most often: a record with an origin, a microstep, an input and a count of withdrawn events
-/// of one digit, a query for a variable of one digit, or a line of one word. `None` says nothing of what they begin
-/// with.
+/// of one digit, or a query for a variable of one digit. `None` says nothing of what they begin with.
 #[inline(always)]
 pub fn read_front(form: Form, bytes: &[u8]) -> Option<(Line, usize)>
     ensures { IfSome result (λ front. IsLine form front.0 × (before_first is_end bytes.now ≡ spelling front.0)
