@@ -1,9 +1,9 @@
 -- Lines that stand in front of longer texts.
-use Rattle.std.proofs.Common.{◌≡◌, ℕ, ◌+◌, ◌<◌, ◌≤◌, ◌^◌, suc, inl, inr, Option, Some, None, IfSome, List, [], ◌∷◌, ◌++◌, length, get_or, take, drop, codes, decimal, sym, ap, ◌∙◌, refl, arith, append_assoc, length-append, take-append-drop}
+use Rattle.std.proofs.Common.{◌≡◌, ℕ, ◌+◌, ◌-◌, ◌<◌, ◌≤◌, ◌^◌, suc, inl, inr, Option, Some, None, IfSome, List, [], ◌∷◌, ◌++◌, length, get_or, take, drop, codes, decimal, sym, ap, ◌∙◌, refl, arith, length-append, length-drop, take-append-drop}
 use Rattle.std.specs.Char.{digit_value}
-use Rattle.std.specs.List.{before_first, join_with_byte}
+use Rattle.std.specs.List.{before_first}
 use Rattle.std.specs.Str.Parse.{AllDigits, digits_value}
-use Rattle.std.proofs.lemmas.List.{drop_more, length-take}
+use Rattle.std.proofs.lemmas.List.{drop-drop, drop_more, length-take}
 use Rattle.std.proofs.Math.Seq.{take-append_seam}
 use Rattle.std.proofs.lemmas.Bool.{cases_lt}
 use Rattle.warp_tag.specs.Limits.{last_microstep, longest_line, most_origins}
@@ -26,51 +26,50 @@ byte_more bytes tail i b below is rest =
 pub digit_text : (b : ℕ) → digit_value b < 10 → decimal (digit_value b) ≡ b ∷ []
 digit_text b digit = sym (one_digit_value (b ∷ 32 ∷ []) (omega arith) digit)
 
--- a digit and a byte in front
-pub digit_front : (bytes : List ℕ) (end : ℕ) → 2 ≤ length bytes → digit_value (get_or bytes 0 0) < 10 → get_or bytes 1 0 ≡ end
-    → bytes ≡ decimal (digit_value (get_or bytes 0 0)) ++ end ∷ drop 2 bytes
-digit_front bytes end long digit is =
-    byte_more bytes _ 0 (get_or bytes 0 0) (omega (arith, long)) refl (byte_more bytes _ 1 end (omega (arith, long)) is refl)
-    ∙ ap (λ (l : List ℕ). l ++ end ∷ drop 2 bytes) (sym (digit_text (get_or bytes 0 0) digit))
+-- a space at a place
+pub space_more : (bytes : List ℕ) (place next : ℕ) → next ≡ place + 1 → place < length bytes → get_or bytes place 0 ≡ 32
+    → drop place bytes ≡ 32 ∷ drop next bytes
+space_more bytes place next is below space =
+    byte_more bytes (drop next bytes) place 32 below space (ap (λ (n : ℕ). drop n bytes) (sym is))
 
--- some digits and a byte in front
-pub digits_front : (bytes : List ℕ) (count value end : ℕ) → 0 < count → count < length bytes → AllDigits 10 (take count bytes)
-    → digits_value 10 (take count bytes) ≡ value → value < 2 ^ 64
-    → (1 < length (take count bytes) → get_or (take count bytes) 0 0 ≡ 48 → ⊥) → get_or bytes count 0 ≡ end
-    → bytes ≡ decimal value ++ end ∷ drop (count + 1) bytes
-digits_front bytes count value end some long all is fits unpadded here =
-    let word : List ℕ = take count bytes in
-    let size : length word ≡ count = omega (arith, length-take count bytes, long) in
+-- a space and a digit at a place
+pub digit_at_place : (bytes : List ℕ) (place : ℕ) → place + 2 ≤ length bytes → get_or bytes place 0 ≡ 32
+    → digit_value (get_or bytes (place + 1) 0) < 10
+    → drop place bytes ≡ 32 ∷ decimal (digit_value (get_or bytes (place + 1) 0)) ++ drop (place + 2) bytes
+digit_at_place bytes place long space digit =
+    let after : drop (place + 1 + 1) bytes ≡ drop (place + 2) bytes = ap (λ (n : ℕ). drop n bytes) (omega arith) in
+    byte_more bytes _ place 32 (omega (arith, long)) space
+    (byte_more bytes _ (place + 1) (get_or bytes (place + 1) 0) (omega (arith, long)) refl after)
+    ∙ ap (λ (l : List ℕ). 32 ∷ l ++ drop (place + 2) bytes) (sym (digit_text (get_or bytes (place + 1) 0) digit))
+
+-- some digits at the front of what stands at a place
+pub digits_at_place : (bytes text : List ℕ) (place count value : ℕ) → text ≡ drop place bytes → 0 < count → count ≤ length text
+    → AllDigits 10 (take count text) → digits_value 10 (take count text) ≡ value → value < 2 ^ 64
+    → (1 < length (take count text) → get_or (take count text) 0 0 ≡ 48 → ⊥)
+    → drop place bytes ≡ decimal value ++ drop (place + count) bytes
+digits_at_place bytes text place count value there some long all is fits unpadded =
+    let word : List ℕ = take count text in
+    let size : length word ≡ count = omega (arith, length-take count text, long) in
     let one : get_or word 0 0 ≡ 48 → length word ≡ 1 = λ first.
     elim (cases_lt 1 (length word)) [
       | inl more ↦ absurd (unpadded more first)
       | inr short ↦ omega (arith, short, size, some)
     ] in
-    let text : word ≡ decimal value = rw is at (text_of_digits word all (omega (arith, size, some)) one (omega (arith, is, fits))) in
-    sym (take-append-drop count bytes)
-    ∙ ap (λ (l : List ℕ). l ++ drop count bytes) text
-    ∙ ap (λ (l : List ℕ). decimal value ++ l) (byte_more bytes _ count end long here refl)
+    let digits : word ≡ decimal value = rw is at (text_of_digits word all (omega (arith, size, some)) one (omega (arith, is, fits))) in
+    let rest : drop count text ≡ drop (place + count) bytes = ap (drop count) there ∙ drop-drop count place bytes in
+    sym there ∙ sym (take-append-drop count text)
+    ∙ ap (λ (l : List ℕ). l ++ drop count text) digits
+    ∙ ap (λ (l : List ℕ). decimal value ++ l) rest
 
--- the word of an event and a space in front
-pub event_front : (bytes : List ℕ) → 6 ≤ length bytes → get_or bytes 0 0 ≡ 101 → get_or bytes 1 0 ≡ 118 → get_or bytes 2 0 ≡ 101
-    → get_or bytes 3 0 ≡ 110 → get_or bytes 4 0 ≡ 116 → get_or bytes 5 0 ≡ 32 → bytes ≡ codes "event " ++ drop 6 bytes
-event_front bytes long b0 b1 b2 b3 b4 b5 =
-    byte_more bytes _ 0 101 (omega (arith, long)) b0 (byte_more bytes _ 1 118 (omega (arith, long)) b1
-    (byte_more bytes _ 2 101 (omega (arith, long)) b2 (byte_more bytes _ 3 110 (omega (arith, long)) b3
-    (byte_more bytes _ 4 116 (omega (arith, long)) b4 (byte_more bytes _ 5 32 (omega (arith, long)) b5 refl)))))
-
--- the word of a query for a variable and a space in front
-pub var_front : (bytes : List ℕ) → 4 ≤ length bytes → get_or bytes 0 0 ≡ 118 → get_or bytes 1 0 ≡ 97 → get_or bytes 2 0 ≡ 114
-    → get_or bytes 3 0 ≡ 32 → bytes ≡ codes "var " ++ drop 4 bytes
-var_front bytes long b0 b1 b2 b3 =
+-- a query for a variable of one digit in front
+pub var_front : (bytes : List ℕ) → 6 ≤ length bytes → get_or bytes 0 0 ≡ 118 → get_or bytes 1 0 ≡ 97 → get_or bytes 2 0 ≡ 114
+    → get_or bytes 3 0 ≡ 32 → digit_value (get_or bytes 4 0) < 10 → get_or bytes 5 0 ≡ 10
+    → bytes ≡ codes "var" ++ 32 ∷ decimal (digit_value (get_or bytes 4 0)) ++ 10 ∷ drop 6 bytes
+var_front bytes long b0 b1 b2 b3 digit b5 =
     byte_more bytes _ 0 118 (omega (arith, long)) b0 (byte_more bytes _ 1 97 (omega (arith, long)) b1
-    (byte_more bytes _ 2 114 (omega (arith, long)) b2 (byte_more bytes _ 3 32 (omega (arith, long)) b3 refl)))
-
--- one word more in front of words
-pub word_more : (bytes behind word next : List ℕ) (words : List (List ℕ)) (rest : List ℕ) → bytes ≡ word ++ 32 ∷ behind
-    → behind ≡ join_with_byte 32 (next ∷ words) ++ rest → bytes ≡ join_with_byte 32 (word ∷ next ∷ words) ++ rest
-word_more bytes behind word next words rest is then =
-    is ∙ ap (λ (l : List ℕ). word ++ 32 ∷ l) then ∙ sym (append_assoc word (32 ∷ join_with_byte 32 (next ∷ words)) rest)
+    (byte_more bytes _ 2 114 (omega (arith, long)) b2 (byte_more bytes _ 3 32 (omega (arith, long)) b3
+    (byte_more bytes _ 4 (get_or bytes 4 0) (omega (arith, long)) refl (byte_more bytes _ 5 10 (omega (arith, long)) b5 refl)))))
+    ∙ ap (λ (l : List ℕ). codes "var" ++ 32 ∷ l ++ 10 ∷ drop 6 bytes) (sym (digit_text (get_or bytes 4 0) digit))
 
 -- a text and a line feed in front: there the first line feed is
 pub end_behind : (text rest : List ℕ) → IsOneLine text → first_end (text ++ 10 ∷ rest) ≡ length text
@@ -88,21 +87,22 @@ line_front f line bytes rest fits is =
     (ap (λ (n : ℕ). take n bytes) end ∙ ap (take (length (spelling line))) is ∙ take-append_seam (spelling line) (10 ∷ rest), end)
 
 -- the same of what was read there, if anything was
-pub line_fronts : (f : Form) (bytes : List ℕ) (taken : Option (Line × ℕ))
-    → IfSome taken (λ t. IsLine f t.0 × ((rest : List ℕ) × (bytes ≡ spelling t.0 ++ 10 ∷ rest) × (length bytes ≡ length rest + t.1) × (t.1 ≤ 40)))
+pub line_fronts : (f : Form) (bytes : List ℕ) (taken : Option (Line × ℕ)) → 64 ≤ length bytes
+    → IfSome taken (λ t. IsLine f t.0 × (t.1 ≤ 64) × (bytes ≡ spelling t.0 ++ 10 ∷ drop t.1 bytes))
     → IfSome taken (λ t. IsLine f t.0 × (before_first is_end bytes ≡ spelling t.0) × (t.1 ≡ first_end bytes + 1)
     × (first_end bytes < length bytes) × (first_end bytes ≤ longest_line))
-line_fronts f bytes None taken = tt
-line_fronts f bytes (Some t) taken =
-    let rest = taken.1.0 in
-    let front = line_front f t.0 bytes rest taken.0 taken.1.1 in
+line_fronts f bytes None long taken = tt
+line_fronts f bytes (Some t) long taken =
+    let rest : List ℕ = drop t.1 bytes in
+    let front = line_front f t.0 bytes rest taken.0 taken.2 in
     let size : length bytes ≡ length (spelling t.0) + (1 + length rest) =
-    omega (arith, ap length taken.1.1, length-append (spelling t.0) (10 ∷ rest)) in (
+    omega (arith, ap length taken.2, length-append (spelling t.0) (10 ∷ rest)) in
+    let left : length rest ≡ length bytes - t.1 = length-drop t.1 bytes in (
       taken.0,
       front.0,
-      omega (arith, front.1, size, taken.1.2),
+      omega (arith, front.1, size, left, long, taken.1),
       omega (arith, front.1, size),
-      omega (arith, front.1, size, taken.1.2, taken.1.3),
+      omega (arith, front.1, size, left, long, taken.1),
     )
 
 -- small numbers are in range in any form

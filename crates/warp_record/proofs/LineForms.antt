@@ -1,5 +1,5 @@
 -- What the readers of lines and records by their words need: which lines and records begin with a keyword, and which keywords begin them.
-use Rattle.std.proofs.Common.{◌≡◌, ℕ, ◌<◌, ◌≤◌, Bool, true, false, eqb, if◌then◌else◌, List, [], ◌∷◌, length, get_or, drop, codes, decimal, FitsSigned, w64, ℤ, subst, sym, ap, ◌∙◌, refl, arith}
+use Rattle.std.proofs.Common.{◌≡◌, ℕ, ◌<◌, ◌≤◌, true, false, eqb, if◌then◌else◌, List, [], ◌∷◌, length, get_or, drop, codes, decimal, FitsSigned, w64, ℤ, subst, sym, ap, ◌∙◌, refl, arith}
 use Rattle.std.specs.Fmt.{signed_decimal}
 use Rattle.std.proofs.lemmas.Bool.{true≢false}
 use Rattle.std.proofs.lemmas.Fmt.{decimal_injective}

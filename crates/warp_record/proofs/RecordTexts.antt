@@ -6,13 +6,11 @@ use Rattle.warp_tag.specs.Moment.{Moment}
 use Rattle.warp_tag.specs.declared.form.Form.{Form}
 use Rattle.warp_record.specs.declared.line.Line.{Line}
 use Rattle.warp_record.specs.declared.line.Line.TheVariants as line
-use Rattle.warp_record.specs.declared.line.Look.{Look}
 use Rattle.warp_record.specs.declared.line.Look.TheVariants as look
-use Rattle.warp_record.specs.declared.line.Query.{Query}
 use Rattle.warp_record.specs.declared.line.Query.TheVariants as query
 use Rattle.warp_record.specs.declared.record.Record.{Record}
 use Rattle.warp_record.specs.declared.record.Record.TheVariants.{Event, Withdraw, Announce}
-use Rattle.warp_record.specs.Line.{IsLine, IsLook, IsQuery, line_words, look_words, query_words}
+use Rattle.warp_record.specs.Line.{IsLine, line_words}
 use Rattle.warp_record.specs.Number.{is_space}
 use Rattle.warp_record.specs.Record.{IsRecord, IsEvent, IsAnnouncement, record_words, tag_words}
 use Rattle.warp_record.proofs.WordCuts.{joined_words}

@@ -1,9 +1,8 @@
 -- What the readers of replies need: which replies begin with a keyword, and which keywords begin replies.
-use Rattle.std.proofs.Common.{◌≡◌, ◌≢◌, ◌↔◌, ℕ, ℤ, ◌<◌, ◌≤◌, Bool, true, false, not, ◌&&◌, eqb, if◌then◌else◌, List, [], ◌∷◌, length, get_or, drop, codes, decimal, FitsSigned, w64, subst, ap, ◌∙◌, sym, refl, arith}
+use Rattle.std.proofs.Common.{◌≡◌, ℕ, ℤ, ◌<◌, ◌≤◌, Bool, true, false, not, ◌&&◌, eqb, if◌then◌else◌, List, [], ◌∷◌, length, get_or, drop, codes, decimal, FitsSigned, w64, subst, ap, ◌∙◌, sym, refl, arith}
 use Rattle.std.specs.Fmt.{signed_decimal}
 use Rattle.std.specs.Str.{bytes_eq}
 use Rattle.std.proofs.lemmas.Bool.{true≢false, ne_eqb}
-use Rattle.std.proofs.lemmas.Bool.Decides.{same_from_decides}
 use Rattle.std.proofs.lemmas.Fmt.{decimal_injective}
 use Rattle.warp_tag.specs.Limits.{greatest_count, most_records, most_rows}
 use Rattle.warp_tag.specs.Moment.{Moment, IsTagOf}

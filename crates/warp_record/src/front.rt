@@ -1,16 +1,19 @@
 //! Lines that are read where they stand in a longer text, with no look for their end first: those that come most often.
 //!
-//! What is read here is a line. What is not may be one all the same, and is read as any other.
-ghost use Rattle.std.specs.Prelude.{◌≡◌, ℕ, ◌+◌, ◌<◌, ◌≤◌, ◌^◌, ◌∷◌, ◌++◌, List, IfSome, FitsSigned, codes, decimal};
-ghost use Rattle.std.specs.Prelude.{drop, length};
+//! What is read here is a line. What is not may be one all the same, and is read as any other. What comes most often is
+//! put into the code that asks for a line, if it is not too large: so what records have in common stands once.
+ghost use Rattle.std.specs.Prelude.{◌≡◌, ◌+◌, ◌<◌, ◌≤◌, ◌^◌, ◌↔◌, ◌∷◌, ◌++◌, IfSome, IsTrue, FitsSigned, codes};
+ghost use Rattle.std.specs.Prelude.{decimal, drop, length};
 ghost use Rattle.std.specs.Fmt.{signed_decimal};
 ghost use Rattle.std.specs.Int.{w64};
 ghost use Rattle.std.specs.List.{before_first};
-ghost use Rattle.warp_tag.specs.Limits.{longest_line};
+ghost use Rattle.warp_tag.specs.Limits.{last_time, longest_line, most_origins, most_records};
+ghost use Rattle.warp_tag.specs.Moment.{IsTagOf};
 ghost use Rattle.warp_tag.specs.declared.form.Form.{Form};
 ghost use Rattle.warp_record.specs.Line.{IsLine, spelling};
 ghost use Rattle.warp_record.specs.Lines.{first_end, is_end};
 ghost use Rattle.warp_record.specs.Record.{IsRecord, record_spelling};
+ghost use Rattle.warp_record.specs.inner.Front.{kind_word};
 
 use crate::count::Count;
 use crate::cut::{are_four, digits_up_to};
@@ -23,299 +26,294 @@ use warp_tag::{Form, Tag};
 /// How many bytes have to be there, so that wherever a number of a line begins eight can be read at once.
 const FRONT_ROOM: usize = 64;
 
-/// The bytes behind so many.
+/// The bytes from this place on.
 #[inline(always)]
-fn behind(bytes: &[u8], count: usize) -> &[u8]
-    requires { count ≤ length bytes.now }
-    ensures { result.now ≡ drop count bytes.now }
+fn from_place(bytes: &[u8], place: usize) -> &[u8]
+    requires { place ≤ length bytes.now }
+    ensures { result.now ≡ drop place bytes.now }
 {
-    &bytes[count..]
+    &bytes[place..]
 }
 
-/// How many bytes stand in front of these last ones of them.
+/// The digit behind a space at the place.
 #[inline(always)]
-fn count_passed(bytes: &[u8], rest: &[u8]) -> usize
-    requires { length rest.now ≤ length bytes.now }
-    ensures { result + length rest.now ≡ length bytes.now }
+fn digit_field(bytes: &[u8], place: usize) -> Option<u32>
+    requires { place + 2 ≤ length bytes.now }
+    ensures { IfSome result (λ number. (number < 10)
+        × (drop place bytes.now ≡ 32 ∷ decimal number ++ drop (place + 2) bytes.now)) }
 {
-    bytes.len() - rest.len()
-}
-
-/// The number of one digit in front, with this byte behind it, and what is left behind that.
-#[inline(always)]
-fn take_digit(bytes: &[u8], end: u8) -> Option<(u32, &[u8])>
-    requires { 2 ≤ length bytes.now }
-    ensures { IfSome result (λ taken. (taken.0 < 10) × (bytes.now ≡ decimal taken.0 ++ end ∷ taken.1.now)
-        × (length bytes.now ≡ length taken.1.now + 2)) }
-{
-    if bytes[1] != end {
+    if bytes[place] != b' ' {
         return None;
     }
-    let number = digit(bytes[0])?;
-    Some((number as u32, behind(bytes, 2)))
+    let number = digit(bytes[place + 1])?;
+    Some(number as u32)
 }
 
-/// The number of up to seven digits in front, with this byte behind it, and what is left behind that.
+/// The number of up to seven digits at the place, and the place behind it.
 #[inline(always)]
-fn take_number(bytes: &[u8], end: u8) -> Option<(u64, &[u8])>
-    requires { 8 ≤ length bytes.now }
-    ensures { IfSome result (λ taken. (taken.0 < 10 ^ 8) × (bytes.now ≡ decimal taken.0 ++ end ∷ taken.1.now)
-        × (length bytes.now ≤ length taken.1.now + 8)) }
+fn short_number(bytes: &[u8], place: usize) -> Option<(u64, usize)>
+    requires { place + 8 ≤ length bytes.now }
+    ensures { IfSome result (λ taken. (taken.0 < 10 ^ 7) × (taken.1 ≤ place + 7)
+        × (drop place bytes.now ≡ decimal taken.0 ++ drop taken.1 bytes.now)) }
 {
-    let count = count_digits(bytes);
+    let text = from_place(bytes, place);
+    let count = count_digits(text);
     if count == 0 {
         return None;
     }
     if count == EIGHT {
         return None;
     }
-    if bytes[count] != end {
+    if is_padded(&text[..count]) {
         return None;
     }
-    if is_padded(&bytes[..count]) {
-        return None;
-    }
-    Some((value_of_first(bytes, count), behind(bytes, count + 1)))
+    Some((value_of_first(text, count), place + count))
 }
 
-/// The same number in 32 bits.
-#[inline(always)]
-fn take_u32(bytes: &[u8], end: u8) -> Option<(u32, &[u8])>
-    requires { 8 ≤ length bytes.now }
-    ensures { IfSome result (λ taken. (taken.0 < 10 ^ 8) × (bytes.now ≡ decimal taken.0 ++ end ∷ taken.1.now)
-        × (length bytes.now ≤ length taken.1.now + 8)) }
-{
-    let (number, rest) = take_number(bytes, end)?;
-    Some((number as u32, rest))
-}
-
-/// The number of up to eighteen digits in front, with this byte behind it, and what is left behind that.
+/// The number of up to eighteen digits at the place, and the place behind it.
 #[cold]
 #[inline(never)]
-fn take_many(bytes: &[u8], end: u8) -> Option<(u64, &[u8])>
-    requires { 19 ≤ length bytes.now }
-    ensures { IfSome result (λ taken. (taken.0 < 10 ^ 18) × (bytes.now ≡ decimal taken.0 ++ end ∷ taken.1.now)
-        × (length bytes.now ≤ length taken.1.now + 19)) }
+fn long_number(bytes: &[u8], place: usize) -> Option<(u64, usize)>
+    requires { place + 18 ≤ length bytes.now }
+    ensures { IfSome result (λ taken. (taken.0 < 10 ^ 18) × (taken.1 ≤ place + 18)
+        × (drop place bytes.now ≡ decimal taken.0 ++ drop taken.1 bytes.now)) }
 {
-    let (number, count) = digits_up_to(bytes, FEW_DIGITS);
+    let text = from_place(bytes, place);
+    let (number, count) = digits_up_to(text, FEW_DIGITS);
     if count == 0 {
         return None;
     }
-    if bytes[count] != end {
+    if is_padded(&text[..count]) {
         return None;
     }
-    if is_padded(&bytes[..count]) {
-        return None;
-    }
-    Some((number, behind(bytes, count + 1)))
+    Some((number, place + count))
 }
 
-/// The number in front, of few digits as a rule and of up to eighteen, with this byte behind it, and what is left
-/// behind that.
+/// The number at the place, of few digits as a rule and of up to eighteen, and the place behind it.
 #[inline(always)]
-fn take_size(bytes: &[u8], end: u8) -> Option<(u64, &[u8])>
-    requires { 19 ≤ length bytes.now }
-    ensures { IfSome result (λ taken. (taken.0 < 10 ^ 18) × (bytes.now ≡ decimal taken.0 ++ end ∷ taken.1.now)
-        × (length bytes.now ≤ length taken.1.now + 19)) }
+fn number_at(bytes: &[u8], place: usize) -> Option<(u64, usize)>
+    requires { place + 18 ≤ length bytes.now }
+    ensures { IfSome result (λ taken. (taken.0 < 10 ^ 18) × (taken.1 ≤ place + 18)
+        × (drop place bytes.now ≡ decimal taken.0 ++ drop taken.1 bytes.now)) }
 {
-    if let Some((number, rest)) = take_number(bytes, end) {
-        return Some((number, rest));
+    if let Some((number, behind)) = short_number(bytes, place) {
+        return Some((number, behind));
     }
-    take_many(bytes, end)
+    long_number(bytes, place)
 }
 
-/// The signed number of up to eighteen digits in front, with this byte behind it, and what is left behind that.
+/// The signed number of up to eighteen digits at the place, and the place behind it.
 #[inline(always)]
-fn take_int(bytes: &[u8], end: u8) -> Option<(i64, &[u8])>
-    requires { 20 ≤ length bytes.now }
-    ensures { IfSome result (λ taken. FitsSigned w64 taken.0 × (bytes.now ≡ signed_decimal taken.0 ++ end ∷ taken.1.now)
-        × (length bytes.now ≤ length taken.1.now + 20)) }
+fn int_at(bytes: &[u8], place: usize) -> Option<(i64, usize)>
+    requires { place + 19 ≤ length bytes.now }
+    ensures { IfSome result (λ taken. FitsSigned w64 taken.0 × (taken.1 ≤ place + 19)
+        × (drop place bytes.now ≡ signed_decimal taken.0 ++ drop taken.1 bytes.now)) }
 {
-    let minus = bytes[0] == b'-';
-    let (size, rest) = take_size(behind(bytes, usize::from(minus)), end)?;
+    let minus = bytes[place] == b'-';
+    let (size, behind) = number_at(bytes, place + usize::from(minus))?;
     if size == 0 {
-        return if minus { None } else { Some((0, rest)) };
+        return if minus { None } else { Some((0, behind)) };
     }
-    Some((with_sign(size, minus), rest))
+    Some((with_sign(size, minus), behind))
 }
 
-/// What is left behind the word `event` and a space in front.
+/// Whether the time is in range in this form: mostly it is in each.
 #[inline(always)]
-fn behind_event_word(bytes: &[u8]) -> Option<&[u8]>
-    requires { 6 ≤ length bytes.now }
-    ensures { IfSome result (λ text. (bytes.now ≡ codes "event " ++ text.now)
-        × (length bytes.now ≡ length text.now + 6)) }
+fn is_in_time(form: Form, time: u64) -> bool
+    ensures { IsTrue result ↔ (time ≤ last_time form) }
 {
-    if are_four(bytes, 0, *b"even") && bytes[4] == b't' && bytes[5] == b' ' {
-        Some(behind(bytes, 6))
-    } else {
-        None
+    if time <= Form::One.last_time() {
+        return true;
     }
+    time <= form.last_time()
 }
 
-/// What is left behind the word `withdraw` and a space in front.
+/// The origin, the time and the microstep in range in this form, a space in front of each, at the place, and the place
+/// behind them.
 #[inline(always)]
-fn behind_withdrawal(bytes: &[u8]) -> Option<&[u8]>
-    requires { 9 ≤ length bytes.now }
-    ensures { IfSome result (λ text. (bytes.now ≡ codes "withdraw " ++ text.now)
-        × (length bytes.now ≡ length text.now + 9)) }
+fn name_field(form: Form, bytes: &[u8], place: usize) -> Option<(u32, Tag, usize)>
+    requires { place + 13 ≤ length bytes.now }
+    ensures { IfSome result (λ name. (name.0 < most_origins form) × IsTagOf form name.1 × (name.2 ≤ place + 12)
+        × (drop place bytes.now ≡ 32 ∷ decimal name.0 ++ (32 ∷ decimal name.1.time ++ (32 ∷ decimal name.1.microstep
+        ++ drop name.2 bytes.now)))) }
 {
-    if are_four(bytes, 0, *b"with") && are_four(bytes, 4, *b"draw") && bytes[8] == b' ' {
-        Some(behind(bytes, 9))
-    } else {
-        None
-    }
-}
-
-/// What is left behind the word `announce` and a space in front.
-#[inline(always)]
-fn behind_announcement(bytes: &[u8]) -> Option<&[u8]>
-    requires { 9 ≤ length bytes.now }
-    ensures { IfSome result (λ text. (bytes.now ≡ codes "announce " ++ text.now)
-        × (length bytes.now ≡ length text.now + 9)) }
-{
-    if are_four(bytes, 0, *b"anno") && are_four(bytes, 4, *b"unce") && bytes[8] == b' ' {
-        Some(behind(bytes, 9))
-    } else {
-        None
-    }
-}
-
-/// The event in range in this form whose spelling, without its first word, and a line feed are in front, and how many
-/// bytes these are.
-#[inline(always)]
-fn take_event(form: Form, bytes: &[u8]) -> Option<(Record, usize)>
-    requires { 34 ≤ length bytes.now }
-    ensures { IfSome result (λ taken. IsRecord form taken.0 × ((rest : List ℕ)
-        × (codes "event " ++ bytes.now ≡ record_spelling taken.0 ++ 10 ∷ rest)
-        × (length bytes.now ≡ length rest + taken.1) × (taken.1 ≤ 34))) }
-{
-    let (origin, text) = take_digit(bytes, b' ')?;
-    let (time, text) = take_number(text, b' ')?;
-    if time > form.last_time() {
+    let origin = digit_field(bytes, place)?;
+    if bytes[place + 2] != b' ' {
         return None;
     }
-    let (micro, text) = take_digit(text, b' ')?;
-    let (input, text) = take_digit(text, b' ')?;
-    let (value, text) = take_int(text, b'\n')?;
-    let tag = Tag::new(time, micro)?;
-    let count = count_passed(bytes, text);
-    Some((
-        Record::Event {
-            origin,
-            tag,
-            input,
-            value,
-        },
-        count,
-    ))
-}
-
-/// The event in range in this form whose spelling, without its first word, and a line feed are in front, and how many
-/// bytes these are.
-#[inline(always)]
-fn front_event(form: Form, bytes: &[u8]) -> Option<(Record, usize)>
-    requires { 34 ≤ length bytes.now }
-    ensures { IfSome result (λ taken. IsRecord form taken.0 × ((rest : List ℕ)
-        × (codes "event " ++ bytes.now ≡ record_spelling taken.0 ++ 10 ∷ rest)
-        × (length bytes.now ≡ length rest + taken.1) × (taken.1 ≤ 34))) }
-{
-    // Written once for each form, whose limits are constants then.
-    match form {
-        Form::One => take_event(Form::One, bytes),
-        Form::Two => take_event(Form::Two, bytes),
-    }
-}
-
-/// The withdrawal in range in this form whose spelling, without its first word, and a line feed are in front, and how
-/// many bytes these are.
-#[inline(always)]
-fn take_withdrawal(form: Form, bytes: &[u8]) -> Option<(Record, usize)>
-    requires { 32 ≤ length bytes.now }
-    ensures { IfSome result (λ taken. IsRecord form taken.0 × ((rest : List ℕ)
-        × (codes "withdraw " ++ bytes.now ≡ record_spelling taken.0 ++ 10 ∷ rest)
-        × (length bytes.now ≡ length rest + taken.1) × (taken.1 ≤ 12))) }
-{
-    let (origin, text) = take_digit(bytes, b' ')?;
-    let (time, text) = take_number(text, b' ')?;
-    if time > form.last_time() {
+    let (time, behind) = short_number(bytes, place + 3)?;
+    if !is_in_time(form, time) {
         return None;
     }
-    let (micro, text) = take_digit(text, b'\n')?;
+    let micro = digit_field(bytes, behind)?;
     let tag = Tag::new(time, micro)?;
-    let count = count_passed(bytes, text);
-    Some((Record::Withdraw { origin, tag }, count))
+    Some((origin, tag, behind + 2))
 }
 
-/// The announcement in range in this form whose spelling, without its first word, and a line feed are in front, and how
-/// many bytes these are.
+/// Whether the word `event` is in front.
 #[inline(always)]
-fn take_announcement(form: Form, bytes: &[u8]) -> Option<(Record, usize)>
-    requires { 32 ≤ length bytes.now }
-    ensures { IfSome result (λ taken. IsRecord form taken.0 × ((rest : List ℕ)
-        × (codes "announce " ++ bytes.now ≡ record_spelling taken.0 ++ 10 ∷ rest)
-        × (length bytes.now ≡ length rest + taken.1) × (taken.1 ≤ 22))) }
+fn is_event(bytes: &[u8]) -> bool
+    requires { 5 ≤ length bytes.now }
+    ensures { IsTrue result → bytes.now ≡ codes "event" ++ drop 5 bytes.now }
 {
-    let (origin, text) = take_digit(bytes, b' ')?;
-    let (time, text) = take_number(text, b' ')?;
-    if time > form.last_time() {
+    are_four(bytes, 0, *b"even") && bytes[4] == b't'
+}
+
+/// Whether the word `withdraw` is in front.
+#[inline(always)]
+fn is_withdrawal(bytes: &[u8]) -> bool
+    requires { 8 ≤ length bytes.now }
+    ensures { IsTrue result → bytes.now ≡ codes "withdraw" ++ drop 8 bytes.now }
+{
+    are_four(bytes, 0, *b"with") && are_four(bytes, 4, *b"draw")
+}
+
+/// Whether the word `announce` is in front.
+#[inline(always)]
+fn is_announcement(bytes: &[u8]) -> bool
+    requires { 8 ≤ length bytes.now }
+    ensures { IsTrue result → bytes.now ≡ codes "announce" ++ drop 8 bytes.now }
+{
+    are_four(bytes, 0, *b"anno") && are_four(bytes, 4, *b"unce")
+}
+
+/// An event's input and value, a space in front of each, and a line feed at the place, and the place behind these.
+#[inline(always)]
+fn event_fields(bytes: &[u8], place: usize) -> Option<(u32, i64, usize)>
+    requires { place + 23 ≤ length bytes.now }
+    ensures { IfSome result (λ taken. (taken.0 < 10) × FitsSigned w64 taken.1 × (taken.2 ≤ place + 23)
+        × (drop place bytes.now ≡ 32 ∷ decimal taken.0 ++ (32 ∷ signed_decimal taken.1
+        ++ (10 ∷ drop taken.2 bytes.now)))) }
+{
+    let input = digit_field(bytes, place)?;
+    if bytes[place + 2] != b' ' {
         return None;
     }
-    let (micro, text) = take_digit(text, b' ')?;
-    let (some, text) = take_u32(text, b' ')?;
-    let (gone, text) = take_digit(text, b'\n')?;
-    let tag = Tag::new(time, micro)?;
-    let events = Count::new(some)?;
+    let (value, end) = int_at(bytes, place + 3)?;
+    if bytes[end] != b'\n' {
+        return None;
+    }
+    Some((input, value, end + 1))
+}
+
+/// An announcement's counts, a space in front of each, and a line feed at the place, and the place behind these.
+#[inline(always)]
+fn count_fields(bytes: &[u8], place: usize) -> Option<(Count, Count, usize)>
+    requires { place + 11 ≤ length bytes.now }
+    ensures { IfSome result (λ taken. (taken.0 ≤ most_records) × (taken.1 ≤ most_records) × (taken.2 ≤ place + 11)
+        × (drop place bytes.now ≡ 32 ∷ decimal taken.0 ++ (32 ∷ decimal taken.1 ++ (10 ∷ drop taken.2 bytes.now)))) }
+{
+    if bytes[place] != b' ' {
+        return None;
+    }
+    let (some, behind) = short_number(bytes, place + 1)?;
+    let gone = digit_field(bytes, behind)?;
+    if bytes[behind + 2] != b'\n' {
+        return None;
+    }
+    let events = Count::new(some as u32)?;
     let withdrawn = Count::new(gone)?;
-    let count = count_passed(bytes, text);
-    Some((
-        Record::Announce {
-            origin,
-            tag,
-            events,
-            withdrawn,
-        },
-        count,
-    ))
+    Some((events, withdrawn, behind + 3))
 }
 
-/// The query for a variable whose spelling and a line feed are in front.
+/// What a record is, as its first word tells.
+#[derive(Clone, Copy)]
+enum Kind {
+    /// `event`.
+    Event,
+    /// `withdraw`.
+    Withdraw,
+    /// `announce`.
+    Announce,
+}
+
+/// The kind of the record whose first word is in front, and the place behind the word.
 #[inline(always)]
-fn front_query(bytes: &[u8]) -> Option<(Line, usize)>
-    requires { 6 ≤ length bytes.now }
-    ensures { (f : Form) → IfSome result (λ taken. IsLine f taken.0 × ((rest : List ℕ)
-        × (bytes.now ≡ spelling taken.0 ++ 10 ∷ rest)
-        × (length bytes.now ≡ length rest + taken.1) × (taken.1 ≤ 40))) }
+fn first_word(bytes: &[u8]) -> Option<(Kind, usize)>
+    requires { 8 ≤ length bytes.now }
+    ensures { IfSome result (λ first. (first.1 ≤ 8) × (bytes.now ≡ kind_word first.0 ++ drop first.1 bytes.now)) }
 {
-    if !are_four(bytes, 0, *b"var ") {
+    if is_event(bytes) {
+        Some((Kind::Event, 5))
+    } else if is_withdrawal(bytes) {
+        Some((Kind::Withdraw, 8))
+    } else if is_announcement(bytes) {
+        Some((Kind::Announce, 8))
+    } else {
+        None
+    }
+}
+
+/// The record in range in this form whose spelling and a line feed are in front, and the place behind these.
+#[inline(always)]
+fn front_record(form: Form, bytes: &[u8]) -> Option<(Record, usize)>
+    requires { 64 ≤ length bytes.now }
+    ensures { IfSome result (λ taken. IsRecord form taken.0 × (taken.1 ≤ 64)
+        × (bytes.now ≡ record_spelling taken.0 ++ 10 ∷ drop taken.1 bytes.now)) }
+{
+    let (kind, place) = first_word(bytes)?;
+    let (origin, tag, place) = name_field(form, bytes, place)?;
+    match kind {
+        Kind::Event => {
+            let (input, value, behind) = event_fields(bytes, place)?;
+            Some((
+                Record::Event {
+                    origin,
+                    tag,
+                    input,
+                    value,
+                },
+                behind,
+            ))
+        }
+        Kind::Withdraw => {
+            if bytes[place] != b'\n' {
+                return None;
+            }
+            Some((Record::Withdraw { origin, tag }, place + 1))
+        }
+        Kind::Announce => {
+            let (events, withdrawn, behind) = count_fields(bytes, place)?;
+            Some((
+                Record::Announce {
+                    origin,
+                    tag,
+                    events,
+                    withdrawn,
+                },
+                behind,
+            ))
+        }
+    }
+}
+
+/// The number of the variable that is asked for by a query whose spelling and a line feed are in front.
+#[inline(always)]
+fn front_query(bytes: &[u8]) -> Option<u32>
+    requires { 6 ≤ length bytes.now }
+    ensures { IfSome result (λ number. (number < 10)
+        × (bytes.now ≡ codes "var" ++ 32 ∷ decimal number ++ 10 ∷ drop 6 bytes.now)) }
+{
+    if !are_four(bytes, 0, *b"var ") || bytes[5] != b'\n' {
         return None;
     }
-    let (number, _) = take_digit(behind(bytes, 4), b'\n')?;
-    Some((Line::Ask(Query::Var(number)), 6))
+    let number = digit(bytes[4])?;
+    Some(number as u32)
 }
 
-/// The record or the query for a variable in range in this form whose spelling and a line feed are in front, and how
-/// many bytes these are.
+/// The line in range in this form whose spelling and a line feed are in front, and the place behind these, where it is
+/// one of those that come most often.
 #[inline(always)]
 fn front_line(form: Form, bytes: &[u8]) -> Option<(Line, usize)>
     requires { 64 ≤ length bytes.now }
-    ensures { IfSome result (λ taken. IsLine form taken.0 × ((rest : List ℕ)
-        × (bytes.now ≡ spelling taken.0 ++ 10 ∷ rest)
-        × (length bytes.now ≡ length rest + taken.1) × (taken.1 ≤ 40))) }
+    ensures { IfSome result (λ taken. IsLine form taken.0 × (taken.1 ≤ 64)
+        × (bytes.now ≡ spelling taken.0 ++ 10 ∷ drop taken.1 bytes.now)) }
 {
-    if let Some(text) = behind_event_word(bytes) {
-        let (event, count) = front_event(form, text)?;
-        return Some((Line::Put(event), count + 6));
+    if let Some(number) = front_query(bytes) {
+        return Some((Line::Ask(Query::Var(number)), 6));
     }
-    if let Some(text) = behind_withdrawal(bytes) {
-        let (withdrawal, count) = take_withdrawal(form, text)?;
-        return Some((Line::Put(withdrawal), count + 9));
-    }
-    if let Some(text) = behind_announcement(bytes) {
-        let (announcement, count) = take_announcement(form, text)?;
-        return Some((Line::Put(announcement), count + 9));
-    }
-    front_query(bytes)
+    let (record, behind) = front_record(form, bytes)?;
+    Some((Line::Put(record), behind))
 }
 
 /// The line in range in this form that these bytes begin with, and how many bytes it has with its line feed, where it

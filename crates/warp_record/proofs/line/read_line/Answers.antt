@@ -1,4 +1,4 @@
-use Rattle.std.proofs.Common.{◌≡◌, ℕ, List, ◌∷◌, codes, ◌∙◌, ap, sym, refl}
+use Rattle.std.proofs.Common.{◌≡◌, ◌∷◌, codes, ◌∙◌, ap, sym, refl}
 use Rattle.std.specs.List.{slice_split, join_with_byte}
 use Rattle.warp_record.specs.Number.{is_space}
 use Rattle.warp_record.specs.inner.Behind.{words_behind}

@@ -1,5 +1,5 @@
-use Rattle.std.proofs.Common.{◌≡◌, ℕ, ◌-◌, List, [], ◌∷◌, length, get_or, take, drop, codes, ap, ◌∙◌, sym, refl, arith}
-use Rattle.warp_record.proofs.WordTexts.{text_at, texts, as_many, four_first, is_not}
+use Rattle.std.proofs.Common.{◌≡◌, codes, ◌∙◌, sym, arith}
+use Rattle.warp_record.proofs.WordTexts.{text_at, as_many, four_first}
 use Rattle.warp_record.proofs.LineForms.{four_words, name_words, event_operands, announcement_operands}
 use Rattle.warp_record.proofs.record.read_record.Goals as goal
 

@@ -1,4 +1,4 @@
-use Rattle.std.proofs.Common.{◌≡◌, ℕ, List, [], get_or, ap, ◌∙◌, sym, arith}
+use Rattle.std.proofs.Common.{ℕ, List, [], get_or, ap, ◌∙◌, sym, arith}
 use Rattle.warp_record.proofs.WordTexts.{as_many, two_texts}
 use Rattle.warp_record.proofs.record.read_value.Goals as goal
 

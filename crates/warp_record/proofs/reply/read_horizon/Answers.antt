@@ -1,6 +1,6 @@
-use Rattle.std.proofs.Common.{◌≡◌, ℕ, List, [], get_or, ap, ◌∙◌, sym, arith}
+use Rattle.std.proofs.Common.{ℕ, List, [], get_or, ap, ◌∙◌, sym}
 use Rattle.warp_record.proofs.ReplyLemmas.{horizon_words}
-use Rattle.warp_record.proofs.WordTexts.{texts, as_many, three_texts}
+use Rattle.warp_record.proofs.WordTexts.{texts, three_texts}
 use Rattle.warp_record.proofs.reply.read_horizon.Goals as goal
 
 pub returns-in_err-log-clause-none : goal.returns-in_err-log-clause-none

@@ -1,5 +1,5 @@
-use Rattle.std.proofs.Common.{◌≡◌, ℕ, List, [], get_or, ap, ◌∙◌, sym, arith}
-use Rattle.warp_record.proofs.WordTexts.{as_many, four_texts}
+use Rattle.std.proofs.Common.{ℕ, List, [], get_or, ap, ◌∙◌, sym, arith}
+use Rattle.warp_record.proofs.WordTexts.{four_texts}
 use Rattle.warp_record.proofs.reply.read_output.Goals as goal
 
 pub returns-in_err-tag-clause-none : goal.returns-in_err-tag-clause-none

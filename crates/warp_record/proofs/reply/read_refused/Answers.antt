@@ -1,4 +1,4 @@
-use Rattle.std.proofs.Common.{ℕ, ◌≡◌, ◌∙◌, sym, arith}
+use Rattle.std.proofs.Common.{◌∙◌, sym}
 use Rattle.warp_record.proofs.ReplyLemmas.{refused_words, same_number}
 use Rattle.warp_record.proofs.reply.read_refused.Goals as goal
 

@@ -1,4 +1,3 @@
-use Rattle.std.proofs.Common.{ap, ◌∷◌, List, ℕ, codes}
 use Rattle.warp_record.proofs.ReplyLemmas.{row_words}
 use Rattle.warp_record.proofs.WordTexts.{texts}
 use Rattle.warp_record.proofs.reply.read_row.Goals as goal

@@ -1,4 +1,4 @@
-use Rattle.std.proofs.Common.{◌≡◌, ℕ, ◌-◌, List, [], length, get_or, take, drop, ap, ◌∙◌, sym, arith}
+use Rattle.std.proofs.Common.{ℕ, List, [], get_or, drop, ap, ◌∙◌, sym, arith}
 use Rattle.warp_record.proofs.ReplyLemmas.{output_words}
 use Rattle.warp_record.proofs.WordTexts.{texts, as_many, first_text}
 use Rattle.warp_record.proofs.reply.read_told_output.Goals as goal
