@@ -183,14 +183,15 @@ fn step_with<M: Meter>(
     ensures state { IsStateOf program.now state.new }
     ensures scratch { IsRoomOf program.now scratch.new }
 {
-    let Some(
-        Record::Event {
-            tag,
-            input,
-            value,
-            ..
-        },
-    ) = record_of(text)
+    let Some(record) = record_of(text) else {
+        return out.fail("no record");
+    };
+    let Record::Event {
+        tag,
+        input,
+        value,
+        ..
+    } = record
     else {
         return out.fail("no event");
     };
