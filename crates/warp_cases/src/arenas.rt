@@ -10,10 +10,10 @@
 ghost use Rattle.std.specs.Prelude.{◌≡◌, ◌<◌, IsSome};
 ghost use Rattle.warp_arena.specs.Places.{entry_of};
 
-use crate::lines::{number_of, record_of, tag_of};
-use crate::mark::{begin, end, say_made};
+use crate::lines::{number_of, record_of, tag_of, word_of};
+use crate::mark::{begin, end};
+use crate::transcript::{NO_MEMORY, Transcript, outcome};
 use std::alloc::Global;
-use std::io::{self, ErrorKind};
 use warp_arena::{Arena, Entry, MAX_USED, NodeId};
 use warp_record::Record;
 use warp_tag::Tag;
@@ -22,117 +22,123 @@ use warp_tag::Tag;
 const ORIGINS: u32 = 3;
 
 /// Makes the calls of the lines.
-pub(crate) fn perform<P: Print>(rt: &P, alloc: Global, lines: &str) -> io::Result<()> {
-    let mut arena = Arena::start(alloc, ORIGINS)?;
-    for line in lines.lines() {
-        make_call(rt, alloc, &mut arena, line)?;
+pub(crate) fn perform(alloc: Global, out: &mut Transcript, lines: &str) {
+    match Arena::start(alloc, ORIGINS) {
+        Ok(mut arena) => make_calls(alloc, out, &mut arena, lines),
+        Err(_) => out.fail(NO_MEMORY),
     }
-    Ok(())
+}
+
+/// Makes the calls of the lines over this arena.
+fn make_calls(alloc: Global, out: &mut Transcript, arena: &mut Arena, lines: &str)
+    requires { arena.old.origins ≡ 3 }
+{
+    for line in lines.lines() {
+        make_call(alloc, out, arena, line);
+    }
 }
 
 /// Makes the call of a line.
-fn make_call<P: Print>(rt: &P, alloc: Global, arena: &mut Arena, line: &str) -> io::Result<()>
+fn make_call(alloc: Global, out: &mut Transcript, arena: &mut Arena, line: &str)
     requires { arena.old.origins ≡ 3 }
     ensures { arena.new.origins ≡ 3 }
 {
-    let (word, rest) = line.split_once(' ').unwrap_or((line, ""));
+    let (word, rest) = word_of(line);
     if word == "start" {
-        return start(rt, alloc);
+        return start(alloc, out);
     }
     if word == "reserve" {
-        return reserve(rt, alloc, arena);
+        return reserve(alloc, out, arena);
     }
     if word == "free" {
-        return free(rt, alloc, arena, rest);
+        return free(alloc, out, arena, rest);
     }
     if word == "find" {
-        return find(rt, alloc, arena, rest);
+        return find(alloc, out, arena, rest);
     }
     if word == "walk" {
-        return walk(rt, alloc, arena);
+        return walk(alloc, out, arena);
     }
     if word == "links" {
-        return say_links(rt, arena);
+        return say_links(out, arena);
     }
     if word == "insert" {
-        return take(rt, alloc, arena, rest, false);
+        return take(alloc, out, arena, rest, false);
     }
-    take(rt, alloc, arena, line, true)
+    take(alloc, out, arena, line, true);
 }
 
 /// Makes another arena.
-fn start<P: Print>(rt: &P, alloc: Global) -> io::Result<()> {
-    let _begin = begin(alloc)?;
+fn start(alloc: Global, out: &mut Transcript) {
+    begin(alloc);
     let made = Arena::start(alloc, ORIGINS);
-    let _end = end(alloc)?;
-    say_made(rt, made.is_ok())
+    end(alloc);
+    out.say(outcome(made.is_ok()));
 }
 
 /// Makes room for one name more.
-fn reserve<P: Print>(rt: &P, alloc: Global, arena: &mut Arena) -> io::Result<()>
+fn reserve(alloc: Global, out: &mut Transcript, arena: &mut Arena)
     ensures { arena.new.origins ≡ arena.old.origins }
 {
     if arena.len() >= MAX_USED {
-        return rt.println("full");
+        return out.say("full");
     }
-    let _begin = begin(alloc)?;
+    begin(alloc);
     let reserved = arena.reserve_one(alloc);
-    let _end = end(alloc)?;
-    say_made(rt, reserved.is_ok())
+    end(alloc);
+    out.say(outcome(reserved.is_ok()));
 }
 
 /// Takes in the name of a record, and notes what the record says of it.
-fn take<P: Print>(
-    rt: &P,
-    alloc: Global,
-    arena: &mut Arena,
-    text: &str,
-    by_one_call: bool,
-) -> io::Result<()>
+fn take(alloc: Global, out: &mut Transcript, arena: &mut Arena, text: &str, by_one_call: bool)
     requires { arena.old.origins ≡ 3 }
     ensures { arena.new.origins ≡ 3 }
 {
-    let record = record_of(text)?;
-    match record {
+    let Some(said) = said_of(text) else {
+        return out.fail("no name");
+    };
+    if said.origin >= ORIGINS || arena.len() >= MAX_USED {
+        return out.fail("no origin");
+    }
+    // Where room was made before, this changes nothing.
+    if arena.reserve_one(alloc).is_err() {
+        return out.fail(NO_MEMORY);
+    }
+    begin(alloc);
+    let node = named(arena, said.origin, said.tag, by_one_call);
+    note(arena, node, said.payload);
+    end(alloc);
+    out.say(format_args!("{} names", arena.len()));
+}
+
+/// What a record says of a name: its payload, or where there is none that it is withdrawn.
+#[derive(Clone, Copy)]
+struct Said {
+    origin: u32,
+    tag: Tag,
+    payload: Option<(u32, i64)>,
+}
+
+/// What the record that a text spells says of a name.
+fn said_of(text: &str) -> Option<Said> {
+    match record_of(text)? {
         Record::Event {
             origin,
             tag,
             input,
             value,
-        } => {
-            let payload = Some((input, value));
-            take_name(rt, alloc, arena, origin, tag, payload, by_one_call)
-        }
-        Record::Withdraw { origin, tag } => {
-            take_name(rt, alloc, arena, origin, tag, None, by_one_call)
-        }
-        Record::Announce { .. } => Err(ErrorKind::InvalidInput.into()),
+        } => Some(Said {
+            origin,
+            tag,
+            payload: Some((input, value)),
+        }),
+        Record::Withdraw { origin, tag } => Some(Said {
+            origin,
+            tag,
+            payload: None,
+        }),
+        Record::Announce { .. } => None,
     }
-}
-
-/// Takes in a name, and notes this payload of it, or where there is none that it is withdrawn.
-fn take_name<P: Print>(
-    rt: &P,
-    alloc: Global,
-    arena: &mut Arena,
-    origin: u32,
-    tag: Tag,
-    payload: Option<(u32, i64)>,
-    by_one_call: bool,
-) -> io::Result<()>
-    requires { arena.old.origins ≡ 3 }
-    ensures { arena.new.origins ≡ 3 }
-{
-    if origin >= ORIGINS || arena.len() >= MAX_USED {
-        return Err(ErrorKind::InvalidInput.into());
-    }
-    // Where room was made before, this changes nothing.
-    arena.reserve_one(alloc)?;
-    let _begin = begin(alloc)?;
-    let node = named(arena, origin, tag, by_one_call);
-    note(arena, node, payload);
-    let _end = end(alloc)?;
-    println!(rt; "{} names", arena.len())
 }
 
 /// The handle of a name, which comes in where it is new: by one call, or by a look and an insertion.
@@ -163,53 +169,55 @@ fn note(arena: &mut Arena, node: NodeId, payload: Option<(u32, i64)>)
 }
 
 /// Frees what is not after a tag.
-fn free<P: Print>(rt: &P, alloc: Global, arena: &mut Arena, text: &str) -> io::Result<()>
+fn free(alloc: Global, out: &mut Transcript, arena: &mut Arena, text: &str)
     ensures { arena.new.origins ≡ arena.old.origins }
 {
-    let tag = tag_of(text)?;
-    let _begin = begin(alloc)?;
+    let Some(tag) = tag_of(text) else {
+        return out.fail("no tag");
+    };
+    begin(alloc);
     let count = arena.free_through(tag);
-    let _end = end(alloc)?;
-    println!(rt; "freed {count}")
+    end(alloc);
+    out.say(format_args!("freed {count}"));
 }
 
 /// Tells what is known of a name.
-fn find<P: Print>(rt: &P, alloc: Global, arena: &Arena, text: &str) -> io::Result<()> {
-    let (origin, tag) = text.split_once(' ').unwrap_or((text, ""));
-    let (origin, tag) = (number_of(origin)?, tag_of(tag)?);
-    let _begin = begin(alloc)?;
+fn find(alloc: Global, out: &mut Transcript, arena: &Arena, text: &str) {
+    let (origin, tag) = word_of(text);
+    let (Some(origin), Some(tag)) = (number_of(origin), tag_of(tag)) else {
+        return out.fail("no name");
+    };
+    begin(alloc);
     let found = arena.find(origin, tag);
-    let _end = end(alloc)?;
+    end(alloc);
     match found {
-        Some(node) => say_entry(rt, &arena.entry(node)),
-        None => rt.println("none"),
+        Some(node) => say_entry(out, &arena.entry(node)),
+        None => out.say("none"),
     }
 }
 
 /// Tells what is known of all names, in order.
-fn walk<P: Print>(rt: &P, alloc: Global, arena: &Arena) -> io::Result<()> {
-    let _begin = begin(alloc)?;
+fn walk(alloc: Global, out: &mut Transcript, arena: &Arena) {
+    begin(alloc);
     let mut at = arena.first();
-    let _end = end(alloc)?;
+    end(alloc);
     for _ in 0..arena.len() {
         let Some(node) = at else {
-            return rt.println("too few");
+            return out.fail("too few");
         };
-        say_entry(rt, &arena.entry(node))?;
+        say_entry(out, &arena.entry(node));
         at = arena.next(node);
     }
-    Ok(())
 }
 
 /// Tells whether each name's links lead to the one before it and to the next one of its origin.
-fn say_links<P: Print>(rt: &P, arena: &Arena) -> io::Result<()> {
-    if are_linked(arena) {
-        let count = arena.len();
-        let (is_empty, is_full) = (count == 0, count >= MAX_USED);
-        println!(rt; "{count} linked, empty {is_empty}, full {is_full}")
-    } else {
-        rt.println("a link leads elsewhere")
+fn say_links(out: &mut Transcript, arena: &Arena) {
+    if !are_linked(arena) {
+        return out.say("a link leads elsewhere");
     }
+    let count = arena.len();
+    let (is_empty, is_full) = (count == 0, count >= MAX_USED);
+    out.say(format_args!("{count} linked, empty {is_empty}, full {is_full}"));
 }
 
 /// Whether each `prev` leads back, each `next_of_origin` on to the next one of its origin, and `next` to the end.
@@ -222,21 +230,36 @@ fn are_linked(arena: &Arena) -> bool {
             return false;
         };
         let next = &mut nexts[arena.entry(node).origin as usize % 3];
-        if arena.prev(node) != before || next.is_some_and(|own| own != Some(node)) {
+        if arena.prev(node) != before || is_another(*next, node) {
             return false;
         }
         *next = Some(arena.next_of_origin(node));
         before = at;
         at = arena.next(node);
     }
-    at.is_none()
-        && nexts
-            .iter()
-            .all(|next| next.is_none_or(|own| own.is_none()))
+    at.is_none() && are_ended(&nexts)
+}
+
+/// Whether another name of an origin, or none, is expected in the place of this one.
+fn is_another(next: Option<Option<NodeId>>, node: NodeId) -> bool {
+    match next {
+        Some(own) => own != Some(node),
+        None => false,
+    }
+}
+
+/// Whether no further name of any origin is expected.
+fn are_ended(nexts: &[Option<Option<NodeId>>]) -> bool {
+    for next in nexts {
+        if let Some(Some(_)) = *next {
+            return false;
+        }
+    }
+    true
 }
 
 /// Tells what is known of a name.
-fn say_entry<P: Print>(rt: &P, entry: &Entry) -> io::Result<()> {
+fn say_entry(out: &mut Transcript, entry: &Entry) {
     let (origin, time, micro) = (entry.origin, entry.tag.time(), entry.tag.micro());
     let mark = if entry.withdrawn {
         "withdrawn"
@@ -244,7 +267,9 @@ fn say_entry<P: Print>(rt: &P, entry: &Entry) -> io::Result<()> {
         "there"
     };
     match entry.event {
-        Some((input, value)) => println!(rt; "{origin} {time} {micro} {mark} {input} {value}"),
-        None => println!(rt; "{origin} {time} {micro} {mark}"),
+        Some((input, value)) => {
+            out.say(format_args!("{origin} {time} {micro} {mark} {input} {value}"));
+        }
+        None => out.say(format_args!("{origin} {time} {micro} {mark}")),
     }
 }

@@ -10,9 +10,9 @@ ghost use Rattle.std.specs.List.{list_all};
 ghost use Rattle.warp_body.specs.Term.{sizes_of};
 
 use crate::lines::number_of;
-use crate::mark::program_of;
-use std::alloc::Global;
-use std::io::{self, ErrorKind};
+use crate::programs::program_of;
+use crate::transcript::Transcript;
+use std::alloc::{AllocError, Global};
 use warp_body::{Code, Places, Present, Sizes, Stmt, Target, Vars, Wishes, fits, run_body};
 use warp_step::Program;
 
@@ -30,96 +30,93 @@ struct Side {
 }
 
 /// Makes the calls of the lines over the bodies of this program.
-pub(crate) fn perform<P: Print>(
-    rt: &P,
-    alloc: Global,
-    program: &str,
-    lines: &str,
-) -> io::Result<()> {
-    let program = program_of(alloc, program)?;
-    let mut compiled = Side::new(alloc, &program)?;
-    let mut walked = Side::new(alloc, &program)?;
-    for line in lines.lines() {
-        make_call(rt, alloc, &program, &mut compiled, &mut walked, line)?;
+pub(crate) fn perform(alloc: Global, out: &mut Transcript, program: &str, lines: &str) {
+    match program_of(alloc, program) {
+        Ok(program) => perform_in(alloc, out, &program, lines),
+        Err(_) => out.fail("no program"),
     }
-    Ok(())
+}
+
+/// The same of a program that is loaded.
+fn perform_in(alloc: Global, out: &mut Transcript, program: &Program, lines: &str) {
+    let Some(mut compiled) = Side::new(alloc, program) else {
+        return out.fail("no side");
+    };
+    let Some(mut walked) = Side::new(alloc, program) else {
+        return out.fail("no side");
+    };
+    for line in lines.lines() {
+        make_call(alloc, out, program, &mut compiled, &mut walked, line);
+    }
 }
 
 /// Makes the call of a line.
-fn make_call<P: Print>(
-    rt: &P,
+fn make_call(
     alloc: Global,
+    out: &mut Transcript,
     program: &Program,
     compiled: &mut Side,
     walked: &mut Side,
     line: &str,
-) -> io::Result<()> {
+) {
     let (word, rest) = line.split_once(' ').unwrap_or((line, "0"));
     let (number, value) = rest.split_once(' ').unwrap_or((rest, "0"));
-    let number = number_of(number)?;
-    if word == "run" {
-        return run(rt, alloc, program, compiled, walked, number);
-    }
-    let Ok(value) = value.parse::<i64>() else {
-        return Err(ErrorKind::InvalidInput.into());
+    let (Some(number), Ok(value)) = (number_of(number), value.parse::<i64>()) else {
+        return out.fail("no number");
     };
-    compiled.put(word, number, value)?;
-    walked.put(word, number, value)
+    if word == "run" {
+        return run(alloc, out, program, compiled, walked, number);
+    }
+    if !compiled.put(word, number, value) || !walked.put(word, number, value) {
+        out.fail("no call");
+    }
 }
 
 /// Runs the body of a reaction in both ways.
-fn run<P: Print>(
-    rt: &P,
+fn run(
     alloc: Global,
+    out: &mut Transcript,
     program: &Program,
     compiled: &mut Side,
     walked: &mut Side,
     number: u32,
-) -> io::Result<()> {
+) {
     let Some(reaction) = program.reactions().get(number as usize) else {
-        return Err(ErrorKind::InvalidInput.into());
+        return out.fail("no reaction");
     };
-    let wishes = compiled.run(alloc, &reaction.body)?;
-    let others = walked.walk(&reaction.body)?;
-    compiled.tell(rt)?;
-    for wish in wishes.as_slice() {
-        println!(rt; "{} {} {}", wish.action, wish.delay, wish.value)?;
-    }
+    let Some(wishes) = compiled.run(alloc, &reaction.body) else {
+        return out.fail("no body");
+    };
+    let Some(others) = walked.walk(&reaction.body) else {
+        return out.fail("no body");
+    };
     let same = compiled.is_same(walked) && wishes.as_slice() == others.as_slice();
-    println!(rt; "same {same}")
+    compiled.tell(out, &wishes, same);
 }
 
 impl Side {
-    /// The variables as the program begins, and nothing present.
-    fn new(alloc: Global, program: &Program) -> io::Result<Side> {
-        let mut values = Vec::new(alloc);
-        for variable in program.variables() {
-            values.push(variable.start)?;
-        }
-        let mut sources = Vec::new(alloc);
-        for port in 0..MOST_PORTS {
-            if (port as usize) < program.ports().len() {
-                sources.push(port)?;
-            }
-        }
+    /// The variables as the program begins, and nothing present; or nothing, where there is no memory for it.
+    fn new(alloc: Global, program: &Program) -> Option<Side> {
         let places = Places {
             timers: program.timers().len(),
             actions: program.actions().len(),
             ports: program.ports().len(),
         };
+        let values = starts_of(alloc, program).ok()?;
+        let sources = numbers_below(alloc, places.ports).ok()?;
         if sources.len() != places.ports || !are_below(&sources, places.ports) {
-            return Err(ErrorKind::InvalidData.into());
+            return None;
         }
-        let present = Present::new(alloc, places, sources)?;
+        let present = Present::new(alloc, places, sources).ok()?;
         let vars = Vars::from_vec(values);
-        Ok(Side { vars, present })
+        Some(Side { vars, present })
     }
 
-    /// Sets a variable, or makes a target present, or all absent.
-    fn put(&mut self, word: &str, number: u32, value: i64) -> io::Result<()> {
+    /// Sets a variable, or makes a target present, or all absent. Whether it could.
+    fn put(&mut self, word: &str, number: u32, value: i64) -> bool {
         if word == "clear" {
             self.present.clear();
-            return Ok(());
+            return true;
         }
         if word == "set" {
             return self.set(number, value);
@@ -130,19 +127,19 @@ impl Side {
             _ => Target::Port(number),
         };
         if !target.fits(self.present.places()) {
-            return Err(ErrorKind::InvalidInput.into());
+            return false;
         }
         self.present.put(target, value);
-        Ok(())
+        true
     }
 
-    /// Sets a variable.
-    fn set(&mut self, number: u32, value: i64) -> io::Result<()> {
+    /// Sets a variable. Whether there is one with this number.
+    fn set(&mut self, number: u32, value: i64) -> bool {
         if number as usize >= self.vars.len() {
-            return Err(ErrorKind::InvalidInput.into());
+            return false;
         }
         self.vars.set(number, value);
-        Ok(())
+        true
     }
 
     /// How much there is.
@@ -156,44 +153,47 @@ impl Side {
     }
 
     /// Compiles a body and runs it, and gives its wishes.
-    fn run(&mut self, alloc: Global, body: &[Stmt]) -> io::Result<Wishes> {
+    fn run(&mut self, alloc: Global, body: &[Stmt]) -> Option<Wishes> {
         let mut wishes = Wishes::new();
         if !fits(body, self.sizes(), MOST_WISHES) {
-            return Err(ErrorKind::InvalidData.into());
+            return None;
         }
-        let code = Code::new(alloc, body)?;
+        let code = Code::new(alloc, body).ok()?;
         code.run(&mut self.vars, &mut self.present, &mut wishes);
-        Ok(wishes)
+        Some(wishes)
     }
 
     /// Runs a body along its tree, and gives its wishes.
-    fn walk(&mut self, body: &[Stmt]) -> io::Result<Wishes> {
+    fn walk(&mut self, body: &[Stmt]) -> Option<Wishes> {
         let mut wishes = Wishes::new();
         if !fits(body, self.sizes(), MOST_WISHES) {
-            return Err(ErrorKind::InvalidData.into());
+            return None;
         }
         run_body(body, &mut self.vars, &mut self.present, &mut wishes);
-        Ok(wishes)
+        Some(wishes)
     }
 
-    /// Tells the variables and the ports.
-    fn tell<P: Print>(&self, rt: &P) -> io::Result<()> {
+    /// Tells the variables, the ports and the wishes behind a body, and whether the other side has the same.
+    fn tell(&self, out: &mut Transcript, wishes: &Wishes, same: bool) {
         for value in self.vars.as_slice() {
-            println!(rt; "{value}")?;
+            out.say(format_args!("{value}"));
         }
         for port in 0..MOST_PORTS {
             if (port as usize) < self.present.places().ports {
-                self.tell_port(rt, port)?;
+                self.tell_port(out, port);
             }
         }
-        Ok(())
+        for wish in wishes.as_slice() {
+            out.say(format_args!("{} {} {}", wish.action, wish.delay, wish.value));
+        }
+        out.say(format_args!("same {same}"));
     }
 
     /// Tells what a port is present with.
-    fn tell_port<P: Print>(&self, rt: &P, number: u32) -> io::Result<()> {
+    fn tell_port(&self, out: &mut Transcript, number: u32) {
         match self.port(number) {
-            Some(value) => println!(rt; "{value}"),
-            None => rt.println("-"),
+            Some(value) => out.say(format_args!("{value}")),
+            None => out.say("-"),
         }
     }
 
@@ -216,6 +216,26 @@ impl Side {
         }
         self.vars.as_slice() == other.vars.as_slice()
     }
+}
+
+/// With what each variable begins.
+fn starts_of(alloc: Global, program: &Program) -> Result<Vec<i64>, AllocError> {
+    let mut values = Vec::new(alloc);
+    for variable in program.variables() {
+        values.push(variable.start)?;
+    }
+    Ok(values)
+}
+
+/// The numbers of so many ports.
+fn numbers_below(alloc: Global, count: usize) -> Result<Vec<u32>, AllocError> {
+    let mut numbers = Vec::new(alloc);
+    for number in 0..MOST_PORTS {
+        if (number as usize) < count {
+            numbers.push(number)?;
+        }
+    }
+    Ok(numbers)
 }
 
 /// Whether all numbers are below a count.

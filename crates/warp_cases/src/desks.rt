@@ -7,13 +7,14 @@
 //!   `behind TIME MICRO` whether a tag is behind what it let go of;
 //! - any other line is one of a session, which the first is asked.
 use crate::lines::{line_of, tag_of};
-use crate::mark::{program_of, say};
+use crate::programs::replica_of;
+use crate::transcript::Transcript;
 use std::alloc::Global;
-use std::{io, mem};
+use std::mem;
 use warp_exchange::{Desk, Pulled, Puller};
 use warp_line::Timeline;
 use warp_record::Line;
-use warp_replica::{Local, Replica};
+use warp_replica::Local;
 use warp_run::Warp;
 
 /// A timeline whose names can be counted.
@@ -29,73 +30,74 @@ impl Holding for Warp {
 }
 
 /// Makes the calls of the lines over two new desks of this program.
-pub(crate) fn perform<T: Holding + Drop, P: Print>(
-    rt: &P,
-    alloc: Global,
-    program: &str,
-    lines: &str,
-) -> io::Result<()> {
-    let mut one = desk::<T>(alloc, program)?;
-    let mut other = desk::<T>(alloc, program)?;
-    make_calls(rt, alloc, &mut one, &mut other, lines)
+pub(crate) fn perform<T: Holding>(alloc: Global, out: &mut Transcript, program: &str, lines: &str) {
+    match replica_of::<T>(alloc, program) {
+        Ok(replica) => {
+            let mut one = Local::new(alloc, replica);
+            perform_with(alloc, out, &mut one, program, lines);
+        }
+        Err(_) => out.fail("no replica"),
+    }
 }
 
-/// A new replica of this program, as a desk.
-fn desk<T: Timeline + Drop>(alloc: Global, program: &str) -> io::Result<Local<T>> {
-    let replica = Replica::<T>::new(alloc, program_of(alloc, program)?)?;
-    Ok(Local::new(alloc, replica))
+/// The same over this desk and another one.
+fn perform_with<T: Holding>(
+    alloc: Global,
+    out: &mut Transcript,
+    one: &mut Local<T>,
+    program: &str,
+    lines: &str,
+) {
+    match replica_of::<T>(alloc, program) {
+        Ok(replica) => {
+            let mut other = Local::new(alloc, replica);
+            make_calls(out, one, &mut other, lines);
+        }
+        Err(_) => out.fail("no replica"),
+    }
 }
 
 /// Makes the calls of the lines.
-fn make_calls<T: Holding, P: Print>(
-    rt: &P,
-    alloc: Global,
+fn make_calls<T: Holding>(
+    out: &mut Transcript,
     one: &mut Local<T>,
     other: &mut Local<T>,
     lines: &str,
-) -> io::Result<()> {
+) {
     let mut puller = Puller::new();
     for line in lines.lines() {
-        make_call(rt, alloc, one, other, &mut puller, line)?;
+        make_call(out, one, other, &mut puller, line);
     }
-    Ok(())
 }
 
 /// Makes the call of a line.
-fn make_call<T: Holding, P: Print>(
-    rt: &P,
-    alloc: Global,
+fn make_call<T: Holding>(
+    out: &mut Transcript,
     one: &mut Local<T>,
     other: &mut Local<T>,
     puller: &mut Puller,
     line: &str,
-) -> io::Result<()> {
+) {
     if line == "pull" {
-        return pull(rt, puller, other, one);
+        return pull(out, puller, other, one);
     }
     if line == "exchange" {
-        mem::swap(one, other);
-        return Ok(());
+        return mem::swap(one, other);
     }
     if line == "is_settled" {
-        return println!(rt; "settled {}", one.replica().is_settled());
+        return out.say(format_args!("settled {}", one.replica().is_settled()));
     }
     if line == "held" {
-        return println!(rt; "{} names", one.replica().timeline().names_held());
+        return out.say(format_args!("{} names", one.replica().timeline().names_held()));
     }
     match line.strip_prefix("behind ") {
-        Some(tag) => is_behind(rt, one, tag),
-        None => ask(rt, alloc, one, line),
+        Some(tag) => is_behind(out, one, tag),
+        None => ask(out, one, line),
     }
 }
 
 /// Asks the other desk what the puller wants to know, and does what its reply leads to.
-fn pull<D: Desk, E: Desk, P: Print>(
-    rt: &P,
-    puller: &mut Puller,
-    other: &mut D,
-    desk: &mut E,
-) -> io::Result<()> {
+fn pull<D: Desk, E: Desk>(out: &mut Transcript, puller: &mut Puller, other: &mut D, desk: &mut E) {
     let reply = other.ask(Line::Ask(puller.ask()));
     let word = match puller.on_reply(Some(reply), desk) {
         Pulled::Got => "got",
@@ -103,18 +105,27 @@ fn pull<D: Desk, E: Desk, P: Print>(
         Pulled::Held(_) => "held",
         Pulled::Strange => "strange",
     };
-    println!(rt; "{word}, then {}", puller.next())
+    out.say(format_args!("{word}, then {}", puller.next()));
 }
 
 /// Tells whether a tag is behind what the desk's timeline let go of.
-fn is_behind<T: Timeline, P: Print>(rt: &P, desk: &Local<T>, tag: &str) -> io::Result<()> {
-    let tag = tag_of(tag)?;
-    println!(rt; "behind {}", desk.replica().timeline().behind(tag))
+fn is_behind<T: Timeline>(out: &mut Transcript, desk: &Local<T>, tag: &str) {
+    match tag_of(tag) {
+        Some(tag) => {
+            let is_behind = desk.replica().timeline().behind(tag);
+            out.say(format_args!("behind {is_behind}"));
+        }
+        None => out.fail("no tag"),
+    }
 }
 
 /// Asks a desk the line that a text spells.
-fn ask<D: Desk, P: Print>(rt: &P, alloc: Global, desk: &mut D, text: &str) -> io::Result<()> {
-    let line = line_of(text)?;
-    let reply = desk.ask(line);
-    say(rt, alloc, &reply)
+fn ask<D: Desk>(out: &mut Transcript, desk: &mut D, text: &str) {
+    match line_of(text) {
+        Some(line) => {
+            let reply = desk.ask(line);
+            out.say_reply(&reply);
+        }
+        None => out.fail("no line"),
+    }
 }

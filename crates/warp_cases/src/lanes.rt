@@ -5,82 +5,94 @@
 //! - `length` tells how long the log is, `waiting` how many answers are missing.
 //!
 //! Behind the last line the port ends, and its lane is drained.
-ghost use Rattle.std.specs.Prelude.{◌≡◌, [], ◌∷◌, false, IfOk};
+ghost use Rattle.std.specs.Prelude.{◌≡◌, [], ◌∷◌, false, IfSome};
 ghost use Rattle.warp_lanes.specs.Engine.{ids_of};
 
 use crate::boards::look;
 use crate::lines::line_of;
-use crate::mark::{begin, end, program_of, say_made};
+use crate::mark::{begin, end};
+use crate::programs::replica_of;
+use crate::transcript::{NO_MEMORY, Transcript, outcome};
 use std::alloc::Global;
-use std::io::{self, ErrorKind};
 use warp_board::{Board, Reader, Writer, board};
 use warp_lanes::{Answer, Engine, Port, PortEnd, Published, Turn, lane};
 use warp_line::Timeline;
 use warp_record::Reply;
-use warp_replica::Replica;
 
 /// Makes the calls of the lines over a new engine of this program.
-pub(crate) fn perform<T: Timeline + Drop, P: Print>(
-    rt: &P,
+pub(crate) fn perform<T: Timeline>(
     alloc: Global,
+    out: &mut Transcript,
     program: &str,
     lines: &str,
-) -> io::Result<()> {
-    let replica = Replica::<T>::new(alloc, program_of(alloc, program)?)?;
-    let (board, writer, mut reader) = board(alloc, 2)?;
-    let (engine, port) = engine_of_one(alloc, replica, writer)?;
-    make_all(rt, alloc, &board, &mut reader, engine, port, lines)
+) {
+    let Ok((board, writer, mut reader)) = board(alloc, 2) else {
+        return out.fail(NO_MEMORY);
+    };
+    match engine_of_one::<T>(alloc, program, writer) {
+        Some((mut engine, port)) => {
+            make_all(alloc, out, &board, &mut reader, &mut engine, port, lines);
+        }
+        None => out.fail("no engine"),
+    }
 }
 
 /// An engine of one lane, and the lane's port.
-fn engine_of_one<T: Timeline + Drop>(
+fn engine_of_one<T: Timeline>(
     alloc: Global,
-    replica: Replica<T>,
+    program: &str,
     writer: Writer,
-) -> io::Result<(Engine<T>, Port)>
+) -> Option<(Engine<T>, Port)>
     requires rows { writer.rows ≡ [] }
     requires flag { writer.frozen ≡ false }
-    ensures lane { IfOk result (λ made. ids_of made.0.lanes ≡ made.1.lane ∷ []) }
-    ensures writer { IfOk result (λ made. made.0.writer ≡ writer) }
+    ensures lane { IfSome result (λ made. ids_of made.0.lanes ≡ made.1.lane ∷ []) }
+    ensures writer { IfSome result (λ made. made.0.writer ≡ writer) }
 {
-    let (port, lane) = lane(alloc)?;
-    let lanes = vec![in alloc; lane]?;
-    Ok((Engine::new(replica, lanes, writer), port))
+    let Ok((port, lane)) = lane(alloc) else {
+        return None;
+    };
+    let Ok(lanes) = vec![in alloc; lane] else {
+        return None;
+    };
+    let Ok(replica) = replica_of::<T>(alloc, program) else {
+        return None;
+    };
+    Some((Engine::new(replica, lanes, writer), port))
 }
 
 /// Makes all calls.
-fn make_all<T: Timeline + Drop, P: Print>(
-    rt: &P,
+fn make_all<T: Timeline>(
     alloc: Global,
+    out: &mut Transcript,
     board: &Board,
     reader: &mut Reader,
-    mut engine: Engine<T>,
+    engine: &mut Engine<T>,
     mut port: Port,
     lines: &str,
-) -> io::Result<()>
-    requires lane { ids_of engine.lanes ≡ port.lane ∷ [] }
-    requires writer { engine.writer.board ≡ board.now }
+)
+    requires lane { ids_of engine.old.lanes ≡ port.lane ∷ [] }
+    requires writer { engine.old.writer.board ≡ board.now }
     requires reader { reader.old.board ≡ board.now }
 {
     for line in lines.lines() {
-        make_call(rt, alloc, board, reader, &mut engine, &mut port, line)?;
+        make_call(alloc, out, board, reader, engine, &mut port, line);
     }
-    let Some(end) = port.finish() else {
-        return rt.println("the lane is gone");
-    };
-    drain(rt, alloc, &mut engine, end)
+    match port.finish() {
+        Some(end) => drain(alloc, out, engine, end),
+        None => out.fail("the lane is gone"),
+    }
 }
 
 /// Makes the call of a line.
-fn make_call<T: Timeline, P: Print>(
-    rt: &P,
+fn make_call<T: Timeline>(
     alloc: Global,
+    out: &mut Transcript,
     board: &Board,
     reader: &mut Reader,
     engine: &mut Engine<T>,
     port: &mut Port,
     line: &str,
-) -> io::Result<()>
+)
     requires writer { engine.old.writer.board ≡ board.now }
     requires reader { reader.old.board ≡ board.now }
     ensures ids { ids_of engine.new.lanes ≡ ids_of engine.old.lanes }
@@ -89,166 +101,156 @@ fn make_call<T: Timeline, P: Print>(
     ensures reader { reader.new.board ≡ board.now }
 {
     if line == "look" {
-        return look(rt, alloc, board, reader);
+        return look(alloc, out, board, reader);
     }
     if line == "publish" {
-        return publish(rt, alloc, board, engine);
+        return publish(alloc, out, board, engine);
     }
     if line == "turn" {
-        return turn(rt, alloc, engine);
+        return turn(alloc, out, engine);
     }
     if line == "settle" {
-        return settle(rt, alloc, engine);
+        return settle(alloc, out, engine);
     }
     if line == "length" {
-        return println!(rt; "length {}", engine.replica().len());
+        return out.say(format_args!("length {}", engine.replica().len()));
     }
-    call_port(rt, alloc, port, line)
+    call_port(alloc, out, port, line);
 }
 
 /// Makes the call of a line that is the port's, or makes another lane.
-fn call_port<P: Print>(rt: &P, alloc: Global, port: &mut Port, line: &str) -> io::Result<()>
+fn call_port(alloc: Global, out: &mut Transcript, port: &mut Port, line: &str)
     ensures { port.new.lane ≡ port.old.lane }
 {
     if line == "fetch" {
-        return fetch(rt, alloc, port);
+        return fetch(alloc, out, port);
     }
     if line == "waiting" {
-        return println!(rt; "waiting {}", port.waiting());
+        return out.say(format_args!("waiting {}", port.waiting()));
     }
     if line == "lane" {
-        return make_lane(rt, alloc);
+        return make_lane(alloc, out);
     }
     match line.strip_prefix("send ") {
-        Some(text) => send(rt, alloc, port, text),
-        None => Err(ErrorKind::InvalidInput.into()),
+        Some(text) => send(alloc, out, port, text),
+        None => out.fail("no call"),
     }
 }
 
 /// Makes another lane.
-fn make_lane<P: Print>(rt: &P, alloc: Global) -> io::Result<()> {
-    let _begin = begin(alloc)?;
+fn make_lane(alloc: Global, out: &mut Transcript) {
+    begin(alloc);
     let made = lane(alloc);
-    let _end = end(alloc)?;
-    say_made(rt, made.is_ok())
+    end(alloc);
+    out.say(outcome(made.is_ok()));
 }
 
 /// Sends a line.
-fn send<P: Print>(rt: &P, alloc: Global, port: &mut Port, text: &str) -> io::Result<()>
+fn send(alloc: Global, out: &mut Transcript, port: &mut Port, text: &str)
     ensures { port.new.lane ≡ port.old.lane }
 {
-    let line = line_of(text)?;
-    let _begin = begin(alloc)?;
+    let Some(line) = line_of(text) else {
+        return out.fail("no line");
+    };
+    begin(alloc);
     let sent = port.send(line);
-    let _end = end(alloc)?;
-    match sent {
-        Ok(()) => rt.println("sent"),
-        Err(_) => rt.println("came back"),
-    }
+    end(alloc);
+    out.say(if sent.is_ok() { "sent" } else { "came back" });
 }
 
 /// Fetches an answer.
-fn fetch<P: Print>(rt: &P, alloc: Global, port: &mut Port) -> io::Result<()>
+fn fetch(alloc: Global, out: &mut Transcript, port: &mut Port)
     ensures { port.new.lane ≡ port.old.lane }
 {
-    let _begin = begin(alloc)?;
+    begin(alloc);
     let fetched = port.reply();
-    let _end = end(alloc)?;
+    end(alloc);
     match fetched {
-        Some(answer) => say_reply(rt, &answer.reply),
-        None => rt.println("no answer"),
+        Some(answer) => say_reply(out, &answer.reply),
+        None => out.say("no answer"),
     }
 }
 
 /// Serves a line.
-fn turn<T: Timeline, P: Print>(rt: &P, alloc: Global, engine: &mut Engine<T>) -> io::Result<()>
+fn turn<T: Timeline>(alloc: Global, out: &mut Transcript, engine: &mut Engine<T>)
     ensures writer { engine.new.writer ≡ engine.old.writer }
     ensures ids { ids_of engine.new.lanes ≡ ids_of engine.old.lanes }
 {
     if engine.lane_count() == 0 {
-        return rt.println("no lane");
+        return out.fail("no lane");
     }
-    let _begin = begin(alloc)?;
+    begin(alloc);
     let turn = engine.turn(alloc, 0);
-    let _end = end(alloc)?;
-    match turn {
-        Turn::Served => rt.println("served"),
-        Turn::Empty => rt.println("empty"),
-        Turn::Stalled => rt.println("stalled"),
-    }
+    end(alloc);
+    let word = match turn {
+        Turn::Served => "served",
+        Turn::Empty => "empty",
+        Turn::Stalled => "stalled",
+    };
+    out.say(word);
 }
 
 /// Settles.
-fn settle<T: Timeline, P: Print>(rt: &P, alloc: Global, engine: &mut Engine<T>) -> io::Result<()>
+fn settle<T: Timeline>(alloc: Global, out: &mut Transcript, engine: &mut Engine<T>)
     ensures writer { engine.new.writer ≡ engine.old.writer }
     ensures ids { ids_of engine.new.lanes ≡ ids_of engine.old.lanes }
 {
-    let _begin = begin(alloc)?;
+    begin(alloc);
     let settled = engine.settle(alloc);
-    let _end = end(alloc)?;
-    match settled {
-        Ok(()) => rt.println("settled"),
-        Err(_) => rt.println("no memory"),
-    }
+    end(alloc);
+    out.say(if settled.is_ok() {
+        "settled"
+    } else {
+        NO_MEMORY
+    });
 }
 
 /// Publishes, where the replica is settled.
-fn publish<T: Timeline, P: Print>(
-    rt: &P,
-    alloc: Global,
-    board: &Board,
-    engine: &mut Engine<T>,
-) -> io::Result<()>
+fn publish<T: Timeline>(alloc: Global, out: &mut Transcript, board: &Board, engine: &mut Engine<T>)
     requires { engine.old.writer.board ≡ board.now }
     ensures writer { engine.new.writer.board ≡ board.now }
     ensures ids { ids_of engine.new.lanes ≡ ids_of engine.old.lanes }
 {
     if !engine.replica().is_settled() {
-        return rt.println("not settled");
+        return out.say("not settled");
     }
-    let _begin = begin(alloc)?;
+    begin(alloc);
     let published = engine.publish(board);
-    let _end = end(alloc)?;
+    end(alloc);
     match published {
-        Published::Rows(count) => println!(rt; "{count} published"),
-        Published::Frozen => rt.println("frozen"),
+        Published::Rows(count) => out.say(format_args!("{count} published")),
+        Published::Frozen => out.say("frozen"),
     }
 }
 
 /// Drains the lane of a port that has ended, and tells what is handed out, and how long the log is.
-fn drain<T: Timeline, P: Print>(
-    rt: &P,
-    alloc: Global,
-    engine: &mut Engine<T>,
-    ended: PortEnd,
-) -> io::Result<()>
+fn drain<T: Timeline>(alloc: Global, out: &mut Transcript, engine: &mut Engine<T>, ended: PortEnd)
     requires { ids_of engine.old.lanes ≡ ended.lane ∷ [] }
 {
-    let _begin = begin(alloc)?;
+    begin(alloc);
     let drained = engine.drain(alloc, 0, ended);
-    let _end = end(alloc)?;
+    end(alloc);
     match drained {
-        Ok(answers) => say_all(rt, &answers)?,
-        Err(_) => rt.println("no memory")?,
+        Ok(answers) => say_all(out, &answers),
+        Err(_) => out.say(NO_MEMORY),
     }
-    println!(rt; "length {}", engine.replica().len())
+    out.say(format_args!("length {}", engine.replica().len()));
 }
 
 /// Tells the replies of these answers.
-fn say_all<P: Print>(rt: &P, answers: &[Answer]) -> io::Result<()> {
+fn say_all(out: &mut Transcript, answers: &[Answer]) {
     for answer in answers {
-        say_reply(rt, &answer.reply)?;
+        say_reply(out, &answer.reply);
     }
-    Ok(())
 }
 
 /// Tells a reply to a record or to a query for a variable.
-fn say_reply<P: Print>(rt: &P, reply: &Reply) -> io::Result<()> {
+fn say_reply(out: &mut Transcript, reply: &Reply) {
     match *reply {
-        Reply::Taken(place) => println!(rt; "taken {place}"),
-        Reply::Known(place) => println!(rt; "known {place}"),
-        Reply::Refused(refusal) => println!(rt; "refused {}", refusal.number()),
-        Reply::Var { log, value } => println!(rt; "var {log} {value}"),
-        _ => rt.println("another reply"),
+        Reply::Taken(place) => out.say(format_args!("taken {place}")),
+        Reply::Known(place) => out.say(format_args!("known {place}")),
+        Reply::Refused(refusal) => out.say(format_args!("refused {}", refusal.number())),
+        Reply::Var { log, value } => out.say(format_args!("var {log} {value}")),
+        _ => out.say("another reply"),
     }
 }

@@ -5,7 +5,8 @@
 //! names the program which the calls are over: `twice`, or the text of a program file.
 //!
 //! Each call stands between two marks (`mark.rt`), so that a library which is loaded before it can refuse the requests
-//! for memory of that call, and no other.
+//! for memory of that call, and no other. What is told is kept (`transcript.rt`), and printed when all calls are made: no
+//! function here has an exit for a line that could not be printed, and so none that drops what the calls are over.
 #![tactic(auto)]
 
 mod arenas;
@@ -27,13 +28,15 @@ mod sessions;
 mod steps;
 mod streams;
 mod timelines;
+mod transcript;
 mod worlds;
 
 use std::alloc::Global;
 use std::io::ErrorKind;
 use std::time::Clock;
 use std::{env, io};
-use warp_line::Plain;
+use transcript::Transcript;
+use warp_line::{Plain, Timeline};
 use warp_run::Warp;
 use warp_tag::Form;
 
@@ -43,63 +46,68 @@ fn main(rt: HostRuntime) -> io::Result<()> {
     let Some(word) = words.next() else {
         return Err(ErrorKind::InvalidInput.into());
     };
-    let input = io::read_to_string(rt.alloc(), rt.stdin())?;
-    let Some((program, rest)) = input.as_str().split_once('\n') else {
-        return Err(ErrorKind::InvalidInput.into());
-    };
-    perform(&rt, rt.alloc(), word.as_str(), program, rest)
+    let alloc = rt.alloc();
+    let input = io::read_to_string(alloc, rt.stdin())?;
+    let (program, rest) = input.as_str().split_once('\n').unwrap_or(("", ""));
+    let mut out = Transcript::new(alloc);
+    perform(&rt, alloc, &mut out, word.as_str(), program, rest);
+    out.print(&rt)
 }
 
 /// Makes the calls of this kind, with these lines.
-fn perform<P: Print + Clock>(
-    rt: &P,
+fn perform<X: Clock>(
+    rt: &X,
     alloc: Global,
+    out: &mut Transcript,
     word: &str,
     program: &str,
     rest: &str,
-) -> io::Result<()> {
+) {
     match word {
-        "replicas" => replicas::perform::<Warp, P>(rt, alloc, program, rest),
-        "twins" => replicas::perform::<Plain, P>(rt, alloc, program, rest),
-        "timelines" => timelines::perform::<Warp, P>(rt, alloc, program, rest),
-        "plain" => timelines::perform::<Plain, P>(rt, alloc, program, rest),
-        "desks" => desks::perform::<Warp, P>(rt, alloc, program, rest),
-        "meetings" => meetings::perform::<Warp, Plain, P>(rt, alloc, program, rest),
-        "worlds" => worlds::perform::<Warp, P>(rt, alloc, program, rest),
-        "world" => worlds::perform_once::<Plain, P>(rt, alloc, program, rest),
-        "manner" => sessions::in_manner::<Warp, P>(rt, alloc, program, rest),
-        "sessions" => sessions::all::<Warp, P>(rt, alloc, program, rest),
-        "session" => sessions::one::<Warp, P>(rt, alloc, program, rest),
-        "pulls" => pulls::all::<Warp, P>(rt, alloc, program, rest),
-        "lanes" => lanes::perform::<Warp, P>(rt, alloc, program, rest),
-        _ => perform_low(rt, alloc, word, program, rest),
+        "twins" => over::<Plain>(alloc, out, "replicas", program, rest),
+        "plain" => over::<Plain>(alloc, out, "timelines", program, rest),
+        "world" => worlds::perform_once::<Plain>(alloc, out, program, rest),
+        "desks" => desks::perform::<Warp>(alloc, out, program, rest),
+        "meetings" => meetings::perform::<Warp, Plain>(alloc, out, program, rest),
+        "pulls" => pulls::all::<Warp, X>(rt, alloc, out, program, rest),
+        "exhausted" => pulls::exhausted(rt, alloc, out, rest),
+        "replicas" | "timelines" | "worlds" | "manner" | "sessions" | "session" | "lanes" => {
+            over::<Warp>(alloc, out, word, program, rest);
+        }
+        _ => over_none(alloc, out, word, program, rest),
+    }
+}
+
+/// Makes the calls of this kind over timelines of one type.
+fn over<T: Timeline>(alloc: Global, out: &mut Transcript, word: &str, program: &str, rest: &str) {
+    match word {
+        "replicas" => replicas::perform::<T>(alloc, out, program, rest),
+        "timelines" => timelines::perform::<T>(alloc, out, program, rest),
+        "worlds" => worlds::perform::<T>(alloc, out, program, rest),
+        "manner" => sessions::in_manner::<T>(alloc, out, program, rest),
+        "sessions" => sessions::all::<T>(alloc, out, program, rest),
+        "session" => sessions::one::<T>(alloc, out, program, rest),
+        _ => lanes::perform::<T>(alloc, out, program, rest),
     }
 }
 
 /// Makes the calls of this kind, which are over no timeline.
-fn perform_low<P: Print + Clock>(
-    rt: &P,
-    alloc: Global,
-    word: &str,
-    program: &str,
-    rest: &str,
-) -> io::Result<()> {
+fn over_none(alloc: Global, out: &mut Transcript, word: &str, program: &str, rest: &str) {
     match word {
-        "load" => programs::load_twice(rt, alloc, program),
-        "twice" => programs::twice_twice(rt, alloc),
-        "steps" => steps::perform(rt, alloc, program, rest),
-        "arenas" => arenas::perform(rt, alloc, rest),
-        "bodies" => bodies::perform(rt, alloc, program, rest),
-        "boards" => boards::perform(rt, alloc),
-        "exhausted" => pulls::exhausted(rt, alloc, rest),
-        "schedule" => worlds::read_once(rt, alloc, Form::One, rest.as_bytes()),
-        "same" => files::compare(rt, alloc, program, rest),
-        "parts" => files::tell_parts(rt, alloc, program),
-        "errors" => files::tell_errors(rt),
-        "feed" => records::feed_cuts(rt, alloc, rest.as_bytes()),
-        "records" => records::read_records(rt, alloc, rest),
-        "replies" => records::read_replies(rt, alloc, rest),
-        "pieces" => pieces::perform(rt, alloc, program, rest),
-        _ => Err(ErrorKind::InvalidInput.into()),
+        "load" => programs::load_twice(alloc, out, program),
+        "twice" => programs::twice_twice(alloc, out),
+        "steps" => steps::perform(alloc, out, program, rest),
+        "arenas" => arenas::perform(alloc, out, rest),
+        "bodies" => bodies::perform(alloc, out, program, rest),
+        "boards" => boards::perform(alloc, out),
+        "schedule" => worlds::read_once(alloc, out, Form::One, rest.as_bytes()),
+        "same" => files::compare(alloc, out, program, rest),
+        "parts" => files::tell_parts(alloc, out, program),
+        "errors" => files::tell_errors(out),
+        "feed" => records::feed_cuts(alloc, out, rest.as_bytes()),
+        "records" => records::read_records(alloc, out, rest),
+        "replies" => records::read_replies(alloc, out, rest),
+        "pieces" => pieces::perform(alloc, out, program, rest),
+        _ => out.fail("no calls"),
     }
 }

@@ -3,10 +3,10 @@
 ghost use Rattle.std.specs.Prelude.{◌≡◌, IsTrue, OnOk};
 ghost use Rattle.warp_table.specs.Records.{set_of};
 
-use crate::lines::record_of;
-use crate::mark::{program_of, say};
-use std::alloc::Global;
-use std::io::{self, ErrorKind};
+use crate::lines::{record_of, word_of};
+use crate::programs::replica_of;
+use crate::transcript::{NO_MEMORY, Transcript};
+use std::alloc::{AllocError, Global};
 use warp_line::Timeline;
 use warp_record::Query;
 use warp_replica::Replica;
@@ -27,78 +27,100 @@ const QUERIES: [Query; 8] = [
 /// Each line begins with `one` or `other`, and is a record that this replica takes. At an empty line both are settled,
 /// the other collects, and what each releases is told; at the end each takes what it lacks of the other's records, and
 /// all replies are told.
-pub(crate) fn perform<T: Timeline + Drop, U: Timeline + Drop, P: Print>(
-    rt: &P,
+pub(crate) fn perform<T: Timeline, U: Timeline>(
     alloc: Global,
+    out: &mut Transcript,
     program: &str,
     lines: &str,
-) -> io::Result<()> {
-    let mut one = Replica::<T>::new(alloc, program_of(alloc, program)?)?;
-    let mut other = Replica::<U>::new(alloc, program_of(alloc, program)?)?;
-    bring_together(rt, alloc, &mut one, &mut other, lines)
+) {
+    match replica_of::<T>(alloc, program) {
+        Ok(mut one) => perform_with::<T, U>(alloc, out, &mut one, program, lines),
+        Err(_) => out.fail("no replica"),
+    }
+}
+
+/// The same of this replica and another one.
+fn perform_with<T: Timeline, U: Timeline>(
+    alloc: Global,
+    out: &mut Transcript,
+    one: &mut Replica<T>,
+    program: &str,
+    lines: &str,
+) {
+    match replica_of::<U>(alloc, program) {
+        Ok(mut other) => bring_together(alloc, out, one, &mut other, lines),
+        Err(_) => out.fail("no replica"),
+    }
 }
 
 /// Has both take the records of the lines, and then each other's, and tells what they reply and release.
-fn bring_together<T: Timeline, U: Timeline, P: Print>(
-    rt: &P,
+fn bring_together<T: Timeline, U: Timeline>(
     alloc: Global,
+    out: &mut Transcript,
     one: &mut Replica<T>,
     other: &mut Replica<U>,
     lines: &str,
-) -> io::Result<()> {
-    take_all(rt, alloc, one, other, lines)?;
-    if !one.same_program(other) {
-        return Err(ErrorKind::InvalidData.into());
+) {
+    for line in lines.lines() {
+        take_or_pause(alloc, out, one, other, line);
     }
-    meet(alloc, one, other)?;
-    reply_alike(rt, alloc, one, other)?;
-    say_released(rt, one, other)
+    if !one.same_program(other) {
+        return out.fail("another program");
+    }
+    if meet(alloc, one, other).is_err() {
+        return out.fail(NO_MEMORY);
+    }
+    reply_alike(out, one, other);
+    say_released(out, one, other);
 }
 
-/// Takes the records of the lines.
-fn take_all<T: Timeline, U: Timeline, P: Print>(
-    rt: &P,
+/// Takes the record of a line, or pauses at an empty one.
+fn take_or_pause<T: Timeline, U: Timeline>(
     alloc: Global,
+    out: &mut Transcript,
     one: &mut Replica<T>,
     other: &mut Replica<U>,
-    lines: &str,
-) -> io::Result<()> {
-    for line in lines.lines() {
-        if line.is_empty() {
-            pause(rt, alloc, one, other)?;
-        } else if let Some(text) = line.strip_prefix("one ") {
-            take(alloc, one, text)?;
-        } else {
-            take(alloc, other, line.strip_prefix("other ").unwrap_or(""))?;
-        }
+    line: &str,
+) {
+    if line.is_empty() {
+        return pause(alloc, out, one, other);
     }
-    Ok(())
+    let (name, text) = word_of(line);
+    if name == "one" {
+        return take(alloc, out, one, text);
+    }
+    take(alloc, out, other, text);
 }
 
 /// Takes the record that a text spells.
-fn take<T: Timeline>(alloc: Global, replica: &mut Replica<T>, text: &str) -> io::Result<()> {
-    let record = record_of(text)?;
-    match replica.take(alloc, &record) {
-        Ok(_) => Ok(()),
-        Err(_) => Err(ErrorKind::InvalidInput.into()),
+fn take<T: Timeline>(alloc: Global, out: &mut Transcript, replica: &mut Replica<T>, text: &str) {
+    match record_of(text) {
+        Some(record) => {
+            if replica.take(alloc, &record).is_err() {
+                out.fail("refused");
+            }
+        }
+        None => out.fail("no record"),
     }
 }
 
 /// Settles both, has the other collect, and tells what each releases.
-fn pause<T: Timeline, U: Timeline, P: Print>(
-    rt: &P,
+fn pause<T: Timeline, U: Timeline>(
     alloc: Global,
+    out: &mut Transcript,
     one: &mut Replica<T>,
     other: &mut Replica<U>,
-) -> io::Result<()> {
-    one.settle_uncounted(alloc)?;
-    other.settle_uncounted(alloc)?;
-    let reply = other.collect();
-    say(rt, alloc, &reply)?;
-    if !one.same_program(other) {
-        return Err(ErrorKind::InvalidData.into());
+) {
+    if one.settle_uncounted(alloc).is_err() {
+        return out.fail(NO_MEMORY);
     }
-    say_released(rt, one, other)
+    if other.settle_uncounted(alloc).is_err() {
+        return out.fail(NO_MEMORY);
+    }
+    out.say_reply(&other.collect());
+    if one.same_program(other) {
+        say_released(out, one, other);
+    }
 }
 
 /// Each of the two takes what it lacks of the other's records, and is settled.
@@ -106,17 +128,17 @@ fn meet<T: Timeline, U: Timeline>(
     alloc: Global,
     one: &mut Replica<T>,
     other: &mut Replica<U>,
-) -> io::Result<()>
+) -> Result<(), AllocError>
     requires { one.old.program ≡ other.old.program }
     ensures settled { OnOk result (IsTrue (T.settled one.new.timeline) × IsTrue (U.settled other.new.timeline)) }
     ensures program { OnOk result (one.new.program ≡ other.new.program) }
     ensures records { OnOk result (set_of one.new.records ≡ set_of other.new.records) }
 {
     let Ok(_count) = one.merge(alloc, other) else {
-        return Err(ErrorKind::OutOfMemory.into());
+        return Err(AllocError);
     };
     let Ok(_more) = other.merge(alloc, one) else {
-        return Err(ErrorKind::OutOfMemory.into());
+        return Err(AllocError);
     };
     one.settle_uncounted(alloc)?;
     other.settle_uncounted(alloc)?;
@@ -124,12 +146,7 @@ fn meet<T: Timeline, U: Timeline>(
 }
 
 /// Tells what both reply to each query.
-fn reply_alike<T: Timeline, U: Timeline, P: Print>(
-    rt: &P,
-    alloc: Global,
-    one: &Replica<T>,
-    other: &Replica<U>,
-) -> io::Result<()>
+fn reply_alike<T: Timeline, U: Timeline>(out: &mut Transcript, one: &Replica<T>, other: &Replica<U>)
     requires settled { IsTrue (T.settled one.now.timeline) × IsTrue (U.settled other.now.timeline) }
     requires program { one.now.program ≡ other.now.program }
     requires records { set_of one.now.records ≡ set_of other.now.records }
@@ -137,21 +154,21 @@ fn reply_alike<T: Timeline, U: Timeline, P: Print>(
     for query in QUERIES {
         let (first, second) = replies(one, other, query);
         let reply = one.answer(query);
-        println!(rt; "alike {}", first == reply && second == reply)?;
-        say(rt, alloc, &reply)?;
+        let alike = first == reply && second == reply;
+        out.say(format_args!("alike {alike}"));
+        out.say_reply(&reply);
     }
-    Ok(())
 }
 
 /// Tells how many outputs each of the two releases.
-fn say_released<T: Timeline, U: Timeline, P: Print>(
-    rt: &P,
+fn say_released<T: Timeline, U: Timeline>(
+    out: &mut Transcript,
     one: &Replica<T>,
     other: &Replica<U>,
-) -> io::Result<()>
+)
     requires settled { IsTrue (T.settled one.now.timeline) × IsTrue (U.settled other.now.timeline) }
     requires program { one.now.program ≡ other.now.program }
 {
     let (first, second) = releases(one, other);
-    println!(rt; "released {} and {}", first.len(), second.len())
+    out.say(format_args!("released {} and {}", first.len(), second.len()));
 }

@@ -5,11 +5,10 @@
 //! - `write MOST SOUND` makes six writes of what is left of the text, `send MOST SOUND` writes all of it.
 ghost use Rattle.warp_step.specs.Counter.{IsUnused};
 
-use crate::lines::number_of;
-use crate::mark::say_bytes;
+use crate::lines::{number_of, word_of};
 use crate::streams::{PieceReader, PieceWriter, sound_of};
+use crate::transcript::{NO_MEMORY, Transcript};
 use std::alloc::Global;
-use std::io::{self, ErrorKind};
 use std::marker::Brand;
 use std::sync::ledger::{Blank, Ledger};
 use warp_session::{Failed, Sink, Source, Stream, write_all};
@@ -18,49 +17,55 @@ use warp_session::{Failed, Sink, Source, Stream, write_all};
 const TIMES: usize = 6;
 
 /// Makes the calls of the lines over this text.
-pub(crate) fn perform<P: Print>(rt: &P, alloc: Global, text: &str, lines: &str) -> io::Result<()> {
+pub(crate) fn perform(alloc: Global, out: &mut Transcript, text: &str, lines: &str) {
     for line in lines.lines() {
-        make_call(rt, alloc, text.as_bytes(), line)?;
+        make_call(alloc, out, text.as_bytes(), line);
     }
-    Ok(())
 }
 
 /// Makes the call of a line.
-fn make_call<P: Print>(rt: &P, alloc: Global, text: &[u8], line: &str) -> io::Result<()> {
-    let (word, rest) = line.split_once(' ').unwrap_or((line, ""));
-    let (most, rest) = rest.split_once(' ').unwrap_or((rest, ""));
-    let most = number_of(most)? as usize;
+fn make_call(alloc: Global, out: &mut Transcript, text: &[u8], line: &str) {
+    let (word, rest) = word_of(line);
+    let (most, rest) = word_of(rest);
+    let Some(most) = number_of(most) else {
+        return out.fail("no number");
+    };
     if word == "read" {
-        return read(rt, alloc, text, most, rest);
+        return read(alloc, out, text, most as usize, rest);
     }
-    let sound = sound_of(rest)?;
-    let writer = PieceWriter::new(alloc, text.len(), most, sound)?;
+    let Ok(writer) = PieceWriter::new(alloc, text.len(), most as usize, sound_of(rest)) else {
+        return out.fail(NO_MEMORY);
+    };
     if word == "write" {
-        return write_in::<P, Brand>(rt, text, writer, Blank::new(1));
+        return write_in::<Brand>(out, text, writer, Blank::new(1));
     }
-    send_in::<P, Brand>(rt, text, writer, Blank::new(1))
+    send_in::<Brand>(out, text, writer, Blank::new(1));
 }
 
 /// Makes six reads of at most so many bytes.
-fn read<P: Print>(rt: &P, alloc: Global, text: &[u8], most: usize, rest: &str) -> io::Result<()> {
-    let (room, sound) = rest.split_once(' ').unwrap_or((rest, ""));
-    let (room, sound) = (number_of(room)? as usize, sound_of(sound)?);
+fn read(alloc: Global, out: &mut Transcript, text: &[u8], most: usize, rest: &str) {
+    let (room, sound) = word_of(rest);
+    let Some(room) = number_of(room) else {
+        return out.fail("no number");
+    };
     if most == 0 {
-        return Err(ErrorKind::InvalidInput.into());
+        return out.fail("a read of nothing");
     }
-    let buffer = Vec::from_elem(alloc, 0u8, room)?;
-    let reader = PieceReader::new(text, most, sound);
-    read_in::<P, Brand>(rt, alloc, reader, buffer, Blank::new(1))
+    let Ok(buffer) = Vec::from_elem(alloc, 0u8, room as usize) else {
+        return out.fail(NO_MEMORY);
+    };
+    let reader = PieceReader::new(text, most, sound_of(sound));
+    read_in::<Brand>(alloc, out, reader, buffer, Blank::new(1));
 }
 
 /// Makes six reads into this buffer. Failures are counted in this ledger.
-fn read_in<P: Print, L: Ledger>(
-    rt: &P,
+fn read_in<L: Ledger>(
     alloc: Global,
+    out: &mut Transcript,
     reader: PieceReader<'_>,
     mut buffer: Vec<u8>,
     blank: Blank,
-) -> io::Result<()>
+)
     requires { IsUnused blank L.name L.parts }
 {
     let mut source = Stream::<_, L>::new(reader, blank);
@@ -68,28 +73,25 @@ fn read_in<P: Print, L: Ledger>(
     for _ in 0..TIMES {
         let answer = source.read(buffer.as_mut_slice());
         if let Ok(count) = answer {
-            given.extend_from_slice(&buffer[..count])?;
+            if given.extend_from_slice(&buffer[..count]).is_err() {
+                out.fail(NO_MEMORY);
+            }
         }
-        say_answer(rt, answer)?;
+        say_answer(out, answer);
     }
-    say_bytes(rt, given)
+    out.say_bytes(&given);
 }
 
 /// Tells what a read or a write answered.
-fn say_answer<P: Print>(rt: &P, answer: Result<usize, Failed>) -> io::Result<()> {
+fn say_answer(out: &mut Transcript, answer: Result<usize, Failed>) {
     match answer {
-        Ok(count) => println!(rt; "{count}"),
-        Err(Failed) => rt.println("failed"),
+        Ok(count) => out.say(format_args!("{count}")),
+        Err(Failed) => out.say("failed"),
     }
 }
 
 /// Makes six writes of what is left of the text. Failures are counted in this ledger.
-fn write_in<P: Print, L: Ledger>(
-    rt: &P,
-    text: &[u8],
-    writer: PieceWriter,
-    blank: Blank,
-) -> io::Result<()>
+fn write_in<L: Ledger>(out: &mut Transcript, text: &[u8], writer: PieceWriter, blank: Blank)
     requires { IsUnused blank L.name L.parts }
 {
     let mut sink = Stream::<_, L>::new(writer, blank);
@@ -99,22 +101,17 @@ fn write_in<P: Print, L: Ledger>(
         if let Ok(count) = answer {
             rest = &rest[count..];
         }
-        say_answer(rt, answer)?;
+        say_answer(out, answer);
     }
-    say_bytes(rt, sink.into_inner().into_written())
+    out.say_bytes(&sink.into_inner().into_written());
 }
 
 /// Writes all of the text. Failures are counted in this ledger.
-fn send_in<P: Print, L: Ledger>(
-    rt: &P,
-    text: &[u8],
-    writer: PieceWriter,
-    blank: Blank,
-) -> io::Result<()>
+fn send_in<L: Ledger>(out: &mut Transcript, text: &[u8], writer: PieceWriter, blank: Blank)
     requires { IsUnused blank L.name L.parts }
 {
     let mut sink = Stream::<_, L>::new(writer, blank);
     let sent = write_all(&mut sink, text);
-    println!(rt; "sent {}", sent.is_ok())?;
-    say_bytes(rt, sink.into_inner().into_written())
+    out.say(format_args!("sent {}", sent.is_ok()));
+    out.say_bytes(&sink.into_inner().into_written());
 }

@@ -1,116 +1,126 @@
 //! Program files: their loading, copies of the program, its account and its labels, and why a file is refused. Each
-//! call is made two times.
+//! call is made two times. And the programs and replicas that the other calls are over.
 use crate::mark::{begin, end};
+use crate::transcript::{NO_MEMORY, Transcript};
 use std::alloc::Global;
-use std::io;
+use warp_line::Timeline;
 use warp_prog::{Labels, LoadError, explanation, load, load_labelled, program_account};
+use warp_replica::Replica;
 use warp_step::Program;
 
+/// The program of a line: `twice`, or that of a file with this text.
+pub(crate) fn program_of(alloc: Global, line: &str) -> Result<Program, LoadError> {
+    if line == "twice" {
+        return Ok(Program::twice(alloc)?);
+    }
+    load(alloc, line.as_bytes())
+}
+
+/// A new replica of the program of a line.
+pub(crate) fn replica_of<T: Timeline>(alloc: Global, line: &str) -> Result<Replica<T>, LoadError> {
+    let program = program_of(alloc, line)?;
+    Ok(Replica::new(alloc, program)?)
+}
+
 /// Loads the program of this text, two times, and makes the calls over each; then the labels of the text.
-pub(crate) fn load_twice<P: Print>(rt: &P, alloc: Global, text: &str) -> io::Result<()> {
-    load_once(rt, alloc, text)?;
-    load_once(rt, alloc, text)?;
-    label_once(rt, alloc, text)?;
-    label_once(rt, alloc, text)
+pub(crate) fn load_twice(alloc: Global, out: &mut Transcript, text: &str) {
+    load_once(alloc, out, text);
+    load_once(alloc, out, text);
+    label_once(alloc, out, text);
+    label_once(alloc, out, text);
 }
 
 /// Loads the program of this text, and where that is one copies it.
-fn load_once<P: Print>(rt: &P, alloc: Global, text: &str) -> io::Result<()> {
-    let _begin = begin(alloc)?;
+fn load_once(alloc: Global, out: &mut Transcript, text: &str) {
+    begin(alloc);
     let loaded = load(alloc, text.as_bytes());
-    let _end = end(alloc)?;
+    end(alloc);
     match loaded {
-        Ok(program) => copy_twice(rt, alloc, &program),
-        Err(error) => explain_twice(rt, alloc, text, error),
+        Ok(program) => copy_twice(alloc, out, &program),
+        Err(error) => explain_twice(alloc, out, text, error),
     }
 }
 
 /// Tells of a program, and copies it two times.
-fn copy_twice<P: Print>(rt: &P, alloc: Global, program: &Program) -> io::Result<()> {
-    println!(rt;
-        "{} origins, {} reactions",
-        program.origins(),
-        program.reactions().len()
-    )?;
-    copy_once(rt, alloc, program)?;
-    copy_once(rt, alloc, program)
+fn copy_twice(alloc: Global, out: &mut Transcript, program: &Program) {
+    let (origins, reactions) = (program.origins(), program.reactions().len());
+    out.say(format_args!("{origins} origins, {reactions} reactions"));
+    copy_once(alloc, out, program);
+    copy_once(alloc, out, program);
 }
 
 /// Copies a program.
-fn copy_once<P: Print>(rt: &P, alloc: Global, program: &Program) -> io::Result<()> {
-    let _begin = begin(alloc)?;
+fn copy_once(alloc: Global, out: &mut Transcript, program: &Program) {
+    begin(alloc);
     let copy = program.copy(alloc);
-    let _end = end(alloc)?;
+    end(alloc);
     match copy {
-        Ok(copy) => println!(rt; "copied, the same {}", copy.is_same(program)),
-        Err(_) => rt.println("no memory"),
+        Ok(copy) => out.say(format_args!("copied, the same {}", copy.is_same(program))),
+        Err(_) => out.say(NO_MEMORY),
     }
 }
 
 /// Tells the number for which a file is refused, and two times why.
-fn explain_twice<P: Print>(rt: &P, alloc: Global, text: &str, error: LoadError) -> io::Result<()> {
-    println!(rt; "refused {}", error.number())?;
-    if error == LoadError::Memory {
-        return Ok(());
+fn explain_twice(alloc: Global, out: &mut Transcript, text: &str, error: LoadError) {
+    out.say(format_args!("refused {}", error.number()));
+    if error != LoadError::Memory {
+        explain_once(alloc, out, text, error);
+        explain_once(alloc, out, text, error);
     }
-    explain_once(rt, alloc, text, error)?;
-    explain_once(rt, alloc, text, error)
 }
 
 /// Tells why a file is refused.
-fn explain_once<P: Print>(rt: &P, alloc: Global, text: &str, error: LoadError) -> io::Result<()> {
-    let _begin = begin(alloc)?;
+fn explain_once(alloc: Global, out: &mut Transcript, text: &str, error: LoadError) {
+    begin(alloc);
     let explained = explanation(alloc, text.as_bytes(), error);
-    let _end = end(alloc)?;
+    end(alloc);
     match explained {
-        Ok(reason) => rt.print(reason.as_str()),
-        Err(_) => rt.println("no memory"),
+        Ok(reason) => out.say_text(reason.as_bytes()),
+        Err(_) => out.say(NO_MEMORY),
     }
 }
 
 /// Loads the program of this text with its labels, and where it is one tells two times what is in it.
-fn label_once<P: Print>(rt: &P, alloc: Global, text: &str) -> io::Result<()> {
-    let _begin = begin(alloc)?;
+fn label_once(alloc: Global, out: &mut Transcript, text: &str) {
+    begin(alloc);
     let labelled = load_labelled(alloc, text.as_bytes());
-    let _end = end(alloc)?;
+    end(alloc);
     match labelled {
-        Ok(labelled) => {
-            tell_once(rt, alloc, &labelled.program, &labelled.labels)?;
-            tell_once(rt, alloc, &labelled.program, &labelled.labels)
-        }
-        Err(error) => println!(rt; "refused {}", error.number()),
+        Ok(labelled) => tell_twice(alloc, out, &labelled.program, &labelled.labels),
+        Err(error) => out.say(format_args!("refused {}", error.number())),
     }
 }
 
+/// Tells two times what is in a program.
+fn tell_twice(alloc: Global, out: &mut Transcript, program: &Program, labels: &Labels) {
+    tell_once(alloc, out, program, labels);
+    tell_once(alloc, out, program, labels);
+}
+
 /// Tells what is in a program.
-fn tell_once<P: Print>(
-    rt: &P,
-    alloc: Global,
-    program: &Program,
-    labels: &Labels,
-) -> io::Result<()> {
-    let _begin = begin(alloc)?;
+fn tell_once(alloc: Global, out: &mut Transcript, program: &Program, labels: &Labels) {
+    begin(alloc);
     let told = program_account(alloc, program, labels, true);
-    let _end = end(alloc)?;
+    end(alloc);
     match told {
-        Ok(text) => rt.print(text.as_str()),
-        Err(_) => rt.println("no memory"),
+        Ok(text) => out.say_text(text.as_bytes()),
+        Err(_) => out.say(NO_MEMORY),
     }
 }
 
 /// Makes the program `twice`, two times.
-pub(crate) fn twice_twice<P: Print>(rt: &P, alloc: Global) -> io::Result<()> {
-    twice_once(rt, alloc)?;
-    twice_once(rt, alloc)
+pub(crate) fn twice_twice(alloc: Global, out: &mut Transcript) {
+    twice_once(alloc, out);
+    twice_once(alloc, out);
 }
 
 /// Makes the program `twice`.
-fn twice_once<P: Print>(rt: &P, alloc: Global) -> io::Result<()> {
-    let _begin = begin(alloc)?;
+fn twice_once(alloc: Global, out: &mut Transcript) {
+    begin(alloc);
     let made = Program::twice(alloc);
-    let _end = end(alloc)?;
+    end(alloc);
     match made {
-        Ok(program) => println!(rt; "{} reactions", program.reactions().len()),
-        Err(_) => rt.println("no memory"),
+        Ok(program) => out.say(format_args!("{} reactions", program.reactions().len())),
+        Err(_) => out.say(NO_MEMORY),
     }
 }

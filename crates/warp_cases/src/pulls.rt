@@ -4,119 +4,102 @@ ghost use Rattle.std.specs.Prelude.{None};
 ghost use Rattle.warp_step.specs.Counter.{IsUnused};
 ghost use Rattle.warp_record.specs.Reply.{IsReply};
 
-use crate::mark::{begin, end, program_of};
+use crate::mark::{begin, end};
+use crate::programs::replica_of;
 use crate::streams::{
     BYTES, Manner, NOTHING, PieceReader, PieceWriter, WHOLE, failing_read, failing_write,
 };
+use crate::transcript::{NO_MEMORY, Transcript};
 use std::alloc::Global;
-use std::io::{self, ErrorKind, Read};
+use std::io::Read;
 use std::marker::Brand;
 use std::sync::ledger::{Blank, Ledger};
 use std::time::{Clock, Duration};
 use warp_exchange::Desk;
 use warp_line::Timeline;
 use warp_record::{Line, Refusal, Reply};
-use warp_replica::{Local, Replica};
+use warp_replica::Local;
 use warp_session::{Failed, PullEnd, Sink, Source, Stream, pull};
 use warp_tag::Form;
 
 /// Pulls: in large pieces; a byte at a time; with a writer that takes nothing; with a fault of each read and of each
 /// write; and with an end before each byte.
-pub(crate) fn all<T: Timeline + Drop, P: Print + Clock>(
-    rt: &P,
+pub(crate) fn all<T: Timeline, X: Clock>(
+    rt: &X,
     alloc: Global,
+    out: &mut Transcript,
     program: &str,
     replies: &str,
-) -> io::Result<()> {
+) {
     let replies = replies.as_bytes();
-    pull_once::<T, P>(rt, alloc, program, replies, WHOLE)?;
-    pull_once::<T, P>(rt, alloc, program, replies, NOTHING)?;
-    let written = pull_once::<T, P>(rt, alloc, program, replies, BYTES)?;
-    fail_reads::<T, P>(rt, alloc, program, replies)?;
-    end_reads::<T, P>(rt, alloc, program, replies)?;
-    fail_writes::<T, P>(rt, alloc, program, replies, written)
-}
-
-/// Pulls with a fault of each read.
-fn fail_reads<T: Timeline + Drop, P: Print + Clock>(
-    rt: &P,
-    alloc: Global,
-    program: &str,
-    replies: &[u8],
-) -> io::Result<()> {
+    pull_once::<T, X>(rt, alloc, out, program, replies, WHOLE);
+    pull_once::<T, X>(rt, alloc, out, program, replies, NOTHING);
+    let written = pull_once::<T, X>(rt, alloc, out, program, replies, BYTES);
     for sound in 0..=replies.len() {
-        pull_once::<T, P>(rt, alloc, program, replies, failing_read(sound))?;
+        pull_once::<T, X>(rt, alloc, out, program, replies, failing_read(sound));
     }
-    Ok(())
-}
-
-/// Pulls with an end before each byte.
-fn end_reads<T: Timeline + Drop, P: Print + Clock>(
-    rt: &P,
-    alloc: Global,
-    program: &str,
-    replies: &[u8],
-) -> io::Result<()> {
     for count in 0..replies.len() {
-        pull_once::<T, P>(rt, alloc, program, &replies[..count], BYTES)?;
+        pull_once::<T, X>(rt, alloc, out, program, &replies[..count], BYTES);
     }
-    Ok(())
-}
-
-/// Pulls with a fault of each of so many writes.
-fn fail_writes<T: Timeline + Drop, P: Print + Clock>(
-    rt: &P,
-    alloc: Global,
-    program: &str,
-    replies: &[u8],
-    writes: usize,
-) -> io::Result<()> {
-    for sound in 0..writes {
-        pull_once::<T, P>(rt, alloc, program, replies, failing_write(sound))?;
+    for sound in 0..written {
+        pull_once::<T, X>(rt, alloc, out, program, replies, failing_write(sound));
     }
-    Ok(())
 }
 
 /// Pulls, tells what that came to, and answers how many bytes it wrote.
-fn pull_once<T: Timeline + Drop, P: Print + Clock>(
-    rt: &P,
+fn pull_once<T: Timeline, X: Clock>(
+    rt: &X,
     alloc: Global,
+    out: &mut Transcript,
     program: &str,
     replies: &[u8],
     manner: Manner,
-) -> io::Result<usize> {
-    let replica = Replica::<T>::new(alloc, program_of(alloc, program)?)?;
-    pull_to(rt, alloc, &mut Local::new(alloc, replica), replies, manner)
+) -> usize {
+    match replica_of::<T>(alloc, program) {
+        Ok(replica) => {
+            let mut desk = Local::new(alloc, replica);
+            pull_to(rt, alloc, out, &mut desk, replies, manner)
+        }
+        Err(_) => {
+            out.fail("no replica");
+            0
+        }
+    }
 }
 
 /// The same into this desk.
-fn pull_to<T: Timeline, P: Print + Clock>(
-    rt: &P,
+fn pull_to<T: Timeline, X: Clock>(
+    rt: &X,
     alloc: Global,
+    out: &mut Transcript,
     desk: &mut Local<T>,
     replies: &[u8],
     manner: Manner,
-) -> io::Result<usize> {
+) -> usize {
     if manner.read == 0 {
-        return Err(ErrorKind::InvalidInput.into());
+        out.fail("a read of nothing");
+        return 0;
     }
     let reader = PieceReader::new(replies, manner.read, manner.reads);
-    let writer = PieceWriter::new(alloc, 4_096, manner.write, manner.writes)?;
-    let (ended, written) = run(rt, alloc, desk, reader, writer)?;
-    say_end(rt, ended)?;
-    println!(rt; "{} records, {} bytes", desk.replica().len(), written.len())?;
-    Ok(written.len())
+    let Ok(writer) = PieceWriter::new(alloc, 4_096, manner.write, manner.writes) else {
+        out.fail(NO_MEMORY);
+        return 0;
+    };
+    let (ended, written) = run(rt, alloc, desk, reader, writer);
+    say_end(out, ended);
+    out.say(format_args!("{} records, {written} bytes", desk.replica().len()));
+    written
 }
 
-/// How a pull ends, and what it wrote.
-fn run<P: Clock, D: Desk>(
-    rt: &P,
+/// How a pull ends, and how many bytes it wrote.
+fn run<X: Clock, D: Desk>(
+    rt: &X,
     alloc: Global,
     desk: &mut D,
     reader: PieceReader<'_>,
     writer: PieceWriter,
-) -> io::Result<(PullEnd, Vec<u8>)> {
-    run_in::<P, D, Brand, Brand>(
+) -> (PullEnd, usize) {
+    run_in::<X, D, Brand, Brand>(
         rt,
         alloc,
         desk,
@@ -128,38 +111,38 @@ fn run<P: Clock, D: Desk>(
 }
 
 /// The same, until the peer was level once. Its failures are counted in these ledgers.
-fn run_in<P: Clock, D: Desk, L: Ledger, M: Ledger>(
-    rt: &P,
+fn run_in<X: Clock, D: Desk, L: Ledger, M: Ledger>(
+    rt: &X,
     alloc: Global,
     desk: &mut D,
     reader: PieceReader<'_>,
     writer: PieceWriter,
     reads: Blank,
     writes: Blank,
-) -> io::Result<(PullEnd, Vec<u8>)>
+) -> (PullEnd, usize)
     requires reads { IsUnused reads L.name L.parts }
     requires writes { IsUnused writes M.name M.parts }
 {
     let mut source = Stream::<_, L>::new(reader, reads);
     let mut sink = Stream::<_, M>::new(writer, writes);
-    let _begin = begin(alloc)?;
+    begin(alloc);
     let ended = pull(rt, alloc, &mut source, &mut sink, desk, 1, Duration::ZERO);
-    let _end = end(alloc)?;
-    Ok((ended, sink.into_inner().into_written()))
+    end(alloc);
+    (ended, sink.into_inner().into_written().len())
 }
 
 /// Tells how a pull ended.
-fn say_end<P: Print>(rt: &P, ended: PullEnd) -> io::Result<()> {
+fn say_end(out: &mut Transcript, ended: PullEnd) {
     let word = match ended {
         PullEnd::Quiet => "quiet",
         PullEnd::Strange => "strange",
-        PullEnd::Held(refusal) => return println!(rt; "held {}", refusal.number()),
+        PullEnd::Held(refusal) => return out.say(format_args!("held {}", refusal.number())),
         PullEnd::Fault => "fault",
         PullEnd::End => "end",
         PullEnd::TooManyTurns => "too many turns",
-        PullEnd::NoMemory => "no memory",
+        PullEnd::NoMemory => NO_MEMORY,
     };
-    rt.println(word)
+    out.say(word);
 }
 
 /// A desk that has no memory for any line.
@@ -234,28 +217,26 @@ impl Sink for Questions {
 }
 
 /// Pulls from a peer that gives this reply to each question, into a desk that has no memory.
-pub(crate) fn exhausted<P: Print + Clock>(rt: &P, alloc: Global, reply: &str) -> io::Result<()> {
-    let mut source = Endless {
-        reply: reply.as_bytes(),
-    };
+pub(crate) fn exhausted<X: Clock>(rt: &X, alloc: Global, out: &mut Transcript, reply: &str) {
+    let reply = reply.as_bytes();
+    let mut source = Endless { reply };
     let mut sink = Questions {
         bytes: 0,
         firsts: 0,
     };
-    let _begin = begin(alloc)?;
+    let mut desk = WithoutMemory;
+    begin(alloc);
     let ended = pull(
         rt,
         alloc,
         &mut source,
         &mut sink,
-        &mut WithoutMemory,
+        &mut desk,
         1,
         Duration::ZERO,
     );
-    let _end = end(alloc)?;
-    say_end(rt, ended)?;
-    println!(rt;
-        "{} bytes, {} questions for place 1",
-        sink.bytes, sink.firsts
-    )
+    end(alloc);
+    say_end(out, ended);
+    let (bytes, firsts) = (sink.bytes, sink.firsts);
+    out.say(format_args!("{bytes} bytes, {firsts} questions for place 1"));
 }

@@ -10,11 +10,12 @@
 ghost use Rattle.std.specs.Prelude.{◌≡◌, IsTrue};
 ghost use Rattle.warp_step.specs.Counter.{IsUnused};
 
-use crate::lines::{line_of, query_of, record_of, tag_of};
-use crate::mark::{begin, end, program_of, say};
+use crate::lines::{line_of, query_of, record_of, tag_of, word_of};
+use crate::mark::{begin, end};
 use crate::meter::Tally;
+use crate::programs::replica_of;
+use crate::transcript::{NO_MEMORY, Transcript};
 use std::alloc::Global;
-use std::io::{self, ErrorKind};
 use std::marker::Brand;
 use std::mem;
 use std::sync::ledger::{Blank, Ledger};
@@ -26,192 +27,155 @@ use warp_replica::{Replica, Took};
 const MOST_OUTPUTS: usize = 100_000;
 
 /// Makes the calls of the lines over two new replicas of this program.
-pub(crate) fn perform<T: Timeline + Drop, P: Print>(
-    rt: &P,
+pub(crate) fn perform<T: Timeline>(
     alloc: Global,
+    out: &mut Transcript,
     program: &str,
     lines: &str,
-) -> io::Result<()> {
-    let mut one = Replica::<T>::new(alloc, program_of(alloc, program)?)?;
-    let mut other = Replica::<T>::new(alloc, program_of(alloc, program)?)?;
-    make_calls(rt, alloc, &mut one, &mut other, lines)
+) {
+    match replica_of::<T>(alloc, program) {
+        Ok(mut one) => perform_with(alloc, out, &mut one, program, lines),
+        Err(_) => out.fail("no replica"),
+    }
+}
+
+/// The same over this replica and another one.
+fn perform_with<T: Timeline>(
+    alloc: Global,
+    out: &mut Transcript,
+    one: &mut Replica<T>,
+    program: &str,
+    lines: &str,
+) {
+    match replica_of::<T>(alloc, program) {
+        Ok(mut other) => make_calls(alloc, out, one, &mut other, lines),
+        Err(_) => out.fail("no replica"),
+    }
 }
 
 /// Makes the calls of the lines.
-fn make_calls<T: Timeline, P: Print>(
-    rt: &P,
+fn make_calls<T: Timeline>(
     alloc: Global,
+    out: &mut Transcript,
     one: &mut Replica<T>,
     other: &mut Replica<T>,
     lines: &str,
-) -> io::Result<()> {
+) {
     for line in lines.lines() {
-        make_call(rt, alloc, one, other, line)?;
+        make_call(alloc, out, one, other, line);
     }
-    Ok(())
 }
 
 /// Makes the call of a line.
-fn make_call<T: Timeline, P: Print>(
-    rt: &P,
+fn make_call<T: Timeline>(
     alloc: Global,
+    out: &mut Transcript,
     one: &mut Replica<T>,
     other: &mut Replica<T>,
     line: &str,
-) -> io::Result<()> {
-    let (word, rest) = line.split_once(' ').unwrap_or((line, ""));
-    if word == "take" {
-        return take(rt, alloc, one, rest);
+) {
+    let (word, rest) = word_of(line);
+    match word {
+        "take" => take(alloc, out, one, rest),
+        "ask" => ask(alloc, out, one, rest),
+        "settle" => settle(alloc, out, one),
+        "rows" => count_rows(alloc, out, one),
+        "collect" => collect(alloc, out, one),
+        "merge" => merge(alloc, out, one, other),
+        "raise" => raise(alloc, out, one),
+        "exchange" => mem::swap(one, other),
+        "answer" => answer(alloc, out, one, rest),
+        "outputs" => say_outputs(out, one),
+        "length" => out.say(format_args!("length {}", one.len())),
+        "is_settled" => out.say(format_args!("settled {}", one.is_settled())),
+        "behind" => is_behind(out, one, rest),
+        _ => out.fail("no call"),
     }
-    if word == "ask" {
-        return ask(rt, alloc, one, rest);
-    }
-    if word == "settle" {
-        return settle(rt, alloc, one);
-    }
-    if word == "rows" {
-        return count_rows(rt, alloc, one);
-    }
-    if word == "collect" {
-        return collect(rt, alloc, one);
-    }
-    if word == "merge" {
-        return merge(rt, alloc, one, other);
-    }
-    if word == "raise" {
-        return raise(rt, alloc, one);
-    }
-    if word == "exchange" {
-        mem::swap(one, other);
-        return Ok(());
-    }
-    look(rt, alloc, one, word, rest)
 }
 
-/// Looks at the replica as a line asks, which changes nothing.
-fn look<T: Timeline, P: Print>(
-    rt: &P,
-    alloc: Global,
-    replica: &Replica<T>,
-    word: &str,
-    rest: &str,
-) -> io::Result<()> {
-    if word == "answer" {
-        return answer(rt, alloc, replica, rest);
+/// Tells whether a tag is behind what the replica let go of.
+fn is_behind<T: Timeline>(out: &mut Transcript, replica: &Replica<T>, text: &str) {
+    match tag_of(text) {
+        Some(tag) => out.say(format_args!("behind {}", replica.timeline().behind(tag))),
+        None => out.fail("no tag"),
     }
-    if word == "outputs" {
-        return say_outputs(rt, alloc, replica);
-    }
-    if word == "length" {
-        return println!(rt; "length {}", replica.len());
-    }
-    if word == "is_settled" {
-        return println!(rt; "settled {}", replica.is_settled());
-    }
-    if word == "behind" {
-        return println!(rt; "behind {}", replica.timeline().behind(tag_of(rest)?));
-    }
-    Err(ErrorKind::InvalidInput.into())
 }
 
 /// Takes the record that a text spells.
-fn take<T: Timeline, P: Print>(
-    rt: &P,
-    alloc: Global,
-    replica: &mut Replica<T>,
-    text: &str,
-) -> io::Result<()> {
-    let record = record_of(text)?;
-    let _begin = begin(alloc)?;
+fn take<T: Timeline>(alloc: Global, out: &mut Transcript, replica: &mut Replica<T>, text: &str) {
+    let Some(record) = record_of(text) else {
+        return out.fail("no record");
+    };
+    begin(alloc);
     let took = replica.take(alloc, &record);
-    let _end = end(alloc)?;
+    end(alloc);
     match took {
-        Ok(Took::New(place)) => println!(rt; "taken {place}"),
-        Ok(Took::Known(place)) => println!(rt; "known {place}"),
-        Err(refusal) => println!(rt; "refused {}", refusal.number()),
+        Ok(Took::New(place)) => out.say(format_args!("taken {place}")),
+        Ok(Took::Known(place)) => out.say(format_args!("known {place}")),
+        Err(refusal) => out.say(format_args!("refused {}", refusal.number())),
     }
 }
 
 /// Makes the replica the one that is raised from it.
-fn raise<T: Timeline, P: Print>(rt: &P, alloc: Global, replica: &mut Replica<T>) -> io::Result<()> {
-    let _begin = begin(alloc)?;
+fn raise<T: Timeline>(alloc: Global, out: &mut Transcript, replica: &mut Replica<T>) {
+    begin(alloc);
     let raised = replica.raise(alloc);
-    let _end = end(alloc)?;
+    end(alloc);
     match raised {
         Ok(raised) => {
             *replica = raised;
-            rt.println("raised")
+            out.say("raised");
         }
-        Err(refusal) => println!(rt; "refused {}", refusal.number()),
+        Err(refusal) => out.say(format_args!("refused {}", refusal.number())),
     }
 }
 
 /// Answers the line that a text spells.
-fn ask<T: Timeline, P: Print>(
-    rt: &P,
-    alloc: Global,
-    replica: &mut Replica<T>,
-    text: &str,
-) -> io::Result<()> {
-    let line = line_of(text)?;
-    let _begin = begin(alloc)?;
+fn ask<T: Timeline>(alloc: Global, out: &mut Transcript, replica: &mut Replica<T>, text: &str) {
+    let Some(line) = line_of(text) else {
+        return out.fail("no line");
+    };
+    begin(alloc);
     let reply = replica.ask(alloc, line);
-    let _end = end(alloc)?;
-    say(rt, alloc, &reply)
+    end(alloc);
+    out.say_reply(&reply);
 }
 
 /// Answers the query that a text spells, where the replica is settled.
-fn answer<T: Timeline, P: Print>(
-    rt: &P,
-    alloc: Global,
-    replica: &Replica<T>,
-    text: &str,
-) -> io::Result<()> {
-    let Some(query) = query_of(&line_of(text)?) else {
-        return Err(ErrorKind::InvalidInput.into());
+fn answer<T: Timeline>(alloc: Global, out: &mut Transcript, replica: &Replica<T>, text: &str) {
+    let Some(query) = query_of(text) else {
+        return out.fail("no query");
     };
     if !replica.is_settled() {
-        return rt.println("not settled");
+        return out.say("not settled");
     }
-    let _begin = begin(alloc)?;
+    begin(alloc);
     let reply = replica.answer(query);
-    let _end = end(alloc)?;
-    say(rt, alloc, &reply)
+    end(alloc);
+    out.say_reply(&reply);
 }
 
 /// Settles.
-fn settle<T: Timeline, P: Print>(
-    rt: &P,
-    alloc: Global,
-    replica: &mut Replica<T>,
-) -> io::Result<()> {
-    let _begin = begin(alloc)?;
+fn settle<T: Timeline>(alloc: Global, out: &mut Transcript, replica: &mut Replica<T>) {
+    begin(alloc);
     let settled = replica.settle_uncounted(alloc);
-    let _end = end(alloc)?;
-    match settled {
-        Ok(()) => rt.println("settled"),
-        Err(_) => rt.println("no memory"),
-    }
+    end(alloc);
+    out.say(if settled.is_ok() {
+        "settled"
+    } else {
+        NO_MEMORY
+    });
 }
 
 /// Settles, and tells how many rows that executed.
-fn count_rows<T: Timeline, P: Print>(
-    rt: &P,
-    alloc: Global,
-    replica: &mut Replica<T>,
-) -> io::Result<()> {
-    match rows_executed(alloc, replica) {
-        Some(count) => println!(rt; "{count} rows"),
-        None => rt.println("no memory"),
+fn count_rows<T: Timeline>(alloc: Global, out: &mut Transcript, replica: &mut Replica<T>) {
+    match rows_in::<T, Brand>(alloc, replica, Blank::new(1)) {
+        Some(count) => out.say(format_args!("{count} rows")),
+        None => out.say(NO_MEMORY),
     }
 }
 
-/// Settles; how many rows that executed, where there was memory for it.
-fn rows_executed<T: Timeline>(alloc: Global, replica: &mut Replica<T>) -> Option<u64> {
-    rows_in::<T, Brand>(alloc, replica, Blank::new(1))
-}
-
-/// The same. The rows are counted in this ledger.
+/// Settles; how many rows that executed, where there was memory for it. They are counted in this ledger.
 fn rows_in<T: Timeline, L: Ledger>(
     alloc: Global,
     replica: &mut Replica<T>,
@@ -227,60 +191,49 @@ fn rows_in<T: Timeline, L: Ledger>(
 }
 
 /// Tells all outputs, where the replica is settled, and that there are no more.
-fn say_outputs<T: Timeline, P: Print>(
-    rt: &P,
-    alloc: Global,
-    replica: &Replica<T>,
-) -> io::Result<()> {
+fn say_outputs<T: Timeline>(out: &mut Transcript, replica: &Replica<T>) {
     if !replica.is_settled() {
-        return rt.println("not settled");
+        return out.say("not settled");
     }
     let count = replica.timeline().outputs().len();
     if count > MOST_OUTPUTS {
-        return rt.println("too many outputs");
+        return out.say("too many outputs");
     }
     for number in 0..=count {
-        say(rt, alloc, &replica.answer(Query::Output(number as u32)))?;
+        out.say_reply(&replica.answer(Query::Output(number as u32)));
     }
-    Ok(())
 }
 
 /// Collects, where the replica is settled.
-fn collect<T: Timeline, P: Print>(
-    rt: &P,
-    alloc: Global,
-    replica: &mut Replica<T>,
-) -> io::Result<()> {
+fn collect<T: Timeline>(alloc: Global, out: &mut Transcript, replica: &mut Replica<T>) {
     if !replica.is_settled() {
-        return rt.println("not settled");
+        return out.say("not settled");
     }
-    let _begin = begin(alloc)?;
+    begin(alloc);
     let reply = replica.collect();
-    let _end = end(alloc)?;
-    say(rt, alloc, &reply)
+    end(alloc);
+    out.say_reply(&reply);
 }
 
 /// Takes what the other has, where both run one program.
-fn merge<T: Timeline, P: Print>(
-    rt: &P,
+fn merge<T: Timeline>(
     alloc: Global,
+    out: &mut Transcript,
     replica: &mut Replica<T>,
     other: &Replica<T>,
-) -> io::Result<()> {
+) {
     if !replica.same_program(other) {
-        return rt.println("another program");
+        return out.say("another program");
     }
-    let _begin = begin(alloc)?;
+    begin(alloc);
     let merged = replica.merge(alloc, other);
-    let _end = end(alloc)?;
+    end(alloc);
+    let length = replica.len();
     match merged {
-        Ok(count) => println!(rt; "merged {count} into {}", replica.len()),
+        Ok(count) => out.say(format_args!("merged {count} into {length}")),
         Err((count, refusal)) => {
-            println!(rt;
-                "refused {} after {count} into {}",
-                refusal.number(),
-                replica.len()
-            )
+            let number = refusal.number();
+            out.say(format_args!("refused {number} after {count} into {length}"));
         }
     }
 }

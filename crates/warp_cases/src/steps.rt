@@ -14,9 +14,10 @@ ghost use Rattle.warp_step.specs.Snapshot.{IsStateOf};
 ghost use Rattle.warp_step.specs.Step.{AreInputs};
 
 use crate::lines::record_of;
-use crate::mark::{begin, end, program_of, say_made};
+use crate::mark::{begin, end};
+use crate::programs::program_of;
+use crate::transcript::{NO_MEMORY, Transcript, outcome};
 use std::alloc::Global;
-use std::io::{self, ErrorKind};
 use std::marker::Brand;
 use std::str;
 use std::sync::ledger::{Blank, Ledger};
@@ -26,171 +27,192 @@ use warp_step::{Given, Meter, Out, Program, Scratch, State, Waiting, step};
 use warp_tag::Tag;
 
 /// Makes the calls of the lines over a new state of this program.
-pub(crate) fn perform<P: Print>(
-    rt: &P,
-    alloc: Global,
-    program: &str,
-    lines: &str,
-) -> io::Result<()> {
-    let program = program_of(alloc, program)?;
-    perform_in::<P, Brand>(rt, alloc, &program, lines.as_bytes(), Blank::new(1))
+pub(crate) fn perform(alloc: Global, out: &mut Transcript, program: &str, lines: &str) {
+    match program_of(alloc, program) {
+        Ok(program) => {
+            perform_in::<Brand>(alloc, out, &program, lines.as_bytes(), Blank::new(1));
+        }
+        Err(_) => out.fail("no program"),
+    }
 }
 
 /// The same, of the lines of this text. Steps are counted in this ledger.
-fn perform_in<P: Print, L: Ledger>(
-    rt: &P,
+fn perform_in<L: Ledger>(
     alloc: Global,
+    out: &mut Transcript,
     program: &Program,
     text: &[u8],
     blank: Blank,
-) -> io::Result<()>
+)
     requires { IsUnused blank L.name L.parts }
 {
-    let Ok(lines) = str::from_utf8(text) else {
-        return Err(ErrorKind::InvalidData.into());
-    };
     let mut meter = Idle::<L>::new(blank);
-    let mut state = State::start(alloc, program)?;
-    let mut scratch = Scratch::new(alloc, program)?;
+    let Ok(mut state) = State::start(alloc, program) else {
+        return out.fail(NO_MEMORY);
+    };
+    let Ok(mut scratch) = Scratch::new(alloc, program) else {
+        return out.fail(NO_MEMORY);
+    };
+    make_calls(
+        alloc,
+        out,
+        program,
+        &mut state,
+        &mut scratch,
+        &mut meter,
+        text,
+    );
+}
+
+/// Makes the calls of the lines of a text.
+fn make_calls<M: Meter>(
+    alloc: Global,
+    out: &mut Transcript,
+    program: &Program,
+    state: &mut State,
+    scratch: &mut Scratch,
+    meter: &mut M,
+    text: &[u8],
+)
+    requires state { IsStateOf program.now state.old }
+    requires scratch { IsRoomOf program.now scratch.old }
+{
+    let Ok(lines) = str::from_utf8(text) else {
+        return out.fail("no text");
+    };
     for line in lines.lines() {
-        make_call(
-            rt,
-            alloc,
-            program,
-            &mut state,
-            &mut scratch,
-            &mut meter,
-            line,
-        )?;
+        make_call(alloc, out, program, state, scratch, meter, line);
     }
-    Ok(())
 }
 
 /// Makes the call of a line.
-fn make_call<P: Print, M: Meter>(
-    rt: &P,
+fn make_call<M: Meter>(
     alloc: Global,
+    out: &mut Transcript,
     program: &Program,
     state: &mut State,
     scratch: &mut Scratch,
     meter: &mut M,
     line: &str,
-) -> io::Result<()>
+)
     requires state { IsStateOf program.now state.old }
     requires scratch { IsRoomOf program.now scratch.old }
     ensures state { IsStateOf program.now state.new }
     ensures scratch { IsRoomOf program.now scratch.new }
 {
     if line == "state" {
-        return make_state(rt, alloc, program);
+        return make_state(alloc, out, program);
     }
     if line == "scratch" {
-        return make_scratch(rt, alloc, program);
+        return make_scratch(alloc, out, program);
     }
     if line == "copy" {
-        return copy(rt, alloc, state);
+        return copy(alloc, out, state);
     }
     if line == "pending" {
-        return say_pending(rt, state.pending());
+        return say_pending(out, state.pending());
     }
     if line == "same" {
-        return say_same(rt, alloc, state);
+        return say_same(alloc, out, state);
     }
     if line == "next" {
-        return step_next(rt, alloc, program, state, scratch, meter);
+        return step_next(alloc, out, program, state, scratch, meter);
     }
-    step_with(rt, alloc, program, state, scratch, meter, line)
+    step_with(alloc, out, program, state, scratch, meter, line);
 }
 
 /// Makes another state.
-fn make_state<P: Print>(rt: &P, alloc: Global, program: &Program) -> io::Result<()> {
-    let _begin = begin(alloc)?;
+fn make_state(alloc: Global, out: &mut Transcript, program: &Program) {
+    begin(alloc);
     let made = State::start(alloc, program);
-    let _end = end(alloc)?;
-    say_made(rt, made.is_ok())
+    end(alloc);
+    out.say(outcome(made.is_ok()));
 }
 
 /// Makes another scratch.
-fn make_scratch<P: Print>(rt: &P, alloc: Global, program: &Program) -> io::Result<()> {
-    let _begin = begin(alloc)?;
+fn make_scratch(alloc: Global, out: &mut Transcript, program: &Program) {
+    begin(alloc);
     let made = Scratch::new(alloc, program);
-    let _end = end(alloc)?;
-    say_made(rt, made.is_ok())
+    end(alloc);
+    out.say(outcome(made.is_ok()));
 }
 
 /// Copies the state, and tells the variables of the copy.
-fn copy<P: Print>(rt: &P, alloc: Global, state: &State) -> io::Result<()> {
-    let _begin = begin(alloc)?;
+fn copy(alloc: Global, out: &mut Transcript, state: &State) {
+    begin(alloc);
     let copy = state.copy(alloc);
-    let _end = end(alloc)?;
+    end(alloc);
     match copy {
-        Ok(copy) => say_state(rt, &copy),
-        Err(_) => rt.println("no memory"),
+        Ok(copy) => say_state(out, &copy),
+        Err(_) => out.say(NO_MEMORY),
     }
 }
 
 /// Steps at the least tag of what is pending.
-fn step_next<P: Print, M: Meter>(
-    rt: &P,
+fn step_next<M: Meter>(
     alloc: Global,
+    out: &mut Transcript,
     program: &Program,
     state: &mut State,
     scratch: &mut Scratch,
     meter: &mut M,
-) -> io::Result<()>
+)
     requires state { IsStateOf program.now state.old }
     requires scratch { IsRoomOf program.now scratch.old }
     ensures state { IsStateOf program.now state.new }
     ensures scratch { IsRoomOf program.now scratch.new }
 {
     match state.next() {
-        Some(tag) => step_at(rt, alloc, program, state, scratch, meter, tag, &[]),
-        None => rt.println("nothing is pending"),
+        Some(tag) => step_at(alloc, out, program, state, scratch, meter, tag, &[]),
+        None => out.say("nothing is pending"),
     }
 }
 
 /// Steps at the tag of an event, with its value given.
-fn step_with<P: Print, M: Meter>(
-    rt: &P,
+fn step_with<M: Meter>(
     alloc: Global,
+    out: &mut Transcript,
     program: &Program,
     state: &mut State,
     scratch: &mut Scratch,
     meter: &mut M,
     text: &str,
-) -> io::Result<()>
+)
     requires state { IsStateOf program.now state.old }
     requires scratch { IsRoomOf program.now scratch.old }
     ensures state { IsStateOf program.now state.new }
     ensures scratch { IsRoomOf program.now scratch.new }
 {
+    let Some(record) = record_of(text) else {
+        return out.fail("no record");
+    };
     let Record::Event {
         tag,
         input,
         value,
         ..
-    } = record_of(text)?
+    } = record
     else {
-        return Err(ErrorKind::InvalidInput.into());
+        return out.fail("no event");
     };
     if input as usize >= program.inputs().len() {
-        return Err(ErrorKind::InvalidInput.into());
+        return out.fail("no input");
     }
     let given = Given { input, value };
-    step_at(rt, alloc, program, state, scratch, meter, tag, &[given])
+    step_at(alloc, out, program, state, scratch, meter, tag, &[given]);
 }
 
 /// Steps at a tag with what is given there, where the program may.
-fn step_at<P: Print, M: Meter>(
-    rt: &P,
+fn step_at<M: Meter>(
     alloc: Global,
+    out: &mut Transcript,
     program: &Program,
     state: &mut State,
     scratch: &mut Scratch,
     meter: &mut M,
     tag: Tag,
     given: &[Given],
-) -> io::Result<()>
+)
     requires state { IsStateOf program.now state.old }
     requires scratch { IsRoomOf program.now scratch.old }
     requires inputs { AreInputs program.now given.now }
@@ -202,69 +224,78 @@ fn step_at<P: Print, M: Meter>(
     let is_next = none_before(state.pending(), tag);
     let is_some = !given.is_empty() || one_at(state.pending(), tag);
     if !is_in_time || !has_microstep || !is_next || !is_some {
-        return rt.println("no step");
+        return out.say("no step");
     }
-    let mut out = Vec::with_capacity(alloc, program.outputs().len())?;
-    let _begin = begin(alloc)?;
-    step(program, state, scratch, tag, given, &mut out, meter);
-    let _end = end(alloc)?;
-    println!(rt; "at {} {}", tag.time(), tag.micro())?;
-    say_outputs(rt, &out)?;
-    say_state(rt, state)
+    let Ok(mut outputs) = Vec::with_capacity(alloc, program.outputs().len()) else {
+        return out.fail(NO_MEMORY);
+    };
+    begin(alloc);
+    step(program, state, scratch, tag, given, &mut outputs, meter);
+    end(alloc);
+    say_outputs(out, tag, &outputs);
+    say_state(out, state);
 }
 
 /// Whether no entry is pending before a tag.
 fn none_before(pending: &[Waiting], tag: Tag) -> bool
     ensures { result ≡ list_all (λ w. not (is_before w.tag tag)) pending.now }
 {
-    pending.iter().all(|waiting| !waiting.tag.is_before(tag))
+    for waiting in pending {
+        if waiting.tag.is_before(tag) {
+            return false;
+        }
+    }
+    true
 }
 
 /// Whether an entry is pending at a tag.
 fn one_at(pending: &[Waiting], tag: Tag) -> bool
     ensures { result ≡ list_any (λ w. is_same w.tag tag) pending.now }
 {
-    pending.iter().any(|waiting| waiting.tag.is_same(tag))
+    for waiting in pending {
+        if waiting.tag.is_same(tag) {
+            return true;
+        }
+    }
+    false
 }
 
-/// Tells the outputs of a step.
-fn say_outputs<P: Print>(rt: &P, outputs: &[Out]) -> io::Result<()> {
+/// Tells the tag and the outputs of a step.
+fn say_outputs(out: &mut Transcript, tag: Tag, outputs: &[Out]) {
+    out.say(format_args!("at {} {}", tag.time(), tag.micro()));
     for output in outputs {
-        println!(rt; "output {} {}", output.port, output.value)?;
+        out.say(format_args!("output {} {}", output.port, output.value));
     }
-    Ok(())
 }
 
 /// Tells the variables of a state, how many entries are pending, and how many were lost.
-fn say_state<P: Print>(rt: &P, state: &State) -> io::Result<()> {
+fn say_state(out: &mut Transcript, state: &State) {
     for value in state.vars() {
-        println!(rt; "variable {value}")?;
+        out.say(format_args!("variable {value}"));
     }
-    println!(rt; "{} pending, {} lost", state.pending().len(), state.lost())
+    let (pending, lost) = (state.pending().len(), state.lost());
+    out.say(format_args!("{pending} pending, {lost} lost"));
 }
 
 /// Tells what is pending.
-fn say_pending<P: Print>(rt: &P, pending: &[Waiting]) -> io::Result<()> {
+fn say_pending(out: &mut Transcript, pending: &[Waiting]) {
     for waiting in pending {
-        println!(rt;
-            "at {} {}: {:?}, {}",
-            waiting.tag.time(),
-            waiting.tag.micro(),
-            waiting.target,
-            waiting.value
-        )?;
+        let (time, micro) = (waiting.tag.time(), waiting.tag.micro());
+        let (target, value) = (waiting.target, waiting.value);
+        out.say(format_args!("at {time} {micro}: {target:?}, {value}"));
     }
-    Ok(())
 }
 
 /// Tells whether a state and its copy are the one of its parts, and whether it is one with another part.
-fn say_same<P: Print>(rt: &P, alloc: Global, state: &State) -> io::Result<()> {
-    let copy = state.copy(alloc)?;
+fn say_same(alloc: Global, out: &mut Transcript, state: &State) {
+    let Ok(copy) = state.copy(alloc) else {
+        return out.fail(NO_MEMORY);
+    };
     let (vars, pending, lost) = (state.vars(), state.pending(), state.lost());
     let is_same = state.is_same_as(vars, pending, lost);
     let copied = copy.is_same_as(vars, pending, lost);
     let is_other = is_another(state, vars, pending, lost);
-    println!(rt; "the same {is_same}, copied {copied}, another {is_other}")
+    out.say(format_args!("the same {is_same}, copied {copied}, another {is_other}"));
 }
 
 /// Whether a state is one without variables, with another entry, or with another count of the lost.

@@ -1,7 +1,7 @@
 //! Readers and writers over memory: they cut their bytes into pieces, and can fail once, or take nothing.
 ghost use Rattle.std.specs.Prelude.{◌≡◌, ◌↔◌, ◌<◌, IsTrue, Some, option_and_then};
 
-use crate::lines::number_of;
+use crate::lines::{number_of, word_of};
 use std::alloc::{AllocError, Global};
 use std::io::{self, ErrorKind, Read, Write};
 
@@ -92,7 +92,10 @@ fn is_due(sound: &mut Option<u64>) -> bool
     ensures { IsTrue result ↔ (sound.old ≡ Some 0) }
 {
     let due = *sound == Some(0);
-    *sound = sound.and_then(|calls| calls.checked_sub(1));
+    *sound = match *sound {
+        Some(calls) => calls.checked_sub(1),
+        None => None,
+    };
     due
 }
 
@@ -142,22 +145,19 @@ pub(crate) fn failing_write(sound: usize) -> Manner {
 
 /// The manner of a text: how many bytes are read and written at a time, and after how many good ones a read and a write
 /// fail.
-pub(crate) fn manner_of(text: &str) -> io::Result<Manner> {
-    let (read, rest) = text.split_once(' ').unwrap_or((text, ""));
-    let (write, rest) = rest.split_once(' ').unwrap_or((rest, ""));
-    let (reads, writes) = rest.split_once(' ').unwrap_or((rest, ""));
-    Ok(Manner {
+pub(crate) fn manner_of(text: &str) -> Option<Manner> {
+    let (read, rest) = word_of(text);
+    let (write, rest) = word_of(rest);
+    let (reads, writes) = word_of(rest);
+    Some(Manner {
         read: number_of(read)? as usize,
         write: number_of(write)? as usize,
-        reads: sound_of(reads)?,
-        writes: sound_of(writes)?,
+        reads: sound_of(reads),
+        writes: sound_of(writes),
     })
 }
 
-/// After how many good calls one fails: a number, or `-` where none does.
-pub(crate) fn sound_of(text: &str) -> io::Result<Option<u64>> {
-    if text == "-" {
-        return Ok(None);
-    }
-    Ok(Some(u64::from(number_of(text)?)))
+/// After how many good calls one fails: none does where the text, as `-`, is no number.
+pub(crate) fn sound_of(text: &str) -> Option<u64> {
+    Some(u64::from(number_of(text)?))
 }

@@ -16,9 +16,10 @@ ghost use Rattle.warp_tag.specs.Limits.{most_names};
 ghost use Rattle.warp_cases.specs.Timelines.{StandsFew};
 
 use crate::lines::{record_of, tag_of};
-use crate::mark::{begin, end, program_of, say_made};
+use crate::mark::{begin, end};
+use crate::programs::program_of;
+use crate::transcript::{NO_MEMORY, Transcript, outcome};
 use std::alloc::Global;
-use std::io::{self, ErrorKind};
 use std::marker::Brand;
 use std::sync::ledger::{Blank, Ledger};
 use warp_line::Timeline;
@@ -31,113 +32,125 @@ use warp_table::Table;
 const MOST: u32 = 1_000;
 
 /// Makes the calls of the lines over a new timeline of this program.
-pub(crate) fn perform<T: Timeline + Drop, P: Print>(
-    rt: &P,
+pub(crate) fn perform<T: Timeline>(
     alloc: Global,
+    out: &mut Transcript,
     program: &str,
     lines: &str,
-) -> io::Result<()> {
-    let program = program_of(alloc, program)?;
-    let mut timeline = T::start(alloc, &program)?;
-    make_calls(rt, alloc, &program, &mut timeline, lines)
+) {
+    match program_of(alloc, program) {
+        Ok(program) => perform_in::<T>(alloc, out, &program, lines),
+        Err(_) => out.fail("no program"),
+    }
+}
+
+/// The same of a program that is loaded.
+fn perform_in<T: Timeline>(alloc: Global, out: &mut Transcript, program: &Program, lines: &str) {
+    match T::start(alloc, program) {
+        Ok(mut timeline) => make_calls(alloc, out, program, &mut timeline, lines),
+        Err(_) => out.fail(NO_MEMORY),
+    }
 }
 
 /// Makes the calls of the lines.
-fn make_calls<T: Timeline + Drop, P: Print>(
-    rt: &P,
+fn make_calls<T: Timeline>(
     alloc: Global,
+    out: &mut Transcript,
     program: &Program,
     timeline: &mut T,
     lines: &str,
-) -> io::Result<()>
+)
     requires { StandsFew T.stands_for timeline.old program.now 0 }
 {
     let mut calls = 0;
     for line in lines.lines() {
         if calls >= MOST {
-            return Err(ErrorKind::InvalidInput.into());
+            return out.fail("too many lines");
         }
-        make_call(rt, alloc, program, timeline, calls, line)?;
+        make_call(alloc, out, program, timeline, calls, line);
         calls += 1;
     }
-    Ok(())
 }
 
 /// Makes the call of a line, behind so many others.
 #[tactic(auto, using(crate::proofs::TimelineLemmas::still, crate::proofs::TimelineLemmas::kept, crate::proofs::TimelineLemmas::room, crate::proofs::TimelineLemmas::named, crate::proofs::TimelineLemmas::both))]
-fn make_call<T: Timeline + Drop, P: Print>(
-    rt: &P,
+fn make_call<T: Timeline>(
     alloc: Global,
+    out: &mut Transcript,
     program: &Program,
     timeline: &mut T,
     calls: u32,
     line: &str,
-) -> io::Result<()>
+)
     requires few { StandsFew T.stands_for timeline.old program.now calls }
     requires calls { calls < 1000 }
     ensures { StandsFew T.stands_for timeline.new program.now (calls + 1) }
 {
     if line == "start" {
-        return start::<T, P>(rt, alloc, program);
+        return start::<T>(alloc, out, program);
     }
     if line == "prepare" {
-        return prepare(rt, alloc, timeline);
+        return prepare(alloc, out, timeline);
     }
     if line == "settle" {
-        return settle(rt, alloc, program, timeline);
+        return settle(alloc, out, program, timeline);
     }
     if line == "total" {
-        return total(rt, timeline);
+        return total(out, timeline);
     }
     match line.strip_prefix("collect ") {
-        Some(text) => collect(rt, alloc, timeline, text),
-        None => take(rt, alloc, program, timeline, line),
+        Some(text) => collect(alloc, out, timeline, text),
+        None => take(alloc, out, program, timeline, line),
     }
 }
 
 /// Makes another timeline.
-fn start<T: Timeline + Drop, P: Print>(rt: &P, alloc: Global, program: &Program) -> io::Result<()> {
-    let _begin = begin(alloc)?;
+fn start<T: Timeline>(alloc: Global, out: &mut Transcript, program: &Program) {
+    begin(alloc);
     let made = T::start(alloc, program);
-    let _end = end(alloc)?;
-    say_made(rt, made.is_ok())
+    end(alloc);
+    out.say(outcome(made.is_ok()));
 }
 
 /// Makes room for one name more.
-fn prepare<T: Timeline, P: Print>(rt: &P, alloc: Global, timeline: &mut T) -> io::Result<()>
+fn prepare<T: Timeline>(alloc: Global, out: &mut Transcript, timeline: &mut T)
     requires { (m : Standing) × T.stands_for timeline.old m × (length m.table < most_names) }
     ensures { (m : Standing) → T.stands_for timeline.old m → T.stands_for timeline.new m }
 {
-    let _begin = begin(alloc)?;
+    begin(alloc);
     let prepared = timeline.prepare(alloc);
-    let _end = end(alloc)?;
-    say_made(rt, prepared.is_ok())
+    end(alloc);
+    out.say(outcome(prepared.is_ok()));
 }
 
 /// Puts the record of a line, where the program has no reason against it and it is not behind.
 #[tactic(auto, using(crate::proofs::TimelineLemmas::still, crate::proofs::TimelineLemmas::kept, crate::proofs::TimelineLemmas::named))]
-fn take<T: Timeline, P: Print>(
-    rt: &P,
+fn take<T: Timeline>(
     alloc: Global,
+    out: &mut Transcript,
     program: &Program,
     timeline: &mut T,
     text: &str,
-) -> io::Result<()>
+)
     requires { (m : Standing) × T.stands_for timeline.old m × (length m.table < most_names)
         × (m.program ≡ program.now) }
     ensures { (calls : ℕ) → StandsFew T.stands_for timeline.old program.now calls →
         StandsFew T.stands_for timeline.new program.now (calls + 1) }
 {
-    let record = record_of(text)?;
+    let Some(record) = record_of(text) else {
+        return out.fail("no record");
+    };
     if Table::check(program, &record).is_err() || comes_behind(timeline, &record) {
-        return rt.println("not put");
+        return out.say("not put");
     }
     // Where room was made before, this asks for none.
-    timeline.prepare(alloc)?;
-    let _begin = begin(alloc)?;
+    if timeline.prepare(alloc).is_err() {
+        return out.fail(NO_MEMORY);
+    }
+    begin(alloc);
     enter(program, timeline, &record);
-    let _end = end(alloc)?;
-    rt.println("put")
+    end(alloc);
+    out.say("put");
 }
 
 /// `put` of a record that this program, which is the timeline's, has no reason against.
@@ -185,36 +198,18 @@ fn put<T: Timeline>(timeline: &mut T, record: &Record)
 }
 
 /// Settles.
-fn settle<T: Timeline, P: Print>(
-    rt: &P,
-    alloc: Global,
-    program: &Program,
-    timeline: &mut T,
-) -> io::Result<()>
+fn settle<T: Timeline>(alloc: Global, out: &mut Transcript, program: &Program, timeline: &mut T)
     requires { (m : Standing) × T.stands_for timeline.old m × (m.program ≡ program.now) }
     ensures { (calls : ℕ) → StandsFew T.stands_for timeline.old program.now calls →
         StandsFew T.stands_for timeline.new program.now calls }
 {
-    let _begin = begin(alloc)?;
-    let is_settled = settle_once(alloc, program, timeline);
-    let _end = end(alloc)?;
-    if is_settled {
-        rt.println("settled")
-    } else {
-        rt.println("no memory")
-    }
+    begin(alloc);
+    let is_settled = settle_in::<T, Brand>(alloc, program, timeline, Blank::new(1));
+    end(alloc);
+    out.say(if is_settled { "settled" } else { NO_MEMORY });
 }
 
-/// Settles; whether there was memory for it.
-fn settle_once<T: Timeline>(alloc: Global, program: &Program, timeline: &mut T) -> bool
-    requires { (m : Standing) × T.stands_for timeline.old m × (m.program ≡ program.now) }
-    ensures { (calls : ℕ) → StandsFew T.stands_for timeline.old program.now calls →
-        StandsFew T.stands_for timeline.new program.now calls }
-{
-    settle_in::<T, Brand>(alloc, program, timeline, Blank::new(1))
-}
-
-/// The same. Its ticks are counted in this ledger.
+/// Settles; whether there was memory for it. Its ticks are counted in this ledger.
 fn settle_in<T: Timeline, L: Ledger>(
     alloc: Global,
     program: &Program,
@@ -231,32 +226,29 @@ fn settle_in<T: Timeline, L: Ledger>(
 }
 
 /// Collects what is before a tag, where the timeline is settled.
-fn collect<T: Timeline, P: Print>(
-    rt: &P,
-    alloc: Global,
-    timeline: &mut T,
-    text: &str,
-) -> io::Result<()>
+fn collect<T: Timeline>(alloc: Global, out: &mut Transcript, timeline: &mut T, text: &str)
     ensures { (m : Standing) → T.stands_for timeline.old m → T.stands_for timeline.new m }
 {
-    let tag = tag_of(text)?;
+    let Some(tag) = tag_of(text) else {
+        return out.fail("no tag");
+    };
     if !timeline.is_settled() {
-        return rt.println("not settled");
+        return out.say("not settled");
     }
-    let _begin = begin(alloc)?;
+    begin(alloc);
     timeline.collect(tag);
-    let _end = end(alloc)?;
-    rt.println("collected")
+    end(alloc);
+    out.say("collected");
 }
 
 /// Tells the first variable, and how many outputs there are, where the timeline is settled.
-fn total<T: Timeline, P: Print>(rt: &P, timeline: &T) -> io::Result<()> {
+fn total<T: Timeline>(out: &mut Transcript, timeline: &T) {
     if !timeline.is_settled() {
-        return rt.println("not settled");
+        return out.say("not settled");
     }
     let count = timeline.outputs().len();
     match timeline.state().vars().first() {
-        Some(value) => println!(rt; "total {value}, {count} outputs"),
-        None => println!(rt; "{count} outputs"),
+        Some(value) => out.say(format_args!("total {value}, {count} outputs")),
+        None => out.say(format_args!("{count} outputs")),
     }
 }

@@ -3,4 +3,4 @@ use Rattle.warp_arena.specs.Places.{Reaches}
 use Rattle.warp_cases.proofs.arenas.walk.Given as goal
 
 abbrev pub invariant-loop : goal.invariant-loop
-invariant-loop g l = Reaches l.arena.places (drop l.counter l.arena.places) l.at
+invariant-loop l = Reaches l.arena.places (drop l.counter l.arena.places) l.at

@@ -2,4 +2,4 @@
 use Rattle.warp_cases.proofs.steps.perform.Given as goal
 
 abbrev pub ghosts-perform_in : goal.ghosts-perform_in
-ghosts-perform_in g a = record { name = a.blank.name; parts = a.blank.parts }
+ghosts-perform_in a = record { name = a.blank.name; parts = a.blank.parts }
