@@ -1,14 +1,46 @@
-use Rattle.std.proofs.Common.{◌≡◌, ◌<◌, ◌∙◌, refl, ap, subst, sym, Some, length}
+use Rattle.std.proofs.Common.{◌≡◌, ℕ, ◌<◌, ◌∙◌, refl, ap, subst, sym, List, Some, length, get_or, arith}
 use Rattle.std.specs.Prelude.{slice_get}
+use Rattle.std.proofs.lemmas.List.{set-get_or}
 use Rattle.std.proofs.lemmas.Option.{slice_get-get_or}
 use Rattle.std.proofs.Math.ListN.{set}
 use Rattle.warp_step.proofs.ValidLemmas.{validity}
-use Rattle.warp_lanes.specs.Engine.{facts_of, ids_of}
+use Rattle.warp_table.proofs.NamesInOrder.{on_err}
+use Rattle.warp_lanes.specs.Engine.{EngineState, facts_of, ids_of}
 use Rattle.warp_lanes.specs.History.{IsHistory, IsServed}
 use Rattle.warp_lanes.specs.Lanes.{LaneState}
 use Rattle.warp_lanes.proofs.DrainedLanes.{counted, id_there, ids_within, lines_board, lines_history, lines_program}
 use Rattle.warp_lanes.proofs.Serving.{at_place, same_ids}
 use Rattle.warp_lanes.proofs.engine.Engine.drain.Goals as goal
+
+-- a lane that is put back as it was leaves the lanes
+left_alone : {X : Type 0} (xs : List X) (k : ℕ) (new old default : X) → new ≡ old → old ≡ get_or xs k default → set xs k new ≡ xs
+left_alone xs k new old default same value = ap (λ x. set xs k x) (same ∙ value) ∙ set-get_or xs k default
+
+pub index_mut-requires : goal.index_mut-requires
+index_mut-requires g c =
+    let id : slice_get (ids_of c.self.inside.lanes.items) c.args.lane ≡ Some c.args.end.lane = rw (ap (λ e. e.lanes) c.self.view_is) c.requires in
+    let short : c.args.lane < length c.self.inside.lanes.items = ids_within _ _ _ id in
+    omega (arith, c.self.inside.lanes.ok.0)
+
+pub returns-in_err-handed-clause-err : goal.returns-in_err-handed-clause-err
+returns-in_err-handed-clause-err g c =
+    let same = c.in_err-handed.ensures.err in
+    let lanes = left_alone c.self.inside.lanes.items c.args.lane _ _ _ same.1 c.index_mut.ensures.value in
+    let engine : EngineState _ = record { replica = c.drain.new.replica; lanes = set c.self.inside.lanes.items c.args.lane c.drain.new.lane; writer = c.self.inside.writer; began = c.self.inside.began } in
+    let before : EngineState _ = record { replica = c.self.inside.replica; lanes = c.self.inside.lanes.items; writer = c.self.inside.writer; began = c.self.inside.began } in
+    let stays : engine ≡ before = λ i. record { replica = same.0 i; lanes = lanes i; writer = c.self.inside.writer; began = c.self.inside.began } in
+    on_err _ (stays ∙ c.self.view_is)
+
+pub returns-in_err-handed-clause-ids : goal.returns-in_err-handed-clause-ids
+returns-in_err-handed-clause-ids g c =
+    ap ids_of (left_alone c.self.inside.lanes.items c.args.lane _ _ _ c.in_err-handed.ensures.err.1 c.index_mut.ensures.value
+    ∙ ap (λ e. e.lanes) c.self.view_is)
+
+pub invariant_of-self : goal.invariant_of-self
+invariant_of-self g c =
+    let same = c.in_err-handed.ensures.err in
+    let lanes = left_alone c.self.inside.lanes.items c.args.lane _ _ _ same.1 c.index_mut.ensures.value in
+    rw (same.0, lanes) c.self.invariant
 
 pub drain-requires-clause-lane : goal.drain-requires-clause-lane
 drain-requires-clause-lane g c =

@@ -1,4 +1,4 @@
-use Rattle.std.proofs.Common.{◌≡◌, ◌-◌, false, List, None, refl, sym, ap, subst, ◌∙◌, length, arith}
+use Rattle.std.proofs.Common.{◌≡◌, ◌-◌, false, List, None, refl, sym, ap, subst, ◌∙◌, length, arith, rules}
 use Rattle.std.proofs.lemmas.Option.{slice_get_within}
 use Rattle.std.proofs.lemmas.List.Elements.{All-push}
 use Rattle.warp_tag.specs.Table.{live}
@@ -14,6 +14,17 @@ use Rattle.warp_replica.specs.Floor.{comes_behind}
 use Rattle.warp_replica.specs.Gives.{tag_of}
 use Rattle.warp_replica.proofs.Standings.{with_more}
 use Rattle.warp_replica.proofs.replica.Replica.add.Goals as goal
+
+-- three ends as a whole: left to the check the proof took twice as long
+
+pub returns-then-comes_behind : goal.returns-then-comes_behind
+returns-then-comes_behind g c = search rules
+
+pub returns-in_err-prepare : goal.returns-in_err-prepare
+returns-in_err-prepare g c = search rules
+
+pub returns-in_err-added : goal.returns-in_err-added
+returns-in_err-added g c = search rules
 
 pub prepare-requires : goal.prepare-requires
 prepare-requires g c =
