@@ -95,6 +95,7 @@ impl Arena {
     /// Makes sure that a node is free, so that one `insert` can follow. Where one is, nothing changes. Else it makes
     /// one, and takes memory only where no room is left: for twice as many nodes as before, and for four at least.
     /// The only error is want of memory, where no node is free and no room is left; then all is as before.
+    #[inline(always)]
     pub fn reserve_one(&mut self, _alloc: Global) -> Result<(), OutOfMemory>
         requires { length self.old.places < most_names }
         ensures ok { OnOk result (self.new ≡ with_free self.old) }

@@ -37,6 +37,7 @@ pub(crate) fn comes_behind<T: Timeline>(timeline: &T, record: &Record) -> bool
 }
 
 /// Puts a record that the program has no reason against, and that is not behind, into a run that has room for it.
+#[inline(always)]
 pub(crate) fn enter_record<T: Timeline>(timeline: &mut T, record: &Record)
     requires prepared { T.is_prepared timeline.old }
     requires ahead { comes_behind (T.floor timeline.old) «record».now ≡ false }

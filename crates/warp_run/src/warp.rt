@@ -90,6 +90,7 @@ impl Timeline for Warp {
         !is_after(self.tip.floor(), tag)
     }
 
+    #[inline(always)]
     fn prepare(&mut self, alloc: Global) -> Result<(), OutOfMemory> {
         self.arena.reserve_one(alloc)
     }

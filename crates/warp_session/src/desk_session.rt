@@ -229,7 +229,7 @@ impl Transcriber {
 
     /// Takes bytes up to and with the first line feed, or all where there is none, and answers the line that it ends.
     /// Gives how many bytes it took.
-    #[inline(never)]
+    #[inline(always)]
     fn take_line<D: Desk, W: Sink>(
         &mut self,
         form: Form,
