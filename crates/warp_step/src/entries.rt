@@ -31,7 +31,7 @@ pub(crate) const MOST_PENDING: usize = 256;
 /// How many places there are for them: with twice as many, entries move to the front once in 256 insertions at most.
 const PLACES: usize = 512;
 
-/// Up to so many entries are moved one by one as a place is sought from the end.
+/// Where at most so many entries are later, the place is sought from the end, and they are moved one by one.
 const FEW: usize = 4;
 
 /// The pending entries, in order: those from `start` up to `end`.
