@@ -178,11 +178,10 @@ pub(crate) fn run_reactions(
     ensures due { AreDue program.now present.new due.new.word }
 {
     program.valid();
-    let count = plan.turns();
     let mut wished = Wished { count: 0, last: 0 };
     let mut turn = due.next(0);
     let mut is_sure = turn == sure;
-    while turn < count {
+    while turn < plan.turns() {
         let ready = plan.reaction(turn);
         let may_wish = run_reaction(is_sure, ready, due, vars, present, wishes);
         wished.note(may_wish, ready.number);

@@ -83,7 +83,7 @@ pub note-requires : goal.note-requires
 note-requires c =
     let many = few c.args.program.now c.valid.ensures in
     let turns = turns_are c.args.program.now c.args.plan.now c.requires.plan in
-    omega (arith, many, turns, c.turns-count.ensures, c.loop-turn-test.true, c.loop-turn.invariant.few)
+    omega (arith, many, turns, c.turns.ensures, c.loop-turn-test.true, c.loop-turn.invariant.few)
 
 pub loop-turn-init : goal.loop-turn-init
 loop-turn-init c =
@@ -116,7 +116,7 @@ run_reaction-may_wish-requires c =
     let P = c.args.program.now in
     let turn = c.loop-turn.turn in
     let n = get_or P.order turn 0 in
-    let kept = kept_at P c.args.plan.now turn c.turns-count.result (ready_turn c.reaction-ready.result.now) c.valid.ensures c.requires.plan c.turns-count.ensures
+    let kept = kept_at P c.args.plan.now turn c.turns.result (ready_turn c.reaction-ready.result.now) c.valid.ensures c.requires.plan c.turns.ensures
     c.loop-turn-test.true c.reaction-ready.ensures in
     let rule = rule_numbered P.reactions n in
     let fits : RuleFits P rule = rule_parts P rule kept.may in
@@ -146,7 +146,7 @@ loop-turn-preserved c =
     let P = c.args.program.now in
     let turn = c.loop-turn.turn in
     let n = get_or P.order turn 0 in
-    let kept = kept_at P c.args.plan.now turn c.turns-count.result (ready_turn c.reaction-ready.result.now) c.valid.ensures c.requires.plan c.turns-count.ensures
+    let kept = kept_at P c.args.plan.now turn c.turns.result (ready_turn c.reaction-ready.result.now) c.valid.ensures c.requires.plan c.turns.ensures
     c.loop-turn-test.true c.reaction-ready.ensures in
     let mine = kept.mine in
     let rule = rule_numbered P.reactions n in
@@ -197,7 +197,7 @@ pub after-turn-requires : goal.after-turn-requires
 after-turn-requires c =
     let many = few c.args.program.now c.valid.ensures in
     let turns = turns_are c.args.program.now c.args.plan.now c.requires.plan in
-    omega (arith, many, turns, c.turns-count.ensures, c.loop-turn-test.true)
+    omega (arith, many, turns, c.turns.ensures, c.loop-turn-test.true)
 
 pub returns-clause-effect : goal.returns-clause-effect
 returns-clause-effect c =
@@ -205,5 +205,5 @@ returns-clause-effect c =
     let turn = c.loop-turn.turn in
     let now : Reacting = record { vars = c.loop-turn.vars; present = c.loop-turn.present; wishes = lists_of c.loop-turn.wishes.items } in
     let turns = turns_are P c.args.plan.now c.requires.plan in
-    let end : length P.order ≤ turn = omega (arith, turns, c.turns-count.ensures, c.loop-turn-test.false) in
+    let end : length P.order ≤ turn = omega (arith, turns, c.turns.ensures, c.loop-turn-test.false) in
     sym (at_drop_all (λ (ns : List ℕ). after_reactions P ns now) P.order turn end) ∙ c.loop-turn.invariant.rest

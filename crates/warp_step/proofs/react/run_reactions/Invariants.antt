@@ -31,4 +31,4 @@ invariant-loop-turn l = record {
 }
 
 abbrev pub decreases-loop-turn : goal.decreases-loop-turn
-decreases-loop-turn l = l.count - l.turn
+decreases-loop-turn l = length l.plan.turns - l.turn
