@@ -179,8 +179,7 @@ impl State {
         }
     }
 
-    /// Looks at the links that are due, up to the first whose source is present. The rest is left to a call at the end,
-    /// so where none is present no register is saved.
+    /// Enters what each link with a delay delivers that is due and whose source is present.
     #[inline(never)]
     fn deliver_due(&mut self, program: &Program, tag: Tag, due: Marks, present: &Present)
         requires time { tag.time ≤ program.now.stop }
@@ -194,41 +193,6 @@ impl State {
         let first = first_link(program);
         let end = first + links.len();
         let mut mark = due.next(first);
-        while mark < end {
-            if present
-                .get(Target::Port(links[mark - first].source))
-                .is_some()
-            {
-                return self.deliver_from(program, tag, due, present, mark);
-            }
-            mark = due.after(mark);
-        }
-    }
-
-    /// Looks at the links that are due from a mark on, and enters what each with a delay delivers whose source is
-    /// present.
-    #[inline(never)]
-    fn deliver_from(
-        &mut self,
-        program: &Program,
-        tag: Tag,
-        due: Marks,
-        present: &Present,
-        from: usize,
-    )
-        requires time { tag.time ≤ program.now.stop }
-        requires microstep { tag.microstep ≤ top_of program.now }
-        requires places { places_of present.now ≡ program_places program.now }
-        requires due { AreDue program.now present.now due.word }
-        requires from { first_link program.now ≤ from }
-        ensures { self.new ≡
-            with_links program.now tag present.now (drop (from - first_link program.now) program.now.links) self.old }
-    {
-        program.valid();
-        let links = program.links();
-        let first = first_link(program);
-        let end = first + links.len();
-        let mut mark = from;
         while mark < end {
             self.deliver_link(program, tag, present, &links[mark - first]);
             mark = due.after(mark);
