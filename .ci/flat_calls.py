@@ -106,8 +106,8 @@ def slow():
 
 
 # Behind forty events of the first origin, each of value 1 at a time of its own: what a record costs where checkpoints stand
-# at most sixteen rows apart, here behind row 28; and what one costs that changes no live event.
-AFTER_FORTY = [(1, 32, 1, 12), (1, 32, 1, 0), (0, 41, None, 0), (0, 40, 0, 0)]
+# at most sixteen rows apart, here behind row 16; and what one costs that changes no live event.
+AFTER_FORTY = [(1, 32, 1, 24), (1, 32, 1, 0), (0, 41, None, 0), (0, 40, 0, 0)]
 
 
 def forty():

@@ -1,5 +1,5 @@
 -- Checkpoints in lists that they share: one more, and the newest.
-use Rattle.std.proofs.Common.{◌≡◌, ℕ, ℤ, ◌+◌, ◌-◌, ◌<◌, ◌≤◌, List, [], ◌∷◌, ◌++◌, length, take, drop, Some, ap, sym, subst, ◌∙◌, refl, arith, get_or}
+use Rattle.std.proofs.Common.{◌≡◌, ℕ, ℤ, ◌+◌, ◌-◌, ◌<◌, ◌≤◌, List, [], ◌∷◌, ◌++◌, length, take, drop, Some, ap, sym, subst, ◌∙◌, refl, arith}
 use Rattle.std.proofs.Common.{append_assoc, take-append-drop, length-append, length-drop}
 use Rattle.std.specs.Prelude.{slice_get}
 use Rattle.std.proofs.lemmas.List.{take_at, drop_at, take_all, take_more, take-take, drop-take, length-take-le, take-append-le, drop-append-le, nil_from_length}
@@ -8,7 +8,7 @@ use Rattle.warp_tag.specs.Limits.{most_pending}
 use Rattle.warp_step.specs.Snapshot.{AreInOrder, Snapshot}
 use Rattle.warp_step.specs.declared.pending.Waiting.{Waiting}
 use Rattle.warp_run.specs.declared.history.Mark.{Mark}
-use Rattle.warp_run.specs.History.{Saved, Saves, Room, AreKept, HasRoomFor, entries_in, newest, saved_at, saves_of, values_in}
+use Rattle.warp_run.specs.History.{Saved, Saves, Room, AreKept, HasRoomFor, entries_in, saved_at, saves_of, values_in}
 
 -- the checkpoint of a mark, with these values and entries
 abbrev pub save_of : Mark → List ℤ → List Waiting → Saved
@@ -208,20 +208,6 @@ pub has_last : (width : ℕ) (list marks : List Mark) (m : Mark) (values : List 
 has_last width list marks m values entries same got h =
     has_newest width marks (take (length marks - 1) marks) m values entries
     (last_is marks m (subst (λ (all : List Mark). slice_get all (length all - 1) ≡ Some m) same (sym got))) h
-
--- the checkpoint before the newest is that of the mark before the last
-pub before_last : (width n : ℕ) (marks : List Mark) (k : Mark) (values : List ℤ) (entries : List Waiting)
-    → n + 1 + 1 ≡ length marks → get_or marks n k ≡ k → AreKept width marks values entries
-    → newest (drop 1 (saves_of width [] marks values entries)) ≡ Some k.done
-before_last width n marks k values entries count is h =
-    let m : Mark = get_or marks (n + 1) k in
-    let all : marks ≡ take (n + 1) marks ++ m ∷ [] =
-    sym (take_all (n + 1 + 1) marks (omega arith)) ∙ take_more marks (n + 1) k (omega arith) in
-    let others : take (n + 1) marks ≡ take n marks ++ k ∷ [] =
-    take_more marks n k (omega arith) ∙ ap (λ (y : Mark). take n marks ++ y ∷ []) is in
-    let last = has_newest width marks (take (n + 1) marks) m values entries all h in
-    let next = has_newest width (take (n + 1) marks) (take n marks) k _ _ others last.kept in
-    ap (λ (cs : List Saved). newest (drop 1 cs)) last.saves ∙ ap newest next.saves
 
 -- of the items in use the last so many
 pub end_part : {X : Type 0} (list : List X) (used count : ℕ) → used ≤ length list → count ≤ used

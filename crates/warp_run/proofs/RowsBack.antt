@@ -158,8 +158,7 @@ pub record Returns (x y : Tip) (tag : Moment) (c : Done) : Type 0 where
   pub outputs : y.outputs.items ≡ take c.outputs x.outputs.items
   pub rows : y.rows ≡ c.rows
   pub last : y.last ≡ c.last
-  pub every : y.every ≡ x.every
-  pub due : y.due ≤ c.rows + y.every
+  pub due : y.due ≤ c.rows + spacing
   pub scratch : y.scratch ≡ x.scratch
   pub base : y.base ≡ x.base
   pub floor : y.floor ≡ x.floor
@@ -180,7 +179,6 @@ goes_back P E tag x y c done back h late ahead =
     let state : y.state ≡ n.state = back.state n left.others saves in
     let long : length front ≡ n.done.rows = length-take-le n.done.rows done saved.within in
     let fits : n.done.rows ≤ length front = omega arith in
-    let every : y.every ≤ spacing = subst (λ (k : ℕ). k ≤ spacing) (sym back.every) h.every in
     let due = back.due in
     let counted : c.rows ≡ n.done.rows = ap (λ (d : Done). d.rows) same in
     let taken = taken_aside x.base P E tag done x.history.saves x.outputs.items y.aside h.begin h.outputs h.saved back.aside in
@@ -206,7 +204,6 @@ goes_back P E tag x y c done back h late ahead =
             (saved_on x.base P done front n.done.rows (n ∷ left.others) fits (λ k few. sym (take-take k n.done.rows done few))
             (all_older x.base P done n left.others left.saved) left.saved));
         near = subst (λ (cs : List Saved). y.rows ≤ reach y.base cs) (sym saves) (omega arith);
-        every = every;
         due = subst (λ (cs : List Saved). y.due ≤ reach y.base cs) (sym saves) (omega arith);
         aside_width = back.aside_width ∙ h.aside_width;
         aside = taken.0;

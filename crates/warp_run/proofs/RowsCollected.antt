@@ -192,7 +192,6 @@ module _ (P : Program) (E : List Event) (x : Tip) (done : List Row) (h : HasExec
         from = tt;
         saved = tt;
         near = omega arith;
-        every = h.every;
         due = omega arith;
         aside_width = width ∙ h.aside_width;
         aside = nothing_aside;
@@ -223,7 +222,6 @@ module _ (P : Program) (E : List Event) (x : Tip) (done : List Row) (h : HasExec
         from = down.0;
         saved = down.1;
         near = subst (λ (n : ℕ). x.rows ≤ n) (sym far) h.near;
-        every = h.every;
         due = subst (λ (n : ℕ). x.due ≤ n) (sym far) h.due;
         aside_width = width ∙ h.aside_width;
         aside = nothing_aside;
@@ -250,7 +248,6 @@ module _ (P : Program) (E : List Event) (x : Tip) (done : List Row) (h : HasExec
         from = h.from;
         saved = h.saved;
         near = h.near;
-        every = h.every;
         due = h.due;
         aside_width = width ∙ h.aside_width;
         aside = nothing_aside;

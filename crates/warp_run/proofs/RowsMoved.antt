@@ -182,7 +182,6 @@ moved P D E tag x done same past before from h = record {
   from = h.from;
   saved = h.saved;
   near = h.near;
-  every = h.every;
   due = h.due;
   aside_width = h.aside_width;
   aside = aside_late tag D E past P x.aside.first x.aside.outputs x.aside.history.saves from h.aside;

@@ -13,7 +13,7 @@ use Rattle.warp_tag.specs.declared.out.Out.{Out}
 use Rattle.warp_line.specs.Begin.{BeginFrom, last_after}
 use Rattle.warp_run.specs.Aside.{AreAside, IsFrom, IsMet, IsSameAside, Leads, SetAside, outputs_between, since}
 use Rattle.warp_run.specs.Tip.{AreSaved, GoesBack, ExecutesMore, HasExecuted}
-use Rattle.warp_run.specs.History.{IsOfState, IsReady, Saved, Saves, newest, reach, spacing}
+use Rattle.warp_run.specs.History.{IsOfState, IsReady, Saved, Saves, newest, reach}
 use Rattle.warp_run.specs.declared.tip.Tip.{Tip}
 use Rattle.warp_run.specs.declared.history.Done.{Done}
 use Rattle.warp_run.proofs.RowsAside.{aside_since, from_since}
@@ -52,7 +52,6 @@ module _ (P : Program) (E : List Event) (x : Tip) (done : List Row) (h : HasExec
     from = h.from;
     saved = h.saved;
     near = h.near;
-    every = h.every;
     due = h.due;
     aside_width = width ∙ h.aside_width;
     aside = aside;
@@ -136,7 +135,6 @@ same_rows P E x y done is same history aside h = record {
       (subst (λ (f : Tip). AreSaved f.base P done x.history.saves) (sym is) h.saved);
   near = subst (λ (z : Saves). y.rows ≤ reach y.base z.saves) (sym history)
       (subst (λ (f : Tip). f.rows ≤ reach f.base x.history.saves) (sym is) h.near);
-  every = subst (λ (f : Tip). f.every ≤ spacing) (sym is) h.every;
   due = subst (λ (z : Saves). y.due ≤ reach y.base z.saves) (sym history)
       (subst (λ (f : Tip). f.due ≤ reach f.base x.history.saves) (sym is) h.due);
   aside_width = ap (λ (a : SetAside). a.history.width) aside ∙ h.aside_width;
@@ -162,7 +160,6 @@ pub record Jumps (x y : Tip) (c d : Saved) : Type 0 where
   pub new_state : y.state ≡ d.state
   pub new_outputs : y.outputs.items ≡ x.outputs.items ++ outputs_between x.aside.first x.aside.outputs c.done.outputs d.done.outputs
   pub new_aside : IsSameAside x.aside y.aside
-  pub every : y.every ≡ x.every
   pub due : y.due ≡ x.due
   pub base : y.base ≡ x.base
   pub floor : y.floor ≡ x.floor
@@ -202,7 +199,6 @@ jumps P E x y done c d j on ready h =
         saved = subst (λ (n : ℕ). AreSaved n P (done ++ rows) y.history.saves) (sym j.base)
             (subst (λ (z : _). AreSaved x.base P (done ++ rows) z.saves) (sym j.history) (saved_more x.base P done rows x.history.saves h.saved));
         near = still_near y x y.rows j.base j.history (omega arith);
-        every = subst (λ (n : ℕ). n ≤ spacing) (sym j.every) h.every;
         due = still_near y x y.due j.base j.history (subst (λ (n : ℕ). n ≤ reach x.base x.history.saves) (sym j.due) h.due);
         aside_width = ap (λ (a : SetAside). a.history.width) j.new_aside ∙ h.aside_width;
         aside = subst (λ (a : SetAside). AreAside P E a.first a.outputs a.history.saves) (sym j.new_aside) h.aside;

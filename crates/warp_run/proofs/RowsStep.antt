@@ -18,7 +18,7 @@ use Rattle.warp_line.specs.Begin.{BeginFrom, last_after}
 use Rattle.warp_line.proofs.ProgressLemmas.{turned}
 use Rattle.warp_run.specs.Aside.{AreAside}
 use Rattle.warp_run.specs.Tip.{AreSaved, CanGive, HasExecuted}
-use Rattle.warp_run.specs.History.{IsReady, reach, spacing}
+use Rattle.warp_run.specs.History.{IsReady, reach}
 use Rattle.warp_run.specs.declared.tip.Tip.{Tip}
 use Rattle.warp_run.proofs.RowsFloor.{few_more, still_floor, still_from, still_near}
 use Rattle.warp_run.proofs.RowsSaved.{last_more, state_more, saved_more}
@@ -70,7 +70,6 @@ pub record Steps (P : Program) (x y : Tip) (tag : Moment) (X : List Given) (outs
   pub outputs : y.outputs.items ≡ x.outputs.items ++ outs
   pub rows : y.rows ≡ x.rows + 1
   pub last : y.last ≡ Some tag
-  pub every : y.every ≡ x.every
   pub due : y.due ≡ x.due
   pub base : y.base ≡ x.base
   pub floor : y.floor ≡ x.floor
@@ -111,7 +110,6 @@ stepped P E x y done tag X outs steps h next is =
             (subst (λ (z : _). AreSaved x.base P (done ++ row ∷ []) z.saves) (sym steps.history)
             (saved_more x.base P done (row ∷ []) x.history.saves h.saved));
         near = still_near y x y.rows steps.base steps.history (omega arith);
-        every = subst (λ (n : ℕ). n ≤ spacing) (sym steps.every) h.every;
         due = still_near y x y.due steps.base steps.history (subst (λ (n : ℕ). n ≤ reach x.base x.history.saves) (sym steps.due) h.due);
         aside_width = ap (λ (z : _). z.history.width) steps.aside ∙ h.aside_width;
         aside = subst (λ (z : _). AreAside P E z.first z.outputs z.history.saves) (sym steps.aside) h.aside;

@@ -133,10 +133,7 @@ tip_send = declared_send tip.the_type (
       search sendable,
       (
         search sendable depth 60,
-        (
-          search sendable,
-          (search sendable, (search sendable depth 60, (search sendable, (search sendable depth 60, (history.the_send, (aside.the_send, (scratch_send, tt))))))),
-        ),
+        (search sendable, (search sendable, (search sendable depth 60, (history.the_send, (aside.the_send, (scratch_send, tt)))))),
       ),
     ),
   ),

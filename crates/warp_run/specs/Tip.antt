@@ -49,7 +49,6 @@ pub record HasExecuted (P : Program) (E : List Event) (x : Tip) (done : List Row
   pub from : AllByRecursion (λ c. x.base ≤ c.done.rows) x.history.saves
   pub saved : AreSaved x.base P done x.history.saves
   pub near : x.rows ≤ reach x.base x.history.saves
-  pub every : x.every ≤ spacing
   pub due : x.due ≤ reach x.base x.history.saves
   pub aside_width : x.aside.history.width ≡ length P.variables
   pub aside : AreAside P E x.aside.first x.aside.outputs x.aside.history.saves

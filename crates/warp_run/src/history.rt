@@ -15,6 +15,9 @@ use warp_tag::{OutOfMemory, Tag};
 /// So many items are filled in at once.
 const BLOCK: usize = 64;
 
+/// Up to so many items are written one by one.
+const FEW: usize = 4;
+
 /// How far a run is done.
 #[derive(Clone, Copy, Debug)]
 pub(crate) struct Done {
@@ -60,40 +63,37 @@ struct Mark {
     lost: u64,
 }
 
-/// Writes values, often one, behind so many that are in use.
+/// Writes items behind so many that are in use.
 #[inline(always)]
-fn write_values(list: &mut Vec<i64>, used: usize, values: &[i64])
-    requires { used + length values.now ≤ vec_len list.old }
-    ensures items { take (used + length values.now) list.new.items ≡ take used list.old.items ++ values.now }
-    ensures len { vec_len list.new ≡ vec_len list.old }
-{
-    if let [value] = values {
-        list[used] = *value;
-    } else {
-        write(list, used, values);
-    }
-}
-
-/// Writes entries, often none, behind so many that are in use.
-#[inline(always)]
-fn write_entries(list: &mut Vec<Waiting>, used: usize, entries: &[Waiting])
-    requires { used + length entries.now ≤ vec_len list.old }
-    ensures items { take (used + length entries.now) list.new.items ≡ take used list.old.items ++ entries.now }
-    ensures len { vec_len list.new ≡ vec_len list.old }
-{
-    if !entries.is_empty() {
-        write(list, used, entries);
-    }
-}
-
-/// Writes items behind so many that are in use, apart from where mostly none are copied.
-#[inline(never)]
 fn write<T: Copy>(list: &mut Vec<T>, used: usize, items: &[T])
     requires { used + length items.now ≤ vec_len list.old }
     ensures items { take (used + length items.now) list.new.items ≡ take used list.old.items ++ items.now }
     ensures len { vec_len list.new ≡ vec_len list.old }
 {
-    list[used..used + items.len()].copy_from_slice(items);
+    copy(&mut list[used..used + items.len()], items);
+}
+
+/// Writes items over as many. Mostly they are few, and a call would cost more than they do.
+#[inline(always)]
+fn copy<T: Copy>(to: &mut [T], items: &[T])
+    requires { length items.now ≡ length to.old }
+    ensures { to.new ≡ items.now }
+{
+    if items.len() > FEW {
+        return copy_many(to, items);
+    }
+    for (at, item) in items.iter().enumerate() {
+        to[at] = *item;
+    }
+}
+
+/// Writes items over as many, in one block.
+#[inline(never)]
+fn copy_many<T: Copy>(to: &mut [T], items: &[T])
+    requires { length items.now ≡ length to.old }
+    ensures { to.new ≡ items.now }
+{
+    to.copy_from_slice(items);
 }
 
 /// Of so many items that are in use the last ones.
@@ -244,18 +244,6 @@ impl History {
         Some(mark.done)
     }
 
-    /// How far the one before the newest checkpoint is.
-    pub fn before_newest(&self) -> Option<Done>
-        ensures { IfSome result (λ done.
-            (newest (drop 1 self.now.saves) ≡ Some done) × (0 < length self.now.saves)) }
-    {
-        let count = self.marks.len();
-        if count < 2 {
-            return None;
-        }
-        Some(self.marks[count - 2].done)
-    }
-
     /// Whether the newest checkpoint is of this state.
     pub fn is_of(&self, state: &State) -> bool
         ensures { IsTrue result ↔ IsOfState self.now.saves state.now }
@@ -363,8 +351,8 @@ impl History {
             lost,
         };
         self.marks.push_reserved(mark);
-        write_values(&mut self.values, self.values_used, values);
-        write_entries(&mut self.entries, self.entries_used, entries);
+        write(&mut self.values, self.values_used, values);
+        write(&mut self.entries, self.entries_used, entries);
         self.values_used += values.len();
         self.entries_used += entries.len();
         true

@@ -20,26 +20,6 @@ use warp_tag::{OutOfMemory, Tag};
 /// After how many rows at most a checkpoint stands.
 const SPACING: usize = 16;
 
-/// A checkpoint of more values and entries is a large one.
-const LARGE: usize = 64;
-
-/// After how many rows a checkpoint stands where rows of the program are executed: four where it keeps at most four
-/// values, eight where at most eight, and else sixteen. Those are its variables, and what its timers and actions may
-/// have pending. The fewer values a checkpoint has, the closer they stand.
-fn spacing_of(program: &Program) -> usize
-    ensures { result ≤ spacing }
-{
-    let waiting = program
-        .timers()
-        .len()
-        .saturating_add(program.actions().len());
-    match program.variables().len().saturating_add(waiting) {
-        0..=4 => 4,
-        5..=8 => 8,
-        _ => SPACING,
-    }
-}
-
 /// Makes room for so many outputs more. Where there was at least as much room for outputs that are aside, there is so
 /// still.
 #[inline(always)]
@@ -86,12 +66,8 @@ pub(crate) struct Tip {
     rows: usize,
     /// The tag of the last row.
     last: Option<Tag>,
-    /// After how many rows a checkpoint stands.
-    every: usize,
     /// With so many rows the next checkpoint is made before one more.
     due: usize,
-    /// The tag for which the run last went back.
-    changed: Tag,
     /// How many rows the base has: no checkpoint has fewer.
     base: usize,
     /// The tag of the last of these rows, if there are any.
@@ -112,9 +88,7 @@ impl Tip {
             outputs: Vec::new(alloc),
             rows: 0,
             last: None,
-            every: spacing_of(program),
             due: 0,
-            changed: Tag::default(),
             base: 0,
             floor: None,
             history: History::new(alloc, program.variables().len()),
@@ -194,71 +168,6 @@ impl Tip {
         self.last = Some(tag);
     }
 
-    /// Executes one more row, as `step`, where something is given.
-    #[inline(always)]
-    pub fn step_at_event<M: Meter>(
-        &mut self,
-        program: &Program,
-        tag: Tag,
-        given: &[Given],
-        meter: &mut M,
-    )
-        requires at { (E : List Event) × (done : List Row) × HasExecuted program.now E self.old done
-            × IsNext E self.old.last self.old.state tag × (given.now ≡ given_at tag E) }
-        requires given { CanGive program.now tag given.now }
-        requires few { self.old.rows < most_names }
-        requires room { IsRoom program.now self.old }
-        ensures stepped { (E : List Event) (done : List Row) → HasExecuted program.now E self.old done →
-            IsNext E self.old.last self.old.state tag → given.now ≡ given_at tag E →
-            (row : Row) × HasExecuted program.now E self.new (done ++ row ∷ []) }
-        ensures last { self.new.last ≡ Some tag }
-        ensures floor { self.new.floor ≡ self.old.floor }
-        ensures ticked { M.ticks meter.new ≡ M.ticks meter.old + 1 }
-    {
-        self.step(program, tag, given, meter);
-        self.save_behind(tag);
-    }
-
-    /// Has a checkpoint stand behind the row at a tag, if that is the tag for which the run last went back and
-    /// checkpoints are far apart. Where events come in order, but behind what is executed, as where entries are long
-    /// pending, the next one is a little behind it, and only the rows between are executed again.
-    #[inline(always)]
-    fn save_behind(&mut self, tag: Tag)
-        ensures others { self.new ≡ record self.old { due = self.new.due; history = self.new.history } }
-        ensures kept { (P : Program) (E : List Event) (done : List Row) → HasExecuted P E self.old done →
-            HasExecuted P E self.new done }
-    {
-        if self.every == SPACING && tag.is_same(self.changed) {
-            self.save_here();
-        }
-    }
-
-    /// Has the next row make a checkpoint first, and drops the newest one, if the one before it is near enough.
-    #[inline(never)]
-    fn save_here(&mut self)
-        ensures others { self.new ≡ record self.old { due = 0; history = self.new.history } }
-        ensures kept { (P : Program) (E : List Event) (done : List Row) → HasExecuted P E self.old done →
-            HasExecuted P E self.new done }
-    {
-        self.due = 0;
-        let Some(older) = self.history.before_newest() else {
-            return;
-        };
-        if self.rows.saturating_sub(older.rows) <= self.apart() {
-            self.history.drop_newest();
-        }
-    }
-
-    /// How far apart the two checkpoints may be between which one goes: large ones stand farther apart.
-    fn apart(&self) -> usize
-        ensures { result ≤ spacing }
-    {
-        if self.state.vars().len() + self.state.pending().len() > LARGE {
-            return SPACING;
-        }
-        SPACING / 2
-    }
-
     /// Makes a checkpoint, where one more row is not to be executed without.
     #[inline(always)]
     fn save_if_due(&mut self) -> Result<(), OutOfMemory>
@@ -298,30 +207,6 @@ impl Tip {
     /// Makes a checkpoint.
     #[inline(never)]
     fn add_checkpoint(&mut self) -> Result<(), OutOfMemory>
-        requires { (P : Program) × (E : List Event) × (done : List Row) × HasExecuted P E self.old done }
-        ensures others { self.new ≡
-            record self.old { due = self.new.due; history = self.new.history; aside = self.new.aside } }
-        ensures aside { IsSameAside self.old.aside self.new.aside }
-        ensures kept { (P : Program) (E : List Event) (done : List Row) → HasExecuted P E self.old done →
-            HasExecuted P E self.new done }
-        ensures room { OnOk result (self.new.rows + spacing ≤ reach self.new.base self.new.history.saves) }
-        ensures fits { HasRoomFor self.old.history self.old.state → IsOk result }
-    {
-        if self.has_one_value() && self.add_in_room() {
-            return Ok(());
-        }
-        self.add_any()
-    }
-
-    /// Whether the state is one value, with nothing pending, as where a checkpoint is made without a call.
-    #[inline(always)]
-    fn has_one_value(&self) -> bool {
-        self.state.vars().len() == 1 && self.state.pending().is_empty()
-    }
-
-    /// Makes a checkpoint of a state of any size.
-    #[inline(never)]
-    fn add_any(&mut self) -> Result<(), OutOfMemory>
         requires { (P : Program) × (E : List Event) × (done : List Row) × HasExecuted P E self.old done }
         ensures others { self.new ≡
             record self.old { due = self.new.due; history = self.new.history; aside = self.new.aside } }
@@ -374,7 +259,7 @@ impl Tip {
         };
         let is_room = self.history.save(done, &self.state);
         if is_room {
-            self.due = self.rows.saturating_add(self.every);
+            self.due = self.rows.saturating_add(SPACING);
         }
         is_room
     }
@@ -403,14 +288,13 @@ impl Tip {
         ensures floor { self.new.floor ≡ self.old.floor }
         ensures room { KeepsRoom self.old self.new }
     {
-        self.changed = tag;
         self.aside.take_from(tag, &mut self.history, &self.outputs);
         if let Some(done) = self.history.newest() {
             self.history.restore(&mut self.state);
             self.outputs.truncate(done.outputs);
             self.rows = done.rows;
             self.last = done.last;
-            self.due = done.rows.saturating_add(self.every);
+            self.due = done.rows.saturating_add(SPACING);
         }
     }
 

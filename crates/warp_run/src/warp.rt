@@ -288,7 +288,7 @@ impl Warp {
         self.tip.get_ready(program)?;
         self.cursor = self.arena.cursor_at(behind);
         let alone = slice::from_ref(&first.given);
-        self.tip.step_at_event(program, first.tag, alone, meter);
+        self.tip.step(program, first.tag, alone, meter);
         Ok(())
     }
 
@@ -340,7 +340,7 @@ impl Warp {
         let cursor = gather_from(&self.arena, self.cursor.node(), tag, &mut self.given)?;
         self.tip.get_ready(program)?;
         self.cursor = self.arena.cursor_at(cursor);
-        self.tip.step_at_event(program, tag, &self.given, meter);
+        self.tip.step(program, tag, &self.given, meter);
         Ok(())
     }
 

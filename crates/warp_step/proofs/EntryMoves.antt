@@ -1,9 +1,9 @@
 -- What stands between two places of a list after an entry came in there, one was written, or some were taken out at the front.
-use Rattle.std.proofs.Common.{◌≡◌, ℕ, suc, ◌+◌, ◌-◌, ◌<◌, ◌≤◌, List, ◌∷◌, ◌++◌, length, take, drop, set, get_or, refl, sym, ap, ◌∙◌, arith, append_assoc, append-nil, length-append, length-drop, take-append-drop}
+use Rattle.std.proofs.Common.{◌≡◌, ℕ, suc, ◌+◌, ◌-◌, ◌<◌, ◌≤◌, List, ◌∷◌, ◌++◌, length, take, drop, set, sym, ap, ◌∙◌, arith, append_assoc, append-nil, length-append, length-drop, take-append-drop}
 use Rattle.std.specs.Prelude.{slice_range}
 use Rattle.std.specs.List.{insert, copy_within}
 use Rattle.std.proofs.Math.Seq.{paste, take-add, take-append-add, drop-append-add, take-set-lt, set_split}
-use Rattle.std.proofs.lemmas.List.{drop-drop, drop-set, drop-take, drop_more, get_or-take, take-set, take-take, take-append-le, length-take-le, drop-set-add}
+use Rattle.std.proofs.lemmas.List.{drop-drop, drop-take, take-take, take-append-le, length-take-le, drop-set-add}
 use Rattle.std.proofs.lemmas.List.Edits.{length-paste, take-paste, drop-paste}
 
 module _ {X : Type 0} where
@@ -78,54 +78,6 @@ module _ {X : Type 0} where
       sym (ap (λ ys. slice_range (set ys e x) s (e + 1)) (nothing_moved xs e (e + 1)))
       ∙ sym (ap (λ k. slice_range (set (copy_within xs k e (k + 1)) k x) s (e + 1)) here)
       ∙ came_behind xs s e (e - s) x (omega (arith, here)) room
-
-  -- what of a list stands up to one place, and what stands behind it, moved up by one
-  abbrev pub IsMoved : List X → List X → ℕ → ℕ → Type 0
-  IsMoved old new at e = (take (at + 1) new ≡ take (at + 1) old) × (drop (at + 1) new ≡ take (e - at) (drop at old) ++ drop (e + 1) old)
-
-  -- at first nothing is moved
-  pub none_moved : (xs : List X) (e : ℕ) → IsMoved xs xs e e
-  none_moved xs e =
-      let none : 0 ≡ e - e = omega arith in
-      (refl, ap (λ n. take n (drop e xs) ++ drop (e + 1) xs) none)
-
-  -- what stands in front was not moved
-  pub in_place : (old new : List X) (at e k : ℕ) (x : X) → IsMoved old new at e → k < at + 1 → get_or new k x ≡ get_or old k x
-  in_place old new at e k x moved below =
-      sym (get_or-take (at + 1) new k x below) ∙ ap (λ l. get_or l k x) moved.0 ∙ get_or-take (at + 1) old k x below
-
-  -- one more is moved
-  pub one_more_moved : (old new : List X) (n e : ℕ) (x : X) → IsMoved old new (n + 1) e → n + 1 ≤ e → e < length old → length new ≡ length old → x ≡ get_or new n x
-      → IsMoved old (set new (n + 1) x) n e
-  one_more_moved old new n e x moved order room len is =
-      let at = n + 1 in
-      let here : x ≡ get_or old n x = is ∙ in_place old new at e n x moved (omega arith) in
-      let more : suc (e - at) ≡ e - n = omega (arith, order) in
-      let front : take at (set new at x) ≡ take at old =
-      take-set new at x ∙ sym (take-take at (at + 1) new (omega arith)) ∙ ap (take at) moved.0 ∙ take-take at (at + 1) old (omega arith) in
-      let split : x ∷ drop at old ≡ drop n old = ap (λ y. y ∷ drop at old) here ∙ sym (drop_more old n x (omega (arith, order, room))) in (
-        front,
-        drop-set new at x (omega (arith, order, room, len)) ∙ ap (λ l. x ∷ l) moved.1
-            ∙ ap (λ l. take (suc (e - at)) l ++ drop (e + 1) old) split ∙ ap (λ k. take k (drop n old) ++ drop (e + 1) old) more,
-      )
-
-  -- the entry comes in where the first one was that moved
-  pub came_moved : (old new : List X) (s e at : ℕ) (x : X) → IsMoved old new at e → s ≤ at → at ≤ e → e < length old → length new ≡ length old
-      → slice_range (set new at x) s (e + 1) ≡ insert (slice_range old s e) (at - s) x
-  came_moved old new s e at x moved from to room len =
-      let i = at - s in
-      let here : at ≡ s + i = omega (arith, from) in
-      let rest = drop (e + 1) old in
-      let low : take at new ≡ take s old ++ take i (drop s old) =
-      sym (take-take at (at + 1) new (omega arith)) ∙ ap (take at) moved.0 ∙ take-take at (at + 1) old (omega arith) ∙ ap (λ k. take k old) here ∙ take-add s i old in
-      let next : suc at ≡ at + 1 = omega arith in
-      let high : drop (suc at) new ≡ take (e - (s + i)) (drop (s + i) old) ++ rest =
-      ap (λ k. drop k new) next ∙ moved.1 ∙ ap (λ k. take (e - k) (drop k old) ++ rest) here in
-      let parts : set new at x ≡ take s old ++ ((take i (drop s old) ++ x ∷ take (e - (s + i)) (drop (s + i) old)) ++ rest) =
-      set_split new at x (omega (arith, to, room, len)) ∙ ap (λ l. l ++ x ∷ drop (suc at) new) low
-      ∙ ap (λ l. (take s old ++ take i (drop s old)) ++ x ∷ l) high ∙ regroup (take s old) (take i (drop s old)) (take (e - (s + i)) (drop (s + i) old)) rest x in
-      ap (λ l. slice_range l s (e + 1)) parts
-      ∙ around (take s old) rest old s s e (e + 1) i x (omega (arith, here, to)) (omega (arith, room)) (length-take-le s old (omega (arith, from, to, room))) (omega (arith, from, to))
 
   -- an entry comes in, and what is in front of it moved down
   pub came_in_front : (xs : List X) (s e at : ℕ) (x : X) → 0 < s → s + at ≤ e → e ≤ length xs

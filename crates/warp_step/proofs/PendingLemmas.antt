@@ -1,12 +1,10 @@
 -- The order of pending entries, and what an entry that comes in leaves as it is.
-use Rattle.std.proofs.Common.{◌≡◌, ◌⊎◌, inl, inr, ℕ, zero, suc, ◌+◌, ◌-◌, ◌<◌, ◌≤◌, Bool, true, false, ◌&&◌, ◌||◌, List, [], ◌∷◌, get_or, length, set, ap, sym, ◌∙◌, refl, subst, arith, IsTrue}
-use Rattle.std.specs.Prelude.{ℤ, pos, slice_get, slice_range, Option, Some, None, if◌then◌else◌}
+use Rattle.std.proofs.Common.{◌≡◌, ◌⊎◌, inl, inr, ℕ, zero, suc, ◌+◌, ◌<◌, ◌≤◌, Bool, true, false, ◌&&◌, ◌||◌, List, [], ◌∷◌, get_or, length, set, ap, sym, ◌∙◌, refl, subst, arith, IsTrue}
+use Rattle.std.specs.Prelude.{ℤ, pos, slice_get, Option, Some, None, if◌then◌else◌}
 use Rattle.std.specs.List.{list_any, prefix_len, insert, AllByRecursion}
 use Rattle.std.specs.List.Sorted.{IsPartitionedBy, IsPartitionPoint}
-use Rattle.std.proofs.Math.Nat.{eq-or-lt_of_le}
 use Rattle.std.proofs.lemmas.Bool.{cases_Bool}
 use Rattle.std.proofs.lemmas.Bool.Decides.{nat_tests}
-use Rattle.std.proofs.lemmas.List.Edits.{get_or-between, length-between}
 use Rattle.std.proofs.lemmas.List.Sums.{prefix_len_is}
 use Rattle.warp_tag.specs.Moment.{Moment, is_before, is_same}
 use Rattle.warp_tag.proofs.Tags.{before_trans, before_same, same_before, same_trans, same_is}
@@ -14,7 +12,6 @@ use Rattle.warp_body.specs.Presence.{target_before, is_target}
 use Rattle.warp_body.specs.declared.place.Target.{Target}
 use Rattle.warp_step.specs.Snapshot.{key_before, has_key, AreInOrder, with_entry, earlier, least_pending}
 use Rattle.warp_step.specs.declared.pending.Waiting.{Waiting}
-use Rattle.warp_step.proofs.EntryMoves.{IsMoved, came_moved}
 use Rattle.warp_step.proofs.ValidLemmas.{same_target}
 
 -- an entry with this value
@@ -217,25 +214,6 @@ front_ends t k ws n x ordered within is here behind =
     point_is_front (ahead t k) ws (n + 1) (omega arith)
     (λ j d some below. in_front t k ws ordered j n d (omega arith) within (ap (ahead t k) (read_as ws n x d within is) ∙ here), λ j d above some. behind j d above some)
 
--- one more entry that is later, in front of those that are
-pub one_more_later : (t : Moment) (ws : List Waiting) (n m e : ℕ) (x : Waiting) → n ≤ m + 1 → x ≡ get_or ws m x → is_before t x.tag ≡ true
-    → ((j : ℕ) (d : Waiting) → n ≤ j → j < e → is_before t (get_or ws j d).tag ≡ true) → m < length ws
-    → (j : ℕ) (d : Waiting) → m ≤ j → j < e → is_before t (get_or ws j d).tag ≡ true
-one_more_later t ws n m e x next is here behind within j d above some = elim (eq-or-lt_of_le above) [
-  | inl same ↦ ap (λ (i : ℕ). is_before t (get_or ws i d).tag) (sym same) ∙ ap (λ (w : Waiting). is_before t w.tag) (read_as ws m x d within is) ∙ here
-  | inr after ↦ behind j d (omega (arith, next, after)) some
-]
-
-later_not_ahead : (t : Moment) (k : Target) (w : Waiting) → is_before t w.tag ≡ true → ahead t k w ≡ false
-later_not_ahead t k w h = grind (arith, nat_tests)
-
-later_not_at : (t : Moment) (k : Target) (w : Waiting) → is_before t w.tag ≡ true → has_key t k w ≡ false
-later_not_at t k w h = grind (arith, nat_tests)
-
--- and where none is ahead, there is no front
-pub no_front : (t : Moment) (k : Target) (ws : List Waiting) (n : ℕ) → n ≡ 0 → ((j : ℕ) (d : Waiting) → n ≤ j → j < length ws → ahead t k (get_or ws j d) ≡ false) → n ≡ prefix_len (ahead t k) ws
-no_front t k ws n none behind = point_is_front (ahead t k) ws n (omega arith) (λ j d some below. absurd (omega arith), λ j d above some. behind j d above some)
-
 -- whether the entry at the place is at the key says how the new one comes in
 pub record ComesIn (t : Moment) (k : Target) (ws : List Waiting) (n : ℕ) (there : Bool) : Type 0 where
   pub answer : there ≡ list_any (has_key t k) ws
@@ -254,40 +232,6 @@ pub comes_last : (t : Moment) (k : Target) (ws : List Waiting) (n : ℕ) → Are
 comes_last t k ws n ordered p h =
     let other = λ (d : Waiting) (l : n < length ws). absurd {A = has_key t k (get_or ws n d) ≡ false} (omega arith) in
     record { answer = sym (with_new t k (pos 0) ws n ordered p other).1; entries = λ v. (with_new t k v ws n ordered p other).0 }
-
--- where the entries behind a place are later, and the one in front of it is ahead, that is the place
-later_place : (t : Moment) (k : Target) (ws : List Waiting) (n : ℕ) → AreInOrder ws → n ≤ length ws
-    → ((j : ℕ) (d : Waiting) → n ≤ j → j < length ws → is_before t (get_or ws j d).tag ≡ true)
-    → ((d : Waiting) → 0 < n → ahead t k (get_or ws (n - 1) d) ≡ true) → n ≡ prefix_len (ahead t k) ws
-later_place t k ws n ordered within later before = point_is_front (ahead t k) ws n within (
-  λ j d some below. in_front t k ws ordered j (n - 1) d (omega (arith, below)) (omega (arith, below, within)) (before d (omega (arith, below))),
-  λ j d above some. later_not_ahead t k (get_or ws j d) (later j d above some),
-)
-
--- and the new one comes in there
-pub comes_between : (t : Moment) (k : Target) (v : ℤ) (ws : List Waiting) (n : ℕ) → AreInOrder ws → n ≤ length ws
-    → ((j : ℕ) (d : Waiting) → n ≤ j → j < length ws → is_before t (get_or ws j d).tag ≡ true)
-    → ((d : Waiting) → 0 < n → ahead t k (get_or ws (n - 1) d) ≡ true) → insert ws n (entry t k v) ≡ with_entry t k v ws
-comes_between t k v ws n ordered within later before =
-    sym (with_new t k v ws n ordered (later_place t k ws n ordered within later before)
-    (λ d some. later_not_at t k (get_or ws n d) (later n d (omega arith) some))).0
-
--- what is later moved up by one, and the new one came in there
-pub came_between : (t : Moment) (k : Target) (v : ℤ) (old new : List Waiting) (s e at : ℕ) → IsMoved old new at e → s ≤ at → at ≤ e → e < length old → length new ≡ length old
-    → AreInOrder (slice_range old s e) → ((j : ℕ) (d : Waiting) → at ≤ j → j < e → is_before t (get_or old j d).tag ≡ true)
-    → ((d : Waiting) → s < at → ahead t k (get_or old (at - 1) d) ≡ true)
-    → slice_range (set new at (entry t k v)) s (e + 1) ≡ with_entry t k v (slice_range old s e)
-came_between t k v old new s e at moved from to room len ordered later before =
-    let ws = slice_range old s e in
-    let long : length ws ≡ e - s = length-between old s e (omega (arith, room)) in
-    came_moved old new s e at (entry t k v) moved from to room len
-    ∙ comes_between t k v ws (at - s) ordered (omega (arith, long, to))
-    (λ j d above below. ap (λ (w : Waiting). is_before t w.tag) (get_or-between old s e j d (omega (arith, below, long)))
-    ∙ later (s + j) d (omega (arith, above)) (omega (arith, below, long)))
-    (λ d some.
-    let here : s + (at - s - 1) ≡ at - 1 = omega (arith, some) in
-    ap (ahead t k) (get_or-between old s e (at - s - 1) d (omega (arith, some, to)) ∙ ap (λ (i : ℕ). get_or old i d) here)
-    ∙ before d (omega (arith, some)))
 
 -- the tag, if there is one, is not before this one
 abbrev pub NotBefore : Moment → Option Moment → Type 0

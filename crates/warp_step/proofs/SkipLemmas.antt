@@ -82,11 +82,6 @@ undelivered P t present target source (Some v) (Some d) s is h =
     let none : Some v ≡ None = is ∙ absent (present_at present (to.Port source)) h in
     cc
 
--- what is not present is not delivered
-pub nothing_delivered : (P : Program) (t : Moment) (target : ℕ) (o : Option ℤ) (delay : Option ℕ) (s : Snapshot) → is_some o ≡ false → delivered P t target o delay s ≡ s
-nothing_delivered P t target None delay s h = refl
-nothing_delivered P t target (Some v) delay s h = let no : true ≡ false = h in cc
-
 module _ (P : Program) (t : Moment) (present : Presence) (s : Snapshot) (word : ℕ) (first : ℕ) (due : AreMarked link_heeds first P.links present word) where
   -- the links from a number on
   abbrev from_link : ℕ → Snapshot

@@ -1,17 +1,19 @@
 -- What the parts of a step make, one after another, is the step.
-use Rattle.std.proofs.Common.{◌≡◌, ℕ, zero, suc, replicate, ℤ, ◌+◌, List, [], ◌∷◌, length, Option, None, IsTrue, refl, sym, ap, ◌∙◌, subst}
+use Rattle.std.proofs.Common.{◌≡◌, ◌≢◌, ◌<◌, inl, inr, ℕ, zero, suc, replicate, ℤ, ◌+◌, List, [], ◌∷◌, get_or, length, set, Option, None, IsTrue, refl, sym, ap, ◌∙◌, subst, arith}
 use Rattle.std.specs.Prelude.{pos, if◌then◌else◌}
 use Rattle.std.specs.List.{list_all}
-use Rattle.std.proofs.lemmas.List.{length-replicate}
+use Rattle.std.proofs.lemmas.Bool.{cases_eq}
+use Rattle.std.proofs.lemmas.List.{get_or-set_other, get_or-set_same, length-replicate, length-set}
 use Rattle.warp_tag.specs.Moment.{Moment, is_before}
 use Rattle.warp_body.specs.Presence.{Presence, nothing_present, places_of}
 use Rattle.warp_body.specs.Effect.{wish_fits}
 use Rattle.warp_body.specs.declared.place.Places.{Places}
 use Rattle.warp_body.specs.declared.place.Target.TheVariants as to
+use Rattle.warp_body.specs.declared.stmt.Wish.{Wish}
 use Rattle.warp_step.specs.Program.{Program}
 use Rattle.warp_step.specs.Valid.{is_valid, program_places, program_sizes}
 use Rattle.warp_step.specs.Snapshot.{Snapshot, IsStateOf, landed}
-use Rattle.warp_step.specs.Step.{CanStep, Reacting, absent, sources_of, present_first, without_entries, repeats, with_repeats, after_reactions, no_wishes, reacted, with_all_wishes, with_links, state_after}
+use Rattle.warp_step.specs.Step.{CanStep, Reacting, absent, sources_of, present_first, without_entries, repeats, with_repeats, after_reactions, no_wishes, reacted, with_all_wishes, with_links, with_wishes, state_after}
 use Rattle.warp_step.specs.declared.given.Given.{Given}
 use Rattle.warp_step.specs.declared.parts.Timer.{Timer}
 use Rattle.warp_step.proofs.VariablesOfRun.{landed_vars, same_vars}
@@ -34,6 +36,31 @@ cleared_places present = λ i. record {
 pub none_enter : (P : Program) (t : Moment) (n : ℕ) (s : Snapshot) → with_all_wishes P t (replicate n []) s ≡ s
 none_enter P t zero s = refl
 none_enter P t (suc n) s = none_enter P t n s
+
+-- lists of which none has a wish
+pub all_none : (lists : List (List Wish)) → ((n : ℕ) → get_or lists n [] ≡ []) → lists ≡ replicate (length lists) []
+all_none [] none = refl
+all_none (ws ∷ wss) none = λ i. none 0 i ∷ all_none wss (λ n. none (suc n)) i
+
+pub nothing_enters : (P : Program) (t : Moment) (lists : List (List Wish)) (s : Snapshot) → ((n : ℕ) → get_or lists n [] ≡ []) → with_all_wishes P t lists s ≡ s
+nothing_enters P t lists s none = ap (λ (wss : List (List Wish)). with_all_wishes P t wss s) (all_none lists none) ∙ none_enter P t (length lists) s
+
+-- lists of which one alone has wishes: these are entered, and without them no list has one
+pub one_enters : (P : Program) (t : Moment) (lists : List (List Wish)) (k : ℕ) (s : Snapshot) → ((n : ℕ) → n ≢ k → get_or lists n [] ≡ [])
+    → with_all_wishes P t lists s ≡ with_wishes P t (get_or lists k []) s
+one_enters P t [] k s one = refl
+one_enters P t (ws ∷ wss) zero s one = nothing_enters P t wss (with_wishes P t ws s) (λ n. one (suc n) (omega arith))
+one_enters P t (ws ∷ wss) (suc k) s one =
+    ap (λ (own : List Wish). with_all_wishes P t wss (with_wishes P t own s)) (one 0 (omega arith))
+    ∙ one_enters P t wss k s (λ n other. one (suc n) (omega (arith, other)))
+
+pub one_emptied : (lists : List (List Wish)) (k : ℕ) → k < length lists → ((n : ℕ) → n ≢ k → get_or lists n [] ≡ []) → set lists k [] ≡ replicate (length lists) []
+one_emptied lists k within one =
+    all_none (set lists k []) (λ n. elim (cases_eq n k) [
+      | inl same ↦ ap (λ (m : ℕ). get_or (set lists k []) m []) same ∙ get_or-set_same lists k [] [] within
+      | inr other ↦ get_or-set_other lists k n [] [] other ∙ one n other
+    ])
+    ∙ ap (λ (m : ℕ). replicate m []) (length-set lists k [])
 
 -- timers that repeat leave the variables
 pub repeats_vars : (P : Program) (t : Moment) (present : Presence) (number : ℕ) (ts : List Timer) (s : Snapshot) → (with_repeats P t present number ts s).vars ≡ s.vars

@@ -11,8 +11,8 @@ ghost use Rattle.warp_step.specs.Program.{top_of};
 ghost use Rattle.warp_step.specs.Valid.{link_fits, program_places, program_sizes};
 ghost use Rattle.warp_step.specs.Snapshot.{landed};
 ghost use Rattle.warp_step.specs.inner.Due.{AreDue};
-ghost use Rattle.warp_step.specs.inner.Flagged.{HasNone};
-ghost use Rattle.warp_step.specs.Step.{with_wishes, with_all_wishes, with_links, delivered};
+ghost use Rattle.warp_step.specs.inner.Flagged.{AreOf};
+ghost use Rattle.warp_step.specs.Step.{with_wish, with_wishes, with_all_wishes, with_links, delivered};
 ghost use Rattle.warp_step.specs.inner.Plan.{plan_of};
 ghost use Rattle.warp_step.specs.inner.Room.{lists_of};
 
@@ -20,6 +20,7 @@ use crate::marks::{Marks, first_link};
 use crate::parts::{Link, Timer};
 use crate::plan::Plan;
 use crate::program::Program;
+use crate::react::Wished;
 use crate::state::State;
 use warp_body::{Present, Target, Wish, Wishes};
 use warp_tag::Tag;
@@ -40,8 +41,7 @@ impl State {
         }
     }
 
-    /// Enters the wishes of the reactions and empties their lists, then enters what links with a delay deliver. The
-    /// flag says whether there may be wishes.
+    /// Enters the wishes of the reactions and empties their lists, then enters what links with a delay deliver.
     #[inline(always)]
     pub(crate) fn enter_later(
         &mut self,
@@ -51,7 +51,7 @@ impl State {
         due: Marks,
         present: &Present,
         wishes: &mut Vec<Wishes>,
-        wished: bool,
+        wished: Wished,
     )
         requires time { tag.time ≤ program.now.stop }
         requires microstep { tag.microstep ≤ top_of program.now }
@@ -60,7 +60,7 @@ impl State {
         requires due { AreDue program.now present.now due.word }
         requires wishes { IsTrue (list_all (list_all (wish_fits (program_sizes program.now)))
             (lists_of wishes.old.items)) }
-        requires none { HasNone wished (lists_of wishes.old.items) }
+        requires none { AreOf wished (lists_of wishes.old.items) }
         ensures state { self.new ≡ with_links program.now tag present.now program.now.links
             (with_all_wishes program.now tag (lists_of wishes.old.items) self.old) }
         ensures none { lists_of wishes.new.items ≡ replicate (length wishes.old.items) [] }
@@ -69,20 +69,85 @@ impl State {
         self.deliver(program, plan, tag, due, present);
     }
 
-    /// Enters the wishes of the reactions, of which there may be some where the flag says so, and empties their lists.
+    /// Enters the wishes of the reactions and empties their lists. Mostly at most one reaction may have some.
     #[inline(always)]
-    fn enter_wishes(&mut self, program: &Program, tag: Tag, wishes: &mut Vec<Wishes>, wished: bool)
+    fn enter_wishes(
+        &mut self,
+        program: &Program,
+        tag: Tag,
+        wishes: &mut Vec<Wishes>,
+        wished: Wished,
+    )
         requires time { tag.time ≤ program.now.stop }
         requires microstep { tag.microstep ≤ top_of program.now }
         requires wishes { IsTrue (list_all (list_all (wish_fits (program_sizes program.now)))
             (lists_of wishes.old.items)) }
-        requires none { HasNone wished (lists_of wishes.old.items) }
+        requires none { AreOf wished (lists_of wishes.old.items) }
         ensures state { self.new ≡ with_all_wishes program.now tag (lists_of wishes.old.items) self.old }
         ensures none { lists_of wishes.new.items ≡ replicate (length wishes.old.items) [] }
     {
-        if wished {
-            self.enter_lists(program, tag, wishes);
+        if wished.count == 0 {
+            return;
         }
+        if wished.count == 1 {
+            return self.enter_wish(program, tag, &mut wishes[wished.last]);
+        }
+        self.enter_lists(program, tag, wishes);
+    }
+
+    /// Enters the wishes of one reaction and empties its list. Mostly it has one.
+    #[inline(always)]
+    fn enter_wish(&mut self, program: &Program, tag: Tag, list: &mut Wishes)
+        requires time { tag.time ≤ program.now.stop }
+        requires microstep { tag.microstep ≤ top_of program.now }
+        requires wishes { IsTrue (list_all (wish_fits (program_sizes program.now)) list.old.items) }
+        ensures state { self.new ≡ with_wishes program.now tag list.old.items self.old }
+        ensures none { list.new.items ≡ [] }
+    {
+        if list.len() == 1 {
+            self.enter_one(program, tag, &list[0]);
+            list.pop();
+        } else if list.len() > 1 {
+            self.enter_several(program, tag, list);
+        }
+    }
+
+    /// Enters the wishes of one reaction, of which there are several, and empties its list.
+    #[inline(never)]
+    fn enter_several(&mut self, program: &Program, tag: Tag, list: &mut Wishes)
+        requires time { tag.time ≤ program.now.stop }
+        requires microstep { tag.microstep ≤ top_of program.now }
+        requires wishes { IsTrue (list_all (wish_fits (program_sizes program.now)) list.old.items) }
+        ensures state { self.new ≡ with_wishes program.now tag list.old.items self.old }
+        ensures none { list.new.items ≡ [] }
+    {
+        self.enter_list(program, tag, list);
+        list.clear();
+    }
+
+    /// Enters wishes in their order.
+    #[inline(always)]
+    fn enter_list(&mut self, program: &Program, tag: Tag, wishes: &[Wish])
+        requires time { tag.time ≤ program.now.stop }
+        requires microstep { tag.microstep ≤ top_of program.now }
+        requires wishes { IsTrue (list_all (wish_fits (program_sizes program.now)) wishes.now) }
+        ensures { self.new ≡ with_wishes program.now tag wishes.now self.old }
+    {
+        for wish in wishes {
+            self.enter_one(program, tag, wish);
+        }
+    }
+
+    /// Enters one wish: it lands after the action's minimum delay and its own.
+    #[inline(always)]
+    fn enter_one(&mut self, program: &Program, tag: Tag, wish: &Wish)
+        requires time { tag.time ≤ program.now.stop }
+        requires microstep { tag.microstep ≤ top_of program.now }
+        requires wish { IsTrue (wish_fits (program_sizes program.now) wish.now) }
+        ensures { self.new ≡ with_wish program.now tag wish.now self.old }
+    {
+        let delay = program.delay(wish.action) + wish.delay;
+        self.land(program, tag, delay, Target::Action(wish.action), wish.value);
     }
 
     /// Enters the wishes of each reaction, in the order of the file, and empties its list.
@@ -95,21 +160,7 @@ impl State {
         ensures none { lists_of wishes.new ≡ replicate (length wishes.old) [] }
     {
         for list in wishes.iter_mut() {
-            self.enter_list(program, tag, list);
-            empty(list);
-        }
-    }
-
-    /// Enters the wishes of one reaction: each lands after the action's minimum delay and its own.
-    fn enter_list(&mut self, program: &Program, tag: Tag, wishes: &[Wish])
-        requires time { tag.time ≤ program.now.stop }
-        requires microstep { tag.microstep ≤ top_of program.now }
-        requires wishes { IsTrue (list_all (wish_fits (program_sizes program.now)) wishes.now) }
-        ensures { self.new ≡ with_wishes program.now tag wishes.now self.old }
-    {
-        for wish in wishes {
-            let delay = program.delay(wish.action) + wish.delay;
-            self.land(program, tag, delay, Target::Action(wish.action), wish.value);
+            self.enter_wish(program, tag, list);
         }
     }
 
@@ -128,8 +179,7 @@ impl State {
         }
     }
 
-    /// Looks at the links that are due, up to the first whose source is present. The rest is left to a call at the end,
-    /// so where none is present no register is saved.
+    /// Enters what each link with a delay delivers that is due and whose source is present.
     #[inline(never)]
     fn deliver_due(&mut self, program: &Program, tag: Tag, due: Marks, present: &Present)
         requires time { tag.time ≤ program.now.stop }
@@ -143,41 +193,6 @@ impl State {
         let first = first_link(program);
         let end = first + links.len();
         let mut mark = due.next(first);
-        while mark < end {
-            if present
-                .get(Target::Port(links[mark - first].source))
-                .is_some()
-            {
-                return self.deliver_from(program, tag, due, present, mark);
-            }
-            mark = due.after(mark);
-        }
-    }
-
-    /// Looks at the links that are due from a mark on, and enters what each with a delay delivers whose source is
-    /// present.
-    #[inline(never)]
-    fn deliver_from(
-        &mut self,
-        program: &Program,
-        tag: Tag,
-        due: Marks,
-        present: &Present,
-        from: usize,
-    )
-        requires time { tag.time ≤ program.now.stop }
-        requires microstep { tag.microstep ≤ top_of program.now }
-        requires places { places_of present.now ≡ program_places program.now }
-        requires due { AreDue program.now present.now due.word }
-        requires from { first_link program.now ≤ from }
-        ensures { self.new ≡
-            with_links program.now tag present.now (drop (from - first_link program.now) program.now.links) self.old }
-    {
-        program.valid();
-        let links = program.links();
-        let first = first_link(program);
-        let end = first + links.len();
-        let mut mark = from;
         while mark < end {
             self.deliver_link(program, tag, present, &links[mark - first]);
             mark = due.after(mark);
@@ -199,17 +214,5 @@ impl State {
         {
             self.land(program, tag, delay, Target::Port(link.target), value);
         }
-    }
-}
-
-/// Empties a list of wishes. Mostly it has one, and to take that out costs less than a call.
-#[inline(always)]
-fn empty(list: &mut Wishes)
-    ensures { list.new.items ≡ [] }
-{
-    if list.len() == 1 {
-        list.pop();
-    } else {
-        list.clear();
     }
 }

@@ -31,9 +31,6 @@ pub(crate) const MOST_PENDING: usize = 256;
 /// How many places there are for them: with twice as many, entries move to the front once in 256 insertions at most.
 const PLACES: usize = 512;
 
-/// Up to so many entries are moved one by one as a place is sought from the end.
-const FEW: usize = 4;
-
 /// The pending entries, in order: those from `start` up to `end`.
 #[derive(Drop)]
 pub(crate) struct Entries {
@@ -127,30 +124,6 @@ impl Entries {
             return true;
         }
         false
-    }
-
-    /// Inserts an entry, if few are later, it comes behind all others, and the places behind the last are not used up.
-    /// Answers whether it is in.
-    #[inline(always)]
-    pub(crate) fn insert_near(&mut self, entry: Waiting) -> bool
-        requires order { AreInOrder self.old }
-        requires room { length self.old < most_pending }
-        ensures { self.new ≡ (if result then with_entry entry.tag entry.target entry.value self.old else self.old) }
-    {
-        if self.end == PLACES || !self.is_near(entry.tag) {
-            return false;
-        }
-        if !insert_later(&mut self.items, self.start, self.end, entry) {
-            return false;
-        }
-        self.end += 1;
-        true
-    }
-
-    /// Whether only few entries are later than a tag. On this hangs what is tried, and nothing else.
-    #[inline(always)]
-    fn is_near(&self, tag: Tag) -> bool {
-        self.len() <= FEW || self.items[self.end - FEW - 1].tag.is_before(tag)
     }
 
     /// Inserts an entry at its place. Those in front of it move where they are fewer and there is room, else those
@@ -266,39 +239,6 @@ impl fmt::Debug for Entries {
     }
 }
 
-/// Where the first of the entries from a place up to another stands that is later than a tag, as are all behind it.
-#[inline(always)]
-fn first_later(items: &[Waiting], start: usize, end: usize, tag: Tag) -> usize
-    requires order { start ≤ end }
-    requires room { end < length items.now }
-    ensures from { start ≤ result }
-    ensures to { result ≤ end }
-    ensures later { (k : ℕ) (d : Entry) → result ≤ k → k < end →
-        is_before tag (slice_index_or items.now k d).tag ≡ true }
-{
-    let mut at = end;
-    while at > start && tag.is_before(items[at - 1].tag) {
-        at -= 1;
-    }
-    at
-}
-
-/// Moves the entries from a place up to another up by one. They are few, and a call would cost more than they do.
-#[inline(always)]
-fn move_up(items: &mut [Waiting], at: usize, end: usize)
-    requires order { at ≤ end }
-    requires room { end < length items.old }
-    ensures front { take (at + 1) items.new ≡ take (at + 1) items.old }
-    ensures behind { drop (at + 1) items.new ≡ take (end - at) (drop at items.old) ++ drop (end + 1) items.old }
-    ensures len { length items.new ≡ length items.old }
-{
-    let mut place = end;
-    while place > at {
-        items[place] = items[place - 1];
-        place -= 1;
-    }
-}
-
 /// Makes the targets of entries from a place on and before another present, as long as they are at the tag and have
 /// this period, and puts them behind these entries too, at a later tag and without a value. Answers how many they are.
 /// Whom they concern is due, and the first reaction that the last one triggers is sure.
@@ -352,28 +292,6 @@ fn shift_alike(
         count += 1;
     }
     count
-}
-
-/// Inserts an entry among those from a place up to another, if it comes behind all that are not later. Answers whether
-/// it is in.
-#[inline(always)]
-fn insert_later(items: &mut [Waiting], start: usize, end: usize, entry: Waiting) -> bool
-    requires order { start ≤ end }
-    requires room { end < length items.old }
-    requires sorted { AreInOrder (slice_range items.old start end) }
-    ensures entered { result ≡ true →
-        slice_range items.new start (end + 1) ≡
-        with_entry entry.tag entry.target entry.value (slice_range items.old start end) }
-    ensures same { result ≡ false → slice_range items.new start end ≡ slice_range items.old start end }
-    ensures len { length items.new ≡ length items.old }
-{
-    let at = first_later(items, start, end, entry.tag);
-    if at > start && !items[at - 1].comes_before(entry.tag, entry.target) {
-        return false;
-    }
-    move_up(items, at, end);
-    items[at] = entry;
-    true
 }
 
 /// Inserts an entry among those from a place up to another, of which the front moves down by one.

@@ -170,20 +170,6 @@ pub(crate) fn enter_last(entries: &mut Entries, tag: Tag, target: Target, value:
     false
 }
 
-/// Enters a value at a tag to a target, if few entries are later, it comes behind all others, and there is room.
-/// Answers whether it is in.
-#[inline(always)]
-pub(crate) fn enter_near(entries: &mut Entries, tag: Tag, target: Target, value: i64) -> bool
-    requires { AreInOrder entries.old }
-    ensures room { IsTrue result → IsTrue (nat_lt (length entries.old) most_pending) }
-    ensures entries { entries.new ≡ (if result then with_entry tag target value entries.old else entries.old) }
-{
-    if entries.len() < MOST_PENDING {
-        return entries.insert_near(Waiting { tag, target, value });
-    }
-    false
-}
-
 /// How many entries come before this tag and target. What is lost for want of room is mostly behind all.
 #[inline(always)]
 fn place_in(entries: &Entries, tag: Tag, target: Target) -> usize

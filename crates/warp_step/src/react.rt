@@ -1,6 +1,6 @@
 //! The reactions of a step, and the outputs that it puts.
 ghost use Rattle.std.specs.Prelude.{◌≡◌, ℕ, ◌+◌, ◌≤◌, ◌<◌, ◌++◌, IsTrue, is_some, false, true, List, [], map, filter};
-ghost use Rattle.std.specs.Prelude.{length, slice_index_or, vec_len, vec_capacity};
+ghost use Rattle.std.specs.Prelude.{length, slice_index_or, vec_len, vec_capacity, if◌then◌else◌};
 ghost use Rattle.std.specs.List.{list_all, list_any};
 ghost use Rattle.warp_tag.specs.Limits.{most_wishes};
 ghost use Rattle.warp_body.specs.Presence.{Presence, places_of, present_at, target_fits};
@@ -10,7 +10,8 @@ ghost use Rattle.warp_body.specs.Term.{sizes_of};
 ghost use Rattle.warp_step.specs.Program.{Program, Rule};
 ghost use Rattle.warp_step.specs.Valid.{is_valid, program_places, program_sizes, rule_fits};
 ghost use Rattle.warp_step.specs.inner.Due.{AreDue};
-ghost use Rattle.warp_step.specs.inner.Flagged.{HasNone};
+ghost use Rattle.warp_step.specs.inner.Flagged.{AreOf};
+ghost use Rattle.warp_step.specs.inner.Marks.{most_marks};
 ghost use Rattle.warp_step.specs.inner.Plan.{is_port, marks_of, plan_of, ready_turn, turn_rule};
 ghost use Rattle.warp_step.specs.inner.Room.{lists_of};
 ghost use Rattle.warp_step.specs.inner.Sure.{IsSure};
@@ -22,6 +23,27 @@ use crate::plan::{Plan, ReadyReaction};
 use crate::program::Program;
 use warp_body::{Present, Target, Vars, Wishes};
 use warp_tag::{Out, Tag};
+
+/// Who may have wishes: of how many reactions that ran the bodies schedule something, and the number of the last one.
+#[derive(Clone, Copy)]
+pub(crate) struct Wished {
+    pub(crate) count: usize,
+    pub(crate) last: usize,
+}
+
+impl Wished {
+    /// Counts the reaction with this number, if it may have wishes.
+    #[inline(always)]
+    fn note(&mut self, may_wish: bool, number: usize)
+        requires { self.old.count < most_marks }
+        ensures { self.new ≡ (if may_wish then record { count = self.old.count + 1; last = number } else self.old) }
+    {
+        if may_wish {
+            self.count += 1;
+            self.last = number;
+        }
+    }
+}
 
 /// Whether one of the reaction's triggers is present. Where that is sure they are not looked at.
 #[inline(always)]
@@ -121,7 +143,7 @@ fn run_reaction(
     false
 }
 
-/// Runs the reactions that are triggered, in the program's order, and says whether one may have wishes then. It looks
+/// Runs the reactions that are triggered, in the program's order, and says who may have wishes then. It looks
 /// at those that are due, which all are that something present triggers, and tests them but the first one where that
 /// is sure.
 #[inline(always)]
@@ -133,7 +155,7 @@ pub(crate) fn run_reactions(
     vars: &mut Vars,
     present: &mut Present,
     wishes: &mut Vec<Wishes>,
-) -> bool
+) -> Wished
     requires vars { length vars.old ≡ length program.now.variables }
     requires places { places_of present.old ≡ program_places program.now }
     requires wishes { lists_of wishes.old.items ≡ no_wishes program.now }
@@ -152,17 +174,17 @@ pub(crate) fn run_reactions(
     ensures sources { present.new.sources ≡ present.old.sources }
     ensures wishes { IsTrue (list_all (list_all (wish_fits (program_sizes program.now))) (lists_of wishes.new.items)) }
     ensures bodies { length wishes.new.items ≡ length wishes.old.items }
-    ensures none { HasNone result (lists_of wishes.new.items) }
+    ensures none { AreOf result (lists_of wishes.new.items) }
     ensures due { AreDue program.now present.new due.new.word }
 {
     program.valid();
-    let count = plan.turns();
-    let mut wished = false;
+    let mut wished = Wished { count: 0, last: 0 };
     let mut turn = due.next(0);
     let mut is_sure = turn == sure;
-    while turn < count {
+    while turn < plan.turns() {
         let ready = plan.reaction(turn);
-        wished |= run_reaction(is_sure, ready, due, vars, present, wishes);
+        let may_wish = run_reaction(is_sure, ready, due, vars, present, wishes);
+        wished.note(may_wish, ready.number);
         is_sure = false;
         turn = due.after(turn);
     }

@@ -10,7 +10,7 @@ ghost use Rattle.warp_step.specs.Snapshot.{with_loss, with_timers};
 
 use crate::entries::Entries;
 use crate::parts::Variable;
-use crate::pending::{Waiting, enter_entry, enter_last, enter_near};
+use crate::pending::{Waiting, enter_entry, enter_last};
 use crate::program::Program;
 use crate::reaction::Reaction;
 use std::alloc::Global;
@@ -80,16 +80,6 @@ impl State {
         ensures { self.new ≡ entered tag target value self.old }
     {
         if !enter_last(&mut self.pending, tag, target, value) {
-            self.enter_among(tag, target, value);
-        }
-    }
-
-    /// Enters a value at a tag to a target whose place is not the last. Mostly few entries are later.
-    #[inline(never)]
-    fn enter_among(&mut self, tag: Tag, target: Target, value: i64)
-        ensures { self.new ≡ entered tag target value self.old }
-    {
-        if !enter_near(&mut self.pending, tag, target, value) {
             self.enter_anywhere(tag, target, value);
         }
     }

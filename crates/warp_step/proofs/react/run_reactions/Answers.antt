@@ -1,10 +1,10 @@
 -- each reaction fits, since the program is valid; its own list of wishes is empty before its turn, since it has no other; those
 -- that are not marked are not triggered
-use Rattle.std.proofs.Common.{◌≡◌, ℕ, replicate, ◌+◌, ◌≤◌, ◌<◌, List, [], drop, IsTrue, ap, sym, ◌∙◌, subst, get_or, length, refl, true, false, arith}
+use Rattle.std.proofs.Common.{◌≡◌, ◌≢◌, ℕ, ◌+◌, ◌≤◌, ◌<◌, Bool, List, [], drop, IsTrue, ap, sym, ◌∙◌, subst, get_or, length, refl, true, false, arith}
 use Rattle.std.specs.Prelude.{slice_index_or}
 use Rattle.std.specs.List.{list_all}
-use Rattle.std.specs.Prelude.{◌&&◌, nat_le}
-use Rattle.std.proofs.lemmas.Bool.{and_parts, eqb-true, leb-true, not-false, or_parts}
+use Rattle.std.specs.Prelude.{◌&&◌, nat_le, if◌then◌else◌}
+use Rattle.std.proofs.lemmas.Bool.{and_parts, eqb-true, leb-true, not-false}
 use Rattle.std.proofs.lemmas.List.{at_drop_all, get_or-map, length-map, length-replicate}
 use Rattle.arrayvec.specs.ArrayVec.{ArrayVec}
 use Rattle.warp_tag.specs.Limits.{most_reactions, most_wishes}
@@ -14,6 +14,8 @@ use Rattle.warp_body.specs.Term.{sizes_of}
 use Rattle.warp_body.specs.declared.place.Places.{Places}
 use Rattle.warp_body.specs.declared.place.Sizes.{Sizes}
 use Rattle.warp_body.specs.declared.stmt.Wish.{Wish}
+use Rattle.warp_step.specs.declared.react.Wished.{Wished}
+use Rattle.warp_step.specs.inner.Flagged.{AreOf}
 use Rattle.warp_step.specs.inner.Plan.{Plan, TurnPlan, may_wish, plan_of, ready_turn, rule_numbered, turn_plan, turn_rule}
 use Rattle.warp_step.specs.Program.{Program, Rule}
 use Rattle.warp_step.specs.Valid.{is_valid, program_places, program_sizes, rule_fits}
@@ -60,6 +62,29 @@ wishless P rule h =
     let fits = not-false (body_fits (program_sizes P) rule.body && nat_le (schedules_of rule.body) 0) h in
     leb-true (schedules_of rule.body) 0 (and_parts (body_fits (program_sizes P) rule.body) (nat_le (schedules_of rule.body) 0) fits).1
 
+-- with one more reaction, whose list alone may have changed
+noted : (may : Bool) (number : ℕ) (old new : List (List Wish)) (before after : Wished) → AreOf before old
+    → after ≡ (if may then record { count = before.count + 1; last = number } else before) → (may ≡ false → new ≡ old)
+    → ((m : ℕ) → m ≢ number → get_or new m [] ≡ get_or old m []) → number < length new → AreOf after new
+noted true number old new before after were is same others within = subst (λ (w : Wished). AreOf w new) (sym is) (record {
+  none = λ h. absurd (omega (arith, h));
+  one = λ h m other. others m other ∙ were.none (omega (arith, h)) m;
+  within = λ h. within;
+})
+noted false number old new before after were is same others within =
+    subst (λ (w : Wished). AreOf w new) (sym is) (subst (λ (wss : List (List Wish)). AreOf before wss) (sym (same refl)) were)
+
+counted : (may : Bool) (before after : Wished) (number : ℕ) → after ≡ (if may then record { count = before.count + 1; last = number } else before)
+    → after.count ≤ before.count + 1
+counted true before after number is = let count = ap (λ (w : Wished). w.count) is in omega (arith, count)
+counted false before after number is = let count = ap (λ (w : Wished). w.count) is in omega (arith, count)
+
+pub note-requires : goal.note-requires
+note-requires c =
+    let many = few c.args.program.now c.valid.ensures in
+    let turns = turns_are c.args.program.now c.args.plan.now c.requires.plan in
+    omega (arith, many, turns, c.turns.ensures, c.loop-turn-test.true, c.loop-turn.invariant.few)
+
 pub loop-turn-init : goal.loop-turn-init
 loop-turn-init c =
     let P = c.args.program.now in
@@ -76,17 +101,22 @@ loop-turn-init c =
       none = λ k h within. ap (λ (wss : List (List Wish)). get_or wss (get_or P.order k 0) []) c.requires.wishes ∙ empty_at (length P.reactions) (get_or P.order k 0);
       wishes = subst (λ (wss : List (List Wish)). IsTrue (list_all (list_all (wish_fits (program_sizes P))) wss))
           (sym c.requires.wishes) (empty_pass (wish_fits (program_sizes P)) (length P.reactions));
-      unwished = λ h. c.requires.wishes ∙ ap (λ (k : ℕ). replicate k []) (sym (ap length c.requires.wishes ∙ length-replicate (length P.reactions) []));
+      wished = record {
+        none = λ h k. ap (λ (wss : List (List Wish)). get_or wss k []) c.requires.wishes ∙ empty_at (length P.reactions) k;
+        one = λ h. absurd (omega (arith, h));
+        within = λ h. absurd (omega (arith, h));
+      };
+      few = omega arith;
       due = c.requires.due;
       sure = λ h. subst (λ (k : ℕ). IsSure P c.args.present.now k) (sym (eqb-true c.next-turn.result c.args.sure h)) c.requires.sure;
     }
 
-pub run_reaction-wished-requires : goal.run_reaction-wished-requires
-run_reaction-wished-requires c =
+pub run_reaction-may_wish-requires : goal.run_reaction-may_wish-requires
+run_reaction-may_wish-requires c =
     let P = c.args.program.now in
     let turn = c.loop-turn.turn in
     let n = get_or P.order turn 0 in
-    let kept = kept_at P c.args.plan.now turn c.turns-count.result (ready_turn c.reaction-ready.result.now) c.valid.ensures c.requires.plan c.turns-count.ensures
+    let kept = kept_at P c.args.plan.now turn c.turns.result (ready_turn c.reaction-ready.result.now) c.valid.ensures c.requires.plan c.turns.ensures
     c.loop-turn-test.true c.reaction-ready.ensures in
     let rule = rule_numbered P.reactions n in
     let fits : RuleFits P rule = rule_parts P rule kept.may in
@@ -116,7 +146,7 @@ loop-turn-preserved c =
     let P = c.args.program.now in
     let turn = c.loop-turn.turn in
     let n = get_or P.order turn 0 in
-    let kept = kept_at P c.args.plan.now turn c.turns-count.result (ready_turn c.reaction-ready.result.now) c.valid.ensures c.requires.plan c.turns-count.ensures
+    let kept = kept_at P c.args.plan.now turn c.turns.result (ready_turn c.reaction-ready.result.now) c.valid.ensures c.requires.plan c.turns.ensures
     c.loop-turn-test.true c.reaction-ready.ensures in
     let mine = kept.mine in
     let rule = rule_numbered P.reactions n in
@@ -124,7 +154,7 @@ loop-turn-preserved c =
     let vars : length P.variables ≡ length c.loop-turn.vars = sym (c.loop-turn.invariant.vars ∙ c.requires.vars) in
     let sizes : program_sizes P ≡ sizes_of c.loop-turn.vars c.loop-turn.present = λ i. record { vars = vars i; places = places i } in
     let own = c.loop-turn.invariant.sources ∙ c.requires.own in
-    let ran = c.run_reaction-wished in
+    let ran = c.run_reaction-may_wish in
     let after : Reacting = record { vars = ran.new.vars; present = ran.new.present; wishes = lists_of ran.new.wishes.items } in
     let now : Reacting = record { vars = c.loop-turn.vars; present = c.loop-turn.present; wishes = lists_of c.loop-turn.wishes.items } in
     let effect : after ≡ react n rule now = ran.ensures.effect ∙ ap (λ (t : TurnPlan). react t.number (turn_rule t) now) kept.is in
@@ -149,9 +179,16 @@ loop-turn-preserved c =
       wishes = subst (λ (s : Sizes). IsTrue (list_all (list_all (wish_fits s)) (lists_of ran.new.wishes.items))) (sym sizes)
           (ran.ensures.wishes
           (subst (λ (s : Sizes). IsTrue (list_all (list_all (wish_fits s)) (lists_of c.loop-turn.wishes.items))) sizes c.loop-turn.invariant.wishes));
-      unwished = λ h.
-          let both = or_parts c.loop-turn.wished ran.result h in
-          subst (λ (wss : List (List Wish)). wss ≡ replicate (length wss) []) (sym (ran.ensures.none both.1)) (c.loop-turn.invariant.unwished both.0);
+      wished =
+          let number = ap (λ (t : TurnPlan). t.number) kept.is in
+          let lists : length c.loop-turn.wishes.items ≡ length P.reactions =
+          c.loop-turn.invariant.bodies ∙ sym (length-map c.args.wishes.now.items (λ (w : ArrayVec Wish). w.items)) ∙ ap length c.requires.wishes ∙ length-replicate (length P.reactions) [] in
+          let all = length-map ran.new.wishes.items (λ (w : ArrayVec Wish). w.items) in
+          noted ran.result c.reaction-ready.result.now.number (lists_of c.loop-turn.wishes.items) (lists_of ran.new.wishes.items) c.loop-turn.wished c.note.new.self
+          c.loop-turn.invariant.wished c.note.ensures ran.ensures.none
+          (λ m other. ap (λ (r : Reacting). get_or r.wishes m []) effect ∙ react_other n rule now m (λ same. other (same ∙ sym number)))
+          (omega (arith, number, mine.below, lists, all, ran.ensures.bodies));
+      few = omega (arith, counted ran.result c.loop-turn.wished c.note.new.self c.reaction-ready.result.now.number c.note.ensures, c.loop-turn.invariant.few, next.ensures.from);
       due = due;
       sure = λ h. let no : false ≡ true = h in cc;
     }
@@ -160,7 +197,7 @@ pub after-turn-requires : goal.after-turn-requires
 after-turn-requires c =
     let many = few c.args.program.now c.valid.ensures in
     let turns = turns_are c.args.program.now c.args.plan.now c.requires.plan in
-    omega (arith, many, turns, c.turns-count.ensures, c.loop-turn-test.true)
+    omega (arith, many, turns, c.turns.ensures, c.loop-turn-test.true)
 
 pub returns-clause-effect : goal.returns-clause-effect
 returns-clause-effect c =
@@ -168,5 +205,5 @@ returns-clause-effect c =
     let turn = c.loop-turn.turn in
     let now : Reacting = record { vars = c.loop-turn.vars; present = c.loop-turn.present; wishes = lists_of c.loop-turn.wishes.items } in
     let turns = turns_are P c.args.plan.now c.requires.plan in
-    let end : length P.order ≤ turn = omega (arith, turns, c.turns-count.ensures, c.loop-turn-test.false) in
+    let end : length P.order ≤ turn = omega (arith, turns, c.turns.ensures, c.loop-turn-test.false) in
     sym (at_drop_all (λ (ns : List ℕ). after_reactions P ns now) P.order turn end) ∙ c.loop-turn.invariant.rest

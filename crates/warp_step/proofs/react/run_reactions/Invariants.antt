@@ -8,7 +8,7 @@ use Rattle.warp_step.specs.Valid.{program_sizes}
 use Rattle.warp_step.specs.Step.{after_reactions, no_wishes}
 use Rattle.warp_step.specs.inner.Room.{lists_of}
 use Rattle.warp_step.specs.inner.Due.{AreDue}
-use Rattle.warp_step.specs.inner.Flagged.{HasNone}
+use Rattle.warp_step.specs.inner.Flagged.{AreOf}
 use Rattle.warp_step.specs.inner.Sure.{IsSure}
 use Rattle.warp_step.proofs.react.run_reactions.Given as goal
 
@@ -24,10 +24,11 @@ invariant-loop-turn l = record {
   bodies : length l.wishes.items ≡ length l.fn.wishes.items;
   none : (k : ℕ) → l.turn ≤ k → k < length l.program.order → get_or (lists_of l.wishes.items) (get_or l.program.order k 0) [] ≡ [];
   wishes : IsTrue (list_all (list_all (wish_fits (program_sizes l.program))) (lists_of l.wishes.items));
-  unwished : HasNone l.wished (lists_of l.wishes.items);
+  wished : AreOf l.wished (lists_of l.wishes.items);
+  few : l.wished.count ≤ l.turn;
   due : AreDue l.program l.present l.due.word;
   sure : l.is_sure ≡ true → IsSure l.program l.present l.turn;
 }
 
 abbrev pub decreases-loop-turn : goal.decreases-loop-turn
-decreases-loop-turn l = l.count - l.turn
+decreases-loop-turn l = length l.plan.turns - l.turn

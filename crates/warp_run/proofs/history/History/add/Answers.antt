@@ -12,22 +12,22 @@ mark c = record { done = c.args.done; pending = length c.args.entries.now; lost 
 
 added : (c : goal.After-self-2-1) → HasMore c.self.inside.width c.self.inside.marks.items c.push_reserved.new.self.items
     (take c.self.inside.values_used c.self.inside.values.items)
-    (take (c.self.inside.values_used + length c.args.values.now) c.write_values.new.list.items)
+    (take (c.self.inside.values_used + length c.args.values.now) c.write.new.list.items)
     (take c.self.inside.entries_used c.self.inside.entries.items)
-    (take (c.self.inside.entries_used + length c.args.entries.now) c.write_entries.new.list.items)
+    (take (c.self.inside.entries_used + length c.args.entries.now) c.write-2.new.list.items)
     (saved_at c.args.done (record { vars = c.args.values.now; pending = c.args.entries.now; lost = c.args.lost }))
 added c =
     let h = c.self.inside in
     has_more h.width h.marks.items c.push_reserved.new.self.items (mark c)
-    (take h.values_used h.values.items) c.args.values.now (take (h.values_used + length c.args.values.now) c.write_values.new.list.items)
-    (take h.entries_used h.entries.items) c.args.entries.now (take (h.entries_used + length c.args.entries.now) c.write_entries.new.list.items) c.self.invariant.2
+    (take h.values_used h.values.items) c.args.values.now (take (h.values_used + length c.args.values.now) c.write.new.list.items)
+    (take h.entries_used h.entries.items) c.args.entries.now (take (h.entries_used + length c.args.entries.now) c.write-2.new.list.items) c.self.invariant.2
     (record {
       vars = c.requires.values ∙ sym (ap (λ (s : Saves). s.width) c.self.view_is);
       pending = refl;
       few = c.requires.entries.0;
       order = c.requires.entries.1;
     })
-    c.push_reserved.ensures.items c.write_values.ensures.items c.write_entries.ensures.items
+    c.push_reserved.ensures.items c.write.ensures.items c.write-2.ensures.items
 
 pub invariant_of-self : goal.invariant_of-self
 invariant_of-self c =
@@ -38,12 +38,12 @@ invariant_of-self c =
     let entries_free = c.if-entries-len.false in
     let values_all = c.len-2.ensures in
     let entries_all = c.len-3.ensures in
-    let values_stay = c.write_values.ensures.len in
-    let entries_stay = c.write_entries.ensures.len in
+    let values_stay = c.write.ensures.len in
+    let entries_stay = c.write-2.ensures.len in
     let values_old = h.values.ok.0 in
     let entries_old = h.entries.ok.0 in
-    let values_new = c.write_values.new.list.ok.0 in
-    let entries_new = c.write_entries.new.list.ok.0 in
+    let values_new = c.write.new.list.ok.0 in
+    let entries_new = c.write-2.new.list.ok.0 in
     (omega arith, omega arith, (added c).kept)
 
 pub returns-clause-saves : goal.returns-clause-saves
@@ -52,8 +52,8 @@ returns-clause-saves c = λ i. record {
   saves = ((added c).saves ∙ ap (λ (s : Saves). saved_at c.args.done (record { vars = c.args.values.now; pending = c.args.entries.now; lost = c.args.lost }) ∷ s.saves) c.self.view_is) i;
   room = record {
     marks = (c.push_reserved.ensures.capacity ∙ ap (λ (s : Saves). s.room.marks) c.self.view_is) i;
-    values = (sym c.write_values.new.list.ok.0 ∙ c.write_values.ensures.len ∙ c.self.inside.values.ok.0 ∙ ap (λ (s : Saves). s.room.values) c.self.view_is) i;
-    entries = (sym c.write_entries.new.list.ok.0 ∙ c.write_entries.ensures.len ∙ c.self.inside.entries.ok.0 ∙ ap (λ (s : Saves). s.room.entries) c.self.view_is) i;
+    values = (sym c.write.new.list.ok.0 ∙ c.write.ensures.len ∙ c.self.inside.values.ok.0 ∙ ap (λ (s : Saves). s.room.values) c.self.view_is) i;
+    entries = (sym c.write-2.new.list.ok.0 ∙ c.write-2.ensures.len ∙ c.self.inside.entries.ok.0 ∙ ap (λ (s : Saves). s.room.entries) c.self.view_is) i;
   };
 }
 

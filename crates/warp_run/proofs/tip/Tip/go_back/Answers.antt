@@ -19,7 +19,6 @@ returns-in-Some-clause-back c = λ P E done at.
       outputs = c.truncate.ensures.items;
       rows = refl;
       last = refl;
-      every = refl;
       due = search rules;
       scratch = refl;
       base = refl;

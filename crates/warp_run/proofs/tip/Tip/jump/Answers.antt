@@ -64,7 +64,6 @@ returns-clause-on c = record {
             ∙ (λ i. c.reserve_outputs.ensures.items i ++ outputs_between (room_aside i).first (room_aside i).outputs c.in-Some.here.outputs c.in-Some-earliest.next.outputs)
             ∙ (λ i. x.outputs.items ++ outputs_between x.aside.first x.aside.outputs (sym here_is i).outputs (sym next_is i).outputs);
         new_aside = room_aside;
-        every = refl;
         due = refl;
         history = refl;
         base = refl;

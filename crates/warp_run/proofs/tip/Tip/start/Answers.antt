@@ -22,7 +22,6 @@ returns c = λ E. record {
   from = search rules;
   saved = search rules;
   near = search rules;
-  every = search rules;
   due = search rules;
   aside_width = search rules;
   aside = search rules;

@@ -16,7 +16,6 @@ returns-clause-stepped g c = λ E done at next is.
       outputs = outs.1;
       rows = refl;
       last = refl;
-      every = refl;
       due = refl;
       history = refl;
       base = refl;

@@ -21,28 +21,28 @@ cursor_at-self-requires g c =
     let w = c.args.self.now in
     (c.in_ok-cursor.ensures (ahead w.tip.last w.arena.places) (reaches_as _ _ _ _ c.node.ensures c.requires.next.1.cursor)).0.used
 
-pub step_at_event-requires-clause-at : goal.step_at_event-requires-clause-at
-step_at_event-requires-clause-at g c =
+pub step-requires-clause-at : goal.step-requires-clause-at
+step-requires-clause-at g c =
     let w = c.args.self.now in
     let gathered = c.in_ok-cursor.ensures (ahead w.tip.last w.arena.places) (reaches_as _ _ _ _ c.node.ensures c.requires.next.1.cursor) in
     may_step c.args.program.now w c.args.tag c.requires.next c.get_ready.new.self c.deref.result.now c.get_ready.ensures.same
     (c.deref.ensures.value ∙ gathered.1 ∙ ap (λ xs. xs ++ given_through w c.args.tag) c.clear.ensures.items)
 
-pub step_at_event-requires-clause-given : goal.step_at_event-requires-clause-given
-step_at_event-requires-clause-given g c =
+pub step-requires-clause-given : goal.step-requires-clause-given
+step-requires-clause-given g c =
     let w = c.args.self.now in
     let gathered = c.in_ok-cursor.ensures (ahead w.tip.last w.arena.places) (reaches_as _ _ _ _ c.node.ensures c.requires.next.1.cursor) in
     may_give c.args.program.now w c.args.tag c.requires.next c.deref.result.now
     (c.deref.ensures.value ∙ gathered.1 ∙ ap (λ xs. xs ++ given_through w c.args.tag) c.clear.ensures.items) c.ordered.ensures.order
 
-pub step_at_event-requires-clause-few : goal.step_at_event-requires-clause-few
-step_at_event-requires-clause-few g c =
+pub step-requires-clause-few : goal.step-requires-clause-few
+step-requires-clause-few g c =
     are_few c.args.program.now c.args.self.now c.args.tag c.requires.next c.get_ready.new.self c.get_ready.ensures.same
 
 pub returns-clause-goes : goal.returns-clause-goes
 returns-clause-goes g c =
     let w = c.args.self.now in
-    let did = c.step_at_event.ensures in
+    let did = c.step.ensures in
     let ticked = did.ticked in
     let gathered = c.in_ok-cursor.ensures (ahead w.tip.last w.arena.places) (reaches_as _ _ _ _ c.node.ensures c.requires.next.1.cursor) in
     row_done c.args.program.now w c.args.tag c.requires.next _ c.get_ready.new.self c.deref.result.now _ c.get_ready.ensures.same

@@ -15,29 +15,29 @@ returns-in_err-get_ready-clause-goes g c =
 pub cursor_at-self-requires : goal.cursor_at-self-requires
 cursor_at-self-requires g c = c.next-behind.ensures.used
 
-pub step_at_event-requires-clause-at : goal.step_at_event-requires-clause-at
-step_at_event-requires-clause-at g c =
+pub step-requires-clause-at : goal.step-requires-clause-at
+step-requires-clause-at g c =
     let w = c.args.self.now in
     let l = c.args.first.now in
     let past = c.is_past.ensures c.if-not-is_past.false (places_after l.node w.arena.places) c.next-behind.ensures in
     may_step c.args.program.now w l.tag c.requires.next c.get_ready.new.self _ c.get_ready.ensures.same (c.from_ref-alone.ensures.value ∙ alone_given w l c.requires.event past.1)
 
-pub step_at_event-requires-clause-given : goal.step_at_event-requires-clause-given
-step_at_event-requires-clause-given g c =
+pub step-requires-clause-given : goal.step-requires-clause-given
+step-requires-clause-given g c =
     let w = c.args.self.now in
     let l = c.args.first.now in
     let past = c.is_past.ensures c.if-not-is_past.false (places_after l.node w.arena.places) c.next-behind.ensures in
     may_give c.args.program.now w l.tag c.requires.next _ (c.from_ref-alone.ensures.value ∙ alone_given w l c.requires.event past.1) c.ordered.ensures.order
 
-pub step_at_event-requires-clause-few : goal.step_at_event-requires-clause-few
-step_at_event-requires-clause-few g c =
+pub step-requires-clause-few : goal.step-requires-clause-few
+step-requires-clause-few g c =
     are_few c.args.program.now c.args.self.now c.args.first.now.tag c.requires.next c.get_ready.new.self c.get_ready.ensures.same
 
 pub returns-clause-goes : goal.returns-clause-goes
 returns-clause-goes g c =
     let w = c.args.self.now in
     let l = c.args.first.now in
-    let did = c.step_at_event.ensures in
+    let did = c.step.ensures in
     let ticked = did.ticked in
     let past = c.is_past.ensures c.if-not-is_past.false (places_after l.node w.arena.places) c.next-behind.ensures in
     row_done c.args.program.now w l.tag c.requires.next _ c.get_ready.new.self c.from_ref-alone.result.now _ c.get_ready.ensures.same (c.from_ref-alone.ensures.value ∙ alone_given w l c.requires.event past.1)
