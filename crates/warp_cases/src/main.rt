@@ -5,8 +5,8 @@
 //! names the program which the calls are over: `twice`, or the text of a program file.
 //!
 //! Each call stands between two marks (`mark.rt`), so that a library which is loaded before it can refuse the requests
-//! for memory of that call, and no other. What is told is kept (`transcript.rt`), and printed when all calls are made: no
-//! function here has an exit for a line that could not be printed, and so none that drops what the calls are over.
+//! for memory of that call, and no other. What is told is kept (`transcript.rt`), and printed when all calls are made:
+//! no function here has an exit for a line that could not be printed, and so none that drops what the calls are over.
 #![tactic(auto)]
 
 mod arenas;
