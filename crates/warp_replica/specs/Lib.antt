@@ -9,3 +9,4 @@ pub mod Desk
 pub mod Length
 pub mod Settling
 pub mod Chain
+pub mod Answered

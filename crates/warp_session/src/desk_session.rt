@@ -271,12 +271,29 @@ impl Transcriber {
             (at (D.state desk.new) self.new (W.written sink.new) (W.failures sink.new)) result }
         ensures empty { OnOk result (self.new.gathered ≡ []) }
     {
+        let answered = self.answer_piece(form, desk, sink, bytes);
+        desk.end_batch();
+        answered
+    }
+
+    /// Takes bytes, answers the lines that they end, and writes all that was gathered.
+    fn answer_piece<D: Desk, W: Sink>(
+        &mut self,
+        form: Form,
+        desk: &mut D,
+        sink: &mut W,
+        bytes: &[u8],
+    ) -> Result<(), Failed>
+        ensures turn { Turn (λ _. TakesBytes form D.gives bytes.now) (BreaksBytes form D.gives bytes.now)
+            (at (D.state desk.old) self.old (W.written sink.old) (W.failures sink.old))
+            (at (D.state desk.new) self.new (W.written sink.new) (W.failures sink.new)) result }
+        ensures empty { OnOk result (self.new.gathered ≡ []) }
+    {
         let mut at = 0;
         while at < bytes.len() {
             at += self.take_line(form, desk, sink, &bytes[at..])?;
         }
         self.flush(sink)?;
-        desk.end_batch();
         Ok(())
     }
 

@@ -1,7 +1,7 @@
 -- The bytes so far were taken, and nothing failed.
 use Rattle.std.proofs.Common.{◌≡◌, ◌-◌, ◌≤◌, take, length}
 use Rattle.warp_session.specs.inner.Turns.{TakesBytes, at}
-use Rattle.warp_session.proofs.desk_session.Transcriber.take.Given as goal
+use Rattle.warp_session.proofs.desk_session.Transcriber.answer_piece.Given as goal
 
 abbrev pub invariant-loop-at : goal.invariant-loop-at
 invariant-loop-at g l = record {

@@ -1,7 +1,7 @@
 use Rattle.std.proofs.Common.{◌∙◌, ◌+◌, ◌-◌, ap, length, drop, length-take, length-drop, refl, arith}
 use Rattle.warp_session.proofs.BreaksLemmas.{BreaksBytes-flush, BreaksBytes-rest, broke_off}
 use Rattle.warp_session.proofs.TurnsLemmas.{TakesBytes-more, TakesBytes-flushed}
-use Rattle.warp_session.proofs.desk_session.Transcriber.take.Goals as goal
+use Rattle.warp_session.proofs.desk_session.Transcriber.answer_piece.Goals as goal
 
 pub loop-at-preserved : goal.loop-at-preserved
 loop-at-preserved g c =
@@ -17,7 +17,7 @@ loop-at-preserved g c =
 pub returns-clause-turn : goal.returns-clause-turn
 returns-clause-turn g c = record {
   does = TakesBytes-flushed c.args.form g.D.Desk.gives c.args.bytes.now c.loop-at.at _ _ _ (omega arith)
-      c.loop-at.invariant.takes c.end_batch.ensures c.in_ok-flush.ensures.empty c.in_ok-flush.ensures.kept c.in_ok-flush.ensures.written;
+      c.loop-at.invariant.takes refl c.in_ok-flush.ensures.empty c.in_ok-flush.ensures.kept c.in_ok-flush.ensures.written;
   breaks = tt;
   failures = c.in_ok-flush.ensures.failures ∙ c.loop-at.invariant.sound;
 }
