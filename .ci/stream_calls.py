@@ -13,6 +13,8 @@ LINES = "".join(f"{line}\n" for line, _, _ in ROW)
 # The same where the first record was refused, and where the second was.
 FIRST_REFUSED = ["refused 8", "var 0 0", "taken 1", "var 1 -4", "outputs 1 1", "output 1 2 0 0 -4", "none 1"]
 SECOND_REFUSED = ["taken 1", "var 1 3", "refused 8", "var 1 3", "outputs 1 1", "output 1 5 0 0 3", "none 1"]
+# The same where the first query was, behind which there was memory to execute.
+QUERY_REFUSED = ["taken 1", "refused 8", *(answer for _, answer, _ in ROW[2:])]
 
 
 def told(end, records, written):
@@ -50,7 +52,8 @@ WHOLE = told("end", 2, answers(len(ROW)))
 
 
 def session():
-    less = [told("end", 1, "".join(f"{answer}\n" for answer in text)) for text in (FIRST_REFUSED, SECOND_REFUSED)]
+    less = [told("end", count, "".join(f"{answer}\n" for answer in text))
+            for count, text in ((1, FIRST_REFUSED), (1, SECOND_REFUSED), (2, QUERY_REFUSED))]
     return Calls("a session", "session", "twice", [Step(WHOLE, otherwise=[told(NO_MEMORY, 0, ""), *less])], LINES)
 
 
