@@ -8,6 +8,7 @@
 
 mod code;
 mod compile;
+mod divisor;
 mod expr;
 mod instruction;
 mod operator;
