@@ -1,6 +1,7 @@
 pub mod Bodies
 pub mod BranchLemmas
 pub mod CompileLemmas
+pub mod DivisorLemmas
 pub mod MachineLemmas
 pub mod SlotLemmas
 pub mod Terms
