@@ -4,6 +4,7 @@ use denote.Param.SendFields.{declared_send, variants_send}
 use Rattle.std.proofs.Crossing.{crosses}
 use Rattle.warp_body.proofs.expr.Expr.TheLaws.TheKnot as expr
 use Rattle.warp_body.proofs.stmt.Stmt.TheLaws.TheKnot as stmt
+use Rattle.warp_body.specs.contracts.divisor.Divisor as divisor
 use Rattle.warp_body.specs.contracts.instruction.Operand as operand
 use Rattle.warp_body.specs.contracts.instruction.Place as place
 use Rattle.warp_body.specs.contracts.instruction.Instruction as instruction
@@ -22,99 +23,12 @@ operand_send = search sendable depth 60
 place_send : IsSend place.the_row
 place_send = search sendable depth 60
 
+divisor_send : IsSend divisor.the_row
+divisor_send = search sendable depth 60
+
 -- an instruction, variant after variant
 instruction_send : IsSend instruction.the_row
-instruction_send = variants_send instruction.enum (
-  (place_send, (operand_send, tt)),
-  (
-    (search sendable depth 60, (place_send, (operand_send, tt))),
-    (
-      (search sendable depth 60, (place_send, (operand_send, (operand_send, tt)))),
-      (
-        (place_send, (operand_send, (search sendable, tt))),
-        (
-          (place_send, (operand_send, (search sendable, tt))),
-          (
-            (place_send, (operand_send, (search sendable, tt))),
-            (
-              (place_send, (operand_send, (operand_send, (operand_send, tt)))),
-              (
-                (search sendable, (search sendable, (search sendable, (operand_send, tt)))),
-                (
-                  (search sendable, (search sendable, (search sendable, (search sendable, tt)))),
-                  (
-                    (search sendable, (search sendable, (search sendable, tt))),
-                    (
-                      (search sendable, (search sendable, (operand_send, tt))),
-                      (
-                        (search sendable, (search sendable, (search sendable, tt))),
-                        (
-                          (search sendable, (search sendable, (operand_send, tt))),
-                          (
-                            (search sendable, (search sendable, (search sendable, tt))),
-                            (
-                              (search sendable, (search sendable, (search sendable, (operand_send, tt)))),
-                              (
-                                (search sendable, (search sendable, (search sendable, (search sendable, tt)))),
-                                (
-                                  (search sendable, (search sendable, tt)),
-                                  (
-                                    (search sendable, (search sendable, (operand_send, tt))),
-                                    (
-                                      (search sendable, (search sendable, (operand_send, (search sendable, tt)))),
-                                      (
-                                        (search sendable, tt),
-                                        (
-                                          (search sendable, tt),
-                                          (
-                                            (operand_send, (search sendable, (search sendable, tt))),
-                                            (
-                                              (search sendable, (search sendable, (search sendable, tt))),
-                                              (
-                                                (operand_send, (search sendable, (search sendable, (search sendable, tt)))),
-                                                (
-                                                  (operand_send, (search sendable, (search sendable, (search sendable, (search sendable, tt))))),
-                                                  (
-                                                    (operand_send, (operand_send, (search sendable, (search sendable, tt)))),
-                                                    (
-                                                      (operand_send, (operand_send, (search sendable, (search sendable, tt)))),
-                                                      (
-                                                        (operand_send, (search sendable, (search sendable, (search sendable, tt)))),
-                                                        (
-                                                          (search sendable, (search sendable, (search sendable, (search sendable, tt)))),
-                                                          (
-                                                            (search sendable, (search sendable, (search sendable, (search sendable, tt)))),
-                                                            tt,
-                                                          ),
-                                                        ),
-                                                      ),
-                                                    ),
-                                                  ),
-                                                ),
-                                              ),
-                                            ),
-                                          ),
-                                        ),
-                                      ),
-                                    ),
-                                  ),
-                                ),
-                              ),
-                            ),
-                          ),
-                        ),
-                      ),
-                    ),
-                  ),
-                ),
-              ),
-            ),
-          ),
-        ),
-      ),
-    ),
-  ),
-)
+instruction_send = variants_send instruction.enum ((place_send, (operand_send, tt)), ((place_send, (search sendable depth 60, tt)), ((place_send, (search sendable depth 60, tt)), ((search sendable depth 60, (place_send, (operand_send, tt))), ((search sendable depth 60, (place_send, (operand_send, (operand_send, tt)))), ((place_send, (operand_send, (search sendable, tt))), ((place_send, (operand_send, (divisor_send, tt))), ((place_send, (operand_send, (divisor_send, tt))), ((place_send, (operand_send, (operand_send, (operand_send, tt)))), ((search sendable, (search sendable, (search sendable, (operand_send, tt)))), ((search sendable, (search sendable, (search sendable, (search sendable, tt)))), ((search sendable, (search sendable, (search sendable, tt))), ((search sendable, (search sendable, (operand_send, tt))), ((search sendable, (search sendable, (search sendable, tt))), ((search sendable, (search sendable, (operand_send, tt))), ((search sendable, (search sendable, (search sendable, tt))), ((search sendable, (search sendable, (search sendable, (operand_send, tt)))), ((search sendable, (search sendable, (search sendable, (search sendable, tt)))), ((search sendable, (search sendable, tt)), ((search sendable, (search sendable, (operand_send, tt))), ((search sendable, (search sendable, (operand_send, (divisor_send, tt)))), ((search sendable, tt), ((search sendable, tt), ((operand_send, (search sendable, (search sendable, tt))), ((search sendable, (search sendable, (search sendable, tt))), ((operand_send, (search sendable, (search sendable, (search sendable, tt)))), ((operand_send, (divisor_send, (search sendable, (search sendable, (search sendable, tt))))), ((operand_send, (operand_send, (search sendable, (search sendable, tt)))), ((operand_send, (operand_send, (search sendable, (search sendable, tt)))), ((operand_send, (search sendable, (search sendable, (search sendable, tt)))), ((search sendable, (search sendable, (search sendable, (search sendable, tt)))), ((search sendable, (search sendable, (search sendable, (search sendable, tt)))), tt))))))))))))))))))))))))))))))))
 
 -- and a body's code holds its statements
 code_send : IsSend code.the_row
