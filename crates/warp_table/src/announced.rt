@@ -85,6 +85,20 @@ fn spare_of(tallies: &[Tally]) -> Numbers
     least
 }
 
+/// Puts an announcement at this place. An `Err` changes nothing.
+fn put_at(tallies: &mut Vec<Tally>, at: usize, tally: Tally) -> Result<(), AllocError>
+    requires { at ≤ length tallies.old.items }
+    ensures ok { OnOk result (tallies.new.items ≡ insert tallies.old.items at tally) }
+    ensures err { OnErr result (tallies.new.items ≡ tallies.old.items) }
+{
+    if at == tallies.len() {
+        tallies.push(tally)?;
+        return Ok(());
+    }
+    tallies.insert(at, tally)?;
+    Ok(())
+}
+
 /// Some announcements that stand in order. They are seen as their list, each with all that is counted in it.
 #[derive(Drop)]
 struct Block {
@@ -187,7 +201,7 @@ impl Block {
     {
         push_down(&mut self.tallies, &mut self.more);
         let at = place(&self.tallies, tally.tag);
-        self.tallies.insert(at, tally)?;
+        put_at(&mut self.tallies, at, tally)?;
         self.spare = tally.spare().least(self.spare);
         Ok(())
     }
