@@ -198,18 +198,16 @@ pub(crate) fn forget_own_hint(hints: &mut Vec<u32>, nodes: &[Node], at: u32)
     ensures { (bound : ℕ) → AllByRecursion (λ h. h < bound) hints.old.items
         → AllByRecursion (λ h. h < bound) hints.new.items }
 {
-    if is_own_hint(hints, nodes, at) {
+    if !hints.is_empty() && is_own_hint(hints, nodes, at) {
         hints.retain(move |hint| *hint != at);
     }
 }
 
 /// Whether the node is one of its origin's hints, which stand in order of origin, then of tag.
+#[inline(never)]
 fn is_own_hint(hints: &[u32], nodes: &[Node], at: u32) -> bool
     requires { All (λ h. h < length nodes.now) hints.now }
 {
-    if hints.is_empty() {
-        return false;
-    }
     let Some(node) = nodes.get(at as usize) else {
         return false;
     };
