@@ -163,8 +163,20 @@ fn note(arena: &mut Arena, node: NodeId, payload: Option<(u32, i64)>)
     ensures { arena.new.origins ≡ arena.old.origins }
 {
     match payload {
-        Some((input, value)) => arena.set_event(node, input, value),
+        Some((input, value)) => note_event(arena, node, input, value),
         None => arena.set_withdrawn(node),
+    }
+}
+
+/// Notes this event of the handle's name, where none came before by the call that is for that.
+fn note_event(arena: &mut Arena, node: NodeId, input: u32, value: i64)
+    requires { IsSome (entry_of node arena.old.places) }
+    ensures { arena.new.origins ≡ arena.old.origins }
+{
+    if arena.entry(node).event.is_none() {
+        arena.give_event(node, input, value);
+    } else {
+        arena.set_event(node, input, value);
     }
 }
 
