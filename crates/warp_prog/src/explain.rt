@@ -23,7 +23,7 @@ use crate::error::LoadError;
 use crate::explain::circle::{circle_of, seat_of};
 use crate::explain::limits::limits_fail;
 use crate::explain::links::order_fails;
-use crate::explain::names::{declared_fail, names_fail};
+use crate::explain::names::{names_fail, reactors_fail};
 use crate::explain::reason::{Reason, write_reason};
 use crate::explain::shape::shape_fails;
 use crate::explain::trail::{Segment, Trail};
@@ -123,7 +123,7 @@ fn circle_fails<'f>(circle: &'f [u32], reactors: &'f [Reactor], at: &mut Trail<'
     let Some(first) = circle.first() else {
         return false;
     };
-    if let Some((reactor, reaction)) = seat_of(reactors, *first) {
+    if let Some((reactor, _, reaction)) = seat_of(reactors, *first) {
         at.back(Segment::Of("reactions", reaction));
         at.back(Segment::Of("reactors", reactor));
     }
@@ -137,7 +137,7 @@ fn file_fails<'f>(file: &'f ProgramFile, error: LoadError, at: &mut Trail<'f>) -
         LoadError::Name => names_fail(file, at),
         LoadError::Twice => once_fails(file, at),
         LoadError::Backward | LoadError::Causality => order_fails(file, at),
-        LoadError::Undeclared => declared_fail(file, at),
+        LoadError::Undeclared => reactors_fail(&file.reactors, true, at),
         LoadError::Json | LoadError::Shape | LoadError::Memory => false,
     }
 }

@@ -40,7 +40,7 @@ pub(crate) const MOST_INPUTS: usize = 64;
 pub(crate) const MOST_OUTPUTS: usize = 64;
 
 /// Things of which all reactors together have a limit.
-enum Kind {
+pub(crate) enum Kind {
     Variables,
     /// Inputs and outputs together.
     Ports,
@@ -139,7 +139,7 @@ fn room_after_all(reactors: &[Reactor], kind: &Kind, room: usize) -> Option<usiz
 }
 
 /// The room that is left of so much after the things of a kind in a reactor; `None` where it is not enough.
-fn room_after(reactor: &Reactor, kind: &Kind, room: usize) -> Option<usize>
+pub(crate) fn room_after(reactor: &Reactor, kind: &Kind, room: usize) -> Option<usize>
     ensures { let n = count_of kind.now (reactor_tree reactor.now) in SomeIff result (n ≤ room) (room - n) }
 {
     match kind {

@@ -1,5 +1,5 @@
 //! Names of reactors and of what stands in them, and references to ports.
-ghost use Rattle.std.specs.Prelude.{◌≡◌, ◌↔◌, IsTrue, List};
+ghost use Rattle.std.specs.Prelude.{◌≡◌};
 ghost use Rattle.warp_prog.specs.Word.{is_letter, is_word_byte, are_word_bytes, is_name, name_of};
 ghost use Rattle.warp_prog.specs.inner.Fingerprint.{with_byte, fingerprint_of};
 
@@ -58,13 +58,6 @@ impl Name {
         ensures { result ≡ fingerprint_of self.now }
     {
         self.fingerprint
-    }
-
-    /// Whether two names are the same.
-    pub fn is_same(&self, other: &Name) -> bool
-        ensures { IsTrue result ↔ (self.now ≡ other.now) }
-    {
-        self.as_str() == other.as_str()
     }
 }
 

@@ -12,7 +12,6 @@ ghost use Rattle.warp_prog.specs.inner.Placing.{numbers_of, awaits};
 
 use crate::file::{ProgramFile, Reactor};
 use crate::limits::exceeds_limits;
-use crate::name::Name;
 use crate::numbered::numbered;
 use crate::order::{is_placed, place_reactions};
 use std::alloc::{AllocError, Global};
@@ -46,8 +45,7 @@ fn circle_among(alloc: Global, before: &[Vec<u32>], placed: &[bool]) -> Result<V
     let Some(left) = first_left(placed) else {
         return Ok(Vec::new(alloc));
     };
-    let inside = last_of_walk(before, placed, left);
-    circle_from(alloc, before, placed, least_of_walk(before, placed, inside))
+    circle_from(alloc, before, placed, least_of_circle(before, placed, left))
 }
 
 /// The least numbered reaction that does not stand.
@@ -80,33 +78,23 @@ fn first_missing(reactions: &[u32], placed: &[bool]) -> Option<u32>
     None
 }
 
-/// Where a walk from this reaction is after as many steps as there are reactions.
-fn last_of_walk(before: &[Vec<u32>], placed: &[bool], first: u32) -> u32 {
-    let mut last = first;
-    for _step in 0..before.len() {
-        let Some(next) = awaited(before, placed, last) else {
-            return last;
-        };
-        last = next;
-    }
-    last
-}
-
-/// The least numbered reaction on that walk.
-fn least_of_walk(before: &[Vec<u32>], placed: &[bool], first: u32) -> u32 {
+/// The least numbered reaction of the circle into which a walk from this one comes: after as many steps as there are
+/// reactions it is in there, and it sees all of it in as many more.
+fn least_of_circle(before: &[Vec<u32>], placed: &[bool], first: u32) -> u32 {
+    let count = before.len();
     let mut least = first;
     let mut last = first;
-    for _step in 0..before.len() {
+    for step in 0..count.saturating_mul(2) {
         let Some(next) = awaited(before, placed, last) else {
             return least;
         };
-        least = least.min(next);
+        least = if step < count { next } else { least.min(next) };
         last = next;
     }
     least
 }
 
-/// The reactions on that walk until it is back at its first; none where it does not come back.
+/// The reactions on a walk until it is back at its first; none where it does not come back.
 fn circle_from(
     alloc: Global,
     before: &[Vec<u32>],
@@ -130,13 +118,13 @@ fn circle_from(
     Ok(Vec::new(alloc))
 }
 
-/// The place of the reactor that has the reaction of this number, and the reaction's place in it.
-pub(crate) fn seat_of(reactors: &[Reactor], number: u32) -> Option<(usize, usize)> {
+/// The place of the reactor that has the reaction of this number, the reactor, and the reaction's place in it.
+pub(crate) fn seat_of(reactors: &[Reactor], number: u32) -> Option<(usize, &Reactor, usize)> {
     let mut left = number as usize;
     for (i, reactor) in reactors.iter().enumerate() {
         let count = reactor.reactions.len();
         if left < count {
-            return Some((i, left));
+            return Some((i, reactor, left));
         }
         left -= count;
     }
@@ -161,16 +149,11 @@ pub(crate) fn write_circle(
 }
 
 fn write_reaction(text: &mut String, number: u32, reactors: &[Reactor]) -> Result<(), AllocError> {
-    let Some((i, n)) = seat_of(reactors, number) else {
-        return Ok(());
-    };
-    match reactors.get(i) {
-        Some(reactor) => write_seat(text, &reactor.name, n),
+    match seat_of(reactors, number) {
+        Some((_, reactor, n)) => {
+            let name = reactor.name.as_str();
+            write!(text, "\"{name}\" reactions[{n}]")
+        }
         None => Ok(()),
     }
-}
-
-fn write_seat(text: &mut String, name: &Name, n: usize) -> Result<(), AllocError> {
-    let name = name.as_str();
-    write!(text, "\"{name}\" reactions[{n}]")
 }

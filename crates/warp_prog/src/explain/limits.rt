@@ -7,11 +7,14 @@ use crate::explain::reason::Reason;
 use crate::explain::trail::{Segment, Trail};
 use crate::file::{ActionPart, InputPart, LinkPart, ProgramFile, Reaction, Reactor, TimerPart};
 use crate::limits::{
-    FIRST_VERSION, LAST_VERSION, MOST_ACTIONS, MOST_INPUTS, MOST_LINKS, MOST_OUTPUTS, MOST_PORTS,
-    MOST_REACTIONS, MOST_REACTORS, MOST_TIMERS, MOST_VARIABLES, form_of_version, is_outside,
-    longest_period, longest_stop, most_origins,
+    FIRST_VERSION, Kind, LAST_VERSION, MOST_ACTIONS, MOST_INPUTS, MOST_LINKS, MOST_OUTPUTS,
+    MOST_PORTS, MOST_REACTIONS, MOST_REACTORS, MOST_TIMERS, MOST_VARIABLES, form_of_version,
+    is_outside, longest_period, longest_stop, most_origins, room_after,
 };
 use warp_tag::Form;
+
+/// What is wrong with a version.
+const NO_VERSION: &str = "this version of the format is not known";
 
 /// Whether a file goes past a limit. Whether its version is known is looked at last.
 pub(crate) fn limits_fail(file: &ProgramFile, at: &mut Trail) -> bool {
@@ -29,7 +32,8 @@ pub(crate) fn limits_fail(file: &ProgramFile, at: &mut Trail) -> bool {
         || reactors_fail(&file.reactors, form, at)
         || links_fail(&file.links, form, at)
         || inputs_fail(&file.inputs, file.origins, at)
-        || version_fails(file.version, at)
+        || (is_outside(file.version, FIRST_VERSION, LAST_VERSION)
+            && at.fault_at(Segment::Key("version"), Reason::Plain(NO_VERSION)))
 }
 
 /// Whether a number is not one of these; this segment leads to it.
@@ -49,90 +53,66 @@ fn lengths_fail(file: &ProgramFile, at: &mut Trail) -> bool {
         || length_fails(file.outputs.len(), MOST_OUTPUTS, "outputs", at)
 }
 
-fn version_fails(version: i64, at: &mut Trail) -> bool {
-    let reason = Reason::Plain("this version of the format is not known");
-    is_outside(version, FIRST_VERSION, LAST_VERSION) && at.fault_at(Segment::Key("version"), reason)
-}
-
-/// How many things of each kind may still come.
-#[derive(Clone, Copy)]
-struct Room {
-    variables: usize,
-    ports: usize,
-    actions: usize,
-    timers: usize,
-    reactions: usize,
-}
-
-fn totals_fail(reactors: &[Reactor], at: &mut Trail) -> bool {
-    let mut room = Room {
-        variables: MOST_VARIABLES,
-        ports: MOST_PORTS,
-        actions: MOST_ACTIONS,
-        timers: MOST_TIMERS,
-        reactions: MOST_REACTIONS,
-    };
-    for (i, reactor) in reactors.iter().enumerate() {
-        if exceeds_room(&mut room, reactor, at) {
-            return at.back(Segment::Of("reactors", i));
-        }
-    }
-    false
-}
-
-/// Takes the room for the things of a reactor, or says of which there are too many.
-fn exceeds_room(room: &mut Room, reactor: &Reactor, at: &mut Trail) -> bool {
-    let variables = "variables in the reactors up to here";
-    let ports = "inputs and outputs in the reactors up to here";
-    let actions = "actions in the reactors up to here";
-    let timers = "timers in the reactors up to here";
-    let reactions = "reactions in the reactors up to here";
-    let port_count = reactor.inputs.len().saturating_add(reactor.outputs.len());
-    count_exceeds(
-        &mut room.variables,
-        reactor.variables.len(),
-        variables,
-        MOST_VARIABLES,
-        at,
-    ) || count_exceeds(&mut room.ports, port_count, ports, MOST_PORTS, at)
-        || count_exceeds(
-            &mut room.actions,
-            reactor.actions.len(),
-            actions,
-            MOST_ACTIONS,
-            at,
-        )
-        || count_exceeds(
-            &mut room.timers,
-            reactor.timers.len(),
-            timers,
-            MOST_TIMERS,
-            at,
-        )
-        || count_exceeds(
-            &mut room.reactions,
-            reactor.reactions.len(),
-            reactions,
-            MOST_REACTIONS,
-            at,
-        )
-}
-
-/// Takes the room for so many of these things, or says that there are more than the most.
-fn count_exceeds(
-    room: &mut usize,
-    count: usize,
-    things: &'static str,
+/// How many things of a kind all reactors together may have.
+struct Total {
+    kind: Kind,
     most: usize,
-    at: &mut Trail,
-) -> bool {
-    match room.checked_sub(count) {
-        Some(left) => {
-            *room = left;
-            false
+    /// What they are, in words.
+    things: &'static str,
+}
+
+const TOTALS: &[Total] = &[
+    Total {
+        kind: Kind::Variables,
+        most: MOST_VARIABLES,
+        things: "variables in the reactors up to here",
+    },
+    Total {
+        kind: Kind::Ports,
+        most: MOST_PORTS,
+        things: "inputs and outputs in the reactors up to here",
+    },
+    Total {
+        kind: Kind::Actions,
+        most: MOST_ACTIONS,
+        things: "actions in the reactors up to here",
+    },
+    Total {
+        kind: Kind::Timers,
+        most: MOST_TIMERS,
+        things: "timers in the reactors up to here",
+    },
+    Total {
+        kind: Kind::Reactions,
+        most: MOST_REACTIONS,
+        things: "reactions in the reactors up to here",
+    },
+];
+
+/// Whether all reactors together have too many things of a kind: at the first reactor up to which there are too many of one.
+fn totals_fail(reactors: &[Reactor], at: &mut Trail) -> bool {
+    let mut first = reactors.len();
+    for total in TOTALS {
+        let place = place_past(reactors, &total.kind, total.most);
+        if place < first {
+            first = place;
+            let _found = at.fault(Reason::Many(total.things, total.most));
         }
-        None => at.fault(Reason::Many(things, most)),
     }
+    first < reactors.len() && at.back(Segment::Of("reactors", first))
+}
+
+/// The place of the first reactor up to which there are more than so many things of a kind; how many reactors there are
+/// where there is none.
+fn place_past(reactors: &[Reactor], kind: &Kind, most: usize) -> usize {
+    let mut room = most;
+    for (i, reactor) in reactors.iter().enumerate() {
+        match room_after(reactor, kind, room) {
+            Some(left) => room = left,
+            None => return i,
+        }
+    }
+    reactors.len()
 }
 
 fn reactors_fail(reactors: &[Reactor], form: Form, at: &mut Trail) -> bool {

@@ -8,14 +8,12 @@ use crate::file::{InputPart, LinkPart, PortName, ProgramFile, Reactor};
 use crate::limits::FIRST_VERSION;
 use crate::named::is_same;
 
-/// Whether a link, a program input or a program output names no port of its kind.
-pub(crate) fn ports_fail<'f>(file: &'f ProgramFile, at: &mut Trail<'f>) -> bool {
-    links_fail(&file.reactors, &file.links, at)
-        || inputs_fail(&file.reactors, &file.inputs, at)
-        || outputs_fail(&file.reactors, &file.outputs, at)
-}
-
-fn links_fail<'f>(reactors: &'f [Reactor], links: &'f [LinkPart], at: &mut Trail<'f>) -> bool {
+/// Whether a link names no output at its beginning, or no input at its end.
+pub(crate) fn links_fail<'f>(
+    reactors: &'f [Reactor],
+    links: &'f [LinkPart],
+    at: &mut Trail<'f>,
+) -> bool {
     for (i, link) in links.iter().enumerate() {
         if port_fails(reactors, &link.source, OUTPUT, Segment::Item(0), at)
             || port_fails(reactors, &link.target, INPUT, Segment::Item(1), at)
@@ -26,7 +24,12 @@ fn links_fail<'f>(reactors: &'f [Reactor], links: &'f [LinkPart], at: &mut Trail
     false
 }
 
-fn inputs_fail<'f>(reactors: &'f [Reactor], inputs: &'f [InputPart], at: &mut Trail<'f>) -> bool {
+/// Whether a program input names no input.
+pub(crate) fn inputs_fail<'f>(
+    reactors: &'f [Reactor],
+    inputs: &'f [InputPart],
+    at: &mut Trail<'f>,
+) -> bool {
     for (i, input) in inputs.iter().enumerate() {
         if port_fails(reactors, &input.port, INPUT, Segment::Item(1), at) {
             return at.back(Segment::Of("inputs", i));
@@ -35,7 +38,12 @@ fn inputs_fail<'f>(reactors: &'f [Reactor], inputs: &'f [InputPart], at: &mut Tr
     false
 }
 
-fn outputs_fail<'f>(reactors: &'f [Reactor], outputs: &'f [PortName], at: &mut Trail<'f>) -> bool {
+/// Whether a program output names no output.
+pub(crate) fn outputs_fail<'f>(
+    reactors: &'f [Reactor],
+    outputs: &'f [PortName],
+    at: &mut Trail<'f>,
+) -> bool {
     for (i, port) in outputs.iter().enumerate() {
         if port_fails(reactors, port, OUTPUT, Segment::Of("outputs", i), at) {
             return true;

@@ -1,6 +1,6 @@
 //! Where a name stands for nothing of its kind, and where a body uses what its reaction does not declare.
 
-use crate::explain::links::ports_fail;
+use crate::explain::links::{inputs_fail, links_fail, outputs_fail};
 use crate::explain::reason::Reason;
 use crate::explain::role::{ACTION, CAUSE, OUTPUT, Role, VALUE, VARIABLE, WRITTEN, fits};
 use crate::explain::trail::{Segment, Trail};
@@ -10,33 +10,50 @@ use crate::uses::{Rule, Use};
 
 /// Whether a name stands for nothing of the kind that its place asks.
 pub(crate) fn names_fail<'f>(file: &'f ProgramFile, at: &mut Trail<'f>) -> bool {
-    for (i, reactor) in file.reactors.iter().enumerate() {
-        if reactor_fails(reactor, at) {
+    reactors_fail(&file.reactors, false, at)
+        || links_fail(&file.reactors, &file.links, at)
+        || inputs_fail(&file.reactors, &file.inputs, at)
+        || outputs_fail(&file.reactors, &file.outputs, at)
+}
+
+/// Whether a name in a reaction stands for nothing of the kind that its place asks; of reactions whose names are known,
+/// whether a body reads or asks for what its reaction neither is on nor reads, or puts or schedules what it does not write.
+pub(crate) fn reactors_fail<'f>(
+    reactors: &'f [Reactor],
+    are_known: bool,
+    at: &mut Trail<'f>,
+) -> bool {
+    for (i, reactor) in reactors.iter().enumerate() {
+        if reactor_fails(reactor, are_known, at) {
             return at.back(Segment::Of("reactors", i));
         }
     }
-    ports_fail(file, at)
+    false
 }
 
-fn reactor_fails<'f>(reactor: &'f Reactor, at: &mut Trail<'f>) -> bool {
+fn reactor_fails<'f>(reactor: &'f Reactor, are_known: bool, at: &mut Trail<'f>) -> bool {
     for (i, reaction) in reactor.reactions.iter().enumerate() {
-        if reaction_fails(reactor, reaction, at) {
+        if reaction_fails(reactor, reaction, are_known, at) {
             return at.back(Segment::Of("reactions", i));
         }
     }
     false
 }
 
-fn reaction_fails<'f>(reactor: &'f Reactor, reaction: &'f Reaction, at: &mut Trail<'f>) -> bool {
+fn reaction_fails<'f>(
+    reactor: &'f Reactor,
+    reaction: &'f Reaction,
+    are_known: bool,
+    at: &mut Trail<'f>,
+) -> bool {
+    let body = Segment::Key("body");
+    if are_known {
+        return body_fails(&Rule::Declared(reactor, reaction), &reaction.body, body, at);
+    }
     list_fails(reactor, &reaction.triggers, CAUSE, "on", at)
         || list_fails(reactor, &reaction.reads, CAUSE, "reads", at)
         || list_fails(reactor, &reaction.writes, WRITTEN, "writes", at)
-        || body_fails(
-            &Rule::Known(reactor),
-            &reaction.body,
-            Segment::Key("body"),
-            at,
-        )
+        || body_fails(&Rule::Known(reactor), &reaction.body, body, at)
 }
 
 /// Whether one of the names under this key has not this role in the reactor.
@@ -53,35 +70,6 @@ fn list_fails<'f>(
         }
     }
     false
-}
-
-/// Whether a body reads or asks for what its reaction neither is on nor reads, or puts or schedules what it does not
-/// write.
-pub(crate) fn declared_fail<'f>(file: &'f ProgramFile, at: &mut Trail<'f>) -> bool {
-    for (i, reactor) in file.reactors.iter().enumerate() {
-        if declared_fail_in(reactor, at) {
-            return at.back(Segment::Of("reactors", i));
-        }
-    }
-    false
-}
-
-fn declared_fail_in<'f>(reactor: &'f Reactor, at: &mut Trail<'f>) -> bool {
-    for (i, reaction) in reactor.reactions.iter().enumerate() {
-        let rule = Rule::Declared(reactor, reaction);
-        if body_fails(&rule, &reaction.body, Segment::Key("body"), at) {
-            return at.back(Segment::Of("reactions", i));
-        }
-    }
-    false
-}
-
-/// What a use breaks a rule by.
-fn broken<'f>(rule: &Rule<'f>, what: &Use<'f>) -> Reason<'f> {
-    match rule {
-        Rule::Known(reactor) => unknown(what, reactor),
-        Rule::Declared(..) => undeclared(what),
-    }
 }
 
 fn unknown<'f>(what: &Use<'f>, reactor: &'f Reactor) -> Reason<'f> {
@@ -112,7 +100,10 @@ fn use_fails<'f>(rule: &Rule<'f>, what: &Use<'f>, at: &mut Trail<'f>) -> bool {
     if rule.is_met(what) {
         return false;
     }
-    at.fault(broken(rule, what))
+    at.fault(match rule {
+        Rule::Known(reactor) => unknown(what, reactor),
+        Rule::Declared(..) => undeclared(what),
+    })
 }
 
 /// The same of a name that is the second item of its list.

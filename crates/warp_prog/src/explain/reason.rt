@@ -7,6 +7,7 @@ use crate::explain::terms::Vocabulary;
 use crate::explain::text::push_all;
 use crate::file::{PortName, Reactor};
 use crate::name::Name;
+use crate::named::is_same;
 use serde_json::Value;
 use std::alloc::{AllocError, Global};
 
@@ -84,7 +85,7 @@ fn write_port(text: &mut String, port: &PortName, words: &str) -> Result<(), All
 
 fn write_backward(text: &mut String, from: &Name, to: &Name) -> Result<(), AllocError> {
     push_all(text, &["without a delay it leads from \"", from.as_str()])?;
-    if from.is_same(to) {
+    if is_same(from, to) {
         return text.push_str("\" to itself");
     }
     push_all(text, &["\" back to \"", to.as_str(), "\""])

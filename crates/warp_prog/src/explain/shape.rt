@@ -5,7 +5,9 @@ mod part;
 
 use crate::explain::reason::Reason;
 use crate::explain::shape::body::body_fails;
-use crate::explain::shape::part::{Part, list_fails, part_fails};
+use crate::explain::shape::part::{
+    ABOVE_REACTORS, BELOW_REACTORS, IN_REACTION, IN_REACTOR, Leaf, Part, fields_fail, list_fails,
+};
 use crate::explain::terms::{FILE, REACTION, REACTOR, Vocabulary};
 use crate::explain::trail::{Segment, Trail};
 use crate::shape::json::is_one_of;
@@ -14,13 +16,9 @@ use serde_json::Value;
 /// Whether a value is no file.
 pub(crate) fn shape_fails<'v>(value: &'v Value, at: &mut Trail<'v>) -> bool {
     keys_fail(value, FILE, at)
-        || needed_fails(value, "version", Part::Number, at)
-        || needed_fails(value, "stop", Part::Number, at)
-        || needed_fails(value, "origins", Part::Number, at)
+        || fields_fail(value, ABOVE_REACTORS, at)
         || reactors_fail(value, at)
-        || list_fails(value, "links", Part::Link, at)
-        || list_fails(value, "inputs", Part::ProgramInput, at)
-        || list_fails(value, "outputs", Part::Port, at)
+        || fields_fail(value, BELOW_REACTORS, at)
 }
 
 /// Whether a value is no object, or one of its keys is none of these.
@@ -36,30 +34,17 @@ fn keys_fail<'v>(value: &'v Value, keys: Vocabulary, at: &mut Trail<'v>) -> bool
     false
 }
 
-/// Whether a key is missing, or its value is not what it has to be.
-fn needed_fails<'v>(value: &'v Value, key: &'static str, part: Part, at: &mut Trail<'v>) -> bool {
-    match value.get(key) {
-        Some(found) => part_fails(found, part, Segment::Key(key), at),
-        None => at.fault(Reason::Missing(key)),
-    }
-}
-
 /// Whether there is no list of reactors with one at least.
 fn reactors_fail<'v>(value: &'v Value, at: &mut Trail<'v>) -> bool {
+    let segment = Segment::Key("reactors");
     let Some(found) = value.get("reactors") else {
         return at.fault(Reason::Missing("reactors"));
     };
     let Some(reactors) = found.as_array() else {
-        return at.fault_at(
-            Segment::Key("reactors"),
-            Reason::Form(found, "no list of reactors"),
-        );
+        return at.fault_at(segment, Reason::Form(found, "no list of reactors"));
     };
     if reactors.is_empty() {
-        return at.fault_at(
-            Segment::Key("reactors"),
-            Reason::Plain("there is no reactor"),
-        );
+        return at.fault_at(segment, Reason::Plain("there is no reactor"));
     }
     for (i, reactor) in reactors.iter().enumerate() {
         if reactor_fails(reactor, at) {
@@ -70,14 +55,7 @@ fn reactors_fail<'v>(value: &'v Value, at: &mut Trail<'v>) -> bool {
 }
 
 fn reactor_fails<'v>(value: &'v Value, at: &mut Trail<'v>) -> bool {
-    keys_fail(value, REACTOR, at)
-        || needed_fails(value, "name", Part::Name, at)
-        || list_fails(value, "vars", Part::Variable, at)
-        || list_fails(value, "inputs", Part::Name, at)
-        || list_fails(value, "outputs", Part::Name, at)
-        || list_fails(value, "actions", Part::Action, at)
-        || list_fails(value, "timers", Part::Timer, at)
-        || reactions_fail(value, at)
+    keys_fail(value, REACTOR, at) || fields_fail(value, IN_REACTOR, at) || reactions_fail(value, at)
 }
 
 fn reactions_fail<'v>(value: &'v Value, at: &mut Trail<'v>) -> bool {
@@ -99,11 +77,16 @@ fn reactions_fail<'v>(value: &'v Value, at: &mut Trail<'v>) -> bool {
 }
 
 fn reaction_fails<'v>(value: &'v Value, at: &mut Trail<'v>) -> bool {
-    keys_fail(value, REACTION, at)
+    if keys_fail(value, REACTION, at)
         || triggers_fail(value, at)
-        || list_fails(value, "reads", Part::Name, at)
-        || list_fails(value, "writes", Part::Name, at)
-        || body_at_fails(value, at)
+        || fields_fail(value, IN_REACTION, at)
+    {
+        return true;
+    }
+    match value.get("body") {
+        Some(body) => body_fails(body, Segment::Key("body"), at),
+        None => false,
+    }
 }
 
 fn triggers_fail<'v>(value: &'v Value, at: &mut Trail<'v>) -> bool {
@@ -113,12 +96,5 @@ fn triggers_fail<'v>(value: &'v Value, at: &mut Trail<'v>) -> bool {
     if found.as_array().is_some_and(Vec::is_empty) {
         return at.fault_at(Segment::Key("on"), Reason::Plain("there is no name"));
     }
-    list_fails(value, "on", Part::Name, at)
-}
-
-fn body_at_fails<'v>(value: &'v Value, at: &mut Trail<'v>) -> bool {
-    match value.get("body") {
-        Some(body) => body_fails(body, Segment::Key("body"), at),
-        None => false,
-    }
+    list_fails(found, "on", Part::Each(Leaf::Name), at)
 }

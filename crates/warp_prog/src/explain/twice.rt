@@ -24,7 +24,7 @@ pub(crate) fn once_fails<'f>(file: &'f ProgramFile, at: &mut Trail<'f>) -> bool 
         || outputs_fail(&file.outputs, at)
 }
 
-/// The same of the reactor at this place.
+/// Whether the name of the reactor at this place stands before it, or a name in it before its place.
 fn reactor_fails<'f>(
     reactors: &'f [Reactor],
     i: usize,
@@ -35,11 +35,6 @@ fn reactor_fails<'f>(
     if before < i {
         return at.fault_at(Segment::Key("name"), Reason::SameReactor(before));
     }
-    names_fail(reactor, at)
-}
-
-/// Whether a name stands in the reactor before its place.
-fn names_fail<'f>(reactor: &'f Reactor, at: &mut Trail<'f>) -> bool {
     list_fails(&reactor.variables, reactor, 0, "vars", at)
         || list_fails(&reactor.inputs, reactor, 1, "inputs", at)
         || list_fails(&reactor.outputs, reactor, 2, "outputs", at)

@@ -1,11 +1,64 @@
 //! Bodies, statements and expressions.
 
 use crate::explain::reason::Reason;
-use crate::explain::shape::part::{name_fails, number_fails};
+use crate::explain::shape::part::{Leaf, leaf_fails};
 use crate::explain::terms::{OPERATORS, STATEMENTS, operands};
 use crate::explain::trail::{Segment, Trail};
 use crate::shape::json::first_word;
 use serde_json::Value;
+
+/// What stands at a place of a statement.
+#[derive(Clone, Copy)]
+enum Slot {
+    /// Its first word.
+    Word,
+    Leaf(Leaf),
+    Expression,
+    Body,
+}
+
+/// What a statement is made of, and its form in words.
+#[derive(Clone, Copy)]
+struct Form {
+    slots: &'static [Slot],
+    words: &'static str,
+}
+
+const SET: Form = Form {
+    slots: &[Slot::Word, Slot::Leaf(Leaf::Name), Slot::Expression],
+    words: "[\"set\", variable, expression]",
+};
+
+const PUT: Form = Form {
+    slots: &[Slot::Word, Slot::Leaf(Leaf::Name), Slot::Expression],
+    words: "[\"put\", output, expression]",
+};
+
+const SCHEDULE: Form = Form {
+    slots: &[
+        Slot::Word,
+        Slot::Leaf(Leaf::Name),
+        Slot::Leaf(Leaf::Number),
+        Slot::Expression,
+    ],
+    words: "[\"schedule\", action, delay, expression]",
+};
+
+const IF: Form = Form {
+    slots: &[Slot::Word, Slot::Expression, Slot::Body, Slot::Body],
+    words: "[\"if\", expression, [..], [..]]",
+};
+
+/// The form of the statements that begin with this word.
+fn form_of(word: &str) -> Option<Form> {
+    match word {
+        "set" => Some(SET),
+        "put" => Some(PUT),
+        "schedule" => Some(SCHEDULE),
+        "if" => Some(IF),
+        _ => None,
+    }
+}
 
 /// Whether a value is no list of statements; this segment leads to it.
 #[cycle(statement_fails)]
@@ -40,56 +93,37 @@ fn parts_fail<'v>(items: &'v [Value], at: &mut Trail<'v>) -> bool {
     let Some(word) = first_word(items) else {
         return at.fault(Reason::Plain("this is no statement"));
     };
-    if word != "if" {
-        return simple_fails(word, items, at);
+    let Some(form) = form_of(word) else {
+        return at.fault(Reason::Unread(word, STATEMENTS));
+    };
+    if items.len() != form.slots.len() {
+        return at.fault(Reason::Parts(form.words));
     }
-    match items {
-        [_, test, first, second] => {
-            expression_fails(test, 1, at)
-                || body_fails(first, Segment::Item(2), at)
-                || body_fails(second, Segment::Item(3), at)
+    for (i, (item, slot)) in items.iter().zip(form.slots).enumerate() {
+        if slot_fails(item, *slot, Segment::Item(i), at) {
+            return true;
         }
-        _ => at.fault(Reason::Parts("[\"if\", expression, [..], [..]]")),
+    }
+    false
+}
+
+/// Whether the value of a slot, to which this segment leads, is not what it has to be.
+#[cycle(statement_fails)]
+fn slot_fails<'v>(value: &'v Value, slot: Slot, segment: Segment, at: &mut Trail<'v>) -> bool {
+    match slot {
+        Slot::Word => false,
+        Slot::Leaf(leaf) => leaf_fails(value, leaf, segment, at),
+        Slot::Expression => expression_fails(value, segment, at),
+        Slot::Body => body_fails(value, segment, at),
     }
 }
 
-/// The same of a statement of this word, which is not `if`.
-fn simple_fails<'v>(word: &'v str, items: &'v [Value], at: &mut Trail<'v>) -> bool {
-    match word {
-        "set" => assignment_fails(items, "[\"set\", variable, expression]", at),
-        "put" => assignment_fails(items, "[\"put\", output, expression]", at),
-        "schedule" => scheduling_fails(items, at),
-        _ => at.fault(Reason::Unread(word, STATEMENTS)),
-    }
-}
-
-fn assignment_fails<'v>(items: &'v [Value], form: &'static str, at: &mut Trail<'v>) -> bool {
-    match items {
-        [_, name, value] => {
-            name_fails(name, Segment::Item(1), at) || expression_fails(value, 2, at)
-        }
-        _ => at.fault(Reason::Parts(form)),
-    }
-}
-
-fn scheduling_fails<'v>(items: &'v [Value], at: &mut Trail<'v>) -> bool {
-    match items {
-        [_, action, delay, value] => {
-            name_fails(action, Segment::Item(1), at)
-                || number_fails(delay, Segment::Item(2), at)
-                || expression_fails(value, 3, at)
-        }
-        _ => at.fault(Reason::Parts("[\"schedule\", action, delay, expression]")),
-    }
-}
-
-/// Whether a value is no expression; it stands at this place of a list.
+/// Whether a value, to which this segment leads, is no expression.
 #[cycle(expression_fails)]
-fn expression_fails<'v>(value: &'v Value, place: usize, at: &mut Trail<'v>) -> bool {
-    let segment = Segment::Item(place);
+fn expression_fails<'v>(value: &'v Value, segment: Segment, at: &mut Trail<'v>) -> bool {
     match value {
-        Value::Number(_) => number_fails(value, segment, at),
-        Value::String(_) => name_fails(value, segment, at),
+        Value::Number(_) => leaf_fails(value, Leaf::Number, segment, at),
+        Value::String(_) => leaf_fails(value, Leaf::Name, segment, at),
         Value::Array(items) => operation_fails(items.as_slice(), at) && at.back(segment),
         _ => at.fault_at(segment, Reason::Form(value, "no expression")),
     }
@@ -104,25 +138,21 @@ fn operation_fails<'v>(items: &'v [Value], at: &mut Trail<'v>) -> bool {
     if operator_fails(word, items.len(), at) {
         return true;
     }
-    match items {
-        [_, a] => operand_fails(word, a, at),
-        [_, a, b] => expression_fails(a, 1, at) || expression_fails(b, 2, at),
-        [_, test, a, b] => {
-            expression_fails(test, 1, at)
-                || expression_fails(a, 2, at)
-                || expression_fails(b, 3, at)
+    for (i, item) in items.iter().enumerate() {
+        if i > 0 && operand_fails(word, item, Segment::Item(i), at) {
+            return true;
         }
-        _ => false,
     }
+    false
 }
 
-/// Whether the only part of an operator of this word is no name behind `present`, else no expression.
+/// Whether a part of an operator of this word is no name behind `present`, else no expression.
 #[cycle(expression_fails)]
-fn operand_fails<'v>(word: &'v str, value: &'v Value, at: &mut Trail<'v>) -> bool {
+fn operand_fails<'v>(word: &str, value: &'v Value, segment: Segment, at: &mut Trail<'v>) -> bool {
     if word == "present" {
-        return name_fails(value, Segment::Item(1), at);
+        return leaf_fails(value, Leaf::Name, segment, at);
     }
-    expression_fails(value, 1, at)
+    expression_fails(value, segment, at)
 }
 
 /// Whether a word is no operator, or its list has not as many items as it asks.

@@ -2,137 +2,226 @@
 
 use crate::explain::reason::Reason;
 use crate::explain::trail::{Segment, Trail};
-use crate::shape::json::{pair, triple};
 use crate::shape::word::{name_at, port_at};
 use serde_json::Value;
 
-/// What a value has to be that holds no body.
+/// What a value has to be that holds no other.
 #[derive(Clone, Copy)]
-pub(crate) enum Part {
+pub(crate) enum Leaf {
     Number,
     Name,
     /// A reference to a port.
     Port,
-    Variable,
-    Action,
-    Timer,
-    Link,
-    /// A program input.
-    ProgramInput,
 }
 
-/// Whether the value under a key is no list, or one of its items is not what it has to be; false where the key is not
-/// there.
-pub(crate) fn list_fails<'v>(
-    value: &'v Value,
+/// A list of leaves.
+#[derive(Clone, Copy)]
+pub(crate) struct Row {
+    /// What its items have to be.
+    leaves: &'static [Leaf],
+    /// How many of them it has at least.
+    fewest: usize,
+    /// Its form in words.
+    form: &'static str,
+}
+
+/// What the value under a key has to be.
+#[derive(Clone, Copy)]
+pub(crate) enum Part {
+    /// This, and it has to be there.
+    One(Leaf),
+    /// A list of these.
+    Each(Leaf),
+    /// A list of such lists.
+    Rows(Row),
+}
+
+/// A key of an object, and what its value has to be.
+#[derive(Clone, Copy)]
+pub(crate) struct Field {
     key: &'static str,
     part: Part,
+}
+
+/// What a file has before its reactors.
+pub(crate) const ABOVE_REACTORS: &[Field] = &[
+    Field {
+        key: "version",
+        part: Part::One(Leaf::Number),
+    },
+    Field {
+        key: "stop",
+        part: Part::One(Leaf::Number),
+    },
+    Field {
+        key: "origins",
+        part: Part::One(Leaf::Number),
+    },
+];
+
+/// What a file has behind its reactors.
+pub(crate) const BELOW_REACTORS: &[Field] = &[
+    Field {
+        key: "links",
+        part: Part::Rows(LINK),
+    },
+    Field {
+        key: "inputs",
+        part: Part::Rows(PROGRAM_INPUT),
+    },
+    Field {
+        key: "outputs",
+        part: Part::Each(Leaf::Port),
+    },
+];
+
+/// What a reactor has before its reactions.
+pub(crate) const IN_REACTOR: &[Field] = &[
+    Field {
+        key: "name",
+        part: Part::One(Leaf::Name),
+    },
+    Field {
+        key: "vars",
+        part: Part::Rows(VARIABLE),
+    },
+    Field {
+        key: "inputs",
+        part: Part::Each(Leaf::Name),
+    },
+    Field {
+        key: "outputs",
+        part: Part::Each(Leaf::Name),
+    },
+    Field {
+        key: "actions",
+        part: Part::Rows(ACTION),
+    },
+    Field {
+        key: "timers",
+        part: Part::Rows(TIMER),
+    },
+];
+
+/// What a reaction has between its triggers and its body.
+pub(crate) const IN_REACTION: &[Field] = &[
+    Field {
+        key: "reads",
+        part: Part::Each(Leaf::Name),
+    },
+    Field {
+        key: "writes",
+        part: Part::Each(Leaf::Name),
+    },
+];
+
+const LINK: Row = Row {
+    leaves: &[Leaf::Port, Leaf::Port, Leaf::Number],
+    fewest: 2,
+    form: "[from, to] or [from, to, delay]",
+};
+
+const PROGRAM_INPUT: Row = Row {
+    leaves: &[Leaf::Number, Leaf::Port],
+    fewest: 2,
+    form: "[origin, port]",
+};
+
+const VARIABLE: Row = Row {
+    leaves: &[Leaf::Name, Leaf::Number],
+    fewest: 2,
+    form: "[name, start]",
+};
+
+const ACTION: Row = Row {
+    leaves: &[Leaf::Name, Leaf::Number],
+    fewest: 2,
+    form: "[name, delay]",
+};
+
+const TIMER: Row = Row {
+    leaves: &[Leaf::Name, Leaf::Number, Leaf::Number],
+    fewest: 3,
+    form: "[name, offset, period]",
+};
+
+/// Whether a value of an object is not what its key asks, or is missing.
+pub(crate) fn fields_fail<'v>(
+    value: &'v Value,
+    fields: &'static [Field],
     at: &mut Trail<'v>,
 ) -> bool {
-    let Some(found) = value.get(key) else {
-        return false;
-    };
-    let Some(items) = found.as_array() else {
-        return at.fault_at(Segment::Key(key), Reason::Form(found, "no list"));
-    };
-    for (i, item) in items.iter().enumerate() {
-        if part_fails(item, part, Segment::Of(key, i), at) {
+    for field in fields {
+        if field_fails(value, field.key, field.part, at) {
             return true;
         }
     }
     false
 }
 
-/// Whether a value, to which this segment leads, is not what it has to be.
-pub(crate) fn part_fails<'v>(
+/// Whether the value under a key is not what it has to be, or is missing; false where a list is not there.
+fn field_fails<'v>(value: &'v Value, key: &'static str, part: Part, at: &mut Trail<'v>) -> bool {
+    match (value.get(key), part) {
+        (Some(found), Part::One(leaf)) => leaf_fails(found, leaf, Segment::Key(key), at),
+        (Some(found), _) => list_fails(found, key, part, at),
+        (None, Part::One(_)) => at.fault(Reason::Missing(key)),
+        (None, _) => false,
+    }
+}
+
+/// Whether the value under a key is no list, or one of its items is not what it has to be.
+pub(crate) fn list_fails<'v>(
     value: &'v Value,
+    key: &'static str,
     part: Part,
+    at: &mut Trail<'v>,
+) -> bool {
+    let Some(items) = value.as_array() else {
+        return at.fault_at(Segment::Key(key), Reason::Form(value, "no list"));
+    };
+    for (i, item) in items.iter().enumerate() {
+        let segment = Segment::Of(key, i);
+        let fails = match part {
+            Part::One(leaf) | Part::Each(leaf) => leaf_fails(item, leaf, segment, at),
+            Part::Rows(row) => row_fails(item, row, at) && at.back(segment),
+        };
+        if fails {
+            return true;
+        }
+    }
+    false
+}
+
+/// Whether a value is no list of this row.
+fn row_fails<'v>(value: &'v Value, row: Row, at: &mut Trail<'v>) -> bool {
+    let Some(items) = value.as_array() else {
+        return at.fault(Reason::Parts(row.form));
+    };
+    if items.len() < row.fewest || items.len() > row.leaves.len() {
+        return at.fault(Reason::Parts(row.form));
+    }
+    for (i, (item, leaf)) in items.iter().zip(row.leaves).enumerate() {
+        if leaf_fails(item, *leaf, Segment::Item(i), at) {
+            return true;
+        }
+    }
+    false
+}
+
+/// Whether a value, to which this segment leads, is no such leaf.
+pub(crate) fn leaf_fails<'v>(
+    value: &'v Value,
+    leaf: Leaf,
     segment: Segment,
     at: &mut Trail<'v>,
 ) -> bool {
-    match part {
-        Part::Number => number_fails(value, segment, at),
-        Part::Name => name_fails(value, segment, at),
-        Part::Port => port_fails(value, segment, at),
-        _ => items_fail(value, part, at) && at.back(segment),
-    }
-}
-
-/// The same of a list of parts.
-fn items_fail<'v>(value: &'v Value, part: Part, at: &mut Trail<'v>) -> bool {
-    match part {
-        Part::Variable => pair_fails(value, "[name, start]", Part::Name, Part::Number, at),
-        Part::Action => pair_fails(value, "[name, delay]", Part::Name, Part::Number, at),
-        Part::Timer => timer_fails(value, at),
-        Part::Link => link_fails(value, at),
-        _ => pair_fails(value, "[origin, port]", Part::Number, Part::Port, at),
-    }
-}
-
-/// Whether a value is no number.
-pub(crate) fn number_fails<'v>(value: &'v Value, segment: Segment, at: &mut Trail<'v>) -> bool {
-    value.as_i64().is_none() && at.fault_at(segment, Reason::Form(value, "no integer of 64 bits"))
-}
-
-/// Whether a value is no name.
-pub(crate) fn name_fails<'v>(value: &'v Value, segment: Segment, at: &mut Trail<'v>) -> bool {
-    let words = "no name: 1 to 32 letters, digits and _, the first a letter";
-    name_at(value).is_none() && at.fault_at(segment, Reason::Form(value, words))
-}
-
-/// Whether a value is no reference to a port.
-fn port_fails<'v>(value: &'v Value, segment: Segment, at: &mut Trail<'v>) -> bool {
-    let words = "no port: REACTOR.PORT, two names";
-    port_at(value).is_none() && at.fault_at(segment, Reason::Form(value, words))
-}
-
-/// Whether an item is no number, no name or no port, whichever it has to be; it stands at this place of a list.
-fn item_fails<'v>(value: &'v Value, place: usize, part: Part, at: &mut Trail<'v>) -> bool {
-    let segment = Segment::Item(place);
-    match part {
-        Part::Number => number_fails(value, segment, at),
-        Part::Name => name_fails(value, segment, at),
-        _ => port_fails(value, segment, at),
-    }
-}
-
-fn pair_fails<'v>(
-    value: &'v Value,
-    form: &'static str,
-    one: Part,
-    other: Part,
-    at: &mut Trail<'v>,
-) -> bool {
-    match pair(value) {
-        Some((a, b)) => item_fails(a, 0, one, at) || item_fails(b, 1, other, at),
-        None => at.fault(Reason::Parts(form)),
-    }
-}
-
-fn timer_fails<'v>(value: &'v Value, at: &mut Trail<'v>) -> bool {
-    match triple(value) {
-        Some((name, offset, period)) => {
-            name_fails(name, Segment::Item(0), at)
-                || number_fails(offset, Segment::Item(1), at)
-                || number_fails(period, Segment::Item(2), at)
-        }
-        None => at.fault(Reason::Parts("[name, offset, period]")),
-    }
-}
-
-fn link_fails<'v>(value: &'v Value, at: &mut Trail<'v>) -> bool {
-    if let Some((from, to)) = pair(value) {
-        return ends_fail(from, to, at);
-    }
-    match triple(value) {
-        Some((from, to, delay)) => {
-            ends_fail(from, to, at) || number_fails(delay, Segment::Item(2), at)
-        }
-        None => at.fault(Reason::Parts("[from, to] or [from, to, delay]")),
-    }
-}
-
-/// The same of the ports of a link.
-fn ends_fail<'v>(from: &'v Value, to: &'v Value, at: &mut Trail<'v>) -> bool {
-    port_fails(from, Segment::Item(0), at) || port_fails(to, Segment::Item(1), at)
+    let (is_there, words) = match leaf {
+        Leaf::Number => (value.as_i64().is_some(), "no integer of 64 bits"),
+        Leaf::Name => (
+            name_at(value).is_some(),
+            "no name: 1 to 32 letters, digits and _, the first a letter",
+        ),
+        Leaf::Port => (port_at(value).is_some(), "no port: REACTOR.PORT, two names"),
+    };
+    !is_there && at.fault_at(segment, Reason::Form(value, words))
 }
