@@ -1,8 +1,8 @@
 //! Why a file is no program, in words for who wrote it: where its first fault stands, and what is wrong there.
 //!
 //! `load` says which fault is the first. Here it is looked for a second time, with its place: a walk goes down the
-//! file, notes what is wrong, and on its way back each level adds its segment to the trail. So each function of a walk says
-//! whether it found a fault, and which and where stands in the trail then.
+//! file, notes what is wrong, and on its way back each level adds its segment to the trail. So each function of a walk
+//! says whether it found a fault, and which and where stands in the trail then.
 
 mod account;
 mod circle;

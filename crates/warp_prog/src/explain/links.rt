@@ -52,8 +52,8 @@ pub(crate) fn outputs_fail<'f>(
     false
 }
 
-/// Whether no reactor of the port's name has such a port in this role. This segment leads to the port. Where none has, the
-/// last that has the name is told.
+/// Whether no reactor of the port's name has such a port in this role. This segment leads to the port. Where none has,
+/// the last that has the name is told.
 fn port_fails<'f>(
     reactors: &'f [Reactor],
     port: &'f PortName,

@@ -29,7 +29,8 @@ impl Default for Segment {
     }
 }
 
-/// The way to a fault: the segments from the file to the part that has it, the last of them first, and what is wrong there.
+/// The way to a fault: the segments from the file to the part that has it, the last of them first, and what is wrong
+/// there.
 #[derive(Drop)]
 pub(crate) struct Trail<'f> {
     segments: ArrayVec<Segment, MOST_SEGMENTS>,

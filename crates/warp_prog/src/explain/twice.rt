@@ -42,8 +42,8 @@ fn reactor_fails<'f>(
         || list_fails(&reactor.timers, reactor, 4, "timers", at)
 }
 
-/// Whether a name of the list under this key is `startup`, or stands before in the list or in the reactor's lists before
-/// it, which are so many.
+/// Whether a name of the list under this key is `startup`, or stands before in the list or in the reactor's lists
+/// before it, which are so many.
 fn list_fails<'f, T: Named>(
     things: &'f [T],
     reactor: &'f Reactor,

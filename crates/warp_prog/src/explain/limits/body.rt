@@ -23,8 +23,8 @@ pub(crate) fn body_fails(body: &[Statement], form: Form, at: &mut Trail) -> bool
     room_for_wishes(body, MOST_WISHES).is_none() && at.fault_at(Segment::Key("body"), reason)
 }
 
-/// Whether one of the statements does, whose lists may have so many levels, and their delays be so long. This segment leads
-/// to them.
+/// Whether one of the statements does, whose lists may have so many levels, and their delays be so long. This segment
+/// leads to them.
 #[cycle(statements_fail)]
 fn statements_fail(
     body: &[Statement],
