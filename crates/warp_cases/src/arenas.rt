@@ -173,10 +173,9 @@ fn note_event(arena: &mut Arena, node: NodeId, input: u32, value: i64)
     requires { IsSome (entry_of node arena.old.places) }
     ensures { arena.new.origins ≡ arena.old.origins }
 {
-    if arena.entry(node).event.is_none() {
-        arena.give_event(node, input, value);
-    } else {
-        arena.set_event(node, input, value);
+    match arena.entry(node).event {
+        None => arena.give_event(node, input, value),
+        Some(_) => arena.set_event(node, input, value),
     }
 }
 
