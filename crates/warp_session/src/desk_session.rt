@@ -201,30 +201,33 @@ impl Transcriber {
         read_front(form, bytes)
     }
 
-    /// Takes bytes up to and with the first line feed, or all where there is none. Gives how many it took, and the
-    /// line that they end, which waits for its answer; where they end one that spells none, its refusal is gathered.
+    /// Takes bytes up to and with the first line feed, or all where there is none, and gives how many it took. The line
+    /// that they end comes into `found`, and waits for its answer; where they end one that spells none, its refusal is
+    /// gathered.
+    // (A result that holds the line would lie in memory that is cleared for each line of the frequent kind too.)
     #[inline(never)]
     fn find_line<D: Desk, W: Sink>(
         &mut self,
         form: Form,
         sink: &mut W,
         bytes: &[u8],
-    ) -> Result<(usize, Option<Line>), Failed>
+        found: &mut Option<Line>,
+    ) -> Result<usize, Failed>
         requires { 0 < length bytes.now }
-        ensures count { IfOk result (λ found. (0 < found.0) × (found.0 ≤ length bytes.now)) }
+        ensures count { IfOk result (λ n. (0 < n) × (n ≤ length bytes.now)) }
         ensures turn { (state : D.State) →
-            Turn (λ found. Finds form D.gives bytes.now found.0 found.1) (BreaksBytes form D.gives bytes.now)
+            Turn (λ n. Finds form D.gives bytes.now n found.new) (BreaksBytes form D.gives bytes.now)
             (at state self.old (W.written sink.old) (W.failures sink.old))
             (at state self.new (W.written sink.new) (W.failures sink.new)) result }
     {
         // A line of which nothing came before is read where it stands.
         if let Some(text) = self.feed.whole(bytes) {
-            let line = self.read_text::<D, W>(form, sink, text)?;
-            return Ok((text.len() + 1, line));
+            *found = self.read_text::<D, W>(form, sink, text)?;
+            return Ok(text.len() + 1);
         }
         let (count, fed) = self.feed.push(bytes);
-        let line = self.read_fed::<D, W>(form, sink, fed)?;
-        Ok((count, line))
+        *found = self.read_fed::<D, W>(form, sink, fed)?;
+        Ok(count)
     }
 
     /// Takes bytes up to and with the first line feed, or all where there is none, and answers the line that it ends.
@@ -246,7 +249,8 @@ impl Transcriber {
         let (line, count) = match self.read_fresh(form, bytes) {
             Some(front) => front,
             None => {
-                let (count, found) = self.find_line::<D, W>(form, sink, bytes)?;
+                let mut found = None;
+                let count = self.find_line::<D, W>(form, sink, bytes, &mut found)?;
                 let Some(line) = found else {
                     return Ok(count);
                 };

@@ -1,5 +1,6 @@
 //! Serving many sessions at once: a thread for the replica, one for each session, and one for each pull from a peer.
-ghost use Rattle.std.specs.Prelude.{◌≡◌, ◌⊎◌, ◌+◌, ◌≤◌, [], ◌∷◌, ◌++◌, All, IfOk, IsTrue, Ok, OnOk, false, length, vec_len};
+ghost use Rattle.std.specs.Prelude.{◌≡◌, ◌⊎◌, ◌+◌, ◌≤◌, [], ◌∷◌, ◌++◌, All, IfOk, IsTrue, Ok, OnOk, false, length};
+ghost use Rattle.std.specs.Prelude.{vec_len};
 ghost use Rattle.warp_tag.specs.Limits.{most_rows};
 ghost use Rattle.warp_board.specs.Board.{room_of};
 ghost use Rattle.warp_lanes.specs.Engine.{AreFresh, IsFresh, most_lanes};

@@ -1,5 +1,5 @@
-//! Connections over memory: what was sent on each, what it was answered, a door that gives them out, and a gate by which
-//! sessions meet.
+//! Connections over memory: what was sent on each, what it was answered, a door that gives them out, and a gate by
+//! which sessions meet.
 ghost use Rattle.std.specs.Prelude.{◌≤◌, length};
 
 use crate::door::{Door, DoorFault, Gate};

@@ -1,5 +1,5 @@
-//! Sessions that are served at once meet, and a door hears how a pull ended. Over the built program `.ci/serve` shows what
-//! else servers come to.
+//! Sessions that are served at once meet, and a door hears how a pull ended. Over the built program `.ci/serve` shows
+//! what else servers come to.
 ghost use Rattle.std.specs.Prelude.{◌+◌, ◌≤◌, length, vec_len};
 ghost use Rattle.warp_lanes.specs.Engine.{most_lanes};
 
