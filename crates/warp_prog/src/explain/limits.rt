@@ -89,7 +89,8 @@ const TOTALS: &[Total] = &[
     },
 ];
 
-/// Whether all reactors together have too many things of a kind: at the first reactor up to which there are too many of one.
+/// Whether all reactors together have too many things of a kind: it is told of the first reactor up to which there are too
+/// many of one.
 fn totals_fail(reactors: &[Reactor], at: &mut Trail) -> bool {
     let mut first = reactors.len();
     for total in TOTALS {

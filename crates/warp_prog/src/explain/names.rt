@@ -17,7 +17,8 @@ pub(crate) fn names_fail<'f>(file: &'f ProgramFile, at: &mut Trail<'f>) -> bool 
 }
 
 /// Whether a name in a reaction stands for nothing of the kind that its place asks; of reactions whose names are known,
-/// whether a body reads or asks for what its reaction neither is on nor reads, or puts or schedules what it does not write.
+/// whether a body reads or asks for what its reaction neither is on nor reads, or puts or schedules what it does not
+/// write.
 pub(crate) fn reactors_fail<'f>(
     reactors: &'f [Reactor],
     are_known: bool,
