@@ -239,6 +239,7 @@ impl Transcriber {
         desk: &mut D,
         sink: &mut W,
         bytes: &[u8],
+        found: &mut Option<Line>,
     ) -> Result<usize, Failed>
         requires { 0 < length bytes.now }
         ensures count { IfOk result (λ n. (0 < n) × (n ≤ length bytes.now)) }
@@ -249,9 +250,8 @@ impl Transcriber {
         let (line, count) = match self.read_fresh(form, bytes) {
             Some(front) => front,
             None => {
-                let mut found = None;
-                let count = self.find_line::<D, W>(form, sink, bytes, &mut found)?;
-                let Some(line) = found else {
+                let count = self.find_line::<D, W>(form, sink, bytes, found)?;
+                let Some(line) = *found else {
                     return Ok(count);
                 };
                 (line, count)
@@ -294,8 +294,9 @@ impl Transcriber {
         ensures empty { OnOk result (self.new.gathered ≡ []) }
     {
         let mut at = 0;
+        let mut found = None;
         while at < bytes.len() {
-            at += self.take_line(form, desk, sink, &bytes[at..])?;
+            at += self.take_line(form, desk, sink, &bytes[at..], &mut found)?;
         }
         self.flush(sink)?;
         Ok(())
