@@ -113,6 +113,27 @@ impl Transcriber {
         Ok(())
     }
 
+    /// Answers `collect`, and gathers the reply.
+    // (Apart from the other lines: its reply comes from a function kept out of line, by memory that would be cleared for
+    // each of them.)
+    #[inline(never)]
+    fn answer_collect<D: Desk, W: Sink>(&mut self, desk: &mut D, sink: &mut W) -> Result<(), Failed>
+        ensures answered { (f : Form) (text : List ℕ) → SpellsLine f text Line.Collect →
+            OnOk result (Replied f D.gives (Whole text ∷ [])
+            (at (D.state desk.old) self.old (W.written sink.old) (W.failures sink.old))
+            (at (D.state desk.new) self.new (W.written sink.new) (W.failures sink.new))) }
+        ensures broken { (f : Form) (text : List ℕ) → SpellsLine f text Line.Collect →
+            OnErr result (Broken f D.gives (Whole text ∷ [])
+            (at (D.state desk.old) self.old (W.written sink.old) (W.failures sink.old))
+            (at (D.state desk.new) self.new (W.written sink.new) (W.failures sink.new))) }
+        ensures kept { self.new.kept ≡ self.old.kept }
+        ensures failures { CountsFailures (W.failures sink.old) (W.failures sink.new) result }
+    {
+        let reply = desk.ask_in_batch(Line::Collect);
+        self.gather(sink, &reply)?;
+        Ok(())
+    }
+
     /// Answers a line, and gathers the reply.
     #[inline(always)]
     fn answer_line<D: Desk, W: Sink>(
@@ -132,6 +153,9 @@ impl Transcriber {
         ensures kept { self.new.kept ≡ self.old.kept }
         ensures failures { CountsFailures (W.failures sink.old) (W.failures sink.new) result }
     {
+        if let Line::Collect = line {
+            return self.answer_collect(desk, sink);
+        }
         let reply = desk.ask_in_batch(line);
         self.gather(sink, &reply)?;
         Ok(())
