@@ -114,8 +114,8 @@ impl Transcriber {
     }
 
     /// Answers `collect`, and gathers the reply.
-    // (Apart from the other lines: its reply comes from a function kept out of line, by memory that would be cleared for
-    // each of them.)
+    // (Apart from the other lines: its reply comes from a function kept out of line, by memory that would be cleared
+    // for each of them.)
     #[inline(never)]
     fn answer_collect<D: Desk, W: Sink>(&mut self, desk: &mut D, sink: &mut W) -> Result<(), Failed>
         ensures answered { (f : Form) (text : List ℕ) → SpellsLine f text Line.Collect →
