@@ -113,6 +113,27 @@ impl Transcriber {
         Ok(())
     }
 
+    /// Answers `collect`, and gathers the reply.
+    // (Apart from the other lines: its reply comes from a function kept out of line, by memory that would be cleared
+    // for each of them.)
+    #[inline(never)]
+    fn answer_collect<D: Desk, W: Sink>(&mut self, desk: &mut D, sink: &mut W) -> Result<(), Failed>
+        ensures answered { (f : Form) (text : List ℕ) → SpellsLine f text Line.Collect →
+            OnOk result (Replied f D.gives (Whole text ∷ [])
+            (at (D.state desk.old) self.old (W.written sink.old) (W.failures sink.old))
+            (at (D.state desk.new) self.new (W.written sink.new) (W.failures sink.new))) }
+        ensures broken { (f : Form) (text : List ℕ) → SpellsLine f text Line.Collect →
+            OnErr result (Broken f D.gives (Whole text ∷ [])
+            (at (D.state desk.old) self.old (W.written sink.old) (W.failures sink.old))
+            (at (D.state desk.new) self.new (W.written sink.new) (W.failures sink.new))) }
+        ensures kept { self.new.kept ≡ self.old.kept }
+        ensures failures { CountsFailures (W.failures sink.old) (W.failures sink.new) result }
+    {
+        let reply = desk.ask_in_batch(Line::Collect);
+        self.gather(sink, &reply)?;
+        Ok(())
+    }
+
     /// Answers a line, and gathers the reply.
     #[inline(always)]
     fn answer_line<D: Desk, W: Sink>(
@@ -132,6 +153,9 @@ impl Transcriber {
         ensures kept { self.new.kept ≡ self.old.kept }
         ensures failures { CountsFailures (W.failures sink.old) (W.failures sink.new) result }
     {
+        if let Line::Collect = line {
+            return self.answer_collect(desk, sink);
+        }
         let reply = desk.ask_in_batch(line);
         self.gather(sink, &reply)?;
         Ok(())
@@ -239,6 +263,7 @@ impl Transcriber {
         desk: &mut D,
         sink: &mut W,
         bytes: &[u8],
+        found: &mut Option<Line>,
     ) -> Result<usize, Failed>
         requires { 0 < length bytes.now }
         ensures count { IfOk result (λ n. (0 < n) × (n ≤ length bytes.now)) }
@@ -249,9 +274,8 @@ impl Transcriber {
         let (line, count) = match self.read_fresh(form, bytes) {
             Some(front) => front,
             None => {
-                let mut found = None;
-                let count = self.find_line::<D, W>(form, sink, bytes, &mut found)?;
-                let Some(line) = found else {
+                let count = self.find_line::<D, W>(form, sink, bytes, found)?;
+                let Some(line) = *found else {
                     return Ok(count);
                 };
                 (line, count)
@@ -294,8 +318,9 @@ impl Transcriber {
         ensures empty { OnOk result (self.new.gathered ≡ []) }
     {
         let mut at = 0;
+        let mut found = None;
         while at < bytes.len() {
-            at += self.take_line(form, desk, sink, &bytes[at..])?;
+            at += self.take_line(form, desk, sink, &bytes[at..], &mut found)?;
         }
         self.flush(sink)?;
         Ok(())
