@@ -1,7 +1,7 @@
 //! The timeline with rollback.
-ghost use Rattle.std.specs.Prelude.{◌≡◌, ◌+◌, ◌-◌, ◌≤◌, false, true, IsTrue, List, None, IfSome, OnOk, OnErr};
+ghost use Rattle.std.specs.Prelude.{◌≡◌, ◌+◌, ◌-◌, ◌≤◌, false, true, IsTrue, List, None, Some, IfSome, OnOk, OnErr};
 ghost use Rattle.std.specs.Prelude.{IsSomeAnd, length};
-ghost use Rattle.warp_tag.specs.Table.{Event, changed, live, with_event};
+ghost use Rattle.warp_tag.specs.Table.{Event, changed, fresh, live, with_event};
 ghost use Rattle.warp_step.specs.Program.{Program};
 ghost use Rattle.warp_step.specs.Events.{IsEventOf, IsNameOf};
 ghost use Rattle.warp_step.specs.Run.{Row, IsNext, is_after};
@@ -101,12 +101,10 @@ impl Timeline for Warp {
             return self.put_among(origin, tag, input, value);
         };
         let place = self.come_in(origin, tag, &gap);
-        let changes = self.arena.entry(place).note_event(input, value);
-        self.arena.set_event(place, input, value);
+        // The first event of a name always changes the live events.
+        self.arena.give_event(place, input, value);
         self.arena.note_hint(place, origin, tag);
-        if changes {
-            self.undo_from(place, tag);
-        }
+        self.undo_from(place, tag);
     }
 
     #[inline(never)]
@@ -374,6 +372,7 @@ impl Warp {
         requires absent { node_of origin tag self.old.arena.places ≡ None }
         requires gap { IsGap origin tag self.old.arena.places gap.now }
         ensures names { NamesAt self.old self.new origin tag result }
+        ensures fresh { entry_of result self.new.arena.places ≡ Some (fresh origin tag) }
         ensures room { self.new.arena.room ≡ self.old.arena.room }
     {
         finds_known(&self.arena, origin, tag);
