@@ -1,5 +1,5 @@
 -- A name that comes behind the last entry of all, and so behind the last one of its origin.
-use Rattle.std.proofs.Common.{◌≡◌, ◌≢◌, ℕ, ◌<◌, true, cond, not, eqb, List, [], ◌∷◌, length, map, refl, sym, ap, ◌∙◌, subst, inl, inr, Some, None}
+use Rattle.std.proofs.Common.{◌≡◌, ◌≢◌, ℕ, ◌<◌, true, cond, not, eqb, List, [], ◌∷◌, length, map, refl, sym, ap, ◌∙◌, subst, inl, inr, Some, None, IsSome}
 use Rattle.std.specs.List.{AllByRecursion}
 use Rattle.std.specs.Vec.{vec_capacity}
 use Rattle.std.proofs.lemmas.Bool.{cases_eq}
@@ -7,16 +7,17 @@ use Rattle.std.proofs.lemmas.List.{map-append}
 use Rattle.warp_tag.specs.Moment.{Moment}
 use Rattle.warp_tag.specs.Table.{name_before, fresh, IsTable}
 use Rattle.warp_tag.specs.declared.entry.Entry.{Entry}
-use Rattle.warp_tag.proofs.Lists.{All-weaker, All-append, All-right, All-filter}
+use Rattle.warp_tag.proofs.Lists.{All-weaker, All-append, All-right, All-filter, same_some}
 use Rattle.warp_tag.proofs.Names.{ahead_not_before, ahead_not_named, name_before_trans}
 use Rattle.warp_arena.specs.declared.arena.Arena.TheInside.{Inside}
 use Rattle.warp_arena.specs.declared.node.TheConstants.{NO_NODE}
 use Rattle.warp_arena.specs.Changes.{IsPassed, IsPlace}
-use Rattle.warp_arena.specs.Places.{Contents, node_of, places_of}
+use Rattle.warp_arena.specs.Places.{Contents, IsBehindAll, entry_of, node_of, places_of}
 use Rattle.warp_arena.specs.Shape.{IsWhole, contents_of, entry_at, last_or, last_not_after}
 use Rattle.warp_arena.proofs.Rings.{IsOff, by_last, last_holds, last_or-push}
 use Rattle.warp_arena.proofs.Tables.{Precedes, IsTable-before, All-unmap, places_of-members, last_of_places}
 use Rattle.warp_arena.proofs.Walks.{Stands, threads, used, owned, Listed-last, Listed-tags, Listed-origin, walk_start, walk_below, stops}
+use Rattle.warp_arena.proofs.Reading.{places, found, entry_found, used_found_no_end}
 use Rattle.warp_arena.proofs.Finding.{node_of-none, node_of-at}
 use Rattle.warp_arena.proofs.Beside.{last_is}
 
@@ -51,6 +52,17 @@ module _ (a : Inside) (w : IsWhole (threads a) a.used) (o : ℕ) (g : Moment) wh
               (All-weaker (λ i. Precedes (entry i) (entry k)) P (λ i q _. name_before_trans (entry i).origin (entry i).tag (entry k) (fresh o g) q last) fs before)
               ((λ _. last), tt))
         ]
+
+    -- so the name is behind each entry
+    pub behind_all : (v : Contents) → contents_of (threads a) a.used (vec_capacity a.nodes) ≡ v → IsBehindAll o g v.places
+    behind_all v is i e h =
+        let P : ℕ → Type 0 = IsPassed o g a.nodes.items in
+        let here : entry_of i (places a) ≡ Some e = ap (λ u. entry_of i u.places) is ∙ h in
+        let some : IsSome (entry_of i (places a)) = subst IsSome (sym here) refl in
+        let f = found a w i some in
+        let at : P i = (All-right P f.front (i ∷ f.back) (subst (AllByRecursion P) f.parts all_passed)).0 in
+        subst (λ (d : Entry). name_before d.origin d.tag (fresh o g) ≡ true) (same_some _ _ (sym (entry_found a w i some) ∙ here))
+        (at (used_found_no_end a w i some))
 
     -- the last one of the origin is passed too
     pub own_passed : o < length a.by_origin.items → (at : ℕ) → at ≡ ((threads a).own_ends o).prev → IsPassed o g a.nodes.items at

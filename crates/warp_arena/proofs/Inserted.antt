@@ -1,10 +1,10 @@
 -- The arena after `insert`.
-use Rattle.std.proofs.Common.{◌≡◌, ◌≢◌, ℕ, suc, ◌+◌, ◌-◌, ◌<◌, true, false, cond, List, [], ◌∷◌, ◌++◌, length, refl, sym, ap, ◌∙◌, subst, arith, map, get_or, set, None}
+use Rattle.std.proofs.Common.{◌≡◌, ◌≢◌, ℕ, suc, ◌+◌, ◌-◌, ◌<◌, true, false, cond, List, [], ◌∷◌, ◌++◌, length, refl, sym, ap, ◌∙◌, subst, arith, map, get_or, set, None, Option, ℤ}
 use Rattle.std.specs.List.{AllByRecursion}
 use Rattle.std.specs.Vec.{vec_capacity}
 use Rattle.std.proofs.lemmas.List.{map-append, length-set, length-append}
 use Rattle.warp_tag.specs.Moment.{Moment}
-use Rattle.warp_tag.specs.Table.{name_before, fresh}
+use Rattle.warp_tag.specs.Table.{name_before}
 use Rattle.warp_tag.specs.declared.entry.Entry.{Entry}
 use Rattle.warp_tag.proofs.Lists.{All-weaker, All-left, All-right}
 use Rattle.warp_arena.specs.declared.arena.Arena.TheInside.{Inside}
@@ -12,7 +12,7 @@ use Rattle.warp_arena.specs.declared.node.Links.{Links}
 use Rattle.warp_arena.specs.declared.node.Node.{Node}
 use Rattle.warp_arena.specs.declared.node.TheConstants.{NO_NODE}
 use Rattle.warp_arena.specs.Changes.{Threaded}
-use Rattle.warp_arena.specs.Places.{Place, Contents, entry_of, with_place}
+use Rattle.warp_arena.specs.Places.{named, Place, Contents, entry_of, with_place}
 use Rattle.warp_arena.specs.Shape.{IsArena, IsWhole, threads_of, contents_of, used_of, entry_at, by_tag, place_at, last_or, no_origin}
 use Rattle.warp_arena.proofs.Rings.{IsOff, count_of-here}
 use Rattle.warp_arena.proofs.Tables.{All-map, map_agree}
@@ -53,18 +53,18 @@ module _ (a : Inside) (o : ℕ) (g : Moment) (before own_before : ℕ) (r : Read
   pub new_handle : entry_of a.free (places a) ≡ None
   new_handle = ap (λ is. entry_of a.free (map (place_at (threads a).entry) is)) r.parts ∙ entry_of-off (threads a).entry a.free (r.xs ++ r.ys) came
 
-  module _ (new : List Node) (own ends' e' : Links) (free' : ℕ)
+  module _ (new : List Node) (own ends' e' : Links) (free' : ℕ) (v : Option (ℕ × ℤ))
       (own_is : own ≡ (get_or a.by_origin.items o no_origin).ends)
       (free_is : free' ≡ (by_tag a.nodes.items a.free).next)
-      (change : Threaded a.nodes.items new a.ends ends' own e' before own_before a.free (fresh o g))
+      (change : Threaded a.nodes.items new a.ends ends' own e' before own_before a.free (named o g v))
     where
       shape' : IsArena (threads_of new (set a.by_origin.items o (record { ends = e'; touched = a.free })) ends' free') (r.xs ++ a.free ∷ r.ys) r.fs
       shape' =
-          let at_before = subst (λ b. Threaded a.nodes.items new a.ends ends' (get_or a.by_origin.items o no_origin).ends e' b own_before a.free (fresh o g)) r.before_is
-          (subst (λ l. Threaded a.nodes.items new a.ends ends' l e' before own_before a.free (fresh o g)) own_is change) in
-          let at_both = subst (λ b. Threaded a.nodes.items new a.ends ends' (get_or a.by_origin.items o no_origin).ends e' (last_or NO_NODE r.xs) b a.free (fresh o g)) r.own_before_is at_before in
+          let at_before = subst (λ b. Threaded a.nodes.items new a.ends ends' (get_or a.by_origin.items o no_origin).ends e' b own_before a.free (named o g v)) r.before_is
+          (subst (λ l. Threaded a.nodes.items new a.ends ends' l e' before own_before a.free (named o g v)) own_is change) in
+          let at_both = subst (λ b. Threaded a.nodes.items new a.ends ends' (get_or a.by_origin.items o no_origin).ends e' (last_or NO_NODE r.xs) b a.free (named o g v)) r.own_before_is at_before in
           subst (λ f. IsArena (threads_of new (set a.by_origin.items o (record { ends = e'; touched = a.free })) ends' f) (r.xs ++ a.free ∷ r.ys) r.fs) (sym free_is)
-          (IsArena-insert a.nodes.items new a.by_origin.items a.ends ends' e' a.free o a.free g r.xs r.ys r.fs r.shape at_both declared r.through r.absent r.past)
+          (IsArena-insert a.nodes.items new a.by_origin.items a.ends ends' e' a.free o a.free g v r.xs r.ys r.fs r.shape at_both declared r.through r.absent r.past)
 
       len' : length (r.xs ++ a.free ∷ r.ys) ≡ a.used + 1
       len' = omega (arith, length-append r.xs (a.free ∷ r.ys), length-append r.xs r.ys, r.used_len)
@@ -75,12 +75,12 @@ module _ (a : Inside) (o : ℕ) (g : Moment) (before own_before : ℕ) (r : Read
           (omega (arith, r.len, change.len))
 
       pub contents_inserted : contents_of (threads_of new (set a.by_origin.items o (record { ends = e'; touched = a.free })) ends' free') (a.used + 1) (vec_capacity a.nodes)
-          ≡ record { origins = length a.by_origin.items; places = with_place (record { node = a.free; entry = fresh o g }) (places a); free = length a.nodes.items - a.used - 1; room = vec_capacity a.nodes }
+          ≡ record { origins = length a.by_origin.items; places = with_place (record { node = a.free; entry = named o g v }) (places a); free = length a.nodes.items - a.used - 1; room = vec_capacity a.nodes }
       contents_inserted =
           let t' = threads_of new (set a.by_origin.items o (record { ends = e'; touched = a.free })) ends' free' in
           let place : ℕ → Place = place_at (threads a).entry in
           let place' : ℕ → Place = place_at (entry_at new) in
-          let p : Place = record { node = a.free; entry = fresh o g } in
+          let p : Place = record { node = a.free; entry = named o g v } in
           let agree : (is : List ℕ) → IsOff a.free is → map place' is ≡ map place is =
           λ is off. map_agree place place' is
           (All-weaker (λ i. i ≢ a.free) (λ i. place' i ≡ place i) (λ i n. ap (λ (e : Entry). let q : Place = record { node = i; entry = e } in q) (change.entries i n)) is off) in

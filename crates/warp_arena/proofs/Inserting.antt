@@ -1,15 +1,16 @@
 -- The shape of an arena after a node came into its lists.
-use Rattle.std.proofs.Common.{◌≡◌, ◌≢◌, ℕ, ◌+◌, ◌<◌, true, false, cond, eqb, ltb, List, ◌∷◌, ◌++◌, length, sym, ap, ◌∙◌, subst, arith, map, get_or, set}
+use Rattle.std.proofs.Common.{◌≡◌, ◌≢◌, ℕ, ◌+◌, ◌<◌, true, false, cond, eqb, ltb, List, ◌∷◌, ◌++◌, length, sym, ap, ◌∙◌, subst, arith, map, get_or, set, Option, ℤ}
 use Rattle.std.specs.List.{AllByRecursion}
 use Rattle.std.proofs.lemmas.List.{map-append, length-set}
 use Rattle.warp_tag.specs.Moment.{Moment}
-use Rattle.warp_tag.specs.Table.{name_before, has_name, fresh, IsTable}
+use Rattle.warp_tag.specs.Table.{name_before, has_name, IsTable}
 use Rattle.warp_tag.proofs.Lists.{All-both, All-weaker, All-append, All-left, All-right, All-filter}
 use Rattle.warp_tag.proofs.Names.{else_ahead}
 use Rattle.warp_arena.specs.declared.node.Links.{Links}
 use Rattle.warp_arena.specs.declared.node.Node.{Node}
 use Rattle.warp_arena.specs.declared.node.Origin.{Origin}
 use Rattle.warp_arena.specs.declared.node.TheConstants.{NO_NODE}
+use Rattle.warp_arena.specs.Places.{named}
 use Rattle.warp_arena.specs.Changes.{Threaded}
 use Rattle.warp_arena.specs.Shape.{IsArena, Spells, threads_of, count_of, members, entry_at, by_tag, of_origin, IsPath, last_or, next_in, free_ends, IsOneOf, no_origin}
 use Rattle.warp_arena.proofs.Rings.{IsOff, IsSame, All-from_in, All-at, IsPath-from, count_of-here, count_of-append}
@@ -18,9 +19,9 @@ use Rattle.warp_arena.proofs.Shapes.{unused_apart, none_unused, unused_off, memb
 use Rattle.warp_arena.proofs.Listing.{Listed, next_in-at, kept_next, Spells-frame, Spells-insert, Keeps-insert, each_origin}
 use Rattle.warp_arena.proofs.Walks.{Listed-used, Listed-own}
 
-module _ (old new : List Node) (own : List Origin) (ends ends' e' : Links) (free o x : ℕ) (g : Moment) (xs ys fs : List ℕ)
+module _ (old new : List Node) (own : List Origin) (ends ends' e' : Links) (free o x : ℕ) (g : Moment) (v : Option (ℕ × ℤ)) (xs ys fs : List ℕ)
     (shape : IsArena (threads_of old own ends free) (xs ++ ys) (x ∷ fs))
-    (change : Threaded old new ends ends' (get_or own o no_origin).ends e' (last_or NO_NODE xs) (last_or NO_NODE (members (entry_at old) o xs)) x (fresh o g))
+    (change : Threaded old new ends ends' (get_or own o no_origin).ends e' (last_or NO_NODE xs) (last_or NO_NODE (members (entry_at old) o xs)) x (named o g v))
     (declared : o < length own)
   where
     came_off : IsOff x (xs ++ ys)
@@ -32,22 +33,22 @@ module _ (old new : List Node) (own : List Origin) (ends ends' e' : Links) (free
     same_entries : (is : List ℕ) → IsOff x is → AllByRecursion (λ i. entry_at new i ≡ entry_at old i) is
     same_entries is off = All-weaker (λ i. i ≢ x) (λ i. entry_at new i ≡ entry_at old i) change.entries is off
 
-    entries_insert : map (entry_at new) (xs ++ x ∷ ys) ≡ map (entry_at old) xs ++ fresh o g ∷ map (entry_at old) ys
+    entries_insert : map (entry_at new) (xs ++ x ∷ ys) ≡ map (entry_at old) xs ++ named o g v ∷ map (entry_at old) ys
     entries_insert =
         map-append (entry_at new) xs (x ∷ ys)
         ∙ ap (λ es. es ++ entry_at new x ∷ map (entry_at new) ys) (map_agree (entry_at old) (entry_at new) xs (same_entries xs (All-left (λ i. i ≢ x) xs ys came_off)))
         ∙ ap (λ e. map (entry_at old) xs ++ e ∷ map (entry_at new) ys) change.here
-        ∙ ap (λ es. map (entry_at old) xs ++ fresh o g ∷ es) (map_agree (entry_at old) (entry_at new) ys (same_entries ys (All-right (λ i. i ≢ x) xs ys came_off)))
+        ∙ ap (λ es. map (entry_at old) xs ++ named o g v ∷ es) (map_agree (entry_at old) (entry_at new) ys (same_entries ys (All-right (λ i. i ≢ x) xs ys came_off)))
 
     sorted_insert : AllByRecursion (λ i. name_before o g (entry_at old i) ≡ false) xs → AllByRecursion (λ i. has_name o g (entry_at old i) ≡ false) xs → AllByRecursion (λ i. name_before o g (entry_at old i) ≡ true) ys → IsTable (map (entry_at new) (xs ++ x ∷ ys))
     sorted_insert through absent past =
         subst IsTable (sym entries_insert)
-        (IsTable-insert (map (entry_at old) xs) (map (entry_at old) ys) (fresh o g)
+        (IsTable-insert (map (entry_at old) xs) (map (entry_at old) ys) (named o g v)
         (subst IsTable (map-append (entry_at old) xs ys) shape.sorted)
-        (All-map (λ e. Precedes e (fresh o g)) (entry_at old) xs
-        (All-both (λ i. name_before o g (entry_at old i) ≡ false) (λ i. has_name o g (entry_at old i) ≡ false) (λ i. Precedes (entry_at old i) (fresh o g))
+        (All-map (λ e. Precedes e (named o g v)) (entry_at old) xs
+        (All-both (λ i. name_before o g (entry_at old i) ≡ false) (λ i. has_name o g (entry_at old i) ≡ false) (λ i. Precedes (entry_at old i) (named o g v))
         (λ i p q. else_ahead o g (entry_at old i) p q) xs through absent))
-        (All-map (λ e. Precedes (fresh o g) e) (entry_at old) ys past))
+        (All-map (λ e. Precedes (named o g v) e) (entry_at old) ys past))
 
     declared_insert : AllByRecursion (λ i. (entry_at new i).origin < length own) (xs ++ x ∷ ys)
     declared_insert =

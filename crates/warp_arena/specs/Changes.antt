@@ -55,6 +55,14 @@ pub record KeepsButOwn (old new : List Node) : Type 0 where
   pub entries : (i : ℕ) → entry_at new i ≡ entry_at old i
   pub tags : (i : ℕ) → by_tag new i ≡ by_tag old i
 
+-- only the entry of this node differs, which is this one
+pub record SetsEntry (old new : List Node) (at : ℕ) (entry : Entry) : Type 0 where
+  pub len : length new ≡ length old
+  pub here : entry_at new at ≡ entry
+  pub entries : (i : ℕ) → i ≢ at → entry_at new i ≡ entry_at old i
+  pub tags : (i : ℕ) → by_tag new i ≡ by_tag old i
+  pub own : (i : ℕ) → of_origin new i ≡ of_origin old i
+
 -- the new links put a place between two others, and are the old ones elsewhere
 pub record Inserts (next prev next' prev' : ℕ → ℕ) (before at after : ℕ) : Type 0 where
   pub into : next' before ≡ at

@@ -1,9 +1,9 @@
 -- What an arena holds, as contracts see it: the entries in order, each with the handle that names it.
-use Rattle.std.specs.Prelude.{◌≡◌, ℕ, ◌+◌, ◌<◌, max, length, nat_eq, unwrap_or, ◌==◌, not, Option, Some, None, List, [], ◌∷◌, if◌then◌else◌, find, filter, map, drop, IsSome, IfSome}
+use Rattle.std.specs.Prelude.{◌≡◌, ℕ, ℤ, false, ◌+◌, ◌<◌, max, length, nat_eq, unwrap_or, ◌==◌, not, Option, Some, None, List, [], ◌∷◌, if◌then◌else◌, find, filter, map, drop, IsSome, IfSome, IsTrue}
 use Rattle.std.specs.Option.{option_map}
 use Rattle.std.specs.List.{AllByRecursion, IsDistinct}
 use Rattle.warp_tag.specs.Moment.{Moment, is_before}
-use Rattle.warp_tag.specs.Table.{name_before, has_name, IsTable}
+use Rattle.warp_tag.specs.Table.{name_before, has_name, fresh, IsTable}
 use Rattle.warp_tag.specs.declared.entry.Entry.{Entry}
 
 -- an entry, and the handle that names it
@@ -30,6 +30,10 @@ with_free a =
       free = max 1 a.free;
       room = if a.free == 0 then room_after (length a.places) a.room else a.room;
     }
+
+-- the entry of a name of which this event is known, if there is one, and nothing else
+abbrev pub named : ℕ → Moment → Option (ℕ × ℤ) → Entry
+named origin tag event = record { origin = origin; tag = tag; event = event; withdrawn = false }
 
 -- the entries, in order
 abbrev pub entries_of : List Place → List Entry
@@ -105,6 +109,11 @@ places_through tag places = filter (λ p. not (is_before tag p.entry.tag)) place
 -- the origin of the entry that the handle names
 abbrev pub origin_of : ℕ → List Place → ℕ
 origin_of node places = unwrap_or (option_map (λ e. e.origin) (entry_of node places)) 0
+
+-- the name comes behind each entry
+abbrev pub IsBehindAll : ℕ → Moment → List Place → Type 0
+IsBehindAll origin tag places =
+    (node : ℕ) (e : Entry) → entry_of node places ≡ Some e → IsTrue (name_before e.origin e.tag (fresh origin tag))
 
 -- the entries are in order of tag, then of origin, each name once; each is of an origin of the arena; each has a
 -- handle of its own

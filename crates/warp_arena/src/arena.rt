@@ -68,9 +68,9 @@ impl Arena {
     ghost use Rattle.warp_tag.specs.Moment.{is_before};
     ghost use Rattle.warp_tag.specs.Table.{name_before, has_name, fresh, with_event, with_withdrawal};
     ghost use Rattle.warp_tag.specs.declared.entry.Entry.{Entry};
-    ghost use Rattle.warp_arena.specs.Places.{places_of, node_of, entry_of, first_node, last_node, Reaches};
+    ghost use Rattle.warp_arena.specs.Places.{places_of, named, node_of, entry_of, first_node, last_node, Reaches};
     ghost use Rattle.warp_arena.specs.Places.{places_from, places_after, places_before, with_place, with_change};
-    ghost use Rattle.warp_arena.specs.Places.{with_free, places_past, places_through, IsOrdered, origin_of};
+    ghost use Rattle.warp_arena.specs.Places.{with_free, places_past, places_through, IsBehindAll, IsOrdered, origin_of};
     ghost use Rattle.warp_arena.specs.Shape.{IsGap, last_not_after, IsAfter, IsBehind};
 
     /// An arena without entries, for origins below this number. The only error is want of memory.
@@ -191,6 +191,7 @@ impl Arena {
         requires { origin < self.now.origins }
         ensures gap { IfSome result (λ gap. IsGap origin tag self.now.places gap) }
         ensures absent { IfSome result (λ gap. node_of origin tag self.now.places ≡ None) }
+        ensures behind { IfSome result (λ gap. IsBehindAll origin tag self.now.places) }
     {
         let before = self.ends.prev;
         if is_passed(&self.nodes, before, origin, tag) {
@@ -257,29 +258,35 @@ impl Arena {
         ensures entry { entry_of result self.new.places ≡ Some (fresh origin tag) }
         ensures others { (node : ℕ) → node ≢ result → entry_of node self.new.places ≡ entry_of node self.old.places }
     {
-        let node = self.thread_in(origin, tag, gap);
+        let node = self.thread_in(origin, tag, None, gap);
         self.note_hint(node, origin, tag)
     }
 
-    /// Takes in this name at this gap, and notes no hint.
+    /// Takes in this name at this gap, with an event where one is given, and notes no hint.
     #[inline(always)]
-    pub fn thread_in(&mut self, origin: u32, tag: Tag, gap: &Gap) -> NodeId
+    pub fn thread_in(
+        &mut self,
+        origin: u32,
+        tag: Tag,
+        event: Option<(u32, i64)>,
+        gap: &Gap,
+    ) -> NodeId
         requires origin { origin < self.old.origins }
         requires reserved { 0 < self.old.free }
         requires absent { node_of origin tag self.old.places ≡ None }
         requires gap { IsGap origin tag self.old.places gap.now }
         ensures places { self.new ≡ record self.old {
-          places = with_place (record { node = result; entry = fresh origin tag }) self.old.places;
+          places = with_place (record { node = result; entry = named origin tag event }) self.old.places;
           free = self.old.free - 1;
         } }
         ensures new_handle { entry_of result self.old.places ≡ None }
-        ensures entry { entry_of result self.new.places ≡ Some (fresh origin tag) }
+        ensures entry { entry_of result self.new.places ≡ Some (named origin tag event) }
         ensures others { (node : ℕ) → node ≢ result → entry_of node self.new.places ≡ entry_of node self.old.places }
     {
         let at = self.free;
         self.free = self.nodes[at as usize].by_tag.next;
         let own = &mut self.by_origin[origin as usize];
-        let entry = Packed::fresh(origin, tag);
+        let entry = Packed::named(origin, tag, event);
         thread_node(
             &mut self.nodes,
             &mut self.ends,

@@ -6,7 +6,7 @@ ghost use Rattle.warp_tag.specs.Table.{name_before};
 ghost use Rattle.warp_arena.specs.Places.{room_after};
 ghost use Rattle.warp_arena.specs.Shape.{by_tag, entry_at, of_origin, next_in, prev_in, no_node};
 ghost use Rattle.warp_arena.specs.Changes.{IsPassed, IsPlace, CanThread, CanUnthread, SetsNext, SetsPrev, KeepsButTags};
-ghost use Rattle.warp_arena.specs.Changes.{KeepsButOwn, Inserts, Skips, Threaded, Unthreaded};
+ghost use Rattle.warp_arena.specs.Changes.{KeepsButOwn, SetsEntry, Inserts, Skips, Threaded, Unthreaded};
 
 use crate::node::{Gap, Links, NO_NODE, Node, NodeId};
 use crate::packed::Packed;
@@ -151,10 +151,9 @@ pub(crate) fn thread_by_tag(nodes: &mut [Node], ends: &mut Links, before: u32, a
 {
     set_next_by_tag(nodes, ends, before, at);
     set_prev_by_tag(nodes, ends, after, at);
-    nodes[at as usize].by_tag = Links {
-        next: after,
-        prev: before,
-    };
+    let links = &mut nodes[at as usize].by_tag;
+    links.next = after;
+    links.prev = before;
 }
 
 /// Puts the node into its origin's list, between these places.
@@ -174,10 +173,17 @@ pub(crate) fn thread_of_origin(
 {
     set_next_of_origin(nodes, ends, before, at);
     set_prev_of_origin(nodes, ends, after, at);
-    nodes[at as usize].of_origin = Links {
-        next: after,
-        prev: before,
-    };
+    let links = &mut nodes[at as usize].of_origin;
+    links.next = after;
+    links.prev = before;
+}
+
+/// Gives the node this entry.
+fn set_entry(nodes: &mut [Node], at: u32, entry: Packed)
+    requires { at < length nodes.old }
+    ensures { SetsEntry nodes.old nodes.new at entry }
+{
+    nodes[at as usize].entry = entry;
 }
 
 /// Gives the node this entry, and puts it into this gap of the tag list and of its origin's list.
@@ -196,9 +202,9 @@ pub(crate) fn thread_node(
     ensures { Threaded nodes.old nodes.new ends.old ends.new own_ends.old own_ends.new
         gap.now.before gap.now.own_before at entry }
 {
+    set_entry(nodes, at, entry);
     thread_by_tag(nodes, ends, gap.before, gap.after, at);
     thread_of_origin(nodes, own_ends, gap.own_before, gap.own_after, at);
-    nodes[at as usize].entry = entry;
 }
 
 /// Takes the first node of the tag list out of it.

@@ -30,19 +30,25 @@ impl Model for Packed {
 }
 
 impl Packed {
+    ghost use Rattle.warp_arena.specs.Places.{named};
     ghost use Rattle.warp_arena.specs.Shape.{no_node};
     ghost use Rattle.warp_tag.specs.Table.{fresh, has_name, name_before, with_event, with_withdrawal};
 
-    /// The name of this origin and tag, of which nothing is known yet.
-    pub fn fresh(origin: u32, tag: Tag) -> Packed
-        ensures { result ≡ fresh origin tag }
+    /// The name of this origin and tag, of which this event is known, if there is one.
+    #[inline(always)]
+    pub fn named(origin: u32, tag: Tag, event: Option<(u32, i64)>) -> Packed
+        ensures { result ≡ named origin tag event }
     {
+        let (has_event, input, value) = match event {
+            Some((input, value)) => (true, input, value),
+            None => (false, 0, 0),
+        };
         Packed {
-            value: 0,
+            value,
             origin,
             tag,
-            input: 0,
-            has_event: false,
+            input,
+            has_event,
             withdrawn: false,
         }
     }
@@ -52,7 +58,7 @@ impl Packed {
     pub fn blank() -> Packed
         ensures { result ≡ no_node.entry }
     {
-        Packed::fresh(0, Tag::new(0, 0).unwrap())
+        Packed::named(0, Tag::new(0, 0).unwrap(), None)
     }
 
     /// The entry.

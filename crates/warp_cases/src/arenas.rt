@@ -163,19 +163,8 @@ fn note(arena: &mut Arena, node: NodeId, payload: Option<(u32, i64)>)
     ensures { arena.new.origins ≡ arena.old.origins }
 {
     match payload {
-        Some((input, value)) => note_event(arena, node, input, value),
+        Some((input, value)) => arena.set_event(node, input, value),
         None => arena.set_withdrawn(node),
-    }
-}
-
-/// Notes this event of the handle's name, where none came before by the call that is for that.
-fn note_event(arena: &mut Arena, node: NodeId, input: u32, value: i64)
-    requires { IsSome (entry_of node arena.old.places) }
-    ensures { arena.new.origins ≡ arena.old.origins }
-{
-    match arena.entry(node).event {
-        None => arena.give_event(node, input, value),
-        Some(_) => arena.set_event(node, input, value),
     }
 }
 

@@ -1,23 +1,33 @@
 -- The cursor, where a name comes into an arena.
-use Rattle.std.proofs.Common.{◌≡◌, ◌≢◌, ℕ, ◌-◌, Bool, true, false, cond, eqb, List, [], ◌∷◌, ◌++◌, refl, sym, ap, ◌∙◌, subst, inl, inr, map, nat_eq, Option, Some, None, IsSome, unwrap_or}
+use Rattle.std.proofs.Common.{◌≡◌, ◌≢◌, ℕ, ℤ, ◌-◌, Bool, true, false, cond, eqb, List, [], ◌∷◌, ◌++◌, refl, sym, ap, ◌∙◌, subst, inl, inr, map, nat_eq, Option, Some, None, IfSome, IsSome, unwrap_or}
 use Rattle.std.specs.List.{AllByRecursion, IsDistinct}
 use Rattle.std.specs.Option.{is_some, option_and_then}
 use Rattle.std.proofs.lemmas.Bool.{cases_Bool, cases_eq, eq-eqb, ne_eqb, false≢true}
 use Rattle.warp_tag.specs.Moment.{Moment}
-use Rattle.warp_tag.specs.Table.{IsTable, fresh, known, has_name, name_before}
+use Rattle.warp_tag.specs.Table.{IsTable, changed, fresh, known, has_name, name_before, with_event}
 use Rattle.warp_tag.specs.declared.entry.Entry.{Entry}
+use Rattle.warp_tag.proofs.Known.{known_past}
 use Rattle.warp_tag.proofs.Lists.{All-right, filter-here, filter-past, find_none}
 use Rattle.warp_tag.proofs.Names.{ahead_not_before, behind}
 use Rattle.warp_step.specs.Run.{is_after}
 use Rattle.warp_arena.specs.Laws.{FindsKnown, ChangesNew}
-use Rattle.warp_arena.specs.Places.{Place, Contents, Reaches, IsOrdered, entries_of, entry_of, node_of, first_node, left_at, places_from, places_before, places_after, with_place, with_change}
+use Rattle.warp_arena.specs.Places.{Place, Contents, IsBehindAll, Reaches, named, IsOrdered, entries_of, entry_of, node_of, first_node, left_at, places_from, places_before, places_after, with_place, with_change}
 use Rattle.warp_arena.proofs.Tables.{All-unmap, filter_back}
 use Rattle.warp_arena.proofs.Reading.{entry_of-here, entry_of-other, some_more}
 use Rattle.warp_run.specs.Walk.{ahead}
-use Rattle.warp_run.specs.Warp.{NamesAt}
+use Rattle.warp_run.specs.Warp.{ChangedFrom, NamesAt}
 use Rattle.warp_run.specs.declared.warp.Warp.{Warp}
 use Rattle.warp_run.proofs.PlacesWalks.{place, after_name, later_behind}
 use Rattle.warp_run.proofs.PlacesBack.{split_at, heads_at}
+
+-- what there is, and that there is nothing
+some_is : {X : Type 0} (o : Option X) → IsSome o → (x : X) × (o ≡ Some x)
+some_is None h = absurd (false≢true h)
+some_is (Some x) h = (x, refl)
+
+pub none_is : {X : Type 0} (o : Option X) → is_some o ≡ false → o ≡ None
+none_is None h = refl
+none_is (Some x) h = absurd (false≢true (sym h))
 
 -- ---- where a walk along what is ahead stands
 
@@ -102,11 +112,11 @@ ahead_with last p (q ∷ qs) h =
 
 -- ---- the cursor, where a name comes in of which nothing is known
 
-module _ (last : Option Moment) (o : ℕ) (g : Moment) (node : ℕ) (ps : List Place) (cursor : Option ℕ)
+module _ (last : Option Moment) (o : ℕ) (g : Moment) (v : Option (ℕ × ℤ)) (node : ℕ) (ps : List Place) (cursor : Option ℕ)
     (r : Reaches ps (ahead last ps) cursor)
   where
     abbrev New : Place
-    New = place node (fresh o g)
+    New = place node (named o g v)
 
     -- the name is not after the last row
     pub stays_before : is_after last g ≡ false → cursor ≡ first_node (ahead last (with_place New ps))
@@ -146,6 +156,13 @@ module _ (last : Option Moment) (o : ℕ) (g : Moment) (node : ℕ) (ps : List P
             (subst (AllByRecursion Other) (heads_at at e ps named) (All-right Other (places_before at ps) (places_from at ps) others)).0 in
             sym (first_by true (behind o g e not_before other))
 
+      -- the name is behind all others, so the cursor stays where it is at a place
+      pub stays_behind : IsBehindAll o g ps → is_some cursor ≡ true → cursor ≡ first_node (ahead last (with_place New ps))
+      stays_behind behind some =
+          let at = some_is cursor some in
+          let e = some_is (entry_of at.0 ps) (subst (λ x. IfSome x (λ n. IsSome (entry_of n ps))) at.1 r.used) in
+          stays_first at.0 e.0 at.1 e.1 (behind at.0 e.0 e.1)
+
 -- what a handle that was there names
 pub named_before : (ps new : List Place) (node at : ℕ) (e : Entry)
     → entry_of node ps ≡ None → ((m : ℕ) → m ≢ node → entry_of m new ≡ entry_of m ps)
@@ -173,6 +190,46 @@ names_new old o g node a to is none here finds absent changes order handle =
       origins = ap (λ x. x.origins) is;
       entry = here ∙ ap (λ k. Some (unwrap_or k (fresh o g))) (sym (unknown o g old.arena.places finds absent));
       change = λ f. ap (λ qs. entries_of (with_change f node qs)) new ∙ changes f node absent none;
+      cursor =
+          subst (Reaches a.places (ahead old.tip.last a.places)) (ap (λ qs. first_node (ahead old.tip.last qs)) new ∙ sym handle)
+          (reaches_ahead old.tip.last a.places order.table order.handles);
+    }
+
+-- a name comes in with an event: the table has the event of the name, where nothing is known of it
+comes_with : (o : ℕ) (g : Moment) (i : ℕ) (x : ℤ) (node : ℕ) (ps : List Place) → known o g (entries_of ps) ≡ None
+    → entries_of (with_place (place node (named o g (Some (i, x)))) ps) ≡ changed (with_event i x) o g (entries_of ps)
+comes_with o g i x node [] h = refl
+comes_with o g i x node (q ∷ qs) h =
+    let p : Place = place node (named o g (Some (i, x))) in
+    let f : Entry → Entry = with_event i x in
+    let es : List Entry = entries_of qs in
+    let rest : List Entry = cond (has_name o g q.entry) (f q.entry ∷ es) (q.entry ∷ changed f o g es) in
+    elim (cases_Bool (name_before o g q.entry)) [
+      | inl b ↦
+          ap (λ t. entries_of (cond t (p ∷ q ∷ qs) (q ∷ with_place p qs))) b
+          ∙ sym (ap (λ t. cond t (f (fresh o g) ∷ q.entry ∷ es) rest) b)
+      | inr b ↦
+          let other : has_name o g q.entry ≡ false = (find_none (has_name o g) (q.entry ∷ es) h).0 in
+          ap (λ t. entries_of (cond t (p ∷ q ∷ qs) (q ∷ with_place p qs))) b
+          ∙ ap (λ ds. q.entry ∷ ds) (comes_with o g i x node qs (sym (known_past o g q.entry es other) ∙ h))
+          ∙ sym (ap (λ t. cond t (f (fresh o g) ∷ q.entry ∷ es) rest) b
+          ∙ ap (λ t. cond t (f q.entry ∷ es) (q.entry ∷ changed f o g es)) other)
+    ]
+
+-- a name of which nothing is known has come in with an event, and the cursor is the first handle of what is ahead
+pub changed_new : (old : Warp) (o : ℕ) (g : Moment) (i : ℕ) (x : ℤ) (node : ℕ) (a : Contents) (to : Option ℕ)
+    → a ≡ record old.arena { places = with_place (place node (named o g (Some (i, x)))) old.arena.places; free = old.arena.free - 1 }
+    → FindsKnown o g old.arena.places → node_of o g old.arena.places ≡ None → IsOrdered a
+    → to ≡ first_node (ahead old.tip.last (with_place (place node (named o g (Some (i, x)))) old.arena.places))
+    → ChangedFrom (fresh o g) (with_event i x) old (record old { arena = a; cursor = to }) o g
+changed_new old o g i x node a to is finds absent order handle =
+    let new : a.places ≡ with_place (place node (named o g (Some (i, x)))) old.arena.places = ap (λ y. y.places) is in
+    let nothing = unknown o g old.arena.places finds absent in
+    record {
+      others = refl;
+      origins = ap (λ y. y.origins) is;
+      before = ap (λ k. unwrap_or k (fresh o g)) nothing;
+      table = ap entries_of new ∙ comes_with o g i x node old.arena.places nothing;
       cursor =
           subst (Reaches a.places (ahead old.tip.last a.places)) (ap (λ qs. first_node (ahead old.tip.last qs)) new ∙ sym handle)
           (reaches_ahead old.tip.last a.places order.table order.handles);

@@ -54,6 +54,15 @@ pub record NamesAt (old new : Warp) (origin : ℕ) (tag : Moment) (node : ℕ) :
       ≡ changed f origin tag (entries_of old.arena.places)
   pub cursor : Reaches new.arena.places (ahead new.tip.last new.arena.places) new.cursor
 
+-- What is known of a name changed from this entry: the arena's table has the change, and the cursor stays at the first
+-- place after the last row.
+pub record ChangedFrom (was : Entry) (change : Entry → Entry) (old new : Warp) (origin : ℕ) (tag : Moment) : Type 0 where
+  pub others : new ≡ record old { arena = new.arena; cursor = new.cursor }
+  pub origins : new.arena.origins ≡ old.arena.origins
+  pub before : unwrap_or (known origin tag (entries_of old.arena.places)) (fresh origin tag) ≡ was
+  pub table : entries_of new.arena.places ≡ changed change origin tag (entries_of old.arena.places)
+  pub cursor : Reaches new.arena.places (ahead new.tip.last new.arena.places) new.cursor
+
 -- a tag after which no event is, with one more tag
 abbrev pub latest_with : Moment → Option Moment → Option Moment
 latest_with tag latest = if is_after latest tag then Some tag else latest

@@ -1,17 +1,18 @@
 //! The timeline with rollback.
-ghost use Rattle.std.specs.Prelude.{◌≡◌, ◌+◌, ◌-◌, ◌≤◌, false, true, IsTrue, List, None, Some, IfSome, OnOk, OnErr};
-ghost use Rattle.std.specs.Prelude.{IsSomeAnd, length};
+ghost use Rattle.std.specs.Prelude.{◌≡◌, ◌+◌, ◌-◌, ◌≤◌, false, true, IsTrue, List, None, IfSome, OnOk, OnErr};
+ghost use Rattle.std.specs.Prelude.{IsSome, IsSomeAnd, length};
 ghost use Rattle.warp_tag.specs.Table.{Event, changed, fresh, live, with_event};
 ghost use Rattle.warp_step.specs.Program.{Program};
 ghost use Rattle.warp_step.specs.Events.{IsEventOf, IsNameOf};
 ghost use Rattle.warp_step.specs.Run.{Row, IsNext, is_after};
-ghost use Rattle.warp_arena.specs.Places.{Reaches, entries_of, entry_of, node_of};
+ghost use Rattle.warp_arena.specs.Places.{IsBehindAll, Reaches, entries_of, entry_of, node_of};
 ghost use Rattle.warp_arena.specs.Shape.{IsGap};
 ghost use Rattle.warp_line.specs.Begin.{last_after};
 ghost use Rattle.warp_line.specs.Timeline.{NowStands, Standing, IsDone, is_behind};
 ghost use Rattle.warp_run.specs.Walk.{IsAhead, IsAtFirst, ahead, tag_of_next};
 ghost use Rattle.warp_run.specs.Tip.{GoesBack, HasExecuted, KeepsRoom};
-ghost use Rattle.warp_run.specs.Warp.{Goes, HasRoom, NamesAt, StandsFor, ahead_of, floor_of, latest_with, room_in};
+ghost use Rattle.warp_run.specs.Warp.{ChangedFrom, Goes, HasRoom, NamesAt, StandsFor};
+ghost use Rattle.warp_run.specs.Warp.{ahead_of, floor_of, latest_with, room_in};
 
 use crate::tip::Tip;
 use crate::walk::{
@@ -97,14 +98,12 @@ impl Timeline for Warp {
 
     #[inline(never)]
     fn put(&mut self, origin: u32, tag: Tag, input: u32, value: i64) {
-        let Some(gap) = self.arena.gap_at_end(origin, tag) else {
-            return self.put_among(origin, tag, input, value);
-        };
-        let place = self.come_in(origin, tag, &gap);
-        // The first event of a name always changes the live events.
-        self.arena.give_event(place, input, value);
-        self.arena.note_hint(place, origin, tag);
-        self.undo_from(place, tag);
+        match self.arena.gap_at_end(origin, tag) {
+            Some(gap) if is_after(self.tip.last(), tag) => {
+                self.put_last(origin, tag, input, value, &gap);
+            }
+            _ => self.put_among(origin, tag, input, value),
+        }
     }
 
     #[inline(never)]
@@ -364,26 +363,51 @@ impl Warp {
         }
     }
 
-    /// Has a name of which nothing is known come in at this gap, and answers its handle.
+    /// Takes an event that is not behind, as `put`, where its name comes behind all others and after the last row.
     #[inline(always)]
-    fn come_in(&mut self, origin: u32, tag: Tag, gap: &Gap) -> NodeId
+    fn put_last(&mut self, origin: u32, tag: Tag, input: u32, value: i64, gap: &Gap)
+        requires prepared { HasRoom self.old }
+        requires ahead { is_behind (floor_of self.old) tag ≡ false }
+        requires event { (m : Standing) × StandsFor self.old m × IsEventOf m.program origin tag input }
+        requires absent { node_of origin tag self.old.arena.places ≡ None }
+        requires gap { IsGap origin tag self.old.arena.places gap.now }
+        requires behind { IsBehindAll origin tag self.old.arena.places }
+        requires later { is_after self.old.tip.last tag ≡ true }
+        ensures stands { (m : Standing) → StandsFor self.old m → IsEventOf m.program origin tag input →
+            NowStands StandsFor 16 0 tag self.new m (changed (with_event input value) origin tag m.table) }
+        ensures settled { (m : Standing) → StandsFor self.old m → IsEventOf m.program origin tag input →
+            live (changed (with_event input value) origin tag m.table) ≡ live m.table →
+            self.new.settled ≡ self.old.settled }
+        ensures floor { floor_of self.new ≡ floor_of self.old }
+        ensures room { room_in self.new ≡ room_in self.old }
+    {
+        let place = self.come_in(origin, tag, input, value, gap);
+        self.note_change(tag);
+        self.tip.let_go_before(tag);
+        // A hint is put by a call in last place, so no register is saved for it.
+        self.arena.note_hint(place, origin, tag);
+    }
+
+    /// Has a name that is behind all others and after the last row come in at this gap, with an event, and answers its
+    /// handle.
+    #[inline(always)]
+    fn come_in(&mut self, origin: u32, tag: Tag, input: u32, value: i64, gap: &Gap) -> NodeId
         requires room { HasRoom self.old }
         requires name { (m : Standing) × StandsFor self.old m × IsNameOf m.program origin tag }
         requires absent { node_of origin tag self.old.arena.places ≡ None }
         requires gap { IsGap origin tag self.old.arena.places gap.now }
-        ensures names { NamesAt self.old self.new origin tag result }
-        ensures fresh { entry_of result self.new.arena.places ≡ Some (fresh origin tag) }
+        requires behind { IsBehindAll origin tag self.old.arena.places }
+        requires later { is_after self.old.tip.last tag ≡ true }
+        ensures changed { ChangedFrom (fresh origin tag) (with_event input value) self.old self.new origin tag }
+        ensures entry { IsSome (entry_of result self.new.arena.places) }
         ensures room { self.new.arena.room ≡ self.old.arena.room }
     {
         finds_known(&self.arena, origin, tag);
-        changes_new(&self.arena, origin, tag);
-        let new = self.arena.thread_in(origin, tag, gap);
+        let event = Some((input, value));
+        let new = self.arena.thread_in(origin, tag, event, gap);
         self.arena.ordered();
-        if is_after(self.tip.last(), tag) {
-            match self.cursor.node() {
-                Some(cursor) if self.arena.entry(cursor).comes_before(origin, tag) => {}
-                _ => self.cursor = self.arena.cursor_at(Some(new)),
-            }
+        if self.cursor.node().is_none() {
+            self.cursor = self.arena.cursor_at(Some(new));
         }
         new
     }
@@ -434,14 +458,22 @@ impl Warp {
             Reaches self.new.arena.places (ahead self.new.tip.last self.new.arena.places) self.new.cursor }
         ensures floor { self.new.tip.floor ≡ self.old.tip.floor }
     {
-        self.settled = false;
-        if is_after(self.latest, tag) {
-            self.latest = Some(tag);
-        }
+        self.note_change(tag);
         if !is_after(self.tip.last(), tag) {
             self.go_back(node, tag);
         } else {
             self.tip.let_go_before(tag);
+        }
+    }
+
+    /// Notes that the live events changed at this tag.
+    #[inline(always)]
+    fn note_change(&mut self, tag: Tag)
+        ensures { self.new ≡ record self.old { latest = latest_with tag self.old.latest; settled = false } }
+    {
+        self.settled = false;
+        if is_after(self.latest, tag) {
+            self.latest = Some(tag);
         }
     }
 

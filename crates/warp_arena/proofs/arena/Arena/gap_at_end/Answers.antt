@@ -3,7 +3,7 @@ use Rattle.warp_arena.specs.Changes.{IsPassed, IsPlace}
 use Rattle.warp_arena.specs.Shape.{next_in}
 use Rattle.warp_arena.proofs.Walks.{threads, used, owned, Listed-past, Listed-tags, Listed-origin, origin_read}
 use Rattle.warp_arena.proofs.Gaps.{tag_after, own_after}
-use Rattle.warp_arena.proofs.Ends.{end_below, end_last, own_passed, own_end_last, absent}
+use Rattle.warp_arena.proofs.Ends.{behind_all, end_below, end_last, own_passed, own_end_last, absent}
 use Rattle.warp_arena.proofs.arena.Arena.gap_at_end.Goals as goal
 
 pub is_passed-requires : goal.is_passed-requires
@@ -45,3 +45,11 @@ returns-then-is_passed-clause-absent c =
     let own = ap (λ n. n.ends.prev) (origin_read a.by_origin.items o c.index.result.now h c.index.ensures) in
     let passed = subst (λ ns. IsPassed o g ns a.ends.prev) c.deref.ensures.value (c.is_passed.ensures c.if-is_passed.true) in
     absent a w o g h at own c.args.self.now c.self.view_is (own_passed a w o g passed h at own)
+
+pub returns-then-is_passed-clause-behind : goal.returns-then-is_passed-clause-behind
+returns-then-is_passed-clause-behind c =
+    let a = c.self.inside in
+    let o = c.args.origin in
+    let g = c.args.tag in
+    let passed = subst (λ ns. IsPassed o g ns a.ends.prev) c.deref.ensures.value (c.is_passed.ensures c.if-is_passed.true) in
+    behind_all a c.self.invariant.whole o g passed c.args.self.now c.self.view_is

@@ -1,14 +1,13 @@
-use Rattle.std.proofs.Common.{◌≡◌, ℕ, ◌<◌, ◌+◌, ◌-◌, arith, sym, ap, ◌∙◌, subst, None, length, List, get_or, set}
+use Rattle.std.proofs.Common.{◌≡◌, ℕ, ℤ, Option, ◌<◌, ◌+◌, ◌-◌, arith, sym, ap, ◌∙◌, subst, None, length, List, get_or, set}
 use Rattle.std.proofs.lemmas.List.{with_items_is}
 use Rattle.std.specs.Vec.{vec_capacity}
 use Rattle.warp_tag.specs.Moment.{Moment}
-use Rattle.warp_tag.specs.Table.{fresh}
 use Rattle.warp_tag.specs.declared.entry.Entry.{Entry}
 use Rattle.warp_arena.specs.declared.arena.Arena.TheInside.{Inside}
 use Rattle.warp_arena.specs.declared.node.Links.{Links}
 use Rattle.warp_arena.specs.declared.node.Node.{Node}
 use Rattle.warp_arena.specs.declared.node.Origin.{Origin}
-use Rattle.warp_arena.specs.Places.{Place, Contents, places_of, node_of, entry_of, with_place}
+use Rattle.warp_arena.specs.Places.{Place, Contents, named, places_of, node_of, entry_of, with_place}
 use Rattle.warp_arena.specs.Changes.{Threaded, CanThread}
 use Rattle.warp_arena.specs.Shape.{last_not_after, IsWhole, threads_of, contents_of, next_in, entry_at, by_tag, of_origin, no_origin}
 use Rattle.warp_arena.proofs.Walks.{threads, node_read, origin_read}
@@ -83,19 +82,19 @@ invariant_of-self c =
     let own = ap (λ n. n.ends) (origin_read a.by_origin.items c.args.origin c.index_mut-own.result.now b.declared c.index_mut-own.ensures.value) in
     let free = ap (λ n. n.by_tag.next) (node_read a.nodes.items a.free c.index.result.now b.can_thread.tags.at_in c.index.ensures) in
     let threaded = subst (λ (ns : List Node). Threaded ns c.thread_node.new.nodes a.ends c.thread_node.new.ends c.index_mut-own.result.now.ends c.thread_node.new.own_ends
-    c.args.gap.now.before c.args.gap.now.own_before a.free c.fresh-entry.result) c.deref_mut.ensures.value c.thread_node.ensures in
+    c.args.gap.now.before c.args.gap.now.own_before a.free c.named-entry.result) c.deref_mut.ensures.value c.thread_node.ensures in
     let change = subst (λ (e : Entry). Threaded a.nodes.items c.thread_node.new.nodes a.ends c.thread_node.new.ends c.index_mut-own.result.now.ends c.thread_node.new.own_ends
-    c.args.gap.now.before c.args.gap.now.own_before a.free e) c.fresh-entry.ensures threaded in
+    c.args.gap.now.before c.args.gap.now.own_before a.free e) c.named-entry.ensures threaded in
     let items = with_items_is a.nodes c.thread_node.new.nodes (omega (arith, change.len, a.nodes.ok.0)) in
     let whole =
     subst (λ ns. IsWhole (threads_of ns (set a.by_origin.items c.args.origin (record { ends = c.thread_node.new.own_ends; touched = a.free })) c.thread_node.new.ends c.index.result.now.by_tag.next) (a.used + 1)) (sym items)
     (whole_inserted a c.args.origin c.args.tag c.args.gap.now.before c.args.gap.now.own_before b.is_ready b.declared
-    c.thread_node.new.nodes c.index_mut-own.result.now.ends c.thread_node.new.ends c.thread_node.new.own_ends c.index.result.now.by_tag.next own free change) in
+    c.thread_node.new.nodes c.index_mut-own.result.now.ends c.thread_node.new.ends c.thread_node.new.own_ends c.index.result.now.by_tag.next c.args.event own free change) in
     let contents =
     ap (λ ns. contents_of (threads_of ns (set a.by_origin.items c.args.origin (record { ends = c.thread_node.new.own_ends; touched = a.free })) c.thread_node.new.ends c.index.result.now.by_tag.next) (a.used + 1) (vec_capacity a.nodes)) items
     ∙ contents_inserted a c.args.origin c.args.tag c.args.gap.now.before c.args.gap.now.own_before b.is_ready b.declared
-    c.thread_node.new.nodes c.index_mut-own.result.now.ends c.thread_node.new.ends c.thread_node.new.own_ends c.index.result.now.by_tag.next own free change in
-    let p : Place = record { node = a.free; entry = fresh c.args.origin c.args.tag } in
+    c.thread_node.new.nodes c.index_mut-own.result.now.ends c.thread_node.new.ends c.thread_node.new.own_ends c.index.result.now.by_tag.next c.args.event own free change in
+    let p : Place = record { node = a.free; entry = named c.args.origin c.args.tag c.args.event } in
     IsHinted-kept (threads a) _ a.used (a.used + 1) a.hints.items a.own_hints.items (with_place p (places a)) c.self.invariant whole (ap (λ v. v.places) contents)
     (omega (arith, change.len, ap length items))
     (used_with_place (threads a).entry _ p (places a) (new_handle a c.args.origin c.args.tag c.args.gap.now.before c.args.gap.now.own_before b.is_ready b.declared)
@@ -109,16 +108,16 @@ returns-clause-places c =
     let own = ap (λ n. n.ends) (origin_read a.by_origin.items c.args.origin c.index_mut-own.result.now b.declared c.index_mut-own.ensures.value) in
     let free = ap (λ n. n.by_tag.next) (node_read a.nodes.items a.free c.index.result.now b.can_thread.tags.at_in c.index.ensures) in
     let threaded = subst (λ (ns : List Node). Threaded ns c.thread_node.new.nodes a.ends c.thread_node.new.ends c.index_mut-own.result.now.ends c.thread_node.new.own_ends
-    c.args.gap.now.before c.args.gap.now.own_before a.free c.fresh-entry.result) c.deref_mut.ensures.value c.thread_node.ensures in
+    c.args.gap.now.before c.args.gap.now.own_before a.free c.named-entry.result) c.deref_mut.ensures.value c.thread_node.ensures in
     let change = subst (λ (e : Entry). Threaded a.nodes.items c.thread_node.new.nodes a.ends c.thread_node.new.ends c.index_mut-own.result.now.ends c.thread_node.new.own_ends
-    c.args.gap.now.before c.args.gap.now.own_before a.free e) c.fresh-entry.ensures threaded in
+    c.args.gap.now.before c.args.gap.now.own_before a.free e) c.named-entry.ensures threaded in
     let items = with_items_is a.nodes c.thread_node.new.nodes (omega (arith, change.len, a.nodes.ok.0)) in
     let v = c.args.self.now in
     ap (λ ns. contents_of (threads_of ns (set a.by_origin.items c.args.origin (record { ends = c.thread_node.new.own_ends; touched = a.free })) c.thread_node.new.ends c.index.result.now.by_tag.next) (a.used + 1) (vec_capacity a.nodes)) items
     ∙ contents_inserted a c.args.origin c.args.tag c.args.gap.now.before c.args.gap.now.own_before b.is_ready b.declared
-    c.thread_node.new.nodes c.index_mut-own.result.now.ends c.thread_node.new.ends c.thread_node.new.own_ends c.index.result.now.by_tag.next own free change
-    ∙ ap (λ u. let w : Contents = record { origins = u.origins; places = with_place (record { node = a.free; entry = fresh c.args.origin c.args.tag }) u.places; free = u.free - 1; room = u.room } in w) c.self.view_is
-    ∙ ap (λ n. let w : Contents = record { origins = v.origins; places = with_place (record { node = n; entry = fresh c.args.origin c.args.tag }) v.places; free = v.free - 1; room = v.room } in w) (sym c.new.ensures)
+    c.thread_node.new.nodes c.index_mut-own.result.now.ends c.thread_node.new.ends c.thread_node.new.own_ends c.index.result.now.by_tag.next c.args.event own free change
+    ∙ ap (λ u. let w : Contents = record { origins = u.origins; places = with_place (record { node = a.free; entry = named c.args.origin c.args.tag c.args.event }) u.places; free = u.free - 1; room = u.room } in w) c.self.view_is
+    ∙ ap (λ n. let w : Contents = record { origins = v.origins; places = with_place (record { node = n; entry = named c.args.origin c.args.tag c.args.event }) v.places; free = v.free - 1; room = v.room } in w) (sym c.new.ensures)
 
 pub returns-clause-new_handle : goal.returns-clause-new_handle
 returns-clause-new_handle c =
@@ -130,17 +129,17 @@ returns-clause-new_handle c =
     ∙ new_handle a c.args.origin c.args.tag c.args.gap.now.before c.args.gap.now.own_before b.is_ready b.declared
 
 -- the place that came in
-new_place : ℕ → ℕ → Moment → Place
-new_place n o g = record { node = n; entry = fresh o g }
+new_place : ℕ → ℕ → Moment → Option (ℕ × ℤ) → Place
+new_place n o g v = record { node = n; entry = named o g v }
 
 pub returns-clause-entry : goal.returns-clause-entry
 unfolding new_place
 returns-clause-entry c =
     ap (λ v. entry_of c.new.result v.places) (returns-clause-places c)
-    ∙ entry_of-with_place_same (new_place c.new.result c.args.origin c.args.tag) c.args.self.now.places (returns-clause-new_handle c)
+    ∙ entry_of-with_place_same (new_place c.new.result c.args.origin c.args.tag c.args.event) c.args.self.now.places (returns-clause-new_handle c)
 
 pub returns-clause-others : goal.returns-clause-others
 unfolding new_place
 returns-clause-others c = λ other n.
     ap (λ v. entry_of other v.places) (returns-clause-places c)
-    ∙ entry_of-with_place_other (new_place c.new.result c.args.origin c.args.tag) c.args.self.now.places other n
+    ∙ entry_of-with_place_other (new_place c.new.result c.args.origin c.args.tag c.args.event) c.args.self.now.places other n

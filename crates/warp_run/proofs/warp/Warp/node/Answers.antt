@@ -78,7 +78,7 @@ returns-in-Some-clause-names c =
     (subst (λ x. IfSome x (λ n. IsSome (entry_of n ps))) (sym c.node.ensures ∙ c.in-Some.is) r.used) c.entry.ensures.entry in
     names_new old c.args.origin c.args.tag new.result new.new.self old.cursor (new.ensures.places absent) (new.ensures.new_handle absent) (new.ensures.entry absent)
     c.finds_known.ensures absent c.changes_new.ensures c.ordered.ensures.order
-    (stays_first old.tip.last c.args.origin c.args.tag new.result ps old.cursor r later at c.entry.result (sym c.node.ensures ∙ c.in-Some.is) named
+    (stays_first old.tip.last c.args.origin c.args.tag None new.result ps old.cursor r later at c.entry.result (sym c.node.ensures ∙ c.in-Some.is) named
     (sym c.comes_before.ensures ∙ c.if-comes_before.true))
 
 pub cursor_at-self-requires : goal.cursor_at-self-requires
@@ -104,11 +104,11 @@ returns-in_default-clause-names c =
           let named = named_before ps new.new.self.places new.result at w.entry.result (new.ensures.new_handle absent) (new.ensures.others absent)
           (subst (λ x. IfSome x (λ n. IsSome (entry_of n ps))) (sym c.node.ensures ∙ w.in-Some.is) r.used) w.entry.ensures.entry in
           c.cursor_at-self.ensures
-          ∙ comes_first old.tip.last c.args.origin c.args.tag new.result ps old.cursor r later at w.entry.result (sym c.node.ensures ∙ w.in-Some.is) named nothing
+          ∙ comes_first old.tip.last c.args.origin c.args.tag None new.result ps old.cursor r later at w.entry.result (sym c.node.ensures ∙ w.in-Some.is) named nothing
           (sym w.comes_before.ensures ∙ w.if-comes_before.false)
       | in_default-via-in_default w ↦
           c.cursor_at-self.ensures
-          ∙ comes_alone old.tip.last c.args.origin c.args.tag new.result ps old.cursor r later (sym c.node.ensures ∙ w.in_default.is)
+          ∙ comes_alone old.tip.last c.args.origin c.args.tag None new.result ps old.cursor r later (sym c.node.ensures ∙ w.in_default.is)
     ])
 
 pub returns-else-is_after-clause-names : goal.returns-else-is_after-clause-names
@@ -120,7 +120,7 @@ returns-else-is_after-clause-names c =
     let earlier = ap (λ last. is_after last c.args.tag) (sym c.last.ensures) ∙ sym c.is_after.ensures ∙ c.if-is_after.false in
     names_new old c.args.origin c.args.tag new.result new.new.self old.cursor (new.ensures.places absent) (new.ensures.new_handle absent) (new.ensures.entry absent)
     c.finds_known.ensures absent c.changes_new.ensures c.ordered.ensures.order
-    (stays_before old.tip.last c.args.origin c.args.tag new.result ps old.cursor c.requires.name.1.cursor earlier)
+    (stays_before old.tip.last c.args.origin c.args.tag None new.result ps old.cursor c.requires.name.1.cursor earlier)
 
 -- the room stays as it is
 
