@@ -314,20 +314,6 @@ impl Arena {
             .note_event(input, value);
     }
 
-    /// Records an event of the handle's name, of which none came before.
-    pub fn give_event(&mut self, node: NodeId, input: u32, value: i64)
-        requires { IsSomeAnd (entry_of node self.old.places) (λ e. e.event ≡ None) }
-        ensures places { self.new ≡
-            record self.old { places = with_change (with_event input value) node self.old.places } }
-        ensures entry { entry_of node self.new.places ≡
-            option_map (with_event input value) (entry_of node self.old.places) }
-        ensures others { (other : ℕ) → other ≢ node → entry_of other self.new.places ≡ entry_of other self.old.places }
-    {
-        self.nodes[node.index() as usize]
-            .entry
-            .give_event(input, value);
-    }
-
     /// Records that the handle's name is withdrawn, which holds for good.
     pub fn set_withdrawn(&mut self, node: NodeId)
         requires { IsSome (entry_of node self.old.places) }

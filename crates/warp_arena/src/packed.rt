@@ -1,5 +1,5 @@
 //! An entry as a node keeps it: in 24 bytes, where an `Entry` takes 40.
-ghost use Rattle.std.specs.Prelude.{◌≡◌, None};
+ghost use Rattle.std.specs.Prelude.{◌≡◌};
 
 use std::marker::Model;
 use warp_tag::{Entry, Tag, is_lesser};
@@ -123,16 +123,6 @@ impl Packed {
             self.value = value;
             self.has_event = true;
         }
-    }
-
-    /// Notes an event of the name, of which none came before.
-    pub fn give_event(&mut self, input: u32, value: i64)
-        requires { self.old.event ≡ None }
-        ensures { self.new ≡ with_event input value self.old }
-    {
-        self.input = input;
-        self.value = value;
-        self.has_event = true;
     }
 
     /// Withdraws the name for good.
