@@ -1,8 +1,10 @@
 //! The texts that `warpd check --help` shows.
 
-pub(crate) const ABOUT: &str = "Tells what is in a program file, or what is wrong in it and where";
+use crate::command_line::Help;
 
-pub(crate) const LONG_ABOUT: &str = "\
+const ABOUT: &str = "Tells what is in a program file, or what is wrong in it and where";
+
+const LONG_ABOUT: &str = "\
 Reads a program file as `warpd run` does, and tells in one line what is in it:
 
   reactors 2, reactions 3, origins 2, variables 1, stop 100
@@ -17,7 +19,7 @@ Standard input is not read. The exit status is 0 for a good file, and 3 for one 
 
 pub(crate) const NUMBERS_HELP: &str = "Tells the numbers too by which lines and replies speak";
 
-pub(crate) const NOTES: &str = "\
+const NOTES: &str = "\
 With --numbers a line follows for each variable, program input and program output, with its
 number and its name:
 
@@ -29,3 +31,12 @@ Why a program file is refused: warpd run --help
 
 Example:
   warpd check --numbers builtin:twice";
+
+/// The texts on `check`.
+pub(crate) fn help() -> Help {
+    Help {
+        about: ABOUT,
+        long_about: LONG_ABOUT,
+        notes: NOTES,
+    }
+}

@@ -1,15 +1,14 @@
 //! The words of the command line.
-ghost use Rattle.std.specs.Prelude.{◌≡◌, ◌≤◌, [], IfErr, IfOk, IfSome, Some, codes, map, option_map};
+ghost use Rattle.std.specs.Prelude.{◌≡◌, ◌≤◌, [], IfErr, IfOk, IfSome, Some, fold, map, option_map};
 ghost use Rattle.std.specs.Prelude.{false};
-ghost use Rattle.clap.specs.Words.{App, HasKind, app_of, fault_of, first_of, found_of, rows_of, rule_of};
+ghost use Rattle.clap.specs.Words.{HasKind, app_of, fault_of, first_of, found_of, rows_of, rule_of};
 ghost use Rattle.clap.specs.Words.{subcommand_of, subcommand_rows_of};
-ghost use Rattle.clap.specs.Words.{with_rule, with_subcommand};
-ghost use Rattle.clap.specs.declared.builder.command.Command.TheViews.{out-Command as fields_of};
-ghost use Rattle.warp_words.specs.Words.{play_command, play_task, run_command, run_task, task_found, task_in, task_of};
-ghost use Rattle.warp_words.specs.Words.{IsInRange, all_of_or_none, any_words, number_found, number_up_to};
-ghost use Rattle.warp_words.specs.Words.{check_command, check_task, flag, is_set, serve_command, serve_task};
-ghost use Rattle.warp_words.specs.Words.{trace_command, trace_task};
-ghost use Rattle.warp_words.specs.Words.{top_command, wanted_number, wanted_word, warpd_command};
+ghost use Rattle.warp_words.specs.Parts.{app_for, rule_for, with_made, with_part};
+ghost use Rattle.warp_words.specs.declared.command_line.Subcommand.{Subcommand};
+ghost use Rattle.warp_words.specs.Words.{play_task, run_task, task_found, task_in, task_of};
+ghost use Rattle.warp_words.specs.Words.{IsInRange, all_of_or_none, number_found, number_up_to};
+ghost use Rattle.warp_words.specs.Words.{check_task, is_set, serve_task, trace_task};
+ghost use Rattle.warp_words.specs.Words.{top_command, warpd_command};
 
 use crate::{check_help, serve_help, trace_help};
 use clap::builder::ValueParser;
@@ -200,6 +199,130 @@ const LAST_PORT: u64 = 65_535;
 /// The most sessions of a server.
 const MOST_SESSIONS: u64 = 16;
 
+/// What a part of a subcommand is.
+enum Kind {
+    /// A place for a word, which has to be there.
+    Word,
+    /// Places for any number of words.
+    Words,
+    /// An option that may be there.
+    Flag,
+    /// An option for a number from 1 to `most`, which has to be there; help calls the number `value`.
+    Number { value: &'static str, most: u64 },
+}
+
+/// A part of a subcommand: a place for words or an option.
+struct Part {
+    name: &'static str,
+    help: &'static str,
+    kind: Kind,
+}
+
+/// The texts of help. Functions without clauses give them: the proof of one with clauses pays for each byte of a text in it.
+pub(crate) struct Help {
+    pub(crate) about: &'static str,
+    pub(crate) long_about: &'static str,
+    pub(crate) notes: &'static str,
+}
+
+/// What a subcommand's help is on.
+enum Topic {
+    Run,
+    Play,
+    Serve,
+    Check,
+    Trace,
+}
+
+/// A subcommand: its name, the topic of its help, and its parts in their order.
+struct Subcommand {
+    name: &'static str,
+    topic: Topic,
+    parts: &'static [Part],
+}
+
+const PROGRAM_PART: Part = Part {
+    name: PROGRAM,
+    help: PROGRAM_HELP,
+    kind: Kind::Word,
+};
+
+const RUN: Subcommand = Subcommand {
+    name: "run",
+    topic: Topic::Run,
+    parts: &[PROGRAM_PART],
+};
+
+const PLAY: Subcommand = Subcommand {
+    name: "play",
+    topic: Topic::Play,
+    parts: &[
+        PROGRAM_PART,
+        Part {
+            name: SCHEDULE,
+            help: SCHEDULE_HELP,
+            kind: Kind::Word,
+        },
+    ],
+};
+
+const SERVE: Subcommand = Subcommand {
+    name: "serve",
+    topic: Topic::Serve,
+    parts: &[
+        PROGRAM_PART,
+        Part {
+            name: PORT,
+            help: serve_help::PORT_HELP,
+            kind: Kind::Number {
+                value: "P",
+                most: LAST_PORT,
+            },
+        },
+        Part {
+            name: SESSIONS,
+            help: serve_help::SESSIONS_HELP,
+            kind: Kind::Number {
+                value: "K",
+                most: MOST_SESSIONS,
+            },
+        },
+        Part {
+            name: PEER,
+            help: serve_help::PEER_HELP,
+            kind: Kind::Words,
+        },
+    ],
+};
+
+const CHECK: Subcommand = Subcommand {
+    name: "check",
+    topic: Topic::Check,
+    parts: &[
+        PROGRAM_PART,
+        Part {
+            name: NUMBERS,
+            help: check_help::NUMBERS_HELP,
+            kind: Kind::Flag,
+        },
+    ],
+};
+
+const TRACE: Subcommand = Subcommand {
+    name: "trace",
+    topic: Topic::Trace,
+    parts: &[
+        PROGRAM_PART,
+        Part {
+            name: STEPS,
+            help: trace_help::STEPS_HELP,
+            kind: Kind::Flag,
+        },
+    ],
+};
+
+const SUBCOMMANDS: &[Subcommand] = &[RUN, PLAY, SERVE, CHECK, TRACE];
+
 /// Reads the words of the command line, of which the first is the program's own name.
 /// An error is a mistake in the words, a request for help or the version, or want of memory; its text is for the user.
 pub fn words<'a>(alloc: Global, line: &'a [&'a str]) -> Result<Job<'a>, Error>
@@ -222,7 +345,7 @@ fn matches<'a>(alloc: Global, line: &'a [&'a str]) -> Result<ArgMatches<'a>, Err
         × (subcommand_rows_of m ≡ subcommand_of warpd_command (map (λ word. word.now) line.entry.now))) }
     ensures err { IfErr result (HasKind (fault_of warpd_command (map (λ word. word.now) line.entry.now))) }
 {
-    command(alloc)?.try_get_matches_from(line)
+    command(alloc, subcommands())?.try_get_matches_from(line)
 }
 
 /// What the subcommand asks for.
@@ -302,24 +425,22 @@ fn is_set(found: &ArgMatches<'_>, id: &str) -> bool
 fn serve_job<'a>(alloc: Global, found: &ArgMatches<'a>) -> Result<Option<Job<'a>>, AllocError>
     ensures { IfOk result (λ job. option_map task_of job ≡ serve_task (rows_of (found_of found.now))) }
 {
+    let Some(program) = text(found, PROGRAM) else {
+        return Ok(None);
+    };
+    let Some(port) = number(found, PORT, LAST_PORT) else {
+        return Ok(None);
+    };
+    let Some(sessions) = number(found, SESSIONS, MOST_SESSIONS) else {
+        return Ok(None);
+    };
     let peers = texts(alloc, found, PEER)?;
-    Ok(serve_job_with(found, peers))
-}
-
-/// What `serve` asks for, with these peers.
-fn serve_job_with<'a>(found: &ArgMatches<'a>, peers: Vec<&'a str>) -> Option<Job<'a>>
-    requires { map (λ word. word.now) peers.items ≡ all_of_or_none (codes "PEER") (rows_of (found_of found.now)) }
-    ensures { option_map task_of result ≡ serve_task (rows_of (found_of found.now)) }
-{
-    let program = text(found, PROGRAM)?;
-    let port = number(found, PORT, LAST_PORT)?;
-    let sessions = number(found, SESSIONS, MOST_SESSIONS)?;
-    Some(Job::Serve {
+    Ok(Some(Job::Serve {
         program,
         port: port as u16,
         sessions: sessions as usize,
         peers,
-    })
+    }))
 }
 
 /// The number of the argument with this id, from 1 to `most`.
@@ -347,20 +468,9 @@ fn texts<'a>(alloc: Global, found: &ArgMatches<'a>, id: &str) -> Result<Vec<&'a 
         ≡ all_of_or_none id.now (rows_of (found_of found.now))) }
 {
     match found.get_raw(id) {
-        Some(words) => listed(alloc, words),
+        Some(words) => Vec::from_slice(alloc, words),
         None => Ok(Vec::new(alloc)),
     }
-}
-
-/// These words in a list.
-fn listed<'a>(alloc: Global, words: &[&'a str]) -> Result<Vec<&'a str>, AllocError>
-    ensures { IfOk result (λ all. all.items ≡ words.now) }
-{
-    let mut all = Vec::new(alloc);
-    for word in words {
-        all.push(*word)?;
-    }
-    Ok(all)
 }
 
 /// The first text of the argument with this id.
@@ -370,15 +480,22 @@ fn text<'a>(found: &ArgMatches<'a>, id: &str) -> Option<&'a str>
     found.get_str(id)
 }
 
-/// The command line of `warpd`.
-fn command<'a>(alloc: Global) -> Result<Command<'a>, AllocError>
-    ensures { IfOk result (λ c. app_of c ≡ warpd_command) }
+/// The subcommands of `warpd` in their order.
+fn subcommands() -> &'static [Subcommand]
+    ensures { fold with_made top_command result.now ≡ warpd_command }
 {
-    let command = with_run(alloc)?;
-    let command = with_more(command, play(alloc))?;
-    let command = with_more(command, serve(alloc))?;
-    let command = with_more(command, check(alloc))?;
-    with_more(command, trace(alloc))
+    SUBCOMMANDS
+}
+
+/// The command line of `warpd` with these subcommands.
+fn command<'a>(alloc: Global, subcommands: &'static [Subcommand]) -> Result<Command<'a>, AllocError>
+    ensures { IfOk result (λ c. app_of c ≡ fold with_made top_command subcommands.now) }
+{
+    let mut command = top(alloc);
+    for subcommand in subcommands {
+        command = with_more(command, made(alloc, subcommand))?;
+    }
+    Ok(command)
 }
 
 /// The command with one subcommand more, if there was memory for it.
@@ -386,9 +503,8 @@ fn with_more<'a>(
     command: Command<'a>,
     more: Result<Command<'a>, AllocError>,
 ) -> Result<Command<'a>, AllocError>
-    requires { IfOk more (λ c. (fields_of c).has_globals ≡ false) }
-    ensures { (shape : App) → IfOk more.entry (λ c. app_of c ≡ shape) →
-        IfOk result (λ c. app_of c ≡ with_subcommand (app_of command.entry) shape.top) }
+    ensures { (s : Subcommand) → IfOk more.entry (λ c. app_of c ≡ app_for s) →
+        IfOk result (λ c. app_of c ≡ with_made (app_of command.entry) s) }
 {
     match more {
         Ok(more) => command.subcommand(more),
@@ -396,173 +512,105 @@ fn with_more<'a>(
     }
 }
 
-/// `warpd` with `run` alone.
-fn with_run<'a>(alloc: Global) -> Result<Command<'a>, AllocError>
-    ensures { IfOk result (λ c. app_of c ≡ with_subcommand top_command run_command.top) }
-{
-    let run = run(alloc)?;
-    top(alloc).subcommand(run)
-}
-
 /// `warpd` without its subcommands.
 fn top<'a>(alloc: Global) -> Command<'a>
     ensures { app_of result ≡ top_command }
 {
+    let Help {
+        about,
+        long_about,
+        notes,
+    } = top_help();
     Command::new(alloc, "warpd")
         .version(VERSION)
-        .about(ABOUT)
-        .long_about(LONG_ABOUT)
-        .after_long_help(STATUSES)
+        .about(about)
+        .long_about(long_about)
+        .after_long_help(notes)
         .arg_required_else_help(true)
         .subcommand_required(true)
 }
 
-/// The subcommand `run`.
-fn run<'a>(alloc: Global) -> Result<Command<'a>, AllocError>
-    ensures shape { IfOk result (λ c. app_of c ≡ run_command) }
-    ensures local { IfOk result (λ c. (fields_of c).has_globals ≡ false) }
+/// The subcommand as the parser has it.
+fn made<'a>(alloc: Global, subcommand: &'static Subcommand) -> Result<Command<'a>, AllocError>
+    ensures { IfOk result (λ c. app_of c ≡ app_for subcommand.now) }
 {
-    let run = Command::new(alloc, "run")
-        .about(RUN_ABOUT)
-        .long_about(RUN_LONG_ABOUT)
-        .after_long_help(RUN_NOTES);
-    with_word(alloc, run, PROGRAM, PROGRAM_HELP)
+    let Help {
+        about,
+        long_about,
+        notes,
+    } = help_on(&subcommand.topic);
+    let command = Command::new(alloc, subcommand.name)
+        .about(about)
+        .long_about(long_about)
+        .after_long_help(notes);
+    with_parts(alloc, command, subcommand.parts)
 }
 
-/// The subcommand `play`.
-fn play<'a>(alloc: Global) -> Result<Command<'a>, AllocError>
-    ensures shape { IfOk result (λ c. app_of c ≡ play_command) }
-    ensures local { IfOk result (λ c. (fields_of c).has_globals ≡ false) }
-{
-    let play = Command::new(alloc, "play")
-        .about(PLAY_ABOUT)
-        .long_about(PLAY_LONG_ABOUT)
-        .after_long_help(PLAY_NOTES);
-    let play = with_word(alloc, play, PROGRAM, PROGRAM_HELP)?;
-    with_word(alloc, play, SCHEDULE, SCHEDULE_HELP)
+/// The texts on the topic.
+fn help_on(topic: &Topic) -> Help {
+    match topic {
+        Topic::Run => run_help(),
+        Topic::Play => play_help(),
+        Topic::Serve => serve_help::help(),
+        Topic::Check => check_help::help(),
+        Topic::Trace => trace_help::help(),
+    }
 }
 
-/// The subcommand `serve`.
-fn serve<'a>(alloc: Global) -> Result<Command<'a>, AllocError>
-    ensures shape { IfOk result (λ c. app_of c ≡ serve_command) }
-    ensures local { IfOk result (λ c. (fields_of c).has_globals ≡ false) }
-{
-    let serve = Command::new(alloc, "serve")
-        .about(serve_help::ABOUT)
-        .long_about(serve_help::LONG_ABOUT)
-        .after_long_help(serve_help::NOTES);
-    let serve = with_word(alloc, serve, PROGRAM, PROGRAM_HELP)?;
-    let serve = with_number(alloc, serve, PORT, "P", LAST_PORT, serve_help::PORT_HELP)?;
-    let serve = with_number(
-        alloc,
-        serve,
-        SESSIONS,
-        "K",
-        MOST_SESSIONS,
-        serve_help::SESSIONS_HELP,
-    )?;
-    with_words(alloc, serve, PEER, serve_help::PEER_HELP)
+/// The texts on `warpd`.
+fn top_help() -> Help {
+    Help {
+        about: ABOUT,
+        long_about: LONG_ABOUT,
+        notes: STATUSES,
+    }
 }
 
-/// The subcommand `check`.
-fn check<'a>(alloc: Global) -> Result<Command<'a>, AllocError>
-    ensures shape { IfOk result (λ c. app_of c ≡ check_command) }
-    ensures local { IfOk result (λ c. (fields_of c).has_globals ≡ false) }
-{
-    let check = Command::new(alloc, "check")
-        .about(check_help::ABOUT)
-        .long_about(check_help::LONG_ABOUT)
-        .after_long_help(check_help::NOTES);
-    let check = with_word(alloc, check, PROGRAM, PROGRAM_HELP)?;
-    with_flag(alloc, check, NUMBERS, check_help::NUMBERS_HELP)
+/// The texts on `run`.
+fn run_help() -> Help {
+    Help {
+        about: RUN_ABOUT,
+        long_about: RUN_LONG_ABOUT,
+        notes: RUN_NOTES,
+    }
 }
 
-/// The subcommand `trace`.
-fn trace<'a>(alloc: Global) -> Result<Command<'a>, AllocError>
-    ensures shape { IfOk result (λ c. app_of c ≡ trace_command) }
-    ensures local { IfOk result (λ c. (fields_of c).has_globals ≡ false) }
-{
-    let trace = Command::new(alloc, "trace")
-        .about(trace_help::ABOUT)
-        .long_about(trace_help::LONG_ABOUT)
-        .after_long_help(trace_help::NOTES);
-    let trace = with_word(alloc, trace, PROGRAM, PROGRAM_HELP)?;
-    with_flag(alloc, trace, STEPS, trace_help::STEPS_HELP)
+/// The texts on `play`.
+fn play_help() -> Help {
+    Help {
+        about: PLAY_ABOUT,
+        long_about: PLAY_LONG_ABOUT,
+        notes: PLAY_NOTES,
+    }
 }
 
-/// The command with an option that may be there.
-fn with_flag<'a>(
+/// The command with these parts more.
+fn with_parts<'a>(
     alloc: Global,
-    command: Command<'a>,
-    name: &'a str,
-    help: &'a str,
+    mut command: Command<'a>,
+    parts: &'static [Part],
 ) -> Result<Command<'a>, AllocError>
-    ensures shape { IfOk result (λ c. app_of c ≡ with_rule (app_of command.entry) (flag name.entry.now)) }
-    ensures local { (fields_of command.entry).has_globals ≡ false →
-        IfOk result (λ c. (fields_of c).has_globals ≡ false) }
+    ensures { IfOk result (λ c. app_of c ≡ fold with_part (app_of command.entry) parts.now) }
 {
-    let option = Arg::new(alloc, name)
-        .long(name)
-        .action(ArgAction::SetTrue)
-        .help(help);
-    command.arg(option)
+    for part in parts {
+        command = command.arg(argument(alloc, part))?;
+    }
+    Ok(command)
 }
 
-/// The command with places for any number of words.
-fn with_words<'a>(
-    alloc: Global,
-    command: Command<'a>,
-    place: &'a str,
-    help: &'a str,
-) -> Result<Command<'a>, AllocError>
-    ensures shape { IfOk result (λ c. app_of c ≡ with_rule (app_of command.entry) (any_words place.entry.now)) }
-    ensures local { (fields_of command.entry).has_globals ≡ false →
-        IfOk result (λ c. (fields_of c).has_globals ≡ false) }
+/// The part as the parser has it.
+fn argument<'a>(alloc: Global, part: &'static Part) -> Arg<'a>
+    ensures { (rule_of result ≡ rule_for part.now) × (result.global ≡ false) }
 {
-    let words = Arg::new(alloc, place).help(help).action(ArgAction::Append);
-    command.arg(words)
-}
-
-/// The command with an option for a number from 1 to `most`, which has to be there.
-fn with_number<'a>(
-    alloc: Global,
-    command: Command<'a>,
-    name: &'a str,
-    value: &'a str,
-    most: u64,
-    help: &'a str,
-) -> Result<Command<'a>, AllocError>
-    ensures shape { IfOk result (λ c. app_of c ≡ with_rule (app_of command.entry) (wanted_number name.entry.now most)) }
-    ensures local { (fields_of command.entry).has_globals ≡ false →
-        IfOk result (λ c. (fields_of c).has_globals ≡ false) }
-{
-    let number = number_option(alloc, name, value, most).help(help);
-    command.arg(number)
-}
-
-/// An option for a number from 1 to `most`, which has to be there; help calls the number `value`.
-fn number_option<'a>(alloc: Global, name: &'a str, value: &'a str, most: u64) -> Arg<'a>
-    ensures rule { rule_of result ≡ wanted_number name.entry.now most }
-    ensures optional { result.global ≡ false }
-{
-    Arg::new(alloc, name)
-        .long(name)
-        .value_name(value)
-        .required(true)
-        .value_parser(ValueParser::unsigned(1, most))
-}
-
-/// The command with one more place for a word, which has to be there.
-fn with_word<'a>(
-    alloc: Global,
-    command: Command<'a>,
-    place: &'a str,
-    help: &'a str,
-) -> Result<Command<'a>, AllocError>
-    ensures shape { IfOk result (λ c. app_of c ≡ with_rule (app_of command.entry) (wanted_word place.entry.now)) }
-    ensures local { (fields_of command.entry).has_globals ≡ false →
-        IfOk result (λ c. (fields_of c).has_globals ≡ false) }
-{
-    let word = Arg::new(alloc, place).help(help).required(true);
-    command.arg(word)
+    let argument = Arg::new(alloc, part.name).help(part.help);
+    match part.kind {
+        Kind::Word => argument.required(true),
+        Kind::Words => argument.action(ArgAction::Append),
+        Kind::Flag => argument.long(part.name).action(ArgAction::SetTrue),
+        Kind::Number { value, most } => argument
+            .long(part.name)
+            .value_name(value)
+            .required(true)
+            .value_parser(ValueParser::unsigned(1, most)),
+    }
 }

@@ -1,9 +1,10 @@
 //! The texts that `warpd serve --help` shows.
 
-pub(crate) const ABOUT: &str =
-    "Serves sessions over TCP on this machine, and pulls from other servers";
+use crate::command_line::Help;
 
-pub(crate) const LONG_ABOUT: &str = "\
+const ABOUT: &str = "Serves sessions over TCP on this machine, and pulls from other servers";
+
+const LONG_ABOUT: &str = "\
 Listens on 127.0.0.1 at port P, prints the line `ready P` on standard output, and serves the
 first K connections. Each is a session as `warpd run` has one: every line that its client
 sends is answered with one line, in order, up to the end of what it sends. Standard input is
@@ -33,7 +34,7 @@ The server ends when all K sessions and all pulls have ended. Nothing is stored 
 server that is started anew is empty, and gets from its peers what they have. It can be
 reached from this machine alone; put a tunnel or a proxy in front of it for others.";
 
-pub(crate) const NOTES: &str = "\
+const NOTES: &str = "\
 Beside the reasons that `warpd run --help` lists, a line may be refused for this one:
  10  the server is busy with the session's earlier lines; nothing was done, send it again
 No line is refused for reason 11 here, since there is a board.
@@ -57,3 +58,12 @@ pub(crate) const PORT_HELP: &str = "The port to listen on, 1 to 65535";
 pub(crate) const SESSIONS_HELP: &str = "How many sessions to serve in all, 1 to 16";
 
 pub(crate) const PEER_HELP: &str = "A server to pull from: HOST:PORT";
+
+/// The texts on `serve`.
+pub(crate) fn help() -> Help {
+    Help {
+        about: ABOUT,
+        long_about: LONG_ABOUT,
+        notes: NOTES,
+    }
+}

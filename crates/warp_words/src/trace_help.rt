@@ -1,8 +1,10 @@
 //! The texts that `warpd trace --help` shows.
 
-pub(crate) const ABOUT: &str = "Prints the rows of the one run over the lines of standard input";
+use crate::command_line::Help;
 
-pub(crate) const LONG_ABOUT: &str = "\
+const ABOUT: &str = "Prints the rows of the one run over the lines of standard input";
+
+const LONG_ABOUT: &str = "\
 Reads lines on standard input up to its end, as `warpd run` does, and prints then the rows of
 the program's one run over the events that count: those that were not withdrawn. Lines are not
 answered, and queries are passed over.
@@ -30,7 +32,7 @@ given has the values of the program inputs; and before the steps that a late lin
 pub(crate) const STEPS_HELP: &str =
     "Prints the steps in the order in which they were executed, with rollbacks";
 
-pub(crate) const NOTES: &str = "\
+const NOTES: &str = "\
 A record that `warpd run` refuses, and a line that is none, counts for nothing. Standard error
 tells how many there were, and the first of them with its reason:
 
@@ -42,3 +44,12 @@ Why a line or a program file is refused: warpd run --help
 
 Example:
   printf 'event 0 5 0 0 3\\nevent 1 2 0 1 4\\n' | warpd trace builtin:twice";
+
+/// The texts on `trace`.
+pub(crate) fn help() -> Help {
+    Help {
+        about: ABOUT,
+        long_about: LONG_ABOUT,
+        notes: NOTES,
+    }
+}

@@ -19,7 +19,7 @@ pub returns-in-Some : goal.returns-in-Some
 returns-in-Some c =
     let found = c.get_raw.ensures ∙ raw_values-rows (found_of c.args.found.now) c.args.id.now in
     let some : Some (shown c.in-Some.words.now) ≡ all_of c.args.id.now (rows_of (found_of c.args.found.now)) = rw c.in-Some.is at found in
-    rw (← some) (same_shown (λ all. all.items) c.in-Some.words.now c.listed.result c.listed.ensures)
+    rw (← some) (same_shown (λ all. all.items) c.in-Some.words.now c.from_slice.result c.from_slice.ensures.items)
 
 pub returns-in-None : goal.returns-in-None
 returns-in-None c =
