@@ -1,5 +1,4 @@
 pub mod Bodies
-pub mod BranchLemmas
 pub mod CompileLemmas
 pub mod DivisorLemmas
 pub mod MachineLemmas

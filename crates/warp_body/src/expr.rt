@@ -1,6 +1,6 @@
 //! Expressions: their values, copies and comparison.
 ghost use Rattle.std.specs.Prelude.{◌≡◌, length, IsTrue, IfOk, ◌↔◌};
-ghost use Rattle.warp_body.specs.Term.{term_of, value_of, term_fits, sizes_of};
+ghost use Rattle.warp_body.specs.Term.{Term, term_of, value_of, term_fits, sizes_of};
 
 use crate::operator::{BinaryOperator, UnaryOperator, as_number, is_true};
 use crate::place::{Present, Sizes, Target, Vars};
@@ -84,18 +84,18 @@ impl Expr {
             Expr::Value(target) => Ok(Expr::Value(*target)),
             Expr::Present(target) => Ok(Expr::Present(*target)),
             Expr::Unary(operator, a) => {
-                let a = Box::new(alloc, a.copy(alloc)?)?;
+                let a = boxed(alloc, a.copy(alloc))?;
                 Ok(Expr::Unary(*operator, a))
             }
             Expr::Binary(operator, a, b) => {
-                let a = Box::new(alloc, a.copy(alloc)?)?;
-                let b = Box::new(alloc, b.copy(alloc)?)?;
+                let a = boxed(alloc, a.copy(alloc))?;
+                let b = boxed(alloc, b.copy(alloc))?;
                 Ok(Expr::Binary(*operator, a, b))
             }
             Expr::If(condition, a, b) => {
-                let condition = Box::new(alloc, condition.copy(alloc)?)?;
-                let a = Box::new(alloc, a.copy(alloc)?)?;
-                let b = Box::new(alloc, b.copy(alloc)?)?;
+                let condition = boxed(alloc, condition.copy(alloc))?;
+                let a = boxed(alloc, a.copy(alloc))?;
+                let b = boxed(alloc, b.copy(alloc))?;
                 Ok(Expr::If(condition, a, b))
             }
         }
@@ -116,4 +116,13 @@ impl Expr {
             _ => false,
         }
     }
+}
+
+/// A copied part in a box.
+fn boxed(alloc: Global, part: Result<Expr, OutOfMemory>) -> Result<Box<Expr>, OutOfMemory>
+    ensures { (a : Term) → IfOk part (λ e. term_of e ≡ a) → IfOk result (λ b. term_of b.value ≡ a) }
+{
+    let part = part?;
+    let part = Box::new(alloc, part)?;
+    Ok(part)
 }
