@@ -28,3 +28,5 @@ pub mod CircleLemmas
 pub mod CauseLemmas
 pub mod StatementLemmas
 pub mod ReadLemmas
+pub mod RuleLemmas
+pub mod LimitLemmas

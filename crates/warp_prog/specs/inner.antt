@@ -6,3 +6,4 @@ pub mod Placing
 pub mod Cause
 pub mod Circle
 pub mod Fingerprint
+pub mod Others

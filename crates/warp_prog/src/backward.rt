@@ -4,24 +4,27 @@ ghost use Rattle.std.specs.List.{list_any};
 ghost use Rattle.warp_prog.specs.Backward.{place, is_backward, leads_back};
 ghost use Rattle.warp_prog.specs.View.{file_tree, reactor_tree};
 
+use crate::explain::reason::Reason;
+use crate::explain::trail::{Segment, Trail};
 use crate::file::{LinkPart, ProgramFile, Reactor};
 use crate::name::Name;
 use crate::named::is_same;
 
 /// Whether a link without delay leads to a reactor that does not stand later in the file than the one that it comes
 /// from.
-pub(crate) fn leads_back(file: &ProgramFile) -> bool
+pub(crate) fn leads_back<'f>(file: &'f ProgramFile, at: &mut Trail<'f>) -> bool
     ensures { result ≡ leads_back (file_tree file.now) }
 {
-    for link in &file.links {
+    for (i, link) in file.links.iter().enumerate() {
         if is_backward(&file.reactors, link) {
-            return true;
+            let reason = Reason::Backward(&link.source.reactor, &link.target.reactor);
+            return at.fault_at(Segment::Of("links", i), reason);
         }
     }
     false
 }
 
-pub(crate) fn is_backward(reactors: &[Reactor], link: &LinkPart) -> bool
+fn is_backward(reactors: &[Reactor], link: &LinkPart) -> bool
     ensures { result ≡ is_backward (map reactor_tree reactors.now) link.now }
 {
     link.delay.is_none()

@@ -2,36 +2,35 @@
 //!
 //! `load` says which fault is the first. Here it is looked for a second time, with its place: a walk goes down the
 //! file, notes what is wrong, and on its way back each level adds its segment to the trail. So each function of a walk
-//! says whether it found a fault, and which and where stands in the trail then.
+//! says whether it found a fault, and which and where stands in the trail then. For limits, names, links that lead back
+//! and uses that are not declared it is the walk of `load`; shape and what stands twice have one of their own here.
 
 mod account;
 mod circle;
+mod kinds;
 mod labels;
-mod limits;
-mod links;
-mod names;
+pub(crate) mod limits;
 mod neighbour;
-mod reason;
-mod role;
+pub(crate) mod reason;
 mod shape;
 mod terms;
 mod text;
-mod trail;
+pub(crate) mod trail;
 mod twice;
 
+use crate::backward::leads_back;
 use crate::error::LoadError;
 use crate::explain::circle::{circle_of, seat_of};
-use crate::explain::limits::limits_fail;
-use crate::explain::links::order_fails;
-use crate::explain::names::{names_fail, reactors_fail};
 use crate::explain::reason::{Reason, write_reason};
 use crate::explain::shape::shape_fails;
 use crate::explain::trail::{Segment, Trail};
 use crate::explain::twice::once_fails;
 use crate::file::{ProgramFile, Reactor};
-use crate::limits::FIRST_VERSION;
+use crate::limits::{FIRST_VERSION, exceeds_limits};
 use crate::misread::Misread;
+use crate::names::names_unknown;
 use crate::shape::file;
+use crate::undeclared::is_undeclared;
 pub use account::program_account;
 pub use labels::Labels;
 pub(crate) use labels::labels_of;
@@ -133,11 +132,13 @@ fn circle_fails<'f>(circle: &'f [u32], reactors: &'f [Reactor], at: &mut Trail<'
 /// Whether a file has the fault of this error.
 fn file_fails<'f>(file: &'f ProgramFile, error: LoadError, at: &mut Trail<'f>) -> bool {
     match error {
-        LoadError::Limit => limits_fail(file, at),
-        LoadError::Name => names_fail(file, at),
+        LoadError::Limit => exceeds_limits(file, at),
+        LoadError::Name => names_unknown(file, at),
         LoadError::Twice => once_fails(file, at),
-        LoadError::Backward | LoadError::Causality => order_fails(file, at),
-        LoadError::Undeclared => reactors_fail(&file.reactors, true, at),
+        LoadError::Backward | LoadError::Causality => {
+            file.version == FIRST_VERSION && leads_back(file, at)
+        }
+        LoadError::Undeclared => is_undeclared(file, at),
         LoadError::Json | LoadError::Shape | LoadError::Memory => false,
     }
 }

@@ -20,6 +20,7 @@ mod names;
 mod numbered;
 mod order;
 mod reading;
+mod role;
 mod scope;
 mod shape;
 mod twice;

@@ -4,15 +4,20 @@ ghost use Rattle.std.specs.List.{list_any};
 ghost use Rattle.warp_tag.specs.Limits.{longest_period, longest_stop, most_origins};
 ghost use Rattle.warp_tag.specs.Limits.{most_variables, most_ports, most_actions, most_timers, most_reactions};
 ghost use Rattle.warp_prog.specs.Limits.{form_of_version, is_outside, period_exceeds, origin_exceeds};
-ghost use Rattle.warp_prog.specs.Limits.{numbers_exceed, lists_exceed};
+ghost use Rattle.warp_prog.specs.Limits.{first_version, last_version, lists_exceed};
 ghost use Rattle.warp_prog.specs.Limits.{total, totals_exceed, action_exceeds, timer_exceeds, link_exceeds};
 ghost use Rattle.warp_prog.specs.Limits.{reaction_exceeds, reactor_exceeds, parts_exceed, exceeds_limits};
 ghost use Rattle.warp_prog.specs.View.{file_tree, reactor_tree, reaction_tree};
 ghost use Rattle.warp_prog.specs.inner.Kind.{count_of};
+ghost use Rattle.warp_prog.specs.inner.Others.{ends_exceed, others_exceed};
 ghost use Rattle.warp_prog.specs.declared.file.InputPart.{InputPart};
 
 pub(crate) mod body;
 
+use crate::explain::limits::body::note_body;
+use crate::explain::limits::note_totals;
+use crate::explain::reason::Reason;
+use crate::explain::trail::{Segment, Trail};
 use crate::file::{ActionPart, InputPart, LinkPart, ProgramFile, Reaction, Reactor, TimerPart};
 use crate::limits::body::body_exceeds;
 use warp_tag::Form;
@@ -61,7 +66,7 @@ pub(crate) fn form_of_version(version: i64) -> Form
 }
 
 /// The last time that a program of this form can have as its stop.
-pub(crate) fn longest_stop(form: Form) -> i64
+fn longest_stop(form: Form) -> i64
     ensures { result ≡ pos (longest_stop form) }
 {
     form.longest_stop() as i64
@@ -75,38 +80,75 @@ pub(crate) fn longest_period(form: Form) -> i64
 }
 
 /// The most origins of a program of this form.
-pub(crate) fn most_origins(form: Form) -> i64
+fn most_origins(form: Form) -> i64
     ensures { result ≡ pos (most_origins form) }
 {
     form.most_origins() as i64
 }
 
-/// Whether a file goes past a limit: a number outside its range, too many things, or a body past its own limits.
-pub(crate) fn exceeds_limits(file: &ProgramFile) -> bool
+/// Whether a file goes past a limit: a number outside its range, too many things, or a body past its own limits. Whether
+/// its version is known is looked at last.
+pub(crate) fn exceeds_limits(file: &ProgramFile, at: &mut Trail) -> bool
     ensures { result ≡ exceeds_limits (file_tree file.now) }
 {
-    numbers_exceed(file)
-        || lists_exceed(file)
-        || totals_exceed(&file.reactors)
-        || parts_exceed(file)
+    if others_exceed(file, at) {
+        return true;
+    }
+    version_exceeds(file, at)
 }
 
-fn numbers_exceed(file: &ProgramFile) -> bool
-    ensures { result ≡ numbers_exceed (file_tree file.now) }
+fn version_exceeds(file: &ProgramFile, at: &mut Trail) -> bool
+    ensures { result ≡ is_outside (pos first_version) (pos last_version) file.now.version }
+{
+    let reason = Reason::Plain("this version of the format is not known");
+    is_outside(file.version, FIRST_VERSION, LAST_VERSION)
+        && at.fault_at(Segment::Key("version"), reason)
+}
+
+/// Whether something beside its version does.
+fn others_exceed(file: &ProgramFile, at: &mut Trail) -> bool
+    ensures { result ≡ others_exceed (file_tree file.now) }
+{
+    numbers_exceed(file, at)
+        || lists_exceed(file, at)
+        || any_total(&file.reactors, at)
+        || parts_exceed(file, at)
+}
+
+fn numbers_exceed(file: &ProgramFile, at: &mut Trail) -> bool
+    ensures { result ≡ ends_exceed (file_tree file.now) }
 {
     let form = form_of_version(file.version);
-    is_outside(file.version, FIRST_VERSION, LAST_VERSION)
-        || is_outside(file.stop, 0, longest_stop(form))
-        || is_outside(file.origins, 1, most_origins(form))
+    range_exceeds(file.stop, 0, longest_stop(form), Segment::Key("stop"), at)
+        || range_exceeds(
+            file.origins,
+            1,
+            most_origins(form),
+            Segment::Key("origins"),
+            at,
+        )
 }
 
-fn lists_exceed(file: &ProgramFile) -> bool
+fn lists_exceed(file: &ProgramFile, at: &mut Trail) -> bool
     ensures { result ≡ lists_exceed (file_tree file.now) }
 {
-    file.reactors.len() > MOST_REACTORS
-        || file.links.len() > MOST_LINKS
-        || file.inputs.len() > MOST_INPUTS
-        || file.outputs.len() > MOST_OUTPUTS
+    length_exceeds(file.reactors.len(), MOST_REACTORS, "reactors", at)
+        || length_exceeds(file.links.len(), MOST_LINKS, "links", at)
+        || length_exceeds(file.inputs.len(), MOST_INPUTS, "inputs", at)
+        || length_exceeds(file.outputs.len(), MOST_OUTPUTS, "outputs", at)
+}
+
+/// Whether a list is longer than this; it stands under this key.
+fn length_exceeds(length: usize, most: usize, key: &'static str, at: &mut Trail) -> bool
+    ensures { result ≡ nat_lt most length }
+{
+    length > most && at.fault_at(Segment::Key(key), Reason::Many(key, most))
+}
+
+fn any_total(reactors: &[Reactor], at: &mut Trail) -> bool
+    ensures { result ≡ totals_exceed (map reactor_tree reactors.now) }
+{
+    totals_exceed(reactors) && note_totals(reactors, at)
 }
 
 fn totals_exceed(reactors: &[Reactor]) -> bool
@@ -153,103 +195,123 @@ pub(crate) fn room_after(reactor: &Reactor, kind: &Kind, room: usize) -> Option<
     }
 }
 
-fn parts_exceed(file: &ProgramFile) -> bool
+fn parts_exceed(file: &ProgramFile, at: &mut Trail) -> bool
     ensures { result ≡ parts_exceed (file_tree file.now) }
 {
     let form = form_of_version(file.version);
-    any_reactor(&file.reactors, form)
-        || any_link(&file.links, form)
-        || any_input(&file.inputs, file.origins)
+    any_reactor(&file.reactors, form, at)
+        || any_link(&file.links, form, at)
+        || any_input(&file.inputs, file.origins, at)
 }
 
-fn any_reactor(reactors: &[Reactor], form: Form) -> bool
+fn any_reactor(reactors: &[Reactor], form: Form, at: &mut Trail) -> bool
     ensures { result ≡ list_any (reactor_exceeds form) (map reactor_tree reactors.now) }
 {
-    for reactor in reactors {
-        if reactor_exceeds(reactor, form) {
-            return true;
+    for (i, reactor) in reactors.iter().enumerate() {
+        if reactor_exceeds(reactor, form, at) {
+            return at.back(Segment::Of("reactors", i));
         }
     }
     false
 }
 
-fn reactor_exceeds(reactor: &Reactor, form: Form) -> bool
+fn reactor_exceeds(reactor: &Reactor, form: Form, at: &mut Trail) -> bool
     ensures { result ≡ reactor_exceeds form (reactor_tree reactor.now) }
 {
-    any_action(&reactor.actions, form)
-        || any_timer(&reactor.timers, form)
-        || any_reaction(&reactor.reactions, form)
+    any_action(&reactor.actions, form, at)
+        || any_timer(&reactor.timers, form, at)
+        || any_reaction(&reactor.reactions, form, at)
 }
 
-fn any_action(actions: &[ActionPart], form: Form) -> bool
+fn any_action(actions: &[ActionPart], form: Form, at: &mut Trail) -> bool
     ensures { result ≡ list_any (action_exceeds form) actions.now }
 {
-    for action in actions {
-        if period_exceeds(action.delay, form) {
-            return true;
+    for (i, action) in actions.iter().enumerate() {
+        if period_exceeds(action.delay, form, Segment::Item(1), at) {
+            return at.back(Segment::Of("actions", i));
         }
     }
     false
 }
 
-fn any_timer(timers: &[TimerPart], form: Form) -> bool
+fn any_timer(timers: &[TimerPart], form: Form, at: &mut Trail) -> bool
     ensures { result ≡ list_any (timer_exceeds form) timers.now }
 {
-    for timer in timers {
-        if period_exceeds(timer.offset, form) || period_exceeds(timer.period, form) {
-            return true;
+    for (i, timer) in timers.iter().enumerate() {
+        if period_exceeds(timer.offset, form, Segment::Item(1), at)
+            || period_exceeds(timer.period, form, Segment::Item(2), at)
+        {
+            return at.back(Segment::Of("timers", i));
         }
     }
     false
 }
 
-fn any_reaction(reactions: &[Reaction], form: Form) -> bool
+fn any_reaction(reactions: &[Reaction], form: Form, at: &mut Trail) -> bool
     ensures { result ≡ list_any (reaction_exceeds form) (map reaction_tree reactions.now) }
 {
-    for reaction in reactions {
+    for (i, reaction) in reactions.iter().enumerate() {
         if body_exceeds(&reaction.body, form) {
-            return true;
+            note_body(&reaction.body, form, at);
+            return at.back(Segment::Of("reactions", i));
         }
     }
     false
 }
 
-fn any_link(links: &[LinkPart], form: Form) -> bool
+fn any_link(links: &[LinkPart], form: Form, at: &mut Trail) -> bool
     ensures { result ≡ list_any (link_exceeds form) links.now }
 {
-    for link in links {
-        if link_exceeds(link, form) {
-            return true;
+    for (i, link) in links.iter().enumerate() {
+        if link_exceeds(link, form, at) {
+            return at.back(Segment::Of("links", i));
         }
     }
     false
 }
 
-fn link_exceeds(link: &LinkPart, form: Form) -> bool
+fn link_exceeds(link: &LinkPart, form: Form, at: &mut Trail) -> bool
     ensures { result ≡ link_exceeds form link.now }
 {
     match link.delay {
         None => false,
-        Some(delay) => period_exceeds(delay, form),
+        Some(delay) => period_exceeds(delay, form, Segment::Item(2), at),
     }
 }
 
-fn any_input(inputs: &[InputPart], origins: i64) -> bool
+fn any_input(inputs: &[InputPart], origins: i64, at: &mut Trail) -> bool
     ensures { result ≡ list_any (λ (i : InputPart). origin_exceeds origins i.origin) inputs.now }
 {
-    for input in inputs {
+    for (i, input) in inputs.iter().enumerate() {
         if input.origin < 0 || input.origin >= origins {
-            return true;
+            at.fault_at(
+                Segment::Item(0),
+                Reason::Range(input.origin, 0, origins.saturating_sub(1)),
+            );
+            return at.back(Segment::Of("inputs", i));
         }
     }
     false
 }
 
-/// Whether a delay, an offset or a period is outside its range.
-fn period_exceeds(number: i64, form: Form) -> bool
+/// Whether a delay, an offset or a period is outside its range; this segment leads to it.
+fn period_exceeds(number: i64, form: Form, segment: Segment, at: &mut Trail) -> bool
     ensures { result ≡ period_exceeds form number }
 {
-    is_outside(number, 0, longest_period(form))
+    range_exceeds(number, 0, longest_period(form), segment, at)
+}
+
+/// Whether a number is not one of `low` to `high`; this segment leads to it.
+pub(crate) fn range_exceeds(
+    number: i64,
+    low: i64,
+    high: i64,
+    segment: Segment,
+    at: &mut Trail,
+) -> bool
+    ensures { result ≡ is_outside low high number }
+{
+    is_outside(number, low, high) && at.fault_at(segment, Reason::Range(number, low, high))
 }
 
 /// Whether a number is not one of `low` to `high`.

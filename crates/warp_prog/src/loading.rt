@@ -10,6 +10,7 @@ ghost use Rattle.warp_prog.specs.inner.Cause.{IsCause, IsNamed};
 
 use crate::backward::leads_back;
 use crate::error::LoadError;
+use crate::explain::trail::Trail;
 use crate::explain::{Labels, labels_of};
 use crate::file::ProgramFile;
 use crate::limits::{FIRST_VERSION, exceeds_limits};
@@ -102,23 +103,37 @@ fn parts_of(alloc: Global, file: &ProgramFile) -> Result<Parts, LoadError>
     ensures parts { IfOk result (λ parts. program_of parts ≡ numbered (file_tree file.now)) }
     ensures err { IfErr result (λ error. IsCause (file_tree file.now) error) }
 {
-    check_names(file)?;
-    let parts = ordered(alloc, file)?;
-    if is_undeclared(file) {
+    let mut at = Trail::new();
+    faultless_parts(alloc, file, &mut at)
+}
+
+/// The same; where its first fault stands is noted, and nobody asks for it.
+fn faultless_parts<'f>(
+    alloc: Global,
+    file: &'f ProgramFile,
+    at: &mut Trail<'f>,
+) -> Result<Parts, LoadError>
+    ensures faultless { OnOk result (IsFaultless (file_tree file.now)) }
+    ensures parts { IfOk result (λ parts. program_of parts ≡ numbered (file_tree file.now)) }
+    ensures err { IfErr result (λ error. IsCause (file_tree file.now) error) }
+{
+    check_names(file, at)?;
+    let parts = ordered(alloc, file, at)?;
+    if is_undeclared(file, at) {
         return Err(LoadError::Undeclared);
     }
     Ok(parts)
 }
 
 /// The first fault of a file before the order of its reactions is looked at.
-fn check_names(file: &ProgramFile) -> Result<(), LoadError>
+fn check_names<'f>(file: &'f ProgramFile, at: &mut Trail<'f>) -> Result<(), LoadError>
     ensures ok { OnOk result (IsNamed (file_tree file.now)) }
     ensures err { IfErr result (λ error. IsCause (file_tree file.now) error) }
 {
-    if exceeds_limits(file) {
+    if exceeds_limits(file, at) {
         return Err(LoadError::Limit);
     }
-    if names_unknown(file) {
+    if names_unknown(file, at) {
         return Err(LoadError::Name);
     }
     if names_twice(file) {
@@ -128,28 +143,32 @@ fn check_names(file: &ProgramFile) -> Result<(), LoadError>
 }
 
 /// The parts of the program that a file stands for, with its reactions in order.
-fn ordered(alloc: Global, file: &ProgramFile) -> Result<Parts, LoadError>
+fn ordered<'f>(alloc: Global, file: &'f ProgramFile, at: &mut Trail<'f>) -> Result<Parts, LoadError>
     requires { IsNamed (file_tree file.now) }
     ensures order { OnOk result (lacks_order (file_tree file.now) ≡ false) }
     ensures parts { IfOk result (λ parts. program_of parts ≡ numbered (file_tree file.now)) }
     ensures err { IfErr result (λ error. IsCause (file_tree file.now) error) }
 {
     if file.version == FIRST_VERSION {
-        in_file_order(alloc, file)
+        in_file_order(alloc, file, at)
     } else {
         in_loader_order(alloc, file)
     }
 }
 
 /// The same of a file of the first version.
-fn in_file_order(alloc: Global, file: &ProgramFile) -> Result<Parts, LoadError>
+fn in_file_order<'f>(
+    alloc: Global,
+    file: &'f ProgramFile,
+    at: &mut Trail<'f>,
+) -> Result<Parts, LoadError>
     requires named { IsNamed (file_tree file.now) }
     requires version { is_first_version (file_tree file.now) ≡ true }
     ensures order { OnOk result (lacks_order (file_tree file.now) ≡ false) }
     ensures parts { IfOk result (λ parts. program_of parts ≡ numbered (file_tree file.now)) }
     ensures err { IfErr result (λ error. IsCause (file_tree file.now) error) }
 {
-    if leads_back(file) {
+    if leads_back(file, at) {
         return Err(LoadError::Backward);
     }
     let Ok(parts) = numbered(alloc, file) else {

@@ -1,159 +1,163 @@
 //! Names that stand for nothing of the kind that their place asks.
 ghost use Rattle.std.specs.Prelude.{◌≡◌, not, map};
 ghost use Rattle.std.specs.List.{list_any};
-ghost use Rattle.warp_prog.specs.Names.{is_known, is_written, reaction_unknown, is_input, is_output, link_unknown};
-ghost use Rattle.warp_prog.specs.Names.{names_unknown};
-ghost use Rattle.warp_prog.specs.Uses.{carries_value, is_trigger};
+ghost use Rattle.warp_prog.specs.Names.{link_unknown, is_input, is_output, names_unknown};
 ghost use Rattle.warp_prog.specs.View.{file_tree, reactor_tree, reaction_tree};
-ghost use Rattle.warp_prog.specs.inner.Rule.{use_of};
+ghost use Rattle.warp_prog.specs.inner.Rule.{fits, has_port, reaction_breaks, unknown_in_role};
 ghost use Rattle.warp_prog.specs.declared.file.InputPart.{InputPart};
 
+use crate::explain::reason::Reason;
+use crate::explain::trail::{Segment, Trail};
 use crate::file::{InputPart, LinkPart, PortName, ProgramFile, Reaction, Reactor};
 use crate::name::Name;
-use crate::named::{is_among, is_same, is_startup};
-use crate::uses::{Rule, Use, breaks};
+use crate::named::is_same;
+use crate::role::{Role, fits};
+use crate::uses::{Rule, breaks};
 
-/// Whether a name stands for nothing of the kind that its place asks. Where things share a name, one of a kind that is
-/// asked is enough.
-pub(crate) fn names_unknown(file: &ProgramFile) -> bool
+/// Whether a name stands for nothing of the kind that its place asks.
+pub(crate) fn names_unknown<'f>(file: &'f ProgramFile, at: &mut Trail<'f>) -> bool
     ensures { result ≡ names_unknown (file_tree file.now) }
 {
-    any_reactor(&file.reactors)
-        || any_link(&file.reactors, &file.links)
-        || any_input(&file.reactors, &file.inputs)
-        || any_output(&file.reactors, &file.outputs)
+    any_reactor(&file.reactors, false, at)
+        || any_link(&file.reactors, &file.links, at)
+        || any_input(&file.reactors, &file.inputs, at)
+        || any_output(&file.reactors, &file.outputs, at)
 }
 
-fn any_reactor(reactors: &[Reactor]) -> bool
-    ensures { result ≡ list_any (λ r. list_any (reaction_unknown r) r.reactions) (map reactor_tree reactors.now) }
-{
-    for reactor in reactors {
-        if any_reaction(reactor) {
-            return true;
-        }
-    }
-    false
-}
-
-fn any_reaction(reactor: &Reactor) -> bool
+/// Whether a name in a reaction stands for nothing of the kind that its place asks; of reactions whose names are known,
+/// whether a body reads or asks for what its reaction neither is on nor reads, or puts or schedules what it does not
+/// write.
+pub(crate) fn any_reactor<'f>(reactors: &'f [Reactor], are_known: bool, at: &mut Trail<'f>) -> bool
     ensures { result ≡
-        list_any (reaction_unknown (reactor_tree reactor.now)) (map reaction_tree reactor.now.reactions.items) }
+        list_any (λ r. list_any (reaction_breaks are_known r) r.reactions) (map reactor_tree reactors.now) }
 {
-    for reaction in &reactor.reactions {
-        if reaction_unknown(reactor, reaction) {
-            return true;
+    for (i, reactor) in reactors.iter().enumerate() {
+        if any_reaction(reactor, are_known, at) {
+            return at.back(Segment::Of("reactors", i));
         }
     }
     false
 }
 
-fn reaction_unknown(reactor: &Reactor, reaction: &Reaction) -> bool
-    ensures { result ≡ reaction_unknown (reactor_tree reactor.now) (reaction_tree reaction.now) }
+fn any_reaction<'f>(reactor: &'f Reactor, are_known: bool, at: &mut Trail<'f>) -> bool
+    ensures { result ≡ list_any (reaction_breaks are_known (reactor_tree reactor.now))
+        (map reaction_tree reactor.now.reactions.items) }
 {
-    any_no_trigger(reactor, &reaction.triggers)
-        || any_no_trigger(reactor, &reaction.reads)
-        || any_not_written(reactor, &reaction.writes)
-        || breaks(&Rule::Known(reactor), &reaction.body)
+    for (i, reaction) in reactor.reactions.iter().enumerate() {
+        if reaction_breaks(reactor, reaction, are_known, at) {
+            return at.back(Segment::Of("reactions", i));
+        }
+    }
+    false
 }
 
-fn any_no_trigger(reactor: &Reactor, names: &[Name]) -> bool
-    ensures { result ≡ list_any (λ name. not (is_trigger (reactor_tree reactor.now) name)) names.now }
+fn reaction_breaks<'f>(
+    reactor: &'f Reactor,
+    reaction: &'f Reaction,
+    are_known: bool,
+    at: &mut Trail<'f>,
+) -> bool
+    ensures { result ≡ reaction_breaks are_known (reactor_tree reactor.now) (reaction_tree reaction.now) }
+{
+    if are_known {
+        let rule = Rule::Declared(reactor, reaction);
+        return breaks(&rule, &reaction.body, Segment::Key("body"), at);
+    }
+    reaction_unknown(reactor, reaction, at)
+}
+
+fn reaction_unknown<'f>(reactor: &'f Reactor, reaction: &'f Reaction, at: &mut Trail<'f>) -> bool
+    ensures { result ≡ unknown_in_role (reactor_tree reactor.now) (reaction_tree reaction.now) }
+{
+    any_name(reactor, &reaction.triggers, Role::Cause, "on", at)
+        || any_name(reactor, &reaction.reads, Role::Cause, "reads", at)
+        || any_name(reactor, &reaction.writes, Role::Written, "writes", at)
+        || breaks(
+            &Rule::Known(reactor),
+            &reaction.body,
+            Segment::Key("body"),
+            at,
+        )
+}
+
+/// Whether one of the names under this key has not this role in the reactor.
+fn any_name<'f>(
+    reactor: &'f Reactor,
+    names: &'f [Name],
+    role: Role,
+    key: &'static str,
+    at: &mut Trail<'f>,
+) -> bool
+    ensures { result ≡ list_any (λ name. not (fits role (reactor_tree reactor.now) name)) names.now }
 {
     for name in names {
-        if !is_trigger(reactor, name) {
-            return true;
+        if !fits(reactor, role, name) {
+            return at.fault_at(Segment::Key(key), Reason::Unknown(name, role, reactor));
         }
     }
     false
 }
 
-fn any_not_written(reactor: &Reactor, names: &[Name]) -> bool
-    ensures { result ≡ list_any (λ name. not (is_written (reactor_tree reactor.now) name)) names.now }
-{
-    for name in names {
-        if !is_among(&reactor.outputs, name) && !is_among(&reactor.actions, name) {
-            return true;
-        }
-    }
-    false
-}
-
-/// Whether a use names a thing of its kind.
-pub(crate) fn is_known(reactor: &Reactor, what: &Use) -> bool
-    ensures { result ≡ is_known (reactor_tree reactor.now) (use_of what.now) }
-{
-    match what {
-        Use::Reads(name) => is_among(&reactor.variables, name) || carries_value(reactor, name),
-        Use::Asks(name) => is_trigger(reactor, name),
-        Use::Sets(name) => is_among(&reactor.variables, name),
-        Use::Puts(name) => is_among(&reactor.outputs, name),
-        Use::Schedules(name) => is_among(&reactor.actions, name),
-    }
-}
-
-fn is_trigger(reactor: &Reactor, name: &Name) -> bool
-    ensures { result ≡ is_trigger (reactor_tree reactor.now) name.now }
-{
-    carries_value(reactor, name) || is_among(&reactor.timers, name) || is_startup(name)
-}
-
-fn carries_value(reactor: &Reactor, name: &Name) -> bool
-    ensures { result ≡ carries_value (reactor_tree reactor.now) name.now }
-{
-    is_among(&reactor.inputs, name) || is_among(&reactor.actions, name)
-}
-
-fn any_link(reactors: &[Reactor], links: &[LinkPart]) -> bool
+fn any_link<'f>(reactors: &'f [Reactor], links: &'f [LinkPart], at: &mut Trail<'f>) -> bool
     ensures { result ≡ list_any (link_unknown (map reactor_tree reactors.now)) links.now }
 {
-    for link in links {
-        if !is_output(reactors, &link.source) || !is_input(reactors, &link.target) {
-            return true;
+    for (i, link) in links.iter().enumerate() {
+        if lacks_port(reactors, &link.source, Role::Output, Segment::Item(0), at)
+            || lacks_port(reactors, &link.target, Role::Input, Segment::Item(1), at)
+        {
+            return at.back(Segment::Of("links", i));
         }
     }
     false
 }
 
-fn any_input(reactors: &[Reactor], inputs: &[InputPart]) -> bool
+fn any_input<'f>(reactors: &'f [Reactor], inputs: &'f [InputPart], at: &mut Trail<'f>) -> bool
     ensures { result ≡ list_any (λ (i : InputPart). not (is_input (map reactor_tree reactors.now) i.port)) inputs.now }
 {
-    for input in inputs {
-        if !is_input(reactors, &input.port) {
-            return true;
+    for (i, input) in inputs.iter().enumerate() {
+        if lacks_port(reactors, &input.port, Role::Input, Segment::Item(1), at) {
+            return at.back(Segment::Of("inputs", i));
         }
     }
     false
 }
 
-fn any_output(reactors: &[Reactor], outputs: &[PortName]) -> bool
+fn any_output<'f>(reactors: &'f [Reactor], outputs: &'f [PortName], at: &mut Trail<'f>) -> bool
     ensures { result ≡ list_any (λ p. not (is_output (map reactor_tree reactors.now) p)) outputs.now }
 {
-    for port in outputs {
-        if !is_output(reactors, port) {
+    for (i, port) in outputs.iter().enumerate() {
+        if lacks_port(reactors, port, Role::Output, Segment::Of("outputs", i), at) {
             return true;
         }
     }
     false
 }
 
-fn is_input(reactors: &[Reactor], port: &PortName) -> bool
-    ensures { result ≡ is_input (map reactor_tree reactors.now) port.now }
+/// Whether no reactor of the port's name has such a port in this role. This segment leads to the port.
+fn lacks_port<'f>(
+    reactors: &'f [Reactor],
+    port: &'f PortName,
+    role: Role,
+    segment: Segment,
+    at: &mut Trail<'f>,
+) -> bool
+    ensures { result ≡ not (has_port role (map reactor_tree reactors.now) port.now) }
 {
     for reactor in reactors {
-        if is_same(&port.reactor, &reactor.name) && is_among(&reactor.inputs, &port.port) {
-            return true;
+        if is_same(&port.reactor, &reactor.name) && fits(reactor, role, &port.port) {
+            return false;
         }
     }
-    false
+    at.fault_at(segment, no_port(reactors, port, role))
 }
 
-fn is_output(reactors: &[Reactor], port: &PortName) -> bool
-    ensures { result ≡ is_output (map reactor_tree reactors.now) port.now }
-{
+/// What is wrong with a port that no reactor of its name has; it is told of the last that has the name.
+fn no_port<'f>(reactors: &'f [Reactor], port: &'f PortName, role: Role) -> Reason<'f> {
+    let mut reason = Reason::NoReactor(port, reactors);
     for reactor in reactors {
-        if is_same(&port.reactor, &reactor.name) && is_among(&reactor.outputs, &port.port) {
-            return true;
+        if is_same(&port.reactor, &reactor.name) {
+            reason = Reason::Unknown(&port.port, role, reactor);
         }
     }
-    false
+    reason
 }

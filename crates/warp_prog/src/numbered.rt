@@ -15,7 +15,7 @@ ghost use Rattle.warp_prog.specs.View.{file_tree, reactor_tree};
 ghost use Rattle.warp_prog.specs.declared.file.InputPart.{InputPart};
 
 mod body;
-mod place;
+pub(crate) mod place;
 pub(crate) mod reaction;
 mod reactor;
 

@@ -1,28 +1,15 @@
 //! What a body does with names: one walk for each test of its uses.
-ghost use Rattle.std.specs.Prelude.{◌≡◌};
+ghost use Rattle.std.specs.Prelude.{◌≡◌, not};
 ghost use Rattle.warp_prog.specs.Uses.{term_uses, statement_uses, body_uses};
 ghost use Rattle.warp_prog.specs.View.{term_tree, statement_tree};
-ghost use Rattle.warp_prog.specs.inner.Rule.{use_of, meets, breaks, statements_tree};
+ghost use Rattle.warp_prog.specs.inner.Rule.{meets, breaks, statements_tree};
 
+use crate::explain::reason::Reason;
+use crate::explain::trail::{Segment, Trail};
 use crate::file::{Expression, Reaction, Reactor, Statement};
 use crate::name::Name;
-use crate::names::is_known;
-use crate::undeclared::is_declared;
-
-/// What a body does with a name.
-#[derive(Clone, Copy)]
-pub(crate) enum Use<'f> {
-    /// It reads its value.
-    Reads(&'f Name),
-    /// It asks whether it is present.
-    Asks(&'f Name),
-    /// It sets it.
-    Sets(&'f Name),
-    /// It puts it.
-    Puts(&'f Name),
-    /// It schedules it.
-    Schedules(&'f Name),
-}
+use crate::role::{Role, fits};
+use crate::undeclared::{is_declared, undeclared};
 
 /// What is asked of each use.
 #[derive(Clone, Copy)]
@@ -33,27 +20,41 @@ pub(crate) enum Rule<'f> {
     Declared(&'f Reactor, &'f Reaction),
 }
 
-impl Rule<'_> {
-    /// Whether a use is as the rule asks.
-    pub(crate) fn is_met(&self, what: &Use) -> bool
-        ensures { result ≡ meets self.now (use_of what.now) }
-    {
-        match self {
-            Rule::Known(reactor) => is_known(reactor, what),
-            Rule::Declared(reactor, reaction) => is_declared(reactor, reaction, what),
+/// Whether a use of a name in this role breaks the rule.
+fn use_breaks<'f>(rule: &Rule<'f>, role: Role, name: &'f Name, at: &mut Trail<'f>) -> bool
+    ensures { result ≡ not (meets rule.now role name.now) }
+{
+    match *rule {
+        Rule::Known(reactor) => {
+            !fits(reactor, role, name) && at.fault(Reason::Unknown(name, role, reactor))
+        }
+        Rule::Declared(reactor, reaction) => {
+            !is_declared(reactor, reaction, role, name) && at.fault(undeclared(role, name))
         }
     }
 }
 
-/// Whether a use in the body breaks the rule.
+/// The same of a name that is the second item of its list.
+fn second_breaks<'f>(rule: &Rule<'f>, role: Role, name: &'f Name, at: &mut Trail<'f>) -> bool
+    ensures { result ≡ not (meets rule.now role name.now) }
+{
+    use_breaks(rule, role, name, at) && at.back(Segment::Item(1))
+}
+
+/// Whether a use in the body, to which this segment leads, breaks the rule.
 #[cycle(breaks)]
 #[tactic(auto, using(crate::proofs::Anys::anys))]
-pub(crate) fn breaks(rule: &Rule, body: &[Statement]) -> bool
+pub(crate) fn breaks<'f>(
+    rule: &Rule<'f>,
+    body: &'f [Statement],
+    segment: Segment,
+    at: &mut Trail<'f>,
+) -> bool
     ensures { result ≡ breaks rule.now (body_uses (statements_tree body.now)) }
 {
-    for statement in body {
-        if statement_breaks(rule, statement) {
-            return true;
+    for (i, statement) in body.iter().enumerate() {
+        if statement_breaks(rule, statement, at) {
+            return at.back_to_item(segment, i);
         }
     }
     false
@@ -61,39 +62,53 @@ pub(crate) fn breaks(rule: &Rule, body: &[Statement]) -> bool
 
 #[cycle(breaks)]
 #[tactic(auto, using(crate::proofs::Anys::anys))]
-fn statement_breaks(rule: &Rule, statement: &Statement) -> bool
+fn statement_breaks<'f>(rule: &Rule<'f>, statement: &'f Statement, at: &mut Trail<'f>) -> bool
     ensures { result ≡ breaks rule.now (statement_uses (statement_tree statement.now)) }
 {
     match statement {
-        Statement::Set(name, expression) => {
-            !rule.is_met(&Use::Sets(name)) || expression_breaks(rule, expression)
+        Statement::Set(name, term) => {
+            second_breaks(rule, Role::Variable, name, at) || term_breaks(rule, term, 2, at)
         }
-        Statement::Put(name, expression) => {
-            !rule.is_met(&Use::Puts(name)) || expression_breaks(rule, expression)
+        Statement::Put(name, term) => {
+            second_breaks(rule, Role::Output, name, at) || term_breaks(rule, term, 2, at)
         }
-        Statement::Schedule(name, _, expression) => {
-            !rule.is_met(&Use::Schedules(name)) || expression_breaks(rule, expression)
+        Statement::Schedule(name, _, term) => {
+            second_breaks(rule, Role::Action, name, at) || term_breaks(rule, term, 3, at)
         }
-        Statement::If(condition, first, second) => {
-            expression_breaks(rule, condition) || breaks(rule, first) || breaks(rule, second)
+        Statement::If(test, first, second) => {
+            term_breaks(rule, test, 1, at)
+                || breaks(rule, first, Segment::Item(2), at)
+                || breaks(rule, second, Segment::Item(3), at)
         }
     }
 }
 
+/// Whether a use in the expression at this place breaks the rule.
+#[cycle(term_breaks)]
 #[tactic(auto, using(crate::proofs::Anys::anys))]
-fn expression_breaks(rule: &Rule, expression: &Expression) -> bool
-    ensures { result ≡ breaks rule.now (term_uses (term_tree expression.now)) }
+fn term_breaks<'f>(rule: &Rule<'f>, term: &'f Expression, place: usize, at: &mut Trail<'f>) -> bool
+    ensures { result ≡ breaks rule.now (term_uses (term_tree term.now)) }
 {
-    match expression {
+    parts_break(rule, term, at) && at.back(Segment::Item(place))
+}
+
+#[cycle(term_breaks)]
+#[tactic(auto, using(crate::proofs::Anys::anys))]
+fn parts_break<'f>(rule: &Rule<'f>, term: &'f Expression, at: &mut Trail<'f>) -> bool
+    ensures { result ≡ breaks rule.now (term_uses (term_tree term.now)) }
+{
+    match term {
         Expression::Number(_) => false,
-        Expression::Value(name) => !rule.is_met(&Use::Reads(name)),
-        Expression::Present(name) => !rule.is_met(&Use::Asks(name)),
-        Expression::Unary(_, a) => expression_breaks(rule, a),
-        Expression::Binary(_, a, b) => expression_breaks(rule, a) || expression_breaks(rule, b),
-        Expression::If(condition, a, b) => {
-            expression_breaks(rule, condition)
-                || expression_breaks(rule, a)
-                || expression_breaks(rule, b)
+        Expression::Value(name) => use_breaks(rule, Role::Value, name, at),
+        Expression::Present(name) => second_breaks(rule, Role::Cause, name, at),
+        Expression::Unary(_, a) => term_breaks(rule, a, 1, at),
+        Expression::Binary(_, a, b) => {
+            term_breaks(rule, a, 1, at) || term_breaks(rule, b, 2, at)
+        }
+        Expression::If(test, a, b) => {
+            term_breaks(rule, test, 1, at)
+                || term_breaks(rule, a, 2, at)
+                || term_breaks(rule, b, 3, at)
         }
     }
 }

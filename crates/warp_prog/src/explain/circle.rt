@@ -5,11 +5,13 @@
 ghost use Rattle.std.specs.Prelude.{◌≡◌, ◌<◌, ◌^◌, true, IfOk, IfSome, length, map, get_or, []};
 ghost use Rattle.warp_step.specs.View.{program_of};
 ghost use Rattle.warp_prog.specs.inner.Circle.{is_circle, turns_back};
+ghost use Rattle.warp_prog.specs.Limits.{exceeds_limits};
 ghost use Rattle.warp_prog.specs.Numbered.{unordered};
 ghost use Rattle.warp_prog.specs.Order.{stands_in};
 ghost use Rattle.warp_prog.specs.View.{file_tree};
 ghost use Rattle.warp_prog.specs.inner.Placing.{numbers_of, awaits};
 
+use crate::explain::trail::Trail;
 use crate::file::{ProgramFile, Reactor};
 use crate::limits::exceeds_limits;
 use crate::numbered::numbered;
@@ -22,7 +24,7 @@ use warp_step::Parts;
 pub(crate) fn circle_of(alloc: Global, file: &ProgramFile) -> Result<Vec<u32>, AllocError>
     ensures { IfOk result (λ circle. is_circle (unordered (file_tree file.now)) circle.items ≡ true) }
 {
-    if exceeds_limits(file) {
+    if is_past_limits(file) {
         return Ok(Vec::new(alloc));
     }
     let parts = numbered(alloc, file)?;
@@ -36,6 +38,14 @@ fn circle_in(alloc: Global, parts: &Parts) -> Result<Vec<u32>, AllocError>
 {
     let placing = place_reactions(alloc, parts)?;
     circle_among(alloc, &placing.before, &placing.placed)
+}
+
+/// Whether a file goes past a limit; nobody asks where.
+fn is_past_limits(file: &ProgramFile) -> bool
+    ensures { result ≡ exceeds_limits (file_tree file.now) }
+{
+    let mut at = Trail::new();
+    exceeds_limits(file, &mut at)
 }
 
 /// A circle among the reactions that do not stand.

@@ -1,13 +1,14 @@
 //! What is wrong at a place of a program file, and its words.
 
 use crate::explain::circle::write_circle;
+use crate::explain::kinds::{compare_all, kinds_of};
 use crate::explain::neighbour::Nearest;
-use crate::explain::role::{Role, compare_all};
 use crate::explain::terms::Vocabulary;
 use crate::explain::text::push_all;
 use crate::file::{PortName, Reactor};
 use crate::name::Name;
 use crate::named::is_same;
+use crate::role::Role;
 use serde_json::Value;
 use std::alloc::{AllocError, Global};
 
@@ -133,10 +134,11 @@ fn write_unknown(
 ) -> Result<(), AllocError> {
     let wanted = name.as_str();
     let of = reactor.name.as_str();
-    let words = role.words;
+    let kinds = kinds_of(role);
+    let words = kinds.words;
     write!(text, "\"{wanted}\" is no {words} of \"{of}\"")?;
     let mut nearest = Nearest::new(alloc, wanted);
-    compare_all(&mut nearest, reactor, role);
+    compare_all(&mut nearest, reactor, &kinds);
     nearest.write(text)
 }
 

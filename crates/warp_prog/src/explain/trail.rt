@@ -38,6 +38,8 @@ pub(crate) struct Trail<'f> {
 }
 
 impl<'f> Trail<'f> {
+    ghost use Rattle.std.specs.Prelude.{◌≡◌, true};
+
     /// The trail of a file in which no fault was found so far.
     pub(crate) fn new() -> Trail<'f> {
         Trail {
@@ -47,23 +49,37 @@ impl<'f> Trail<'f> {
     }
 
     /// Notes what is wrong at the part that is looked at. Always true: a fault was found.
-    pub(crate) fn fault(&mut self, reason: Reason<'f>) -> bool {
+    pub(crate) fn fault(&mut self, reason: Reason<'f>) -> bool
+        ensures { result ≡ true }
+    {
         self.reason = Some(reason);
         true
     }
 
     /// Notes what is wrong behind this segment. Always true.
-    pub(crate) fn fault_at(&mut self, segment: Segment, reason: Reason<'f>) -> bool {
+    pub(crate) fn fault_at(&mut self, segment: Segment, reason: Reason<'f>) -> bool
+        ensures { result ≡ true }
+    {
         self.reason = Some(reason);
         self.back(segment)
     }
 
     /// Adds the segment before those that are there, since a fault was found behind it. Always true.
-    pub(crate) fn back(&mut self, segment: Segment) -> bool {
+    pub(crate) fn back(&mut self, segment: Segment) -> bool
+        ensures { result ≡ true }
+    {
         if !self.segments.is_full() {
             self.segments.push(segment);
         }
         true
+    }
+
+    /// The same of the item at this place, from 0, of the list behind this segment.
+    pub(crate) fn back_to_item(&mut self, segment: Segment, place: usize) -> bool
+        ensures { result ≡ true }
+    {
+        self.back(Segment::Item(place));
+        self.back(segment)
     }
 
     /// What is wrong, if a fault was found.

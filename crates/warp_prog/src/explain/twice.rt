@@ -3,9 +3,10 @@
 use crate::backward::place;
 use crate::explain::reason::Reason;
 use crate::explain::trail::{Segment, Trail};
-use crate::file::{InputPart, LinkPart, PortName, ProgramFile, Reactor};
+use crate::file::{LinkPart, PortName, ProgramFile, Reactor};
 use crate::name::Name;
-use crate::named::{Named, is_among, is_same, is_startup};
+use crate::named::{Named, is_among, is_startup};
+use crate::numbered::place::place_among;
 use crate::twice::{Refers, is_same_port};
 
 /// What is wrong with a port to which something leads a second time.
@@ -19,8 +20,8 @@ pub(crate) fn once_fails<'f>(file: &'f ProgramFile, at: &mut Trail<'f>) -> bool 
             return at.back(Segment::Of("reactors", i));
         }
     }
-    links_fail(&file.links, at)
-        || inputs_fail(&file.links, &file.inputs, at)
+    targets_fail(&[], &file.links, "links", at)
+        || targets_fail(&file.links, &file.inputs, "inputs", at)
         || outputs_fail(&file.outputs, at)
 }
 
@@ -57,7 +58,7 @@ fn list_fails<'f, T: Named>(
             let reason = Reason::Plain("\"startup\" names the start, and nothing else");
             return at.fault_at(Segment::Of(key, i), reason);
         }
-        if is_in_lists(reactor, lists, name) || place_in(things, name) < i {
+        if is_in_lists(reactor, lists, name) || place_among(things, name) < i {
             return at.fault_at(
                 Segment::Of(key, i),
                 Reason::Named(name, "stands twice in its reactor"),
@@ -75,16 +76,6 @@ fn is_in_lists(reactor: &Reactor, lists: usize, name: &Name) -> bool {
         || (lists > 3 && is_among(&reactor.actions, name))
 }
 
-/// The place of the first of the things that has this name; how many there are where none has.
-fn place_in<T: Named>(things: &[T], name: &Name) -> usize {
-    for (i, thing) in things.iter().enumerate() {
-        if is_same(name, thing.name()) {
-            return i;
-        }
-    }
-    things.len()
-}
-
 /// The place of the first of the things that refers to this port; how many there are where none does.
 fn place_of<T: Refers>(things: &[T], port: &PortName) -> usize {
     for (i, thing) in things.iter().enumerate() {
@@ -95,23 +86,19 @@ fn place_of<T: Refers>(things: &[T], port: &PortName) -> usize {
     things.len()
 }
 
-/// Whether a link leads to a port to which one before it leads.
-fn links_fail<'f>(links: &'f [LinkPart], at: &mut Trail<'f>) -> bool {
-    for (i, link) in links.iter().enumerate() {
-        if place_of(links, &link.target) < i {
-            at.fault_at(Segment::Item(1), Reason::Port(&link.target, FED));
-            return at.back(Segment::Of("links", i));
-        }
-    }
-    false
-}
-
-/// Whether a program input leads to a port to which a link or one before it leads.
-fn inputs_fail<'f>(links: &'f [LinkPart], inputs: &'f [InputPart], at: &mut Trail<'f>) -> bool {
-    for (i, input) in inputs.iter().enumerate() {
-        if place_of(links, &input.port) < links.len() || place_of(inputs, &input.port) < i {
-            at.fault_at(Segment::Item(1), Reason::Port(&input.port, FED));
-            return at.back(Segment::Of("inputs", i));
+/// Whether one of these things, which stand under this key, leads to a port to which one of these links leads, or a
+/// thing before it.
+fn targets_fail<'f, T: Refers>(
+    links: &[LinkPart],
+    things: &'f [T],
+    key: &'static str,
+    at: &mut Trail<'f>,
+) -> bool {
+    for (i, thing) in things.iter().enumerate() {
+        let port = thing.port();
+        if place_of(links, port) < links.len() || place_of(things, port) < i {
+            at.fault_at(Segment::Item(1), Reason::Port(port, FED));
+            return at.back(Segment::Of(key, i));
         }
     }
     false

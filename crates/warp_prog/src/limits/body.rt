@@ -7,7 +7,7 @@ ghost use Rattle.warp_prog.specs.View.{term_tree, statement_tree};
 ghost use Rattle.warp_prog.specs.inner.Rule.{statements_tree};
 
 use crate::file::{Expression, Statement};
-use crate::limits::period_exceeds;
+use crate::limits::{is_outside, longest_period};
 use warp_tag::Form;
 
 /// How deep an expression may be, and a list of statements.
@@ -119,7 +119,7 @@ fn statement_delay_exceeds(statement: &Statement, form: Form) -> bool
 {
     match statement {
         Statement::Set(..) | Statement::Put(..) => false,
-        Statement::Schedule(_, delay, _) => period_exceeds(*delay, form),
+        Statement::Schedule(_, delay, _) => is_outside(*delay, 0, longest_period(form)),
         Statement::If(_, first, second) => {
             delay_exceeds(first, form) || delay_exceeds(second, form)
         }

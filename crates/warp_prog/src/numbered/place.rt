@@ -56,7 +56,7 @@ pub(crate) fn place_of<T: Named>(things: &[T], name: &Name) -> Option<usize>
 }
 
 /// The place of the first of these things that has this name, from 0; how many there are where none has.
-fn place_among<T: Named>(things: &[T], name: &Name) -> usize
+pub(crate) fn place_among<T: Named>(things: &[T], name: &Name) -> usize
     ensures place { result ≡ place_among (map T.called things.now) name.now }
     ensures within { result ≤ length things.now }
 {

@@ -5,7 +5,7 @@ use Rattle.warp_prog.specs.Backward.{is_backward}
 use Rattle.warp_prog.specs.View.{reactor_tree}
 use Rattle.warp_prog.proofs.backward.leads_back.Given as goal
 
-abbrev pub invariant-loop-link : goal.invariant-loop-link
-invariant-loop-link l =
-    list_any (is_backward (map reactor_tree l.file.reactors.items)) (drop l.link-index l.file.links.items)
+abbrev pub invariant-loop-i : goal.invariant-loop-i
+invariant-loop-i l =
+    list_any (is_backward (map reactor_tree l.file.reactors.items)) (drop l.i l.file.links.items)
     ≡ list_any (is_backward (map reactor_tree l.file.reactors.items)) l.file.links.items

@@ -4,6 +4,6 @@ use Rattle.std.specs.List.{list_any}
 use Rattle.warp_prog.specs.Limits.{action_exceeds}
 use Rattle.warp_prog.proofs.limits.any_action.Given as goal
 
-abbrev pub invariant-loop-action : goal.invariant-loop-action
-invariant-loop-action l =
-    list_any (action_exceeds l.form) (drop l.action-index l.actions) ≡ list_any (action_exceeds l.form) l.actions
+abbrev pub invariant-loop-i : goal.invariant-loop-i
+invariant-loop-i l =
+    list_any (action_exceeds l.form) (drop l.i l.actions) ≡ list_any (action_exceeds l.form) l.actions

@@ -5,7 +5,7 @@ use Rattle.warp_prog.specs.Limits.{origin_exceeds}
 use Rattle.warp_prog.specs.declared.file.InputPart.{InputPart}
 use Rattle.warp_prog.proofs.limits.any_input.Given as goal
 
-abbrev pub invariant-loop-input : goal.invariant-loop-input
-invariant-loop-input l =
-    list_any (λ (i : InputPart). origin_exceeds l.origins i.origin) (drop l.input-index l.inputs)
+abbrev pub invariant-loop-i : goal.invariant-loop-i
+invariant-loop-i l =
+    list_any (λ (i : InputPart). origin_exceeds l.origins i.origin) (drop l.i l.inputs)
     ≡ list_any (λ (i : InputPart). origin_exceeds l.origins i.origin) l.inputs

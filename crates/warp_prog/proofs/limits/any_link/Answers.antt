@@ -3,10 +3,10 @@ use Rattle.warp_prog.specs.Limits.{link_exceeds}
 use Rattle.warp_prog.proofs.Anys.{any_more, any_none}
 use Rattle.warp_prog.proofs.limits.any_link.Goals as goal
 
-pub loop-link-preserved : goal.loop-link-preserved
-loop-link-preserved c =
-    any_more (link_exceeds c.args.form) _ c.loop-link.link-index c.link-item.result c.loop-link-test.true c.link-item.is (sym c.link_exceeds.ensures ∙ c.if-link_exceeds.false)
-    ∙ c.loop-link.invariant
+pub loop-i-preserved : goal.loop-i-preserved
+loop-i-preserved c =
+    any_more (link_exceeds c.args.form) _ c.loop-i.i c.index-links-i.result c.loop-i-test.true c.index-links-i.is (sym c.link_exceeds.ensures ∙ c.if-link_exceeds.false)
+    ∙ c.loop-i.invariant
 
 pub returns : goal.returns
-returns c = sym (any_none (link_exceeds c.args.form) _ c.loop-link.link-index c.loop-link-test.false) ∙ c.loop-link.invariant
+returns c = sym (any_none (link_exceeds c.args.form) _ c.loop-i.i c.loop-i-test.false) ∙ c.loop-i.invariant

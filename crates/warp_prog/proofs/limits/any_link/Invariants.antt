@@ -4,6 +4,6 @@ use Rattle.std.specs.List.{list_any}
 use Rattle.warp_prog.specs.Limits.{link_exceeds}
 use Rattle.warp_prog.proofs.limits.any_link.Given as goal
 
-abbrev pub invariant-loop-link : goal.invariant-loop-link
-invariant-loop-link l =
-    list_any (link_exceeds l.form) (drop l.link-index l.links) ≡ list_any (link_exceeds l.form) l.links
+abbrev pub invariant-loop-i : goal.invariant-loop-i
+invariant-loop-i l =
+    list_any (link_exceeds l.form) (drop l.i l.links) ≡ list_any (link_exceeds l.form) l.links

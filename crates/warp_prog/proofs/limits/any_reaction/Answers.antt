@@ -5,4 +5,4 @@ use Rattle.warp_prog.proofs.Anys.{any_seen_none}
 use Rattle.warp_prog.proofs.limits.any_reaction.Goals as goal
 
 pub returns : goal.returns
-returns c = sym (any_seen_none (reaction_exceeds c.args.form) reaction_tree _ c.loop-reaction.reaction-index c.loop-reaction-test.false) ∙ c.loop-reaction.invariant
+returns c = sym (any_seen_none (reaction_exceeds c.args.form) reaction_tree _ c.loop-i.i c.loop-i-test.false) ∙ c.loop-i.invariant

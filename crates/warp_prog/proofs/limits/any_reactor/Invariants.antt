@@ -5,6 +5,6 @@ use Rattle.warp_prog.specs.Limits.{reactor_exceeds}
 use Rattle.warp_prog.specs.View.{reactor_tree}
 use Rattle.warp_prog.proofs.limits.any_reactor.Given as goal
 
-abbrev pub invariant-loop-reactor : goal.invariant-loop-reactor
-invariant-loop-reactor l =
-    list_any (reactor_exceeds l.form) (map reactor_tree (drop l.reactor-index l.reactors)) ≡ list_any (reactor_exceeds l.form) (map reactor_tree l.reactors)
+abbrev pub invariant-loop-i : goal.invariant-loop-i
+invariant-loop-i l =
+    list_any (reactor_exceeds l.form) (map reactor_tree (drop l.i l.reactors)) ≡ list_any (reactor_exceeds l.form) (map reactor_tree l.reactors)

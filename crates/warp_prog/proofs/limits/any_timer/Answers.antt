@@ -4,4 +4,4 @@ use Rattle.warp_prog.proofs.Anys.{any_none}
 use Rattle.warp_prog.proofs.limits.any_timer.Goals as goal
 
 pub returns : goal.returns
-returns c = sym (any_none (timer_exceeds c.args.form) _ c.loop-timer.timer-index c.loop-timer-test.false) ∙ c.loop-timer.invariant
+returns c = sym (any_none (timer_exceeds c.args.form) _ c.loop-i.i c.loop-i-test.false) ∙ c.loop-i.invariant

@@ -4,6 +4,6 @@ use Rattle.std.specs.List.{list_any}
 use Rattle.warp_prog.specs.Limits.{timer_exceeds}
 use Rattle.warp_prog.proofs.limits.any_timer.Given as goal
 
-abbrev pub invariant-loop-timer : goal.invariant-loop-timer
-invariant-loop-timer l =
-    list_any (timer_exceeds l.form) (drop l.timer-index l.timers) ≡ list_any (timer_exceeds l.form) l.timers
+abbrev pub invariant-loop-i : goal.invariant-loop-i
+invariant-loop-i l =
+    list_any (timer_exceeds l.form) (drop l.i l.timers) ≡ list_any (timer_exceeds l.form) l.timers

@@ -5,4 +5,4 @@ use Rattle.warp_prog.proofs.Anys.{any_none}
 use Rattle.warp_prog.proofs.names.any_link.Goals as goal
 
 pub returns : goal.returns
-returns c = sym (any_none (link_unknown (map reactor_tree c.args.reactors.now)) _ c.loop-link.link-index c.loop-link-test.false) ∙ c.loop-link.invariant
+returns c = sym (any_none (link_unknown (map reactor_tree c.args.reactors.now)) _ c.loop-i.i c.loop-i-test.false) ∙ c.loop-i.invariant

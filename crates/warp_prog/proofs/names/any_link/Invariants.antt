@@ -5,6 +5,6 @@ use Rattle.warp_prog.specs.Names.{link_unknown}
 use Rattle.warp_prog.specs.View.{reactor_tree}
 use Rattle.warp_prog.proofs.names.any_link.Given as goal
 
-abbrev pub invariant-loop-link : goal.invariant-loop-link
-invariant-loop-link l =
-    list_any (link_unknown (map reactor_tree l.reactors)) (drop l.link-index l.links) ≡ list_any (link_unknown (map reactor_tree l.reactors)) l.links
+abbrev pub invariant-loop-i : goal.invariant-loop-i
+invariant-loop-i l =
+    list_any (link_unknown (map reactor_tree l.reactors)) (drop l.i l.links) ≡ list_any (link_unknown (map reactor_tree l.reactors)) l.links

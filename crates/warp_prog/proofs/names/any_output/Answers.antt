@@ -1,13 +1,13 @@
-use Rattle.std.proofs.Common.{sym, ◌∙◌, map, not, ap}
+use Rattle.std.proofs.Common.{sym, ◌∙◌, map, not}
 use Rattle.warp_prog.specs.Names.{is_output}
 use Rattle.warp_prog.specs.View.{reactor_tree}
 use Rattle.warp_prog.proofs.Anys.{any_more, any_none}
 use Rattle.warp_prog.proofs.names.any_output.Goals as goal
 
-pub loop-port-preserved : goal.loop-port-preserved
-loop-port-preserved c =
-    any_more (λ p. not (is_output (map reactor_tree c.args.reactors.now) p)) _ c.loop-port.port-index c.port-item.result c.loop-port-test.true c.port-item.is (ap not (sym c.is_output.ensures ∙ c.if-not-is_output.false))
-    ∙ c.loop-port.invariant
+pub loop-i-preserved : goal.loop-i-preserved
+loop-i-preserved c =
+    any_more (λ p. not (is_output (map reactor_tree c.args.reactors.now) p)) _ c.loop-i.i c.index-outputs-i.result c.loop-i-test.true c.index-outputs-i.is (sym c.lacks_port.ensures ∙ c.if-lacks_port.false)
+    ∙ c.loop-i.invariant
 
 pub returns : goal.returns
-returns c = sym (any_none (λ p. not (is_output (map reactor_tree c.args.reactors.now) p)) _ c.loop-port.port-index c.loop-port-test.false) ∙ c.loop-port.invariant
+returns c = sym (any_none (λ p. not (is_output (map reactor_tree c.args.reactors.now) p)) _ c.loop-i.i c.loop-i-test.false) ∙ c.loop-i.invariant

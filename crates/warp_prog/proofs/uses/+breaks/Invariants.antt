@@ -4,6 +4,6 @@ use Rattle.warp_prog.specs.Uses.{body_uses}
 use Rattle.warp_prog.specs.inner.Rule.{breaks, statements_tree}
 use Rattle.warp_prog.proofs.uses.+breaks.Given as goal
 
-abbrev pub invariant-breaks-loop-statement : goal.invariant-breaks-loop-statement
-invariant-breaks-loop-statement l =
-    breaks l.rule (body_uses (statements_tree (drop l.statement-index l.body))) ≡ breaks l.rule (body_uses (statements_tree l.body))
+abbrev pub invariant-breaks-loop-i : goal.invariant-breaks-loop-i
+invariant-breaks-loop-i l =
+    breaks l.rule (body_uses (statements_tree (drop l.i l.body))) ≡ breaks l.rule (body_uses (statements_tree l.body))

@@ -1,26 +1,19 @@
 //! Where a body goes past a limit.
 
-use crate::explain::limits::range_fails;
 use crate::explain::reason::Reason;
 use crate::explain::trail::{Segment, Trail};
 use crate::file::{Expression, Statement};
-use crate::limits::body::{DEEPEST, MOST_WISHES, is_deeper_term, room_for_wishes};
-use crate::limits::longest_period;
+use crate::limits::body::{DEEPEST, MOST_WISHES, is_deeper_term};
+use crate::limits::{longest_period, range_exceeds};
 use warp_tag::Form;
 
-/// Whether a body goes past a limit.
-pub(crate) fn body_fails(body: &[Statement], form: Form, at: &mut Trail) -> bool {
-    if statements_fail(
-        body,
-        DEEPEST,
-        longest_period(form),
-        Segment::Key("body"),
-        at,
-    ) {
-        return true;
+/// Notes where a body goes past a limit.
+pub(crate) fn note_body(body: &[Statement], form: Form, at: &mut Trail) {
+    let longest = longest_period(form);
+    if !statements_fail(body, DEEPEST, longest, Segment::Key("body"), at) {
+        let reason = Reason::Many("\"schedule\"", MOST_WISHES);
+        at.fault_at(Segment::Key("body"), reason);
     }
-    let reason = Reason::Many("\"schedule\"", MOST_WISHES);
-    room_for_wishes(body, MOST_WISHES).is_none() && at.fault_at(Segment::Key("body"), reason)
 }
 
 /// Whether one of the statements does, whose lists may have so many levels, and their delays be so long. This segment
@@ -35,7 +28,7 @@ fn statements_fail(
 ) -> bool {
     for (i, statement) in body.iter().enumerate() {
         if statement_fails(statement, levels, longest, at) {
-            return at.back(Segment::Item(i)) && at.back(segment);
+            return at.back_to_item(segment, i);
         }
     }
     false
@@ -49,7 +42,7 @@ fn statement_fails(statement: &Statement, levels: usize, longest: i64, at: &mut 
     match statement {
         Statement::Set(_, term) | Statement::Put(_, term) => term_fails(term, 2, at),
         Statement::Schedule(_, delay, term) => {
-            range_fails(*delay, 0, longest, Segment::Item(2), at) || term_fails(term, 3, at)
+            range_exceeds(*delay, 0, longest, Segment::Item(2), at) || term_fails(term, 3, at)
         }
         Statement::If(test, first, second) => {
             term_fails(test, 1, at)

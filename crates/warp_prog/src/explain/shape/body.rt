@@ -73,7 +73,7 @@ pub(crate) fn body_fails<'v>(value: &'v Value, segment: Segment, at: &mut Trail<
 fn statements_fail<'v>(items: &'v [Value], segment: Segment, at: &mut Trail<'v>) -> bool {
     for (i, item) in items.iter().enumerate() {
         if statement_fails(item, at) {
-            return at.back(Segment::Item(i)) && at.back(segment);
+            return at.back_to_item(segment, i);
         }
     }
     false

@@ -10,6 +10,6 @@ use Rattle.warp_prog.proofs.explain.circle.circle_of.Goals as goal
 pub circle_in-requires : goal.circle_in-requires
 circle_in-requires c =
     let few =
-    few_parts (file_tree c.args.file.now) (program_of c.in_ok-parts.parts) c.in_ok-parts.ensures (sym c.exceeds_limits.ensures ∙ c.if-exceeds_limits.false) in
+    few_parts (file_tree c.args.file.now) (program_of c.in_ok-parts.parts) c.in_ok-parts.ensures (sym c.is_past_limits.ensures ∙ c.if-is_past_limits.false) in
     let size = length-map c.in_ok-parts.parts.reactions.items rule_of in
     omega (arith, few, size)

@@ -1,13 +1,13 @@
-//! What is asked of a name where it stands.
+//! The names that may have been meant where a name has not its role.
 
 use crate::explain::neighbour::Nearest;
 use crate::file::Reactor;
-use crate::name::Name;
-use crate::named::{Named, is_among, is_startup};
+use crate::named::Named;
+use crate::role::Role;
 
-/// What is asked of a name where it stands: which kinds of things it may stand for.
+/// The kinds of things for which a name may stand in a role.
 #[derive(Clone, Copy)]
-pub(crate) struct Role {
+pub(crate) struct Kinds {
     /// The kinds in words.
     pub words: &'static str,
     variables: bool,
@@ -17,7 +17,7 @@ pub(crate) struct Role {
     timers: bool,
 }
 
-const NOTHING: Role = Role {
+const NOTHING: Kinds = Kinds {
     words: "nothing",
     variables: false,
     inputs: false,
@@ -27,7 +27,7 @@ const NOTHING: Role = Role {
 };
 
 /// What triggers a reaction, or may be present.
-pub(crate) const CAUSE: Role = Role {
+const CAUSE: Kinds = Kinds {
     words: "input, action or timer",
     inputs: true,
     actions: true,
@@ -36,7 +36,7 @@ pub(crate) const CAUSE: Role = Role {
 };
 
 /// What an expression reads.
-pub(crate) const VALUE: Role = Role {
+const VALUE: Kinds = Kinds {
     words: "variable, input or action",
     variables: true,
     inputs: true,
@@ -45,28 +45,28 @@ pub(crate) const VALUE: Role = Role {
 };
 
 /// What a body sets.
-pub(crate) const VARIABLE: Role = Role {
+const VARIABLE: Kinds = Kinds {
     words: "variable",
     variables: true,
     ..NOTHING
 };
 
 /// What a body puts, and where a link begins.
-pub(crate) const OUTPUT: Role = Role {
+const OUTPUT: Kinds = Kinds {
     words: "output",
     outputs: true,
     ..NOTHING
 };
 
 /// What a body schedules.
-pub(crate) const ACTION: Role = Role {
+const ACTION: Kinds = Kinds {
     words: "action",
     actions: true,
     ..NOTHING
 };
 
 /// What a reaction writes.
-pub(crate) const WRITTEN: Role = Role {
+const WRITTEN: Kinds = Kinds {
     words: "output or action",
     outputs: true,
     actions: true,
@@ -74,29 +74,33 @@ pub(crate) const WRITTEN: Role = Role {
 };
 
 /// Where a link or a program input ends.
-pub(crate) const INPUT: Role = Role {
+const INPUT: Kinds = Kinds {
     words: "input",
     inputs: true,
     ..NOTHING
 };
 
-/// Whether a name stands for a thing of the reactor that the role asks.
-pub(crate) fn fits(reactor: &Reactor, role: Role, name: &Name) -> bool {
-    (role.variables && is_among(&reactor.variables, name))
-        || (role.inputs && is_among(&reactor.inputs, name))
-        || (role.outputs && is_among(&reactor.outputs, name))
-        || (role.actions && is_among(&reactor.actions, name))
-        || (role.timers && (is_among(&reactor.timers, name) || is_startup(name)))
+/// The kinds of a role.
+pub(crate) fn kinds_of(role: Role) -> Kinds {
+    match role {
+        Role::Value => VALUE,
+        Role::Cause => CAUSE,
+        Role::Variable => VARIABLE,
+        Role::Output => OUTPUT,
+        Role::Action => ACTION,
+        Role::Written => WRITTEN,
+        Role::Input => INPUT,
+    }
 }
 
-/// Compares a name with those of the reactor's things that the role asks.
-pub(crate) fn compare_all<'f>(nearest: &mut Nearest<'f>, reactor: &'f Reactor, role: Role) {
-    compare_each(nearest, role.variables, &reactor.variables);
-    compare_each(nearest, role.inputs, &reactor.inputs);
-    compare_each(nearest, role.outputs, &reactor.outputs);
-    compare_each(nearest, role.actions, &reactor.actions);
-    compare_each(nearest, role.timers, &reactor.timers);
-    if role.timers {
+/// Compares a name with those of the reactor's things of these kinds.
+pub(crate) fn compare_all<'f>(nearest: &mut Nearest<'f>, reactor: &'f Reactor, kinds: &Kinds) {
+    compare_each(nearest, kinds.variables, &reactor.variables);
+    compare_each(nearest, kinds.inputs, &reactor.inputs);
+    compare_each(nearest, kinds.outputs, &reactor.outputs);
+    compare_each(nearest, kinds.actions, &reactor.actions);
+    compare_each(nearest, kinds.timers, &reactor.timers);
+    if kinds.timers {
         nearest.compare("startup");
     }
 }

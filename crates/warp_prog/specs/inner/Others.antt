@@ -1,0 +1,13 @@
+-- The limits of a file without that of its version, which is looked at last: for the proof of that order alone.
+use Rattle.std.specs.Prelude.{pos, Bool, ◌||◌}
+use Rattle.warp_tag.specs.Limits.{longest_stop, most_origins}
+use Rattle.warp_prog.specs.File.{File}
+use Rattle.warp_prog.specs.Limits.{file_form, is_outside, lists_exceed, totals_exceed, parts_exceed}
+
+-- a stop or a number of origins outside its range
+abbrev pub ends_exceed : File → Bool
+ends_exceed f = is_outside (pos 0) (pos (longest_stop (file_form f))) f.stop || is_outside (pos 1) (pos (most_origins (file_form f))) f.origins
+
+-- a file that goes past one of these limits
+abbrev pub others_exceed : File → Bool
+others_exceed f = ends_exceed f || lists_exceed f || totals_exceed f.reactors || parts_exceed f
