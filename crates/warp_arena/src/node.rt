@@ -102,7 +102,7 @@ impl Cursor {
 
 /// The indices of a node's neighbours in a list, or `NO_NODE` at its ends. Where it stands for a list as a
 /// whole, `next` is the first node and `prev` the last.
-#[derive(Clone, Copy, Debug, PartialEq, Eq)]
+#[derive(Clone, Copy)]
 pub(crate) struct Links {
     pub next: u32,
     pub prev: u32,
@@ -133,7 +133,7 @@ pub(crate) struct Walk {
 }
 
 /// What the arena keeps of an origin: the ends of its list, and the node of it that was touched last, or `NO_NODE`.
-#[derive(Clone, Copy, Debug, PartialEq, Eq)]
+#[derive(Clone, Copy)]
 pub(crate) struct Origin {
     pub ends: Links,
     pub touched: u32,

@@ -86,8 +86,8 @@ fn most_origins(form: Form) -> i64
     form.most_origins() as i64
 }
 
-/// Whether a file goes past a limit: a number outside its range, too many things, or a body past its own limits. Whether
-/// its version is known is looked at last.
+/// Whether a file goes past a limit: a number outside its range, too many things, or a body past its own limits.
+/// Whether its version is known is looked at last.
 pub(crate) fn exceeds_limits(file: &ProgramFile, at: &mut Trail) -> bool
     ensures { result ≡ exceeds_limits (file_tree file.now) }
 {

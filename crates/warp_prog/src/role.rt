@@ -27,8 +27,8 @@ pub(crate) enum Role {
     Input,
 }
 
-/// Whether a name stands for a thing of the reactor that the role asks. Where things share a name, one of a kind that is
-/// asked is enough.
+/// Whether a name stands for a thing of the reactor that the role asks. Where things share a name, one of a kind that
+/// is asked is enough.
 pub(crate) fn fits(reactor: &Reactor, role: Role, name: &Name) -> bool
     ensures { result ≡ fits role (reactor_tree reactor.now) name.now }
 {

@@ -18,7 +18,7 @@ const PATIENCE: u32 = 8;
 const PAUSE: u32 = 16;
 
 /// Checkpoints that a rollback dropped, and the outputs of the rows between them.
-#[derive(Debug, Drop)]
+#[derive(Drop)]
 pub(crate) struct Aside {
     /// The earliest was put in last, and is the newest here.
     history: History,

@@ -19,7 +19,7 @@ const BLOCK: usize = 64;
 const FEW: usize = 4;
 
 /// How far a run is done.
-#[derive(Clone, Copy, Debug)]
+#[derive(Clone, Copy)]
 pub(crate) struct Done {
     /// How many rows.
     pub rows: usize,
@@ -56,7 +56,7 @@ impl Done {
 }
 
 /// One checkpoint: how far the run was, and of its state the loss and how many entries were pending.
-#[derive(Clone, Copy, Debug)]
+#[derive(Clone, Copy)]
 struct Mark {
     done: Done,
     pending: usize,
@@ -161,7 +161,7 @@ pub(crate) fn append<T: Copy>(list: &mut Vec<T>, items: &[T])
 ///
 /// Each has as many values of variables as the program has variables; the values of all stand in one list, and so do
 /// the pending entries. These two lists are filled up to their room, and counts say how much of them is in use.
-#[derive(Debug, Drop)]
+#[derive(Drop)]
 pub(crate) struct History {
     width: usize,
     marks: Vec<Mark>,

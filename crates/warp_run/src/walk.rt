@@ -33,7 +33,7 @@ pub(crate) fn free_behind(arena: &mut Arena, floor: Option<Tag>)
 }
 
 /// A live event of an arena's place.
-#[derive(Clone, Copy, Debug)]
+#[derive(Clone, Copy)]
 pub(crate) struct Live {
     /// Its place.
     pub node: NodeId,
@@ -43,7 +43,7 @@ pub(crate) struct Live {
 }
 
 /// A row that is next.
-#[derive(Clone, Copy, Debug)]
+#[derive(Clone, Copy)]
 pub(crate) enum Next {
     /// At the tag of the first live event after the last row.
     AtEvent(Live),
@@ -136,8 +136,8 @@ fn seek_event(arena: &Arena, cursor: Option<NodeId>, latest: &Option<Tag>) -> Op
     None
 }
 
-/// The first live event from the cursor on that is before the tag: mostly that of the first place, or none, since that place is not
-/// before it.
+/// The first live event from the cursor on that is before the tag: mostly that of the first place, or none, since that
+/// place is not before it.
 #[inline(always)]
 pub(crate) fn event_before(arena: &Arena, cursor: Option<NodeId>, tag: Tag) -> Option<Live>
     requires { (rest : List Place) × Reaches arena.now.places rest cursor }
@@ -169,7 +169,8 @@ fn later_before(arena: &Arena, node: NodeId, tag: Tag) -> Option<NodeId>
     Some(live.node)
 }
 
-/// The first live event from the cursor on that is before the tag, sought: the walk ends at the first place that is not.
+/// The first live event from the cursor on that is before the tag, sought: the walk ends at the first place that is
+/// not.
 #[inline(always)]
 fn seek_before(arena: &Arena, cursor: Option<NodeId>, tag: Tag) -> Option<Live>
     requires { (rest : List Place) × Reaches arena.now.places rest cursor }

@@ -211,8 +211,8 @@ impl Warp {
         rejoined
     }
 
-    /// The next row: at the next tag that waits, of a live event or a pending entry. No place is looked at that is behind the next
-    /// pending entry, but for the first.
+    /// The next row: at the next tag that waits, of a live event or a pending entry. No place is looked at that is
+    /// behind the next pending entry, but for the first.
     #[inline(always)]
     fn next_row(&self) -> Option<Next>
         requires { (m : Standing) × StandsFor self.now m }

@@ -1,3 +1,2 @@
 pub mod FaultlessWalks
 pub mod GivenArguments
-pub mod TaskRanges

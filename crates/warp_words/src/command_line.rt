@@ -218,7 +218,8 @@ struct Part {
     kind: Kind,
 }
 
-/// The texts of help. Functions without clauses give them: the proof of one with clauses pays for each byte of a text in it.
+/// The texts of help. Functions without clauses give them: the proof of one with clauses pays for each byte of a text
+/// in it.
 pub(crate) struct Help {
     pub(crate) about: &'static str,
     pub(crate) long_about: &'static str,

@@ -46,7 +46,8 @@ const TOTALS: &[Total] = &[
     },
 ];
 
-/// Notes the first reactor up to which there are too many things of a kind, where all together have too many. Always true.
+/// Notes the first reactor up to which there are too many things of a kind, where all together have too many. Always
+/// true.
 pub(crate) fn note_totals(reactors: &[Reactor], at: &mut Trail) -> bool
     ensures { result ≡ true }
 {
