@@ -26,14 +26,10 @@ pub(crate) fn account_of<F: Files>(
     ensures err { IfErr result (IsNone name.now) }
 {
     if name == "builtin:twice" {
-        let text = built_in_account(alloc, with_numbers)?;
-        return Ok(text);
+        return built_in_account(alloc, with_numbers);
     }
     match fs::open(files, name) {
-        Ok(file) => {
-            let text = file_account(alloc, file, with_numbers, remark)?;
-            Ok(text)
-        }
+        Ok(file) => file_account(alloc, file, with_numbers, remark),
         Err(error) => Err(without_file(&error, Outcome::NoProgram)),
     }
 }

@@ -1,10 +1,22 @@
--- There are as many peers as words that name them.
+-- What each job asks for is done. There are as many peers as words that name them.
 use Rattle.std.proofs.Common.{◌≡◌, ◌∙◌, length, map, sym}
 use Rattle.std.proofs.lemmas.List.{length-map}
 use Rattle.warpd.proofs.carry_out.Goals as goal
+
+pub returns-in-Run : goal.returns-in-Run
+returns-in-Run g c = rw c.in-Run.is c.run.ensures
+
+pub returns-in-Play : goal.returns-in-Play
+returns-in-Play g c = rw c.in-Play.is c.play.ensures
 
 pub returns-in-Serve : goal.returns-in-Serve
 returns-in-Serve g c =
     let peers = c.in-Serve.peers in
     let count : peers.len ≡ length (map (λ word. word.now) peers.items) = peers.ok.0 ∙ sym (length-map peers.items (λ word. word.now)) in
     rw (c.in-Serve.is, ← count) c.serve.ensures
+
+pub returns-in-Check : goal.returns-in-Check
+returns-in-Check g c = rw c.in-Check.is c.check.ensures
+
+pub returns-in-Trace : goal.returns-in-Trace
+returns-in-Trace g c = rw c.in-Trace.is c.trace.ensures
