@@ -19,7 +19,7 @@ pub record Contents : Type 0 where
   pub free : ℕ
   pub room : ℕ
 
--- the room where one more of so many nodes is to have a place: twice as much, and four at least, where none is left
+-- the room where one more of so many nodes is to have a place: where none is left twice as much, four more at least
 abbrev pub room_after : ℕ → ℕ → ℕ
 room_after nodes room = if nodes == room then room + max 4 room else room
 

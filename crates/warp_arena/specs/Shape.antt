@@ -1,4 +1,4 @@
--- The shape of an arena: how its links spell its lists. No public clause cites this module.
+-- The shape of an arena: how its links spell its lists. Public clauses cite `IsGap` alone.
 use Rattle.std.specs.Prelude.{not, ◌≡◌, ◌≢◌, true, IsSome, IsSomeAnd, ℕ, zero, suc, ◌+◌, ◌-◌, ◌<◌, ◌≤◌, ◌==◌, nat_lt, List, [], ◌∷◌, if◌then◌else◌, map, filter, length, slice_index_or}
 use Rattle.std.specs.List.{AllByRecursion}
 use Rattle.warp_tag.specs.Moment.{Moment}

@@ -70,7 +70,8 @@ impl Arena {
     ghost use Rattle.warp_tag.specs.declared.entry.Entry.{Entry};
     ghost use Rattle.warp_arena.specs.Places.{places_of, named, node_of, entry_of, first_node, last_node, Reaches};
     ghost use Rattle.warp_arena.specs.Places.{places_from, places_after, places_before, with_place, with_change};
-    ghost use Rattle.warp_arena.specs.Places.{with_free, places_past, places_through, IsBehindAll, IsOrdered, origin_of};
+    ghost use Rattle.warp_arena.specs.Places.{with_free, places_past, places_through, IsBehindAll, IsOrdered};
+    ghost use Rattle.warp_arena.specs.Places.{origin_of};
     ghost use Rattle.warp_arena.specs.Shape.{IsGap, last_not_after, IsAfter, IsBehind};
 
     /// An arena without entries, for origins below this number. The only error is want of memory.
@@ -93,7 +94,7 @@ impl Arena {
     }
 
     /// Makes sure that a node is free, so that one `insert` can follow. Where one is, nothing changes. Else it makes
-    /// one, and takes memory only where no room is left: for twice as many nodes as before, and for four at least.
+    /// one, and takes memory only where no room is left: for twice as many nodes as before, and four more at least.
     /// The only error is want of memory, where no node is free and no room is left; then all is as before.
     #[inline(always)]
     pub fn reserve_one(&mut self, _alloc: Global) -> Result<(), OutOfMemory>
@@ -159,7 +160,7 @@ impl Arena {
     }
 
     /// The handle of this name, which comes in where the arena does not hold it: what `find` answers, and else
-    /// `insert`.
+    /// `insert`. A node is free.
     #[inline(never)]
     pub fn enter(&mut self, origin: u32, tag: Tag) -> NodeId
         requires origin { origin < self.old.origins }

@@ -24,7 +24,7 @@ pub(crate) fn handle(index: u32) -> Option<NodeId>
 }
 
 /// Adds an unused node at the end, and takes memory only where there is no room for it: for twice as many nodes as
-/// there are, and for four at least. The only error is want of memory; then all is as before.
+/// there are, and four more at least. The only error is want of memory; then all is as before.
 pub(crate) fn add_node(nodes: &mut Vec<Node>) -> Result<(), OutOfMemory>
     ensures ok { OnOk result (nodes.new.items ≡ nodes.old.items ++ no_node ∷ []) }
     ensures err { OnErr result (nodes.new.items ≡ nodes.old.items) }
@@ -41,7 +41,7 @@ pub(crate) fn add_node(nodes: &mut Vec<Node>) -> Result<(), OutOfMemory>
 }
 
 /// Adds an unused node at the end, where there is no room for it, and takes memory first: for twice as many nodes, and
-/// for four at least. The only error is want of memory; then all is as before.
+/// four more at least. The only error is want of memory; then all is as before.
 #[inline(never)]
 fn add_with_room(nodes: &mut Vec<Node>) -> Result<(), OutOfMemory>
     requires { vec_capacity nodes.old ≡ length nodes.old.items }

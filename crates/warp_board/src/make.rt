@@ -11,8 +11,8 @@ use atomic_table::Table;
 use std::alloc::Global;
 use warp_tag::OutOfMemory;
 
-/// A board with room for so many rows, empty and not frozen, with its writer and a first reader. Every word, and the
-/// room of the writer's copy, is taken here.
+/// A board with room for so many rows, 1 to 4,096, empty and not frozen, with its writer and a first reader. Every
+/// word, and the room of the writer's copy, is taken here.
 pub fn board(alloc: Global, rows: usize) -> Result<(Board, Writer, Reader), OutOfMemory>
     requires least { 1 ≤ rows }
     requires most { rows ≤ most_rows }

@@ -9,7 +9,8 @@ use warp_tag::{Out, Tag};
 /// How many ports a row can name: 0 to 63.
 pub const PORTS: u32 = 64;
 
-/// The two words that spell the row: time * 65,536 + microstep * 256 + port, and the value's 64 bits.
+/// The two words that spell the row, whose port is 0 to 63: time * 65,536 + microstep * 256 + port, and the value's 64
+/// bits.
 pub fn spell_row(row: Out) -> (u64, u64)
     requires port { row.port < most_outputs }
     ensures { Spells row result.0 result.1 }

@@ -43,7 +43,7 @@ impl Model for Writer {
 }
 
 impl Writer {
-    /// Appends the row; `Full`, with nothing changed, exactly where the board has no room left.
+    /// Appends the row, whose port is 0 to 63; `Full`, with nothing changed, exactly where the board has no room left.
     pub fn append(&mut self, board: &Board, row: Out) -> Result<(), Full>
         requires board { self.old.board ≡ board.now }
         requires port { row.port < most_outputs }

@@ -72,7 +72,7 @@ binary_at-own Less = refl
 binary_at-own And = refl
 binary_at-own Or = refl
 
--- one node of an expression or a body: its kind, two places or operators that it names, and its number
+-- one node of an expression or a body: its kind, two numbers (of a place, its kind, an operator or a delay), and a number
 abbrev pub Mark : Type 0
 Mark = ℕ × (ℕ × (ℕ × ℤ))
 

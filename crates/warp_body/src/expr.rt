@@ -26,7 +26,7 @@ pub enum Expr {
     If(Box<Expr>, Box<Expr>, Box<Expr>),
 }
 
-/// The value of an expression.
+/// The value of an expression, whose places and variables are among these.
 pub fn eval(expr: &Expr, vars: &Vars, present: &Present) -> i64
     requires { IsTrue (term_fits (sizes_of vars.now present.now) (term_of expr.now)) }
     ensures { result ≡ value_of (term_of expr.now) vars.now present.now }

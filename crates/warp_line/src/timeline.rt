@@ -67,8 +67,8 @@ pub trait Timeline: Sized + Drop {
         ensures prepared { OnOk result (is_prepared self.new) }
         ensures again { is_prepared self.old → IsOk result };
 
-    /// Takes an event that is not behind: of several payloads of one name the greatest counts. Where no live event
-    /// changes, a settled value stays settled. The room of each list stays as it is.
+    /// Takes an event that the program takes and that is not behind: of several payloads of one name the greatest
+    /// counts. Where no live event changes, a settled value stays settled. The room of each list stays as it is.
     fn put(&mut self, origin: u32, tag: Tag, input: u32, value: i64)
         requires prepared { is_prepared self.old }
         requires ahead { is_behind (floor self.old) tag ≡ false }
@@ -81,8 +81,9 @@ pub trait Timeline: Sized + Drop {
         ensures floor { floor self.new ≡ floor self.old }
         ensures room { room self.new ≡ room self.old };
 
-    /// Takes a withdrawal that is not behind: no event of the name counts, whether it came before or comes later. Where
-    /// no live event changes, a settled value stays settled. The room of each list stays as it is.
+    /// Takes a withdrawal of a name that the program takes and that is not behind: no event of the name counts, whether
+    /// it came before or comes later. Where no live event changes, a settled value stays settled. The room of each list
+    /// stays as it is.
     fn withdraw(&mut self, origin: u32, tag: Tag)
         requires prepared { is_prepared self.old }
         requires ahead { is_behind (floor self.old) tag ≡ false }
@@ -116,25 +117,26 @@ pub trait Timeline: Sized + Drop {
         ensures idle { IsTrue (settled self.old) → IsOk result × (self.new ≡ self.old) ×
             (M.ticks meter.new ≡ M.ticks meter.old) };
 
-    /// Whether all rows are done.
+    /// Whether it is settled: then all rows are done. One that is not may have none left to do, as one just started.
     fn is_settled(&self) -> bool
         ensures value { result ≡ settled self.now }
         ensures whole { IsTrue result → (m : Standing) → stands_for self.now m → IsDone m };
 
-    /// The state after the last row: the start state if there is none.
+    /// The state after the last row: the start state if there is none. The value is settled.
     fn state(&self) -> &State
         requires { IsTrue (settled self.now) }
         ensures { (m : Standing) → stands_for self.now m → IsDone m ×
             (result.now ≡ state_at_end (start_state m.program) m.done) };
 
-    /// The outputs of all rows, in order.
+    /// The outputs of all rows, in order. The value is settled.
     fn outputs(&self) -> &[Out]
         requires { IsTrue (settled self.now) }
         ensures { (m : Standing) → stands_for self.now m → IsDone m × (result.now ≡ outputs_of m.done) };
 
-    /// Lets go of what is not needed for tags from `below` on: the caller says that nothing changes before it any
-    /// more. The floor stays or comes up to a tag before `below`: all but `SLACK` of the done rows before it are behind
-    /// then. It changes no answer, leaves the done rows as they are, and cannot fail. No list gets more room.
+    /// Lets go of what is not needed for tags from `below` on, of a settled value: the caller says that nothing changes
+    /// before it any more. The floor stays or comes up to a tag before `below`: all but `SLACK` of the done rows before
+    /// it are behind then. It changes no answer, leaves the done rows as they are, and cannot fail. No list gets more
+    /// room.
     fn collect(&mut self, below: Tag)
         requires { IsTrue (settled self.old) }
         ensures stands { (m : Standing) → stands_for self.old m → stands_for self.new m }

@@ -3,7 +3,8 @@
 //! `load` says which fault is the first. Here it is looked for a second time, with its place: a walk goes down the
 //! file, notes what is wrong, and on its way back each level adds its segment to the trail. So each function of a walk
 //! says whether it found a fault, and which and where stands in the trail then. For limits, names, links that lead back
-//! and uses that are not declared it is the walk of `load`; shape and what stands twice have one of their own here.
+//! and uses that are not declared it is the walk of `load`; shape, what stands twice, and reactions that wait for each
+//! other in a circle have one of their own here.
 
 mod account;
 mod circle;
@@ -41,7 +42,8 @@ use std::alloc::{AllocError, Global};
 const LONGEST_FILE: usize = 1_048_576;
 
 /// The place and the reason of the fault for which `load` refuses these bytes with this error, as one line with its
-/// line feed; empty where they have no such fault.
+/// line feed; empty where they have no such fault. A file that is too long, no JSON text or not of the shape is told
+/// as that, whatever the error.
 ///
 /// # Errors
 ///

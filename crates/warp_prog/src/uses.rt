@@ -1,4 +1,4 @@
-//! What a body does with names: one walk for each test of its uses.
+//! What a body does with names: one walk for both tests of its uses.
 ghost use Rattle.std.specs.Prelude.{◌≡◌, not};
 ghost use Rattle.warp_prog.specs.Uses.{term_uses, statement_uses, body_uses};
 ghost use Rattle.warp_prog.specs.View.{term_tree, statement_tree};

@@ -1,5 +1,5 @@
-//! Laws of spellings: each line, record and reply has one, none is the front of another, and the wider form has all of
-//! the other's.
+//! Laws of spellings: each line, record and reply has one, none with its line feed begins another with its line feed,
+//! and the wider form has all of the other's.
 ghost use Rattle.std.specs.Prelude.{◌≡◌, ℕ, List, [], ◌∷◌, ◌++◌};
 ghost use Rattle.warp_tag.specs.Limits.{widest};
 ghost use Rattle.warp_tag.specs.Lists.{StartsWith};

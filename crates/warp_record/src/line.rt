@@ -75,7 +75,7 @@ pub(crate) const ROW: &[u8] = b"row";
 /// A look at the board, where there is one.
 #[derive(Clone, Copy, Debug, PartialEq, Eq)]
 pub enum Look {
-    /// `board`: how many rows are released, and whether the board is frozen.
+    /// `board`: how many rows the board has, and whether it is frozen.
     Board,
     /// `row I`: the row with this number, from 0.
     Row(u32),

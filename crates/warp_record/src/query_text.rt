@@ -1,4 +1,4 @@
-//! Queries, each read off its text in one pass over the bytes.
+//! The lines beside records that clients send most, each read off its text in one pass over the bytes.
 ghost use Rattle.std.specs.Prelude.{◌≡◌, ℕ, ◌≤◌, [], ◌∷◌, List, IfSome, IfNone, codes, decimal};
 ghost use Rattle.std.specs.List.{slice_split};
 ghost use Rattle.warp_tag.specs.Limits.{last_number};

@@ -50,7 +50,8 @@ pub enum Refusal {
     Syntax,
     /// 2: the program has no such origin.
     NoOrigin,
-    /// 3: the tag is later than the program's stop.
+    /// 3: the tag is past the program's stop, or past the last microstep of its times. An announcement's may be the
+    /// first tag behind the stop.
     PastStop,
     /// 4: the program has no such input.
     NoInput,
@@ -126,7 +127,7 @@ pub enum Reply {
         /// How much.
         count: u64,
     },
-    /// `breach N B`: whether an origin said too little in an announcement, 0 or 1.
+    /// `breach N B`: whether an origin broke an announcement of its own, 0 or 1.
     Breach {
         /// The length of the log at which the answer was given.
         log: u32,
@@ -140,7 +141,7 @@ pub enum Reply {
         /// The record.
         record: Record,
     },
-    /// `collected N`: what no later record can change was given up.
+    /// `collected N`: all is executed, and what is not needed before the horizon was let go of.
     Collected {
         /// The length of the log at which the answer was given.
         log: u32,

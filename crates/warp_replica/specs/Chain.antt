@@ -19,7 +19,7 @@ pub record Taking (T : Type 0) : Type 0 where
   pub result : Result Took Refusal
   pub after : ReplicaState T
 
--- what taking a record does: the clauses of `Replica::take`
+-- what taking a record does: those clauses of `Replica::take` that speak of the records, the done rows and the floor
 pub record TakesIn {T : Type 0} (stands_for : T → Standing → Type 0) (floor : T → Option Moment) (slack drops : ℕ)
     (r : ReplicaState T) (taking : Taking T) : Type 0 where
   pub takes : Takes r.program r.records taking.said taking.result taking.after.records

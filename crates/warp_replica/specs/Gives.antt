@@ -33,7 +33,7 @@ tag_of (Announce origin tag events withdrawn) = tag
 abbrev pub IsNew : Program → List Record → Record → Type 0
 IsNew P records said = (refusal_of P said ≡ None) × (¬ Contains records said)
 
--- why a new record may not come in: the log is full, or no memory was to be had for one more
+-- why a new record may not come in: the log is full; or it is not, and want of memory is told
 abbrev pub LacksRoom : List Record → Refusal → Type 0
 LacksRoom records LogFull = length records ≡ most_records
 LacksRoom records NoMemory = length records < most_records
@@ -95,7 +95,7 @@ GivesQuery P records asked answer =
     (a : Answers) × AreAnswers P (set_of records) a × (answer ≡ reply_to P records a asked)
 
 -- On this log of this program the line may give this reply, and leave this log. Want of memory may stand before any
--- query, and before collecting. There is no board here.
+-- query, before collecting, and where a new record would be taken. There is no board here.
 abbrev pub Gives : Program → List Record → Line → Reply → List Record → Type 0
 Gives P records (line.Put said) answer records' =
     (result : Result Took Refusal) × Takes P records said result records' × (answer ≡ told result)

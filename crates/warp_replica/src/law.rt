@@ -1,4 +1,5 @@
-//! Laws: what a query gives follows from the set of the records, whatever the order and repeats of taking.
+//! Laws: what a query gives, but for one that asks for a place of the log, follows from the set of the records,
+//! whatever the order and repeats of taking.
 ghost use Rattle.std.specs.Prelude.{◌≡◌, ◌≢◌, ◌≤◌, ◌<◌, ◌⊎◌, ◌++◌, ◌∷◌, [], ℕ, List, length, Option, Some, None};
 ghost use Rattle.std.specs.Prelude.{Result, Err};
 ghost use Rattle.warp_tag.specs.Limits.{most_records};

@@ -1,10 +1,11 @@
 //! A replica: a program, the records that it took, and the run over them.
 //!
 //! `Replica` takes records, settles its timeline and answers queries; contracts see its program, the list of its
-//! records and the timeline. `Local` is a replica without peers as a desk, which answers lines. What a query gives
-//! follows from the set of the records (`one_answer`, `same_replies`). While no origin breaks an announcement, what was
-//! released stays (`released_stays`, `released_agree`). A replica raised to version 2 answers as before where nothing
-//! was lost (`raised_replies`). What settling costs after records came is bounded (`rework_after_takes`).
+//! records and the timeline. `Local` is a replica without peers as a desk, which answers lines. What a query gives,
+//! but for one that asks for a place of the log, follows from the set of the records (`one_answer`, `same_replies`).
+//! While no origin breaks an announcement, what was released stays (`released_stays`, `released_agree`). A replica
+//! raised to version 2 answers as before where nothing was lost (`raised_replies`). What settling costs after records
+//! came is bounded (`rework_after_takes`).
 #![tactic(auto)]
 
 mod anew;

@@ -54,7 +54,7 @@ pub record IsAtLeast (least room : Room) : Type 0 where
   pub values : least.values ≤ room.values
   pub entries : least.entries ≤ room.entries
 
--- after how many rows a checkpoint stands
+-- after how many rows at most a checkpoint stands
 abbrev pub spacing : ℕ
 spacing = 16
 

@@ -64,7 +64,7 @@ pub record CanGive (P : Program) (tag : Moment) (X : List Given) : Type 0 where
 abbrev pub AreFew : Program → List Event → Type 0
 AreFew P E = (rows : List Row) → Begin P E rows → length rows ≤ most_names
 
--- more rows are executed, and the floor stays
+-- the same rows are executed, and more or none behind them, and the floor stays
 pub record ExecutesMore (x y : Tip) : Type 0 where
   pub floor : y.floor ≡ x.floor
   pub rows : (P : Program) (E : List Event) (done : List Row) → HasExecuted P E x done

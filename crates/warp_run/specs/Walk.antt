@@ -74,7 +74,8 @@ FindsPlaceBefore places rest tag found =
     MatchOption found (AreNotBefore tag (live_of rest))
     (λ node. (l : Live) × IsFound places rest l × (is_before l.tag tag ≡ true) × (l.node ≡ node))
 
--- what these places give at the event's tag is what it gives, and then what the places after its own give
+-- what these places give up to the event's tag is what it gives, and then what the places after its own give up to it;
+-- and behind that tag both have the same places
 pub record IsAhead (places rest : List Place) (l : Live) : Type 0 where
   pub used : IsSome (entry_of l.node places)
   pub given : given_by (through l.tag rest) ≡ l.given ∷ given_by (through l.tag (places_after l.node places))
@@ -85,7 +86,7 @@ abbrev pub tag_of_next : Next → Moment
 tag_of_next (AtEvent l) = l.tag
 tag_of_next (AtEntry tag) = tag
 
--- where the row is of an event, it is the first live event of these places
+-- where the row is of an event, what these places give up to its tag begins with what it gives
 abbrev pub IsAtFirst : List Place → List Place → Next → Type 0
 IsAtFirst places rest (AtEvent l) = IsAhead places rest l
 IsAtFirst places rest (AtEntry tag) = Unit {0}

@@ -23,9 +23,9 @@ floor_of w = w.tip.floor
 abbrev pub ahead_of : Option Moment → List Entry → List Entry
 ahead_of floor entries = filter (λ e. is_after floor e.tag) entries
 
--- The program is valid; the table is sorted, with events that the program takes, and the arena holds what is not
--- behind; what is executed are the done rows; the cursor is at the first place after the last of them; and no live
--- event is after the latest tag.
+-- The program is valid, and the arena has its origins; the table is sorted, with events that the program takes, and the
+-- arena holds what is not behind; what is executed are the done rows; the cursor is at the first place after the last
+-- of them; no live event is after the latest tag; and where it is settled, all rows are done.
 pub record StandsFor (w : Warp) (m : Standing) : Type 0 where
   pub program : IsTrue (is_valid m.program)
   pub origins : w.arena.origins ≡ m.program.origins
@@ -67,8 +67,8 @@ pub record ChangedFrom (was : Entry) (change : Entry → Entry) (old new : Warp)
 abbrev pub latest_with : Moment → Option Moment → Option Moment
 latest_with tag latest = if is_after latest tag then Some tag else latest
 
--- the room of its lists, but the arena's of origins and hints: the arena's nodes, those of what is executed, those of what is aside, and that of what is
--- given to a step
+-- the room of some lists: the arena's nodes, those of what is executed and of what is aside, and what is given to a
+-- step; not that of the arena's origins and hints, of a state's variables, or of the scratch
 abbrev pub room_in : Warp → List ℕ
 room_in w =
     w.arena.room

@@ -324,8 +324,8 @@ impl Tip {
             HasExecuted P E self.new done }
         ensures floor { (P : Program) (E : List Event) (done : List Row) → HasExecuted P E self.old done →
             MovesFloor below self.old.floor self.new.floor }
-        ensures behind { (P : Program) (E : List Event) (done : List Row) → HasExecuted P E self.old done → Run P E done →
-            rows_before below done ≤ rows_behind self.new.floor done + spacing }
+        ensures behind { (P : Program) (E : List Event) (done : List Row) → HasExecuted P E self.old done →
+            Run P E done → rows_before below done ≤ rows_behind self.new.floor done + spacing }
         ensures room { KeepsRoom self.old self.new }
     {
         self.aside.clear();
@@ -356,7 +356,8 @@ impl Tip {
     /// the last row is let go. An `Err` comes behind the rows that are gone over.
     #[inline(never)]
     pub fn rejoin(&mut self) -> Result<(), OutOfMemory>
-        requires at { (P : Program) × (E : List Event) × (done : List Row) × HasExecuted P E self.old done × AreFew P E }
+        requires at { (P : Program) × (E : List Event) × (done : List Row) ×
+            HasExecuted P E self.old done × AreFew P E }
         ensures { ExecutesMore self.old self.new }
     {
         let Some(last) = self.last else {
@@ -370,7 +371,8 @@ impl Tip {
 
     /// Goes on from the earliest checkpoint that is aside to the next one, if there is one.
     fn jump(&mut self) -> Result<bool, OutOfMemory>
-        requires at { (P : Program) × (E : List Event) × (done : List Row) × HasExecuted P E self.old done × AreFew P E }
+        requires at { (P : Program) × (E : List Event) × (done : List Row) ×
+            HasExecuted P E self.old done × AreFew P E }
         requires met { IsMet self.old.last self.old.state self.old.aside.history.saves }
         ensures on { ExecutesMore self.old self.new }
         ensures met { IfOk result

@@ -141,7 +141,8 @@ fn seek_event(arena: &Arena, cursor: Option<NodeId>, latest: &Option<Tag>) -> Op
 #[inline(always)]
 pub(crate) fn event_before(arena: &Arena, cursor: Option<NodeId>, tag: Tag) -> Option<Live>
     requires { (rest : List Place) × Reaches arena.now.places rest cursor }
-    ensures { (rest : List Place) → Reaches arena.now.places rest cursor → FindsBefore arena.now.places rest tag result }
+    ensures { (rest : List Place) →
+        Reaches arena.now.places rest cursor → FindsBefore arena.now.places rest tag result }
 {
     arena.ordered();
     let node = cursor?;
@@ -174,7 +175,8 @@ fn later_before(arena: &Arena, node: NodeId, tag: Tag) -> Option<NodeId>
 #[inline(always)]
 fn seek_before(arena: &Arena, cursor: Option<NodeId>, tag: Tag) -> Option<Live>
     requires { (rest : List Place) × Reaches arena.now.places rest cursor }
-    ensures { (rest : List Place) → Reaches arena.now.places rest cursor → FindsBefore arena.now.places rest tag result }
+    ensures { (rest : List Place) →
+        Reaches arena.now.places rest cursor → FindsBefore arena.now.places rest tag result }
 {
     arena.ordered();
     let mut at = cursor;

@@ -36,7 +36,7 @@ link_code =
 abbrev pub input_code : Coded ProgramInput
 input_code = code_by (ℕ × ℕ) (coded× coded_ℕ coded_ℕ) (λ i. (i.origin, i.port)) (λ p. record { origin = p.0; port = p.1 }) (λ _. refl)
 
--- lists of targets, and a body
+-- the number of a reactor, three lists of targets, and a body
 abbrev pub RuleParts : Type 0
 RuleParts = ℕ × (List Target × (List Target × (List Target × Body)))
 

@@ -85,7 +85,7 @@ input_fits P i = nat_lt i.origin P.origins && has P.ports i.port (λ p. p.is_inp
 abbrev pub fed : Program → List ℕ
 fed P = map (λ l. l.target) P.links ++ map (λ i. i.port) P.inputs
 
--- stop and counts are within the limits of its form
+-- stop and counts are within the limits of its form, with one origin at least; there may be no reactor
 abbrev pub is_within_limits : Program → Bool
 is_within_limits P =
     (nat_le P.stop (longest_stop P.form) && nat_le 1 P.origins && nat_le P.origins (most_origins P.form))
@@ -100,8 +100,8 @@ have_reactors P =
     && list_all (λ a. nat_lt a.reactor P.reactors && nat_le a.delay (longest_period P.form)) P.actions
     && list_all (λ t. nat_lt t.reactor P.reactors && nat_le t.offset (longest_period P.form) && nat_le t.period (longest_period P.form)) P.timers
 
--- a program: within the limits; reactions in the order of their reactors; all that is named is there and may be named; one
--- source for each input port; each port once among the outputs; and the order of its reactions is one that they may run in
+-- a program: within the limits; reactions in the order of their reactors; all that is named is there and may be named;
+-- no input port has two sources; no port stands twice among the outputs; and its order is one that they may run in
 abbrev pub is_valid : Program → Bool
 is_valid P =
     is_within_limits P && have_reactors P

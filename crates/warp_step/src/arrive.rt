@@ -1,5 +1,5 @@
-//! What is present at a tag before the reactions run: the entries that are pending there, and what is given. The timers
-//! among the entries are made pending again.
+//! What is present at a tag before the reactions run: the entries that are pending there, and what is given. Those
+//! timers among the entries that have a period are made pending again.
 ghost use Rattle.std.specs.Prelude.{◌≡◌, ◌<◌, ◌≤◌, ◌∷◌, IsTrue, List, false, not};
 ghost use Rattle.std.specs.Prelude.{length, map, take, drop, filter, slice_get};
 ghost use Rattle.std.specs.Option.{option_map_or};

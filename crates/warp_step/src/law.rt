@@ -44,8 +44,8 @@ pub fn outputs_begin()
         outputs_until end (outputs_of trace) ≡ take (length (outputs_until end (outputs_of trace))) (outputs_of trace) }
 {}
 
-/// A law: where each link without delay leads to a later reactor, and reactions stand in the order of their reactors,
-/// the order of the file is one that they may run in.
+/// A law: where each link without delay leads to a later reactor, and reactions fit and stand in the order of their
+/// reactors, the order of the file is one that they may run in.
 pub fn file_order_is_admissible()
     ensures { (P : Program) → IsTrue (list_all (rule_fits P) P.reactions) →
         IsTrue (is_rising (map (λ r. r.reactor) P.reactions)) →

@@ -122,9 +122,12 @@ fn empty_wishes(alloc: Global, count: usize) -> Result<Vec<Wishes>, OutOfMemory>
 /// One step of a program at a tag, with what is given there. The room of `out` stays as it is, and the meter ticks
 /// once.
 ///
-/// The state and the scratch are of this program, and `out` has room for each program output. What is pending at the
-/// tag and what is given is present; timers repeat; the triggered reactions run; their wishes, and what links with a
-/// delay deliver, are entered; and each program output that is present is appended.
+/// The state and the scratch are of this program, and `out` has room for each program output. The tag is not past the
+/// stop or the last microstep, nothing is pending before it, and something is pending at it or is given: inputs of the
+/// program, none twice.
+///
+/// What is pending at the tag and what is given is present; timers repeat; the triggered reactions run; their wishes,
+/// and what links with a delay deliver, are entered; and each program output that is present is appended.
 #[inline(always)]
 pub fn step<M: Meter>(
     program: &Program,

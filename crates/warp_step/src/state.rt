@@ -146,8 +146,8 @@ impl State {
         })
     }
 
-    /// Becomes the state with these values of the variables, by number, these pending entries, at most 256 and in
-    /// order, and this loss.
+    /// Becomes the state with these values of the variables, by number, as many as it has, these pending entries, at
+    /// most 256 and in order, and this loss.
     pub fn restore(&mut self, values: &[i64], entries: &[Waiting], lost: u64)
         requires vars { length values.now ≡ length self.old.vars }
         requires few { length entries.now ≤ most_pending }

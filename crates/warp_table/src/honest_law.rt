@@ -15,7 +15,7 @@ pub fn honest_within()
     ensures { (S U : Records) → IsHonest U → IsWithin S U → IsHonest S }
 {}
 
-/// A set has one horizon.
+/// A set has at most one horizon.
 pub fn one_horizon()
     ensures { (P : Program) (S : Records) (a b : Moment) → IsHorizon P S a → IsHorizon P S b → a ≡ b }
 {}

@@ -18,7 +18,7 @@ pub fn one_set()
     ensures { (a b : List Record) → ((said : Record) → Contains a said ↔ Contains b said) → set_of a ≡ set_of b }
 {}
 
-/// A set has one size.
+/// A set has at most one size.
 pub fn one_size()
     ensures { (S : Records) (m n : ℕ) → HasSize S m → HasSize S n → m ≡ n }
 {}
@@ -43,7 +43,7 @@ pub fn known_by_set()
         Tells (set_of records) origin tag (known origin tag (table_of records)) }
 {}
 
-/// A set tells one thing of a name.
+/// A set tells at most one thing of a name.
 pub fn told_once()
     ensures { (S : Records) (origin : ℕ) (tag : Moment) (a b : Option Entry) → Tells S origin tag a →
         Tells S origin tag b → a ≡ b }
@@ -59,7 +59,7 @@ pub fn live_by_set()
     ensures { (records : List Record) → IsLive (set_of records) (live (table_of records)) }
 {}
 
-/// A set has one list of live events.
+/// A set has at most one list of live events.
 pub fn live_once()
     ensures { (S : Records) (D E : List Event) → IsLive S D → IsLive S E → D ≡ E }
 {}

@@ -88,7 +88,8 @@ impl Table {
     ghost use Rattle.warp_table.specs.Log.{EachOnce, IsAt};
 
     /// Whether the program takes such a record, and else the first reason why not: no such origin, past its stop or the
-    /// last microstep of its times, no such input, an input of another origin.
+    /// last microstep of its times, no such input, an input of another origin. An announcement's tag may be the first
+    /// one behind the stop.
     #[inline(always)]
     pub fn check(program: &Program, record: &Record) -> Result<(), Refusal>
         ensures { MatchResult result (λ _. refusal_of program.now «record».now ≡ None)
@@ -144,7 +145,8 @@ impl Table {
     }
 
     /// Adds a record where it is not there yet, notes what it says of its name and to its origin, and tells its place
-    /// and whether it is new. A record that was there stays in its place. An `Err` changes nothing.
+    /// and whether it is new. A record that was there stays in its place. An `Err` changes nothing. The table is not
+    /// full, and the origin is one of the wider form.
     #[inline(always)]
     pub fn add(&mut self, record: &Record) -> Result<Added, OutOfMemory>
         requires room { length self.old < most_records }

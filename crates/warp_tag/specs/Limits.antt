@@ -1,4 +1,4 @@
--- The limits: each number once. Those that a version widens are by form, with a column for each. The code's constants are
+-- The limits: each number once. Those that a version widens are by form, with a line for each. The code's constants are
 -- tied to them by the contracts that cite these names.
 use Rattle.std.specs.Prelude.{ℕ}
 use Rattle.warp_tag.specs.declared.form.Form.{Form}
@@ -28,7 +28,7 @@ abbrev pub longest_period : Form → ℕ
 longest_period One = 1000000
 longest_period Two = 10000000
 
--- the longest delay that lands: two delays of a program, added
+-- the longest delay of which is asked where it lands: two delays of a program, added
 abbrev pub longest_delay : Form → ℕ
 longest_delay One = 2000000
 longest_delay Two = 20000000

@@ -2,7 +2,7 @@
 //!
 //! A tag is a time and a microstep, in lexicographic order (Lohstroh et al. 2021, "superdense time").
 //! Contracts see a `Tag` as its `Moment`. Each `Tag` is in range by its type. An `Entry` is what is known of one name
-//! (origin, tag) of a table. The limits of all crates stand in `specs/Limits.antt`.
+//! (origin, tag) of a table. The limits that several crates share stand in `specs/Limits.antt`.
 #![tactic(auto)]
 
 mod entry;

@@ -150,7 +150,8 @@ impl Tag {
     }
 
     /// Where a delay lands from this tag in a program with this stop and this last microstep: at the later time with
-    /// microstep 0, or, for no delay, at the next microstep (Lohstroh et al. 2021).
+    /// microstep 0, or, for no delay, at the next microstep (Lohstroh et al. 2021). The tag is not past them, and the
+    /// delay is at most `MAX_DELAY`.
     pub fn after(self, delay: u64, stop: u64, top: u32) -> Landing
         requires delay { delay ≤ longest_delay widest }
         requires stop { stop ≤ longest_stop widest }

@@ -10,10 +10,10 @@ first K connections. Each is a session as `warpd run` has one: every line that i
 sends is answered with one line, in order, up to the end of what it sends. Standard input is
 not read.
 
-All sessions share one replica. What any client was told, but by board and row, happened before
-every line that is sent after it, by any client. A session that waits, fails or breaks off
-disturbs no other: a client that doesn't read its replies waits alone. Connections past the K
-sessions get no byte.
+All sessions share one replica. What any client was told happened before every line that is sent
+after it, by any client: the log's length and the board's count and flag never fall. A session
+that waits, fails or breaks off disturbs no other: a client that doesn't read its replies waits
+alone. Connections past the K sessions get no byte.
 
 The lines are those of `warpd run --help`, and two that look at the board of released outputs
 without asking the replica:

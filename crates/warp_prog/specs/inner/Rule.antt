@@ -23,7 +23,8 @@ fits role.Action r name = is_among (action_names r) name
 fits role.Written r name = is_written r name
 fits role.Input r name = is_among r.inputs name
 
--- whether a reaction declares what a body does with a name in this role; the others of a role need no declaration
+-- whether a reaction declares what a body does with a name in this role; true of a variable that is read or set, and in
+-- the roles that no body uses
 abbrev pub declares : Role → ReactorPart → ReactionPart → Word → Bool
 declares role.Value r n name = is_among (variable_names r) name || may_read n name
 declares role.Cause r n name = may_read n name

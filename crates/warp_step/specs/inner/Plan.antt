@@ -132,7 +132,7 @@ marks_of P places =
     (with_watchers link_heeds (first_link P) sources places 0 P.links
     (with_watchers reaction_heeds first_reaction sources places 0 (in_turn P) no_marks))
 
--- the rule may have wishes, as its body schedules something
+-- the rule may have wishes: its body schedules something, or does not fit the program
 abbrev pub may_wish : Program → Rule → Bool
 may_wish P rule = not (body_fits (program_sizes P) rule.body && nat_le (schedules_of rule.body) 0)
 

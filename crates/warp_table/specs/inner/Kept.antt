@@ -137,7 +137,8 @@ abbrev pub counts_less : Option (ℕ × ℤ) → ℕ × ℤ → Bool
 counts_less None payload = false
 counts_less (Some p) payload = is_lesser p payload
 
--- the event at the place that is kept, and a new one with this payload
+-- of the event at the place that is kept and a new one with this payload: the one that does not count, with its place,
+-- and the place of the one that does
 abbrev pub parted_of : List Record → ℕ → Record → ℕ × ℤ → Parted
 parted_of records kept said payload =
     if counts_less (payload_at records kept) payload
