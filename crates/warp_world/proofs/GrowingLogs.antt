@@ -66,14 +66,14 @@ follows_fold P w (m ∷ moves) =
     follows_on w (happens P w m) (fold (happens P) (happens P w m) moves) (follows_happens P w m) (follows_fold P (happens P w m) moves)
 
 -- a log that was put in the place of another is there
-set_at_same : {X : Type 0} (xs : List X) (i : ℕ) (x y : X) → slice_get xs i ≡ Some x → slice_get (set xs i y) i ≡ Some y
+pub set_at_same : {X : Type 0} (xs : List X) (i : ℕ) (x y : X) → slice_get xs i ≡ Some x → slice_get (set xs i y) i ≡ Some y
 set_at_same xs i x y at =
     let within = slice_get_within xs i x at in
     let size = length-set xs i y in
     slice_get-get_or (set xs i y) i y (omega (arith, within, size)) ∙ ap Some (get_or-set_same xs i y y within)
 
 -- and the others stay
-set_at_other : {X : Type 0} (xs : List X) (i j : ℕ) (x y : X) → j ≢ i → slice_get xs j ≡ Some x → slice_get (set xs i y) j ≡ Some x
+pub set_at_other : {X : Type 0} (xs : List X) (i j : ℕ) (x y : X) → j ≢ i → slice_get xs j ≡ Some x → slice_get (set xs i y) j ≡ Some x
 set_at_other xs i j x y apart at =
     let within = slice_get_within xs j x at in
     let size = length-set xs i y in

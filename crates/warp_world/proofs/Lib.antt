@@ -4,6 +4,8 @@ pub mod Playing
 pub mod SoundLogs
 pub mod GrowingLogs
 pub mod LogEntries
+pub mod LineMoves
+pub mod LineRecords
 pub mod MoveWords
 pub mod MoveReadings
 pub mod ScheduleLines

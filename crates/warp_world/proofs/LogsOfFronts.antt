@@ -20,7 +20,7 @@ use Rattle.warp_world.proofs.GrowingLogs.{follows_fold, front_fold}
 use Rattle.warp_world.proofs.SoundLogs.{All_at, IsSoundLog, sound_after}
 
 -- a list has the records of each of its fronts
-begun_within : (late early : List Record) → StartsWith late early → IsWithin (set_of early) (set_of late)
+pub begun_within : (late early : List Record) → StartsWith late early → IsWithin (set_of early) (set_of late)
 begun_within late early begun said h =
     subst (λ (log : List Record). IsIn (set_of log) said) (sym begun.1)
     (subst (λ (S : Records). IsIn S said) (sym (set_append early begun.0)) (or_left (set_of early said) (set_of begun.0 said) h))

@@ -1,9 +1,10 @@
 -- What a list of replicas keeps, and what becomes of its logs, where one of them is put in the place of another.
-use Rattle.std.proofs.Common.{◌≡◌, ℕ, ◌+◌, ◌<◌, List, [], ◌∷◌, ◌++◌, length, get_or, set, map, replicate, take, sym, ap, subst, ◌∙◌}
+use Rattle.std.proofs.Common.{◌≡◌, ℕ, ◌+◌, ◌<◌, List, Option, [], ◌∷◌, ◌++◌, length, get_or, set, map, replicate, take, sym, ap, subst, ◌∙◌}
 use Rattle.std.specs.List.{All}
 use Rattle.std.proofs.Math.Seq.{map-set_same}
 use Rattle.std.proofs.lemmas.List.{get_or-map, length-map, map-append, map-set, replicate_more, take_more_set}
 use Rattle.std.proofs.lemmas.List.Elements.{All-append, All-cons, All-nil, All-set}
+use Rattle.warp_tag.specs.Moment.{Moment}
 use Rattle.warp_step.specs.Program.{Program}
 use Rattle.warp_record.specs.declared.record.Record.{Record}
 use Rattle.warp_replica.specs.Replica.{ReplicaState}
@@ -18,6 +19,11 @@ logs_stay xs i d new same = map-set_same (λ r. r.records) xs i new d same
 pub programs_stay : {T : Type 0} (xs : List (ReplicaState T)) (i : ℕ) (d new : ReplicaState T) → new.program ≡ (get_or xs i d).program
     → map (λ r. r.program) (set xs i new) ≡ map (λ r. r.program) xs
 programs_stay xs i d new same = map-set_same (λ r. r.program) xs i new d same
+
+-- one that has let go of as much leaves what each has let go of
+pub floors_stay : {T : Type 0} (floor : T → Option Moment) (xs : List (ReplicaState T)) (i : ℕ) (d new : ReplicaState T)
+    → floor new.timeline ≡ floor (get_or xs i d).timeline → map (λ r. floor r.timeline) (set xs i new) ≡ map (λ r. floor r.timeline) xs
+floors_stay floor xs i d new same = map-set_same (λ r. floor r.timeline) xs i new d same
 
 -- a fact of the first ones, and of one that is put behind these, is one of one more
 pub All-one_more : {X : Type 0} (P : X → Type 0) (xs : List X) (i : ℕ) (x : X) → i < length xs → All P (take i xs) → P x → All P (take (i + 1) (set xs i x))

@@ -59,7 +59,7 @@ pub All_at : {X : Type 0} (P : X → Type 0) (xs : List X) (i : ℕ) (x : X) →
 All_at P xs i x all at = subst P (get_or_from_slice_get xs i x x at) (all i x (slice_get_within xs i x at))
 
 -- one record is the set of itself
-only_one : (said other : Record) → IsIn (set_of (said ∷ [])) other → said ≡ other
+pub only_one : (said other : Record) → IsIn (set_of (said ∷ [])) other → said ≡ other
 only_one said other h = elim (Contains-cases said [] other ((in_set (said ∷ []) other).1 h)) [
   | inl same ↦ same
   | inr there ↦ absurd (Contains-nil other there)

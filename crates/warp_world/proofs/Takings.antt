@@ -1,9 +1,10 @@
 -- What a log is once a record was taken: it has the record as its last one where the log takes it in, and else is as before.
-use Rattle.std.proofs.Common.{◌≡◌, ◌≢◌, ◌⊎◌, ℕ, ◌-◌, ◌<◌, Bool, true, false, not, ◌&&◌, ◌||◌, nat_lt, List, [], ◌∷◌, ◌++◌, length, Option, Some, None, Result, Ok, Err, Contains, if◌then◌else◌, inl, inr, sym, ap, subst, ◌∙◌, refl, true≢false, arith}
+use Rattle.std.proofs.Common.{◌≡◌, ◌≢◌, ◌⊎◌, ℕ, ◌+◌, ◌-◌, ◌<◌, ◌≤◌, Bool, true, false, not, ◌&&◌, ◌||◌, nat_lt, List, [], ◌∷◌, ◌++◌, length, slice_get, Option, Some, None, Result, Ok, Err, Contains, if◌then◌else◌, inl, inr, sym, ap, subst, ◌∙◌, refl, true≢false, arith}
 use Rattle.std.specs.Option.{is_none}
 use Rattle.std.proofs.Math.Bool.{and-false}
-use Rattle.std.proofs.lemmas.Bool.{and_from, cases_Bool, le-ltb, lt-ltb}
-use Rattle.std.proofs.lemmas.Option.{get_or_from_slice_get, slice_get_within}
+use Rattle.std.proofs.lemmas.Bool.{and_from, cases_Bool, le-ltb, lt-ltb, ltb-true}
+use Rattle.std.proofs.lemmas.Bool.Decides.{nat_tests}
+use Rattle.std.proofs.lemmas.Option.{get_or_from_slice_get, slice_get-get_or, slice_get_within}
 use Rattle.warp_tag.specs.Limits.{most_records}
 use Rattle.warp_tag.specs.Moment.{is_before}
 use Rattle.warp_step.specs.Program.{Program, top_of}
@@ -16,7 +17,8 @@ use Rattle.warp_table.specs.Check.{end_of, refusal_of}
 use Rattle.warp_table.specs.Log.{IsAt}
 use Rattle.warp_table.specs.Records.{set_of}
 use Rattle.warp_table.proofs.Sets.{in_set}
-use Rattle.warp_replica.specs.Gives.{IsNew, LacksRoom, Takes}
+use Rattle.warp_record.specs.declared.reply.Reply.TheVariants as tell
+use Rattle.warp_replica.specs.Gives.{IsNew, LacksRoom, Takes, told}
 use Rattle.warp_replica.specs.declared.took.Took.{Took}
 use Rattle.warp_replica.specs.declared.took.Took.TheVariants.{New, Known}
 use Rattle.warp_world.specs.World.{takes_in}
@@ -58,6 +60,10 @@ no_reason P (Withdraw origin tag) = either (is_declared P origin) _ _ (either (i
 no_reason P (Announce origin tag events withdrawn) =
     either (is_declared P origin) _ _ (either (is_before (end_of P) tag || nat_lt (top_of P) tag.microstep) (Some PastStop) None refl refl) refl
 
+-- a reason of a program
+abbrev some_refusal : Refusal → Option Refusal
+some_refusal refusal = Some refusal
+
 -- that a record was refused
 abbrev refused : Refusal → Result Took Refusal
 refused refusal = Err refusal
@@ -67,7 +73,7 @@ module _ (P : Program) (log : List Record) (said : Record) where
   decided taken h = ap (λ b. if b then log ++ said ∷ [] else log) h
 
   -- a new record of a log with room is taken in
-  new_in : IsNew P log said → length log < most_records → takes_in P log said ≡ true
+  pub new_in : IsNew P log said → length log < most_records → takes_in P log said ≡ true
   new_in new room =
       let lacks : not (set_of log said) ≡ true = elim (cases_Bool (set_of log said)) [
         | inl there ↦ absurd (new.1 ((in_set log said).1 there))
@@ -77,7 +83,7 @@ module _ (P : Program) (log : List Record) (said : Record) where
       (and_from (not (set_of log said)) (nat_lt (length log) most_records) lacks (lt-ltb (length log) most_records room))
 
   -- a known one is not
-  known_out : (place : ℕ) → IsAt log place said → takes_in P log said ≡ false
+  pub known_out : (place : ℕ) → IsAt log place said → takes_in P log said ≡ false
   known_out place at =
       let has : Contains log said =
       (place - 1, slice_get_within log (place - 1) said at.1, get_or_from_slice_get log (place - 1) said said at.1) in
@@ -89,7 +95,7 @@ module _ (P : Program) (log : List Record) (said : Record) where
   taken_ok (Known place) after h = h.2 ∙ sym (decided false (known_out place h.1))
 
   -- one that is refused for another reason than want of memory is not taken in either
-  refused_out : (refusal : Refusal) → refusal ≢ NoMemory → (refusal_of P said ≡ Some refusal) ⊎ (IsNew P log said × LacksRoom log refusal)
+  pub refused_out : (refusal : Refusal) → refusal ≢ NoMemory → (refusal_of P said ≡ Some refusal) ⊎ (IsNew P log said × LacksRoom log refusal)
       → takes_in P log said ≡ false
   refused_out refusal other (inl reason) = ap (λ (o : Option Refusal). is_none o && (not (set_of log said) && nat_lt (length log) most_records)) reason
   refused_out refusal other (inr lacks) =
@@ -108,3 +114,49 @@ module _ (P : Program) (log : List Record) (said : Record) where
   pub wanted : (answer : Result Took Refusal) (after : List Record) → answer ≡ Err NoMemory → Takes P log said answer after
       → (takes_in P log said ≡ true) × (after ≡ log)
   wanted answer after is h = let lacks = subst (λ a. Takes P log said a after) is h in (would lacks.0, lacks.1)
+
+  -- it may be taken, or refused for another reason than want of memory, where the log is not longer than it may be
+  abbrev MayTake : Type 0
+  MayTake =
+      (result : Result Took Refusal) × (after : List Record)
+      × Takes P log said result after × (told result ≢ tell.Refused NoMemory)
+
+  by_room : refusal_of P said ≡ None → (¬ Contains log said) → length log ≤ most_records → MayTake
+  by_room fits new few = elim (cases_Bool (nat_lt (length log) most_records)) [
+    | inl room ↦ (
+      Ok (New (length log + 1)),
+      log ++ said ∷ [],
+      ((fits, new), ltb-true (length log) most_records room, refl, refl),
+      λ same. let no : ⊥ = cc in no,
+    )
+    | inr full ↦ (
+      Err LogFull,
+      log,
+      (inr ((fits, new), grind (arith, nat_tests)), refl),
+      λ same. let no : ⊥ = cc in no,
+    )
+  ]
+
+  by_place : refusal_of P said ≡ None → Contains log said → MayTake
+  by_place fits there =
+      let back : there.0 + 1 - 1 ≡ there.0 = omega arith in
+      let at : slice_get log (there.0 + 1 - 1) ≡ Some said =
+      ap (slice_get log) back ∙ slice_get-get_or log there.0 said there.1 ∙ ap Some there.2 in
+      (Ok (Known (there.0 + 1)), log, (fits, (omega arith, at), refl), λ same. let no : ⊥ = cc in no)
+
+  by_reason : (reason : Option Refusal) → refusal_of P said ≡ reason → length log ≤ most_records → MayTake
+  by_reason (Some refusal) is few = (
+    Err refusal,
+    log,
+    (inl is, refl),
+    λ same.
+        let lacks : refusal ≡ NoMemory = cc in
+        true≢false (sym (ap is_memory (is ∙ ap some_refusal lacks)) ∙ no_reason P said),
+  )
+  by_reason None is few = elim (cases_Bool (set_of log said)) [
+    | inl there ↦ by_place is ((in_set log said).1 there)
+    | inr missing ↦ by_room is (λ there. true≢false (sym ((in_set log said).0 there) ∙ missing)) few
+  ]
+
+  pub may_take : length log ≤ most_records → MayTake
+  may_take few = by_reason (refusal_of P said) refl few

@@ -1,4 +1,5 @@
 pub mod World
+pub mod Lines
 pub mod Moves
 pub mod Schedule
 pub mod Replicas

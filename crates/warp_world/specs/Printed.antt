@@ -9,6 +9,10 @@ use Rattle.warp_world.specs.Trace.{IsTrace}
 use Rattle.warp_world.specs.declared.printer.TraceFault.{TraceFault}
 use Rattle.warp_world.specs.declared.printer.TraceFault.TheVariants.{Output, NoMemory}
 
+-- so many bytes or more never wait: they are printed
+abbrev pub piece : ℕ
+piece = 65536
+
 -- a front of these bytes was written behind the told ones, and the rest was not
 abbrev pub PrintsFront : Option (List ℕ) → Option (List ℕ) → List ℕ → Type 0
 PrintsFront written written-after bytes = (front : List ℕ) × StartsWith bytes front × Appends written written-after front

@@ -1,7 +1,7 @@
 //! What a long text is printed on, piece by piece.
-ghost use Rattle.std.specs.Prelude.{◌≡◌, ◌+◌, ◌++◌, ℕ, List, Option, MatchResult, OnErr, OnOk};
+ghost use Rattle.std.specs.Prelude.{◌≡◌, ◌<◌, ◌+◌, ◌++◌, ℕ, List, Option, MatchResult, OnErr, OnOk, length};
 ghost use Rattle.std.specs.Io.KnownBytes.{Appends};
-ghost use Rattle.warp_world.specs.Printed.{PrintsFront};
+ghost use Rattle.warp_world.specs.Printed.{PrintsFront, piece};
 
 /// How many bytes are gathered before they are printed.
 const PIECE: usize = 65_536;
@@ -42,10 +42,12 @@ pub trait Printer {
         ensures kept { kept self.new ≡ kept self.old };
 }
 
-/// Prints the text and empties it, where 65,536 bytes or more are gathered. `Err` says that a front of it was written.
+/// Prints the text and empties it, where 65,536 bytes or more are gathered, so that fewer are left. `Err` says that a
+/// front of it was written.
 pub fn print_full<O: Printer>(text: &mut Vec<u8>, out: &mut O) -> Result<(), Unprinted>
     ensures sent { OnOk result ((sent : List ℕ) × Appends (O.written out.old) (O.written out.new) sent
         × (sent ++ text.new.items ≡ text.old.items)) }
+    ensures short { OnOk result (length text.new.items < piece) }
     ensures front { OnErr result (PrintsFront (O.written out.old) (O.written out.new) text.old.items) }
     ensures failures { MatchResult result (λ _. O.failures out.new ≡ O.failures out.old)
         (λ _. O.failures out.new ≡ O.failures out.old + 1) }

@@ -1,5 +1,5 @@
 //! The rows of a run, printed one JSON object a line.
-ghost use Rattle.std.specs.Prelude.{◌≡◌, ◌+◌, ℕ, ◌≤◌, ◌++◌, ◌∷◌, IsTrue, List, [], length, map, take, drop};
+ghost use Rattle.std.specs.Prelude.{◌≡◌, ◌+◌, ℕ, ◌<◌, ◌≤◌, ◌++◌, ◌∷◌, IsTrue, List, [], length, map, take, drop};
 ghost use Rattle.std.specs.Prelude.{IfOk, OnOk};
 ghost use Rattle.std.specs.Prelude.{Option, vec_capacity, vec_len};
 ghost use Rattle.std.specs.List.{list_all, list_any};
@@ -13,7 +13,7 @@ ghost use Rattle.warp_step.specs.Snapshot.{IsStateOf, start_state};
 ghost use Rattle.warp_step.specs.Step.{CanStep};
 ghost use Rattle.warp_line.specs.inner.Replay.{HasOtherHead, is_waiting, next_of, none_before};
 ghost use Rattle.warp_table.specs.Records.{set_of};
-ghost use Rattle.warp_world.specs.Printed.{PrintsText, PrintsTrace};
+ghost use Rattle.warp_world.specs.Printed.{PrintsText, PrintsTrace, piece};
 ghost use Rattle.warp_world.specs.Trace.{came, changed, changed_part, due, due_part, events_part, outputs_part};
 ghost use Rattle.warp_world.specs.Trace.{pending_part, put, released_part, row_lines, tag_part};
 ghost use Rattle.warp_world.specs.inner.Tracing.{TellsRow, TellsTag};
@@ -164,7 +164,7 @@ fn trace_rows<O: Printer, M: Meter>(
     }
 }
 
-/// Tells the row at the tag, if something is given or pending there.
+/// Tells the row at the tag, if something is given or pending there. Less than a piece waits to be printed before it.
 fn tell_tag<M: Meter>(
     labels: &Labels,
     program: &Program,
@@ -177,6 +177,7 @@ fn tell_tag<M: Meter>(
     requires can { IsTrue (is_waiting tag work.old.given.items work.old.state.pending) →
         CanStep program.now work.old.state tag work.old.given.items }
     requires none_before { IsTrue (none_before tag work.old.state.pending) }
+    requires short { length work.old.text.items < piece }
     requires state { IsStateOf program.now work.old.state }
     requires scratch { IsRoomOf program.now work.old.scratch }
     ensures tells { OnOk result (TellsTag labels.now program.now horizon tag (live here.now) work.old.given.items

@@ -1,9 +1,8 @@
 //! Several replicas of one program, and what happens to them.
 ghost use Rattle.std.specs.Prelude.{◌≡◌, ◌≢◌, ◌<◌, ◌≤◌, List, [], ◌∷◌, ◌++◌};
-ghost use Rattle.std.specs.Prelude.{All, IfNone, IfOk, IfSome, IsTrue, OnErr, OnOk, Err};
+ghost use Rattle.std.specs.Prelude.{All, IfNone, IfOk, IfSome, IsOk, IsTrue, OnErr, OnOk, Err};
 ghost use Rattle.std.specs.Prelude.{Some, length, map, slice_get, slice_set, if◌then◌else◌};
 ghost use Rattle.warp_step.specs.Program.{Program};
-ghost use Rattle.warp_step.specs.Counter.{IsUnused};
 ghost use Rattle.warp_record.specs.declared.record.Record.{Record};
 ghost use Rattle.warp_record.specs.declared.reply.Refusal.TheVariants.{NoMemory};
 ghost use Rattle.warp_table.specs.Records.{Records};
@@ -14,11 +13,10 @@ ghost use Rattle.warp_world.specs.declared.moves.Move.{Move};
 
 use crate::moves::Move;
 use std::alloc::Global;
-use std::marker::{Brand, Model};
-use std::sync::ledger::{Blank, Ledger};
+use std::marker::Model;
 use warp_line::Timeline;
 use warp_record::{Record, Refusal};
-use warp_replica::{Idle, Replica, Took};
+use warp_replica::{Replica, Took};
 use warp_step::Program;
 use warp_tag::OutOfMemory;
 
@@ -75,12 +73,13 @@ impl<T: Timeline> World<T> {
         self.replicas.get(number)
     }
 
-    /// Executes in each replica what is not done. At an `Err` memory was wanting; then some may be settled, and no
-    /// log is another.
+    /// Executes in each replica what is not done, and lets go of nothing. At an `Err` memory was wanting; then some may
+    /// be settled, and no log is another.
     pub fn settle(&mut self, alloc: Global) -> Result<(), OutOfMemory>
         ensures logs { logs_of self.new ≡ logs_of self.old }
         ensures programs { map (λ r. r.program) self.new ≡ map (λ r. r.program) self.old }
         ensures settled { OnOk result (All (λ r. IsTrue (T.settled r.timeline)) self.new) }
+        ensures floors { map (λ r. T.floor r.timeline) self.new ≡ map (λ r. T.floor r.timeline) self.old }
     {
         settle_all(alloc, &mut self.replicas)
     }
@@ -152,10 +151,11 @@ impl<T: Timeline> World<T> {
         collect_replica(alloc, replica)
     }
 
-    /// Settles a replica, if there is such a replica.
+    /// Settles a replica, if there is such a replica. It lets go of nothing.
     fn settle_one(&mut self, alloc: Global, replica: u32) -> Result<(), OutOfMemory>
         ensures logs { logs_of self.new ≡ logs_of self.old }
         ensures programs { map (λ r. r.program) self.new ≡ map (λ r. r.program) self.old }
+        ensures floors { map (λ r. T.floor r.timeline) self.new ≡ map (λ r. T.floor r.timeline) self.old }
     {
         let Some(replica) = self.replicas.get_mut(replica as usize) else {
             return Ok(());
@@ -241,11 +241,12 @@ fn collect_replica<T: Timeline>(alloc: Global, replica: &mut Replica<T>) -> Resu
     Ok(())
 }
 
-/// Settles replicas, from the first to the last.
+/// Settles replicas, from the first to the last. They let go of nothing.
 fn settle_all<T: Timeline>(alloc: Global, replicas: &mut [Replica<T>]) -> Result<(), OutOfMemory>
     ensures logs { logs_of replicas.new ≡ logs_of replicas.old }
     ensures programs { map (λ r. r.program) replicas.new ≡ map (λ r. r.program) replicas.old }
     ensures settled { OnOk result (All (λ r. IsTrue (T.settled r.timeline)) replicas.new) }
+    ensures floors { map (λ r. T.floor r.timeline) replicas.new ≡ map (λ r. T.floor r.timeline) replicas.old }
 {
     for each in replicas.iter_mut() {
         settle_replica(alloc, each)?;
@@ -253,26 +254,15 @@ fn settle_all<T: Timeline>(alloc: Global, replicas: &mut [Replica<T>]) -> Result
     Ok(())
 }
 
-/// Settles a replica.
+/// Settles a replica, which lets go of nothing. Where it is settled nothing changes, and no memory is needed; at an
+/// `Err` the timeline's own settling lacked memory.
 fn settle_replica<T: Timeline>(alloc: Global, replica: &mut Replica<T>) -> Result<(), OutOfMemory>
     ensures settled { OnOk result (IsTrue (T.settled replica.new.timeline)) }
     ensures program { replica.new.program ≡ replica.old.program }
     ensures records { replica.new.records ≡ replica.old.records }
+    ensures floor { T.floor replica.new.timeline ≡ T.floor replica.old.timeline }
+    ensures refused { OnErr result (T.refused replica.new.timeline) }
+    ensures idle { IsTrue (T.settled replica.old.timeline) → IsOk result × (replica.new ≡ replica.old) }
 {
-    settle_counting::<T, Brand>(alloc, replica, Blank::new(1))
-}
-
-/// Settles a replica. `blank` is the ledger that the ticks are counted in.
-fn settle_counting<T: Timeline, L: Ledger>(
-    alloc: Global,
-    replica: &mut Replica<T>,
-    blank: Blank,
-) -> Result<(), OutOfMemory>
-    requires { IsUnused blank L.name L.parts }
-    ensures settled { OnOk result (IsTrue (T.settled replica.new.timeline)) }
-    ensures program { replica.new.program ≡ replica.old.program }
-    ensures records { replica.new.records ≡ replica.old.records }
-{
-    let mut idle = Idle::<L>::new(blank);
-    replica.settle(alloc, &mut idle)
+    replica.settle_uncounted(alloc)
 }

@@ -1,5 +1,5 @@
 -- each turn goes on by what stands at one tag, and tells its row where it has one
-use Rattle.std.proofs.Common.{rules, ◌≡◌, ◌∙◌, ◌+◌, ◌-◌, ◌<◌, ℕ, List, [], ◌++◌, Option, Result, Ok, Err, Some, None, length, drop, take, sym, ap, subst, refl, IsTrue, append_assoc}
+use Rattle.std.proofs.Common.{rules, arith, ◌≡◌, ◌∙◌, ◌+◌, ◌-◌, ◌<◌, ℕ, List, [], ◌++◌, Option, Result, Ok, Err, Some, None, length, drop, take, sym, ap, subst, refl, IsTrue, append_assoc}
 use Rattle.std.proofs.KnownBytes.{Appends-nil, Appends-trans}
 use Rattle.std.specs.List.{list_all}
 use Rattle.warp_tag.specs.Moment.{Moment}
@@ -17,7 +17,7 @@ use Rattle.warp_line.proofs.ProgressLemmas.{rows_left}
 use Rattle.warp_line.proofs.ReplayLemmas.{can_step, fits_drop, fits_take, table_drop, table_take}
 use Rattle.warp_world.specs.Labels.{Names}
 use Rattle.std.specs.Io.KnownBytes.{Appends}
-use Rattle.warp_world.specs.Printed.{PrintsFront, PrintsText}
+use Rattle.warp_world.specs.Printed.{PrintsFront, PrintsText, piece}
 use Rattle.warp_world.specs.Trace.{row_lines}
 use Rattle.warp_world.specs.declared.printer.TraceFault.{TraceFault}
 use Rattle.warp_world.specs.declared.printer.TraceFault.TheVariants.{NoMemory, Output}
@@ -44,6 +44,7 @@ rows-init g c =
       out = Appends-nil (g.O.Printer.written c.args.out.now);
       sound = refl;
       kept = refl;
+      short = subst (λ (l : List ℕ). length l < piece) (sym c.requires.text) (omega arith);
       reached = subst (λ (s : Snapshot). Reached names P c.args.horizon table table s c.args.work.now.text.items ticks ticks) (sym c.requires.start)
           (subst (λ (l : List ℕ). Reached names P c.args.horizon table table (start_state P) l ticks ticks) (sym c.requires.text) (reached_start names P c.args.horizon table ticks));
       table = c.requires.table;
@@ -142,6 +143,7 @@ rows-preserved g c =
       out = Appends-trans _ _ _ was.sent more.0 was.out more.1;
       sound = c.in-Ok-print_full.ensures.failures ∙ was.sound;
       kept = c.print_full.ensures.kept ∙ was.kept;
+      short = c.in-Ok-print_full.ensures.short;
       reached = subst (λ (es : List Entry). Reached names P h entries es s' ((was.sent ++ more.0) ++ waits) before now') (sym back)
           (subst (λ (l : List ℕ). Reached names P h entries (drop n rest) s' l before now') joined on);
       table = subst (λ (es : List Entry). IsTable es) (sym back) (table_drop n rest was.table);
