@@ -11,6 +11,7 @@ use Rattle.warp_record.specs.declared.reply.Refusal.TheVariants.{NoMemory}
 use Rattle.warp_record.specs.declared.reply.Reply.{Reply}
 use Rattle.warp_record.specs.declared.reply.Reply.TheVariants.{Refused}
 use Rattle.warp_table.specs.LogNames.{table_of}
+use Rattle.warp_replica.specs.Answered.{floor_answered}
 use Rattle.warp_replica.specs.Replica.{ReplicaState}
 use Rattle.warp_replica.specs.Floor.{CollectsTo, brings_behind}
 use Rattle.warp_replica.specs.Gives.{Gives}
@@ -60,12 +61,17 @@ pub record TimelineFacts (T : Type 0) : Type 1 where
 abbrev pub facts_of : {T : Type 0} → (T → Bool) → (T → Type 0) → (T → Option Moment) → ℕ → TimelineFacts T
 facts_of settled refused floor slack = record { settled = settled; refused = refused; floor = floor; slack = slack }
 
--- What a line and its reply leave of a replica's timeline: it is settled by that reply, or settling it lacked memory;
--- where no live event changed it stays settled; and after `collect` it has let go of what is before the horizon.
+-- What a line and its reply leave of a replica's timeline. It is settled by that reply, or settling it lacked memory. A
+-- line other than `collect`, or one refused for want of memory, lets go of nothing; where a new record comes behind
+-- what was let go of, nothing is behind any more. Where no live event changed, and no record came behind what was let
+-- go of, it stays settled if it was. After a `collect` not refused for want of memory it has let go of the rows before
+-- the horizon, but for at most `slack`.
 pub record LeavesTimeline {T : Type 0} (facts : TimelineFacts T) (r : ReplicaState T) (said : Line) (reply : Reply)
     (r' : ReplicaState T) : Type 0 where
   pub settles : (had : Bool) × SettlesFor said reply had (facts.settled r.timeline) (facts.settled r'.timeline)
   pub lacked : SettlesUnless said reply (facts.settled r'.timeline) (facts.refused r'.timeline)
+  pub floor : said ≢ Collect → facts.floor r'.timeline ≡ floor_answered (facts.floor r.timeline) said reply
+  pub spared : reply ≡ Refused NoMemory → facts.floor r'.timeline ≡ facts.floor r.timeline
   pub calm : brings_behind (facts.floor r.timeline) said ≡ false →
       live (table_of r'.records) ≡ live (table_of r.records) →
       IsTrue (facts.settled r.timeline) → IsTrue (facts.settled r'.timeline)

@@ -112,9 +112,10 @@ impl<T: Timeline> Engine<T> {
         self.lanes.len()
     }
 
-    /// Serves the next command of a lane as a replica without peers would, if one is found and its answer has a place:
-    /// each of a lane's first 64 answers has. `alloc` is the replica's. It settles and collects as `Replica::ask` does:
-    /// where there was no memory for it, `settle` may be called later.
+    /// Serves the next command of a lane, by its number from 0, as a replica without peers would, if one is found and
+    /// its answer has a place: each of a lane's first 64 answers has. `alloc` is the replica's. It settles and collects
+    /// as `Replica::ask` does: a line other than `collect` lets go of nothing, and where there was no memory to settle,
+    /// `settle` may be called later.
     pub fn turn(&mut self, alloc: Global, lane: usize) -> Turn
         requires { lane < length self.old.lanes }
         ensures turns { Turns (facts_of T.settled T.refused T.floor T.SLACK) self.old lane result self.new }
@@ -155,7 +156,8 @@ impl<T: Timeline> Engine<T> {
     /// Ends a lane with the end of its port: receives what the port sent and no turn received, and hands out, in order,
     /// the answers that the port did not fetch, those of earlier turns and those that it makes. Of these it keeps a
     /// copy beside the lane. The room for all is taken first: at `Err` nothing was received, and the port's end is
-    /// gone. `alloc` is the replica's.
+    /// gone. `alloc` is the replica's. It settles and collects for each line as a turn does: none but `collect` lets go
+    /// of anything.
     pub fn drain(
         &mut self,
         alloc: Global,

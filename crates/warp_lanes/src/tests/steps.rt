@@ -105,7 +105,9 @@ pub(crate) fn engine_of_one<T: Timeline + Drop>(
 pub(crate) fn engine_of_two<T: Timeline + Drop>(
     rt: &impl Abort,
     alloc: Global,
-) -> (Engine<T>, (Port, Port)) {
+) -> (Engine<T>, (Port, Port))
+    ensures { ids_of result.0.lanes ≡ result.1.0.lane ∷ result.1.1.lane ∷ [] }
+{
     let (port, first) = fresh_lane(rt, alloc);
     let (other, second) = fresh_lane(rt, alloc);
     let lanes = vec![in alloc; first, second].expect(rt, "memory");

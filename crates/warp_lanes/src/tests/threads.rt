@@ -1,10 +1,10 @@
 //! Ports in threads of their own, and the engine beside them.
-ghost use Rattle.std.specs.Prelude.{◌≡◌, ◌≤◌, [], ◌∷◌, length};
+ghost use Rattle.std.specs.Prelude.{◌≡◌, ◌≤◌, [], ◌∷◌, Some, length, slice_get};
 ghost use Rattle.warp_lanes.specs.Engine.{AreFresh, ids_of, most_lanes};
 
 use crate::tests::draining::drain;
 use crate::tests::steps::{
-    TOTAL, at, end, engine, engine_of_one, event, fresh_lane, same, told, unseen_writer,
+    TOTAL, at, end, engine, engine_of_two, event, fresh_lane, same, told, unseen_writer,
 };
 use crate::{Answer, Engine, Lane, Port, PortEnd, Turn};
 use std::alloc::Global;
@@ -81,20 +81,21 @@ struct Ended {
     end: PortEnd,
 }
 
-/// Sends an event, waits for its answer, and ends the port.
-fn ask_and_end<R: Clock + Abort>(rt: &R, mut port: Port) -> Ended
+/// Sends a line, waits for its answer, and ends the port.
+fn ask_and_end<R: Clock + Abort>(rt: &R, mut port: Port, line: Line) -> Ended
     ensures { result.end.lane ≡ port.lane }
 {
-    let place = place_of(rt, &mut port, event(rt, 0, 5, 3));
+    let place = place_of(rt, &mut port, line);
     let end = port.finish().expect(rt, "the lane is there");
     Ended { place, end }
 }
 
-/// A port in a thread of its own, beside the engine, which serves its command.
+/// A port in a thread of its own, beside the engine, which serves two commands.
 fn ask_beside<T: Timeline, R: Threads + Clock + Abort + Sync>(
     rt: &R,
     alloc: Global,
     port: Port,
+    line: Line,
     engine: Engine<T>,
 ) -> (Ended, (Engine<T>, u32))
     ensures end { result.0.end.lane ≡ port.lane }
@@ -102,36 +103,87 @@ fn ask_beside<T: Timeline, R: Threads + Clock + Abort + Sync>(
 {
     thread::join(
         rt,
-        move || ask_and_end(rt, port),
-        move || serve(rt, alloc, engine, 1),
+        move || ask_and_end(rt, port, line),
+        move || serve(rt, alloc, engine, 2),
     )
 }
 
-/// A port sends an event and ends, both in a thread of its own; its lane is drained, of which nothing is left.
-fn end_over<T: Timeline + Drop, R: Threads + Clock + Abort + Sync>(
+/// Two ports in threads of their own, beside the engine.
+fn ask_both<T: Timeline, R: Threads + Clock + Abort + Sync>(
     rt: &R,
     alloc: Global,
-    port: Port,
+    first: (Port, Line),
+    second: (Port, Line),
+    engine: Engine<T>,
+) -> (Ended, (Ended, (Engine<T>, u32)))
+    ensures first { result.0.end.lane ≡ first.0.lane }
+    ensures second { result.1.0.end.lane ≡ second.0.lane }
+    ensures ids { ids_of result.1.1.0.lanes ≡ ids_of engine.lanes }
+{
+    let (port, line) = first;
+    let (other, last) = second;
+    thread::join(
+        rt,
+        move || ask_and_end(rt, port, line),
+        move || ask_beside(rt, alloc, other, last, engine),
+    )
+}
+
+/// The two were told one place each, and their lanes are drained, of which nothing is left.
+fn drain_both<T: Timeline>(
+    rt: &impl Abort,
+    alloc: Global,
+    engine: &mut Engine<T>,
+    first: Ended,
+    second: Ended,
+)
+    requires first { slice_get (ids_of engine.old.lanes) 0 ≡ Some first.end.lane }
+    requires second { slice_get (ids_of engine.old.lanes) 1 ≡ Some second.end.lane }
+{
+    same(rt, &first.place.min(second.place), &1);
+    same(rt, &first.place.max(second.place), &2);
+    same(rt, &drain(rt, alloc, engine, 0, first.end).len(), &0);
+    same(rt, &drain(rt, alloc, engine, 1, second.end).len(), &0);
+}
+
+/// What the total is, once all is executed.
+fn total<T: Timeline>(rt: &impl Abort, alloc: Global, engine: &mut Engine<T>) -> Reply {
+    engine.settle(alloc).expect(rt, "memory");
+    engine.replica().answer(Query::Var(0))
+}
+
+/// Two ports send an event each, are answered, end and are drained, and both events count in the order of their tags.
+fn meet_over<T: Timeline + Drop, R: Threads + Clock + Abort + Sync>(
+    rt: &R,
+    alloc: Global,
+    first: (Port, Line),
+    second: (Port, Line),
     engine: Engine<T>,
 )
-    requires { ids_of engine.lanes ≡ port.lane ∷ [] }
+    requires { ids_of engine.lanes ≡ first.0.lane ∷ second.0.lane ∷ [] }
 {
-    let (ended, (mut engine, served)) = ask_beside(rt, alloc, port, engine);
-    same(rt, &ended.place, &1);
-    same(rt, &served, &1);
-    same(rt, &drain(rt, alloc, &mut engine, 0, ended.end).len(), &0);
+    let (one, (other, (mut engine, served))) = ask_both(rt, alloc, first, second, engine);
+    same(rt, &served, &2);
+    drain_both(rt, alloc, &mut engine, one, other);
+    same(
+        rt,
+        &total(rt, alloc, &mut engine),
+        &Reply::Var { log: 2, value: -5 },
+    );
     end(engine);
 }
 
 /// The same over a new engine.
-fn end_in_thread<T: Timeline + Drop, R: Threads + Clock + Abort + Sync>(rt: &R, alloc: Global) {
-    let (engine, port) = engine_of_one::<T>(rt, alloc, unseen_writer(rt, alloc));
-    end_over(rt, alloc, port, engine);
+fn meet<T: Timeline + Drop, R: Threads + Clock + Abort + Sync>(rt: &R, alloc: Global) {
+    let (engine, (port, other)) = engine_of_two::<T>(rt, alloc);
+    let one = (port, event(rt, 0, 5, 3));
+    let another = (other, event(rt, 1, 2, 4));
+    meet_over(rt, alloc, one, another, engine);
 }
 
 #[test]
-fn a_port_that_ends_in_its_thread(rt: HostRuntime) {
-    end_in_thread::<Plain, HostRuntime>(&rt, rt.alloc());
+fn two_ports_meet(rt: HostRuntime) {
+    meet::<Plain, HostRuntime>(&rt, rt.alloc());
 }
 
 /// How many ports there are in the second test, as many as an engine may have lanes.

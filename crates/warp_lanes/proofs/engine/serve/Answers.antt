@@ -25,6 +25,8 @@ returns-clause-turns g c =
           record {
             settles = c.ask-reply.ensures.settled;
             lacked = c.ask-reply.ensures.refused;
+            floor = c.ask-reply.ensures.floor;
+            spared = c.ask-reply.ensures.spared;
             calm = c.ask-reply.ensures.calm;
             collects = c.ask-reply.ensures.collects;
           },
