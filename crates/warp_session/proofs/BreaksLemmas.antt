@@ -1,5 +1,5 @@
 -- Lemmas on where a failed write leaves a session.
-use Rattle.std.proofs.Common.{◌≡◌, ℕ, ◌+◌, ◌-◌, ◌<◌, ◌≤◌, List, [], ◌∷◌, ◌++◌, length, take, drop, take-append-drop, Option, Some, None, Result, Ok, Err, IsErrAnd, false, IsSome, IfSome, ◌↔◌, refl, sym, ap, subst, ◌∙◌, append_assoc, append-nil}
+use Rattle.std.proofs.Common.{◌≡◌, ℕ, ◌+◌, ◌-◌, ◌<◌, ◌≤◌, List, [], ◌∷◌, ◌++◌, length, take, drop, take-append-drop, Option, Some, None, Result, Ok, Err, IsErrAnd, false, IsSome, IfSome, ◌↔◌, refl, sym, ap, subst, inl, inr, ◌∙◌, append_assoc, append-nil}
 use Rattle.std.specs.Option.{option_map, option_to_list}
 use Rattle.std.specs.List.{before_first}
 use Rattle.std.specs.Io.KnownBytes.{Consumes, IsAtEnd}
@@ -68,37 +68,33 @@ module _ {S : Type 0} (f : Form) (gives : S → Line → Reply → S → Type 0)
   pub BreaksBytes-line : (a b : At S) (piece : List ℕ) (given : Piece) → first_end piece < length piece
       → ((line : List ℕ) → a.held.kept ≡ kept_of line → given ≡ ended (line ++ before_first is_end piece))
       → Broken f gives (given ∷ []) a b → BreaksBytes f gives piece a b
-  BreaksBytes-line a b piece given some is_line broken start seen was more =
+  BreaksBytes-line a b piece given some is_line broken start seen was =
       let before : List ℕ = before_first is_end piece in
       let line : List ℕ = was.line ++ before in
       let rest : List ℕ = drop (first_end piece + 1) piece in
       let one : IsOneLine line = All-append (λ (byte : ℕ). is_end byte ≡ false) was.line before was.one_line (one_line_before piece) in
       let parts : piece ≡ (before ++ 10 ∷ []) ++ rest =
       sym (take-append-drop (first_end piece + 1) piece) ∙ ap (λ (l : List ℕ). l ++ rest) (up_to_end piece some) in
-      let all : (seen ++ piece) ++ more ≡ was.lines ++ (line ++ 10 ∷ (rest ++ more)) =
-      ap (λ (l : List ℕ). (l ++ piece) ++ more) was.cut ∙ ap (λ (l : List ℕ). ((was.lines ++ was.line) ++ l) ++ more) parts ∙ simp append_assoc in
-      let is : lines_of ((seen ++ piece) ++ more) ≡ (lines_of was.lines ++ given ∷ []) ++ lines_of (rest ++ more) =
-      ap lines_of all ∙ was.cut_off (line ++ 10 ∷ (rest ++ more))
-      ∙ ap (λ (l : List Piece). lines_of was.lines ++ l) (lines_of-ended line (rest ++ more) one)
-      ∙ ap (λ (p : Piece). lines_of was.lines ++ p ∷ lines_of (rest ++ more)) (sym (is_line was.line was.kept))
-      ∙ sym (append_assoc (lines_of was.lines) (given ∷ []) (lines_of (rest ++ more))) in (
-        lines_of was.lines ++ given ∷ [],
-        lines_of (rest ++ more),
-        is,
-        Broken-after (lines_of was.lines) (given ∷ []) start a b was.answers broken,
+      let is : lines_of (was.lines ++ (line ++ 10 ∷ [])) ≡ lines_of was.lines ++ given ∷ [] =
+      was.cut_off (line ++ 10 ∷ []) ∙ ap (λ (l : List Piece). lines_of was.lines ++ l) (lines_of-ended line [] one)
+      ∙ ap (λ (p : Piece). lines_of was.lines ++ p ∷ []) (sym (is_line was.line was.kept)) in (
+        was.lines ++ (line ++ 10 ∷ []),
+        rest,
+        ap (λ (l : List ℕ). l ++ piece) was.cut ∙ ap (λ (l : List ℕ). (was.lines ++ was.line) ++ l) parts ∙ simp append_assoc,
+        inr (was.lines ++ line, sym (append_assoc was.lines line (10 ∷ []))),
+        subst (λ (l : List Piece). Broken f gives l start b) (sym is) (Broken-after (lines_of was.lines) (given ∷ []) start a b was.answers broken),
       )
 
   -- no line was answered
   BreaksBytes-none : (a b : At S) (piece : List ℕ) → Broken f gives [] a b → BreaksBytes f gives piece a b
-  BreaksBytes-none a b piece broken start seen was more =
-      let all : (seen ++ piece) ++ more ≡ was.lines ++ (was.line ++ (piece ++ more)) =
-      ap (λ (l : List ℕ). (l ++ piece) ++ more) was.cut ∙ simp append_assoc in (
-        lines_of was.lines,
-        lines_of (was.line ++ (piece ++ more)),
-        ap lines_of all ∙ was.cut_off (was.line ++ (piece ++ more)),
-        subst (λ (l : List Piece). Broken f gives l start b) (append-nil (lines_of was.lines))
-            (Broken-after (lines_of was.lines) [] start a b was.answers broken),
-      )
+  BreaksBytes-none a b piece broken start seen was = (
+    was.lines,
+    was.line ++ piece,
+    ap (λ (l : List ℕ). l ++ piece) was.cut ∙ append_assoc was.lines was.line piece,
+    was.whole,
+    subst (λ (l : List Piece). Broken f gives l start b) (append-nil (lines_of was.lines))
+        (Broken-after (lines_of was.lines) [] start a b was.answers broken),
+  )
 
   -- a push into the feed, and a write that failed at the answer to the line that it gave
   pub BreaksBytes-pushed : (a b : At S) (kept : Option (List ℕ)) (piece : List ℕ) (fed : Option Fed)
@@ -121,25 +117,20 @@ module _ {S : Type 0} (f : Form) (gives : S → Line → Reply → S → Type 0)
   -- a front of the bytes was taken, and a write failed in the midst of the rest
   pub BreaksBytes-rest : (bytes : List ℕ) (front : ℕ) (a b c : At S) → TakesBytes f gives (take front bytes) a b
       → BreaksBytes f gives (take (length bytes - front) (drop front bytes)) b c → BreaksBytes f gives bytes a c
-  BreaksBytes-rest bytes front a b c first second start seen was more =
+  BreaksBytes-rest bytes front a b c first second start seen was =
       let rest : List ℕ = take (length bytes - front) (drop front bytes) in
       let all : (seen ++ take front bytes) ++ rest ≡ seen ++ bytes =
       append_assoc seen (take front bytes) rest
       ∙ ap (λ (l : List ℕ). seen ++ (take front bytes ++ l)) (take_rest bytes front)
       ∙ ap (λ (l : List ℕ). seen ++ l) (take-append-drop front bytes) in
-      subst (λ (l : List ℕ). BreaksOff f gives (lines_of (l ++ more)) start c) all
-      (second start (seen ++ take front bytes) (first start seen was) more)
+      subst (λ (l : List ℕ). BreaksOff f gives l start c) all (second start (seen ++ take front bytes) (first start seen was))
 
   -- all bytes were taken, and a write failed as what was gathered was to go out
   pub BreaksBytes-flush : (bytes : List ℕ) (front : ℕ) (a b c : At S) → length bytes ≤ front → TakesBytes f gives (take front bytes) a b
       → c.state ≡ b.state → WritesFront b.written c.written b.held.gathered → BreaksBytes f gives bytes a c
-  BreaksBytes-flush bytes front a b c over takes same out start seen was more =
-      let t : Taken f gives (seen ++ bytes) start b = subst (λ (l : List ℕ). Taken f gives (seen ++ l) start b) (take_all front bytes over) (takes start seen was) in (
-        lines_of t.lines,
-        lines_of (t.line ++ more),
-        ap (λ (l : List ℕ). lines_of (l ++ more)) t.cut ∙ ap lines_of (append_assoc t.lines t.line more) ∙ t.cut_off (t.line ++ more),
-        Broken-flush (lines_of t.lines) start b c t.answers same out,
-      )
+  BreaksBytes-flush bytes front a b c over takes same out start seen was =
+      let t : Taken f gives (seen ++ bytes) start b = subst (λ (l : List ℕ). Taken f gives (seen ++ l) start b) (take_all front bytes over) (takes start seen was) in
+      (t.lines, t.line, t.cut, t.whole, Broken-flush (lines_of t.lines) start b c t.answers same out)
 
   -- ---- the end
 
@@ -156,12 +147,9 @@ module _ {S : Type 0} (f : Form) (gives : S → Line → Reply → S → Type 0)
   pub BreaksAtEnd-last : (a b : At S) (kept : Option (List ℕ)) (fed : Option Fed)
       → ((line : List ℕ) → a.held.kept ≡ kept_of line → option_map piece_of fed ≡ unended line)
       → Broken f gives (pieces_fed fed) (record a { held = record { kept = kept; gathered = a.held.gathered } }) b → BreaksAtEnd f gives a b
-  BreaksAtEnd-last a b kept fed is_line broken start seen was = (
-    lines_of was.lines ++ pieces_fed fed,
-    [],
-    all_pieces a start seen fed was is_line ∙ sym (append-nil (lines_of was.lines ++ pieces_fed fed)),
-    Broken-after (lines_of was.lines) (pieces_fed fed) start a b was.answers (Broken-from (pieces_fed fed) a b kept broken),
-  )
+  BreaksAtEnd-last a b kept fed is_line broken start seen was =
+      subst (λ (l : List Piece). Broken f gives l start b) (sym (all_pieces a start seen fed was is_line))
+      (Broken-after (lines_of was.lines) (pieces_fed fed) start a b was.answers (Broken-from (pieces_fed fed) a b kept broken))
 
   -- or as what was gathered was to go out behind it
   pub BreaksAtEnd-flush : (a b c : At S) (kept : Option (List ℕ)) (fed : Option Fed)
@@ -169,48 +157,41 @@ module _ {S : Type 0} (f : Form) (gives : S → Line → Reply → S → Type 0)
       → ((line : List ℕ) → a.held.kept ≡ kept_of line
       → Replied f gives (pieces_fed fed) (record a { held = record { kept = kept; gathered = a.held.gathered } }) b)
       → c.state ≡ b.state → WritesFront b.written c.written b.held.gathered → BreaksAtEnd f gives a c
-  BreaksAtEnd-flush a b c kept fed is_line answers same out start seen was = (
-    lines_of was.lines ++ pieces_fed fed,
-    [],
-    all_pieces a start seen fed was is_line ∙ sym (append-nil (lines_of was.lines ++ pieces_fed fed)),
-    Broken-flush (lines_of was.lines ++ pieces_fed fed) start b c
-        (Replied-append f gives (lines_of was.lines) (pieces_fed fed) start a b was.answers (Replied-from f gives (pieces_fed fed) a b kept (answers was.line was.kept))) same out,
-  )
+  BreaksAtEnd-flush a b c kept fed is_line answers same out start seen was =
+      subst (λ (l : List Piece). Broken f gives l start c) (sym (all_pieces a start seen fed was is_line))
+      (Broken-flush (lines_of was.lines ++ pieces_fed fed) start b c
+      (Replied-append f gives (lines_of was.lines) (pieces_fed fed) start a b was.answers (Replied-from f gives (pieces_fed fed) a b kept (answers was.line was.kept))) same out)
 
   -- ---- whole sessions
 
-  -- where nothing was gathered before, a front of the text of some first lines is out
-  broken_off : (input : List ℕ) (a c : At S) → a.held.gathered ≡ [] → BreaksOff f gives (lines_of input) a c
-      → TranscribesFront f gives a.state (Some input) a.written c.written c.state
-  broken_off input a c none b =
-      (b.0, b.1, b.2, (b.3.text, b.3.given, subst (WritesFront a.written c.written) (ap (λ (l : List ℕ). l ++ b.3.text) none) b.3.out))
+  -- where nothing was gathered before, a front of the text of these pieces is out
+  front_out : (pieces : List Piece) (a c : At S) → a.held.gathered ≡ [] → Broken f gives pieces a c
+      → ((text : List ℕ) × GivesText f gives a.state pieces text c.state × WritesFront a.written c.written text)
+  front_out pieces a c none b =
+      (b.text, b.given, subst (WritesFront a.written c.written) (ap (λ (l : List ℕ). l ++ b.text) none) b.out)
 
   -- a write failed in the midst of the bytes that were read last
   pub front_of_bytes : (left mid left-after : Option (List ℕ)) (seen piece : List ℕ) (a b c : At S) → a.held.gathered ≡ [] → Taken f gives seen a b
       → BreaksBytes f gives piece b c → Consumes left mid seen → Consumes mid left-after piece
-      → TranscribesFront f gives a.state left a.written c.written c.state
+      → TranscribesFront f gives a.state left left-after a.written c.written c.state
   front_of_bytes left mid left-after seen piece a b c none taken breaks before last =
-      front_of_read left left-after (Consumes-trans left mid left-after seen piece before last)
-    where
-      front_of_read : (told told-after : Option (List ℕ)) → Consumes told told-after (seen ++ piece) → TranscribesFront f gives a.state told a.written c.written c.state
-      front_of_read None told-after reads = tt
-      front_of_read (Some input) None reads = absurd reads
-      front_of_read (Some input) (Some rest) reads =
-          broken_off input a c none (subst (λ (l : List ℕ). BreaksOff f gives (lines_of l) a c) (sym reads) (breaks a seen taken rest))
+      let off = breaks a seen taken in (
+        off.0,
+        off.1,
+        subst (Consumes left left-after) off.2 (Consumes-trans left mid left-after seen piece before last),
+        inl off.3,
+        front_out (lines_of off.0) a c none off.4,
+      )
 
   -- or at the end
-  front_at_end : (left left-after : Option (List ℕ)) (seen : List ℕ) (a b c : At S) → a.held.gathered ≡ [] → Taken f gives seen a b
-      → BreaksAtEnd f gives b c → Consumes left left-after seen → IsAtEnd left-after → TranscribesFront f gives a.state left a.written c.written c.state
-  front_at_end None left-after seen a b c none taken breaks reads over = tt
-  front_at_end (Some input) None seen a b c none taken breaks reads over = absurd reads
-  front_at_end (Some input) (Some rest) seen a b c none taken breaks reads over =
-      let all : input ≡ seen = reads ∙ ap (λ (l : List ℕ). seen ++ l) over ∙ append-nil seen in
-      broken_off input a c none (subst (λ (l : List ℕ). BreaksOff f gives (lines_of l) a c) (sym all) (breaks a seen taken))
-
   pub front_of_all : (left mid left-after : Option (List ℕ)) (seen buffer : List ℕ) (count : ℕ) (a b c : At S) → a.held.gathered ≡ [] → Taken f gives seen a b
       → BreaksAtEnd f gives b c → Consumes left mid seen → Consumes mid left-after (take count buffer) × (count ≡ 0 → 0 < length buffer → IsAtEnd left-after)
-      → count ≡ 0 → 0 < length buffer → TranscribesFront f gives a.state left a.written c.written c.state
-  front_of_all left mid left-after seen buffer count a b c none taken breaks before last over some =
-      let reads = Consumes-trans left mid left-after seen (take count buffer) before last.0 in
-      let is : seen ++ take count buffer ≡ seen = ap (λ (n : ℕ). seen ++ take n buffer) over ∙ append-nil seen in
-      front_at_end left left-after seen a b c none taken breaks (subst (Consumes left left-after) is reads) (last.1 over some)
+      → count ≡ 0 → 0 < length buffer → TranscribesFront f gives a.state left left-after a.written c.written c.state
+  front_of_all left mid left-after seen buffer count a b c none taken breaks before last over some = (
+    seen,
+    [],
+    subst (Consumes left left-after) (ap (λ (n : ℕ). seen ++ take n buffer) over)
+        (Consumes-trans left mid left-after seen (take count buffer) before last.0),
+    inr (refl, last.1 over some),
+    front_out (lines_of seen) a c none (breaks a seen taken),
+  )

@@ -58,8 +58,7 @@ lines_from_empty P s s' left left' written written' is empty t =
     (s'.records, (t.0, t.1, t.2, t.3, t.4, (t.5.0, session_from_empty P s s' t.0 t.5.0 is empty t.5.1, t.5.2)))
 
 -- and a front of the text of some first lines
-pub front_from_empty : (P : Program) (s s' : LocalState) (left written written' : Option (List ℕ)) → s.program ≡ P → s.records ≡ []
-    → TranscribesFront s.program.form LocalGives s left written written' s' → TranscribesSome P left written written'
-front_from_empty P s s' None written written' is empty t = (s'.records, t)
-front_from_empty P s s' (Some input) written written' is empty t =
-    (s'.records, (t.0, t.1, t.2, (t.3.0, text_from_empty P s s' t.0 t.3.0 is empty t.3.1, t.3.2)))
+pub front_from_empty : (P : Program) (s s' : LocalState) (left left' written written' : Option (List ℕ)) → s.program ≡ P → s.records ≡ []
+    → TranscribesFront s.program.form LocalGives s left left' written written' s' → TranscribesSome P left left' written written'
+front_from_empty P s s' left left' written written' is empty t =
+    (s'.records, (t.0, t.1, t.2, t.3, (t.4.0, session_from_empty P s s' t.0 t.4.0 is empty t.4.1, t.4.2)))

@@ -17,6 +17,7 @@ abbrev pub TranscribesSoFar : Program → Option (List ℕ) → Option (List ℕ
 TranscribesSoFar P left left-after written written-after =
     (log : List Record) × TranscribesLines P.form (Gives P) [] left left-after written written-after log
 
--- the same, where a write failed, of a front of the replies to some first lines
-abbrev pub TranscribesSome : Program → Option (List ℕ) → Option (List ℕ) → Option (List ℕ) → Type 0
-TranscribesSome P left written written-after = (log : List Record) × TranscribesFront P.form (Gives P) [] left written written-after log
+-- the same, where a write failed, of a front of the replies to some first lines of those that the source lost
+abbrev pub TranscribesSome : Program → Option (List ℕ) → Option (List ℕ) → Option (List ℕ) → Option (List ℕ) → Type 0
+TranscribesSome P left left-after written written-after =
+    (log : List Record) × TranscribesFront P.form (Gives P) [] left left-after written written-after log

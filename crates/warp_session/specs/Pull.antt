@@ -74,8 +74,9 @@ abbrev pub EndsWith : ℕ → Pulled → List Heard → Type 0
 EndsWith quiet last heard =
     (front : List Heard) × (one : Heard) × (heard ≡ front ++ one ∷ []) × (one.pulled ≡ last) × AllGoOn quiet 0 front
 
--- What the outcomes were, where pulling ended so: at Quiet the last of them were Level, just as many in a row as were asked for, and
--- one at least; at Strange and Held the last one was that. Else pulling went on behind all of them.
+-- What the outcomes were, where pulling ended so: at Quiet the last of them were Level, just as many in a row as were
+-- asked for, and one at least; at Strange and Held the last one was that, Held for a refusal that does not pass. Else
+-- pulling went on behind all of them.
 abbrev pub EndsPull : ℕ → List Heard → PullEnd → Type 0
 EndsPull quiet heard end.Quiet = EndsWith quiet pulled.Level heard × (last_levels 0 heard ≡ max quiet 1)
 EndsPull quiet heard end.Strange = EndsWith quiet pulled.Strange heard

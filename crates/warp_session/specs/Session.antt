@@ -2,7 +2,7 @@
 -- `gives s line reply s'` says that in the state s a line may get this reply and leave the state s'. The form says which lines
 -- the bytes may spell.
 use Rattle.std.specs.Prelude.{◌≡◌, ◌⊎◌, ℕ, ◌+◌, ◌<◌, ◌≤◌, List, [], ◌∷◌, ◌++◌, Option, IfSome}
-use Rattle.std.specs.Io.KnownBytes.{Appends, Consumes}
+use Rattle.std.specs.Io.KnownBytes.{Appends, Consumes, IsAtEnd}
 use Rattle.std.specs.List.{flat_map}
 use Rattle.warp_tag.specs.Limits.{most_reads}
 use Rattle.warp_tag.specs.declared.form.Form.{Form}
@@ -65,13 +65,14 @@ TranscribesLines f gives s left left-after written written-after s' =
     (lines : List ℕ) × (line : List ℕ) × Consumes left left-after (lines ++ line) × AreWholeLines lines × IsOneLine line
     × ((text : List ℕ) × Session f gives s lines text s' × Appends written written-after text)
 
--- Of the pieces of the bytes that a source told some first ones were answered and no other, and a front of their text was written
--- behind what the sink tells.
+-- Of the bytes that the source lost some first ones were answered and no other: whole lines, or all of them, where no byte was
+-- left. A front of their transcript was written behind what the sink tells.
 abbrev pub TranscribesFront : {S : Type 0} → Form → (S → Line → Reply → S → Type 0)
-    → S → Option (List ℕ) → Option (List ℕ) → Option (List ℕ) → S → Type 0
-TranscribesFront f gives s left written written-after s' =
-    IfSome left (λ input. (answered : List Piece) × (rest : List Piece) × (lines_of input ≡ answered ++ rest)
-    × ((text : List ℕ) × GivesText f gives s answered text s' × WritesFront written written-after text))
+    → S → Option (List ℕ) → Option (List ℕ) → Option (List ℕ) → Option (List ℕ) → S → Type 0
+TranscribesFront f gives s left left-after written written-after s' =
+    (answered : List ℕ) × (rest : List ℕ) × Consumes left left-after (answered ++ rest)
+    × (AreWholeLines answered ⊎ ((rest ≡ []) × IsAtEnd left-after))
+    × ((text : List ℕ) × Session f gives s answered text s' × WritesFront written written-after text)
 
 -- the counts of failed reads and of failed writes, before and after a session that ended so: one of them grew by one where it
 -- ended for that, and else none did

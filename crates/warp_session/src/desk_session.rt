@@ -43,7 +43,8 @@ pub enum SessionEnd {
     End,
     /// A read failed. The answers to all whole lines before it are out.
     ReadFault,
-    /// A write failed. Replies to some first lines are out, and a front of one perhaps; no line behind these was asked.
+    /// A write failed. Some first lines were answered, and no other was put to the desk; a front of their replies is
+    /// out.
     WriteFault,
     /// 1,000,000,000 reads came to no end. The answers to all whole lines are out.
     TooManyReads,
@@ -366,7 +367,7 @@ impl Transcriber {
             TranscribesLines form D.gives (D.state desk.old) (R.left source.old) (R.left source.new)
             (W.written sink.old) (W.written sink.new) (D.state desk.new) }
         ensures front { result ≡ SessionEnd.WriteFault →
-            TranscribesFront form D.gives (D.state desk.old) (R.left source.old)
+            TranscribesFront form D.gives (D.state desk.old) (R.left source.old) (R.left source.new)
             (W.written sink.old) (W.written sink.new) (D.state desk.new) }
         ensures failures { FailsSo result (R.failures source.old) (R.failures source.new)
             (W.failures sink.old) (W.failures sink.new) }
@@ -425,11 +426,11 @@ pub fn session<R: Source, W: Sink, D: Desk>(
     ensures long { result ≡ SessionEnd.TooManyReads →
         TranscribesLines (D.form_of (D.state desk.old)) D.gives (D.state desk.old)
         (R.left source.old) (R.left source.new) (W.written sink.old) (W.written sink.new) (D.state desk.new) }
-    // At a failed write some first lines were answered, no other was put to the desk, and a front of their replies is
-    // out.
+    // At a failed write some first lines of what was read were answered, no other was put to the desk, and a front of
+    // their replies is out.
     ensures front { result ≡ SessionEnd.WriteFault →
         TranscribesFront (D.form_of (D.state desk.old)) D.gives (D.state desk.old)
-        (R.left source.old) (W.written sink.old) (W.written sink.new) (D.state desk.new) }
+        (R.left source.old) (R.left source.new) (W.written sink.old) (W.written sink.new) (D.state desk.new) }
     // One read has failed, or one write, where it ended for that, and else none.
     ensures failures { FailsSo result (R.failures source.old) (R.failures source.new)
         (W.failures sink.old) (W.failures sink.new) }

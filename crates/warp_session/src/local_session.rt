@@ -28,9 +28,9 @@ pub fn run_session<T: Timeline + Drop, R: Source, W: Sink>(
     // So they were where too many reads came to no end.
     ensures long { result ≡ SessionEnd.TooManyReads →
         TranscribesSoFar program (R.left source.old) (R.left source.new) (W.written sink.old) (W.written sink.new) }
-    // At a failed write a front of the replies to some first lines is out.
+    // At a failed write a front of the replies to some first lines of what was read is out.
     ensures front { result ≡ SessionEnd.WriteFault →
-        TranscribesSome program (R.left source.old) (W.written sink.old) (W.written sink.new) }
+        TranscribesSome program (R.left source.old) (R.left source.new) (W.written sink.old) (W.written sink.new) }
     // One read has failed, or one write, where it ended for that, and else none.
     ensures failures { FailsSo result (R.failures source.old) (R.failures source.new)
         (W.failures sink.old) (W.failures sink.new) }

@@ -35,7 +35,7 @@ pub enum PullEnd {
     Quiet,
     /// A reply of the other replica answers no question of a pull, or does not read; or the desk's own does.
     Strange,
-    /// The other replica, or the desk, refused for this reason, which does not pass.
+    /// The desk refused the record for this reason, which does not pass.
     Held(Refusal),
     /// A read or a write failed.
     Fault,

@@ -473,8 +473,9 @@ fn executor_for<'a, T: Timeline>(
 }
 
 /// Serves so many sessions of a replica of this program that has taken no record yet, over a timeline of this type.
-/// They come to the door, and each has a thread of its own, as has each pull from a peer. One thread holds the replica
-/// and answers all their lines. It returns when all have ended, and gives back the engine that served them.
+/// They come to the door, and each has a thread of its own, as has each pull from a peer; sessions and peers are 16 at
+/// most. One thread holds the replica and answers all their lines. It returns when all have ended, and gives back the
+/// engine that served them.
 pub fn serve_sessions<
     X: Threads + Wait + Clock + Sync,
     T: Timeline + Send + Drop,

@@ -45,10 +45,10 @@ pub record Broken {S : Type 0} (f : Form) (gives : S → Line → Reply → S �
   pub given : GivesText f gives old.state pieces text new.state
   pub out : WritesFront old.written new.written (old.held.gathered ++ text)
 
--- some first ones of these pieces were answered, until a write failed
-abbrev pub BreaksOff : {S : Type 0} → Form → (S → Line → Reply → S → Type 0) → List Piece → At S → At S → Type 0
-BreaksOff f gives pieces old new =
-    (answered : List Piece) × (rest : List Piece) × (pieces ≡ answered ++ rest) × Broken f gives answered old new
+-- some first whole lines of these bytes were answered, until a write failed
+abbrev pub BreaksOff : {S : Type 0} → Form → (S → Line → Reply → S → Type 0) → List ℕ → At S → At S → Type 0
+BreaksOff f gives bytes old new =
+    (lines : List ℕ) × (rest : List ℕ) × (bytes ≡ lines ++ rest) × AreWholeLines lines × Broken f gives (lines_of lines) old new
 
 -- what a call of a session does: at Ok the first, and no write failed; at Err one did, and the second
 pub record Turn {S T E : Type 0} (Does : T → At S → At S → Type 0) (Breaks : At S → At S → Type 0) (old new : At S)
@@ -77,23 +77,22 @@ abbrev pub TakesBytes : {S : Type 0} → Form → (S → Line → Reply → S �
 TakesBytes {S} f gives bytes old new =
     (start : At S) → (seen : List ℕ) → Taken f gives seen start old → Taken f gives (seen ++ bytes) start new
 
--- whatever was taken before, and whatever follows, a write failed in the midst of what was taken and of these bytes
+-- whatever was taken before, a write failed in the midst of what was taken and of these bytes
 abbrev pub BreaksBytes : {S : Type 0} → Form → (S → Line → Reply → S → Type 0) → List ℕ → At S → At S → Type 0
 BreaksBytes {S} f gives bytes old new =
-    (start : At S) → (seen : List ℕ) → Taken f gives seen start old → (more : List ℕ)
-    → BreaksOff f gives (lines_of ((seen ++ bytes) ++ more)) start new
+    (start : At S) → (seen : List ℕ) → Taken f gives seen start old → BreaksOff f gives (seen ++ bytes) start new
 
--- whatever was taken before, all of it, a write failed in its midst
+-- whatever was taken before, all of it was answered, and a write failed
 abbrev pub BreaksAtEnd : {S : Type 0} → Form → (S → Line → Reply → S → Type 0) → At S → At S → Type 0
 BreaksAtEnd {S} f gives old new =
-    (start : At S) → (seen : List ℕ) → Taken f gives seen start old → BreaksOff f gives (lines_of seen) start new
+    (start : At S) → (seen : List ℕ) → Taken f gives seen start old → Broken f gives (lines_of seen) start new
 
 -- whatever was taken before, all of it is answered now, and nothing is gathered any more
 abbrev pub Ends : {S : Type 0} → Form → (S → Line → Reply → S → Type 0) → At S → At S → Type 0
 Ends {S} f gives old new =
     (start : At S) → (seen : List ℕ) → Taken f gives seen start old → Replied f gives (lines_of seen) start new × (new.held.gathered ≡ [])
 
--- these pieces were read: a line that they spell was found, with nothing done, or they were answered with no look at the desk
+-- these pieces were read: a line that they spell was found, with nothing done; or they were answered
 abbrev pub Sought : {S : Type 0} → Form → (S → Line → Reply → S → Type 0) → List Piece → Option Line → At S → At S → Type 0
 Sought f gives pieces (Some line) old new = (text : List ℕ) × (pieces ≡ Whole text ∷ []) × SpellsLine f text line × (new ≡ old)
 Sought f gives pieces None old new = Replied f gives pieces old new

@@ -67,7 +67,7 @@ const ALL: Reply = Reply::Var {
     value: 65_535,
 };
 
-/// What they are told, in some order; the first of these goes to the last of them, for which the others wait.
+/// What clients are told, in some order; the first of these goes to the last of them, for which the others wait.
 const PLACES: [&str; 16] = [
     "taken 1\n",
     "taken 2\n",
@@ -87,11 +87,11 @@ const PLACES: [&str; 16] = [
     "taken 16\n",
 ];
 
-/// The connections of these clients.
-fn talks<'a>(rt: &impl Abort, alloc: Global) -> Vec<Talk<'a>> {
+/// The connections of clients that send these lines.
+fn talks<'a>(rt: &impl Abort, alloc: Global, lines: &[&'a str]) -> Vec<Talk<'a>> {
     let mut talks = Vec::new(alloc);
-    for sent in SIXTEEN {
-        talks.push(Talk::new(alloc, sent)).expect(rt, "memory");
+    for sent in lines {
+        talks.push(Talk::new(alloc, *sent)).expect(rt, "memory");
     }
     talks
 }
@@ -106,25 +106,26 @@ fn is_told(rt: &impl Wait, talks: &[Talk<'_>], text: &str) -> bool {
     false
 }
 
-/// Each of the places was told, the first of them to the last client.
+/// As many places were told as there are clients, the first of them to the last client.
 fn are_told<X: Wait + Abort>(rt: &X, talks: &[Talk<'_>]) {
-    for text in PLACES {
-        assert!(rt; is_told(rt, talks, text));
+    for text in PLACES.iter().take(talks.len()) {
+        assert!(rt; is_told(rt, talks, *text));
     }
     assert!(rt; talks.last().is_some_and(|talk| talk.holds(rt, "taken 1\n")));
 }
 
-/// Serves a session for each of these clients, of which all wait for the last.
+/// Serves a session for each of these clients, of which all wait for the last, and comes to this.
 fn serve_meeting<'a, X: Threads + Wait + Clock + Abort + Sync, T: Timeline + Send>(
     rt: &'a X,
     alloc: Global,
     talks: &'a [Talk<'a>],
+    wanted: Reply,
 ) {
     let are_few = talks.len() <= 16;
     assert!(rt; are_few);
-    let gate = Meeting::new(rt, 15, 0);
-    let mut lobby = Lobby::new(rt, talks);
     let sessions = talks.len();
+    let gate = Meeting::new(rt, sessions.saturating_sub(1) as u32, 0);
+    let mut lobby = Lobby::new(rt, talks);
     let reply = serve::<X, T, Meeting<'a, X>>(
         rt,
         alloc,
@@ -133,28 +134,41 @@ fn serve_meeting<'a, X: Threads + Wait + Clock + Abort + Sync, T: Timeline + Sen
         Vec::new(alloc),
         &gate,
     );
-    assert_eq!(rt; reply, ALL);
+    assert_eq!(rt; reply, wanted);
     assert!(rt; gate.was_seen());
 }
 
-/// Sixteen sessions meet: each is told a place of its own, and all that they send is in what the engine comes to.
-fn meet<X: Threads + Wait + Clock + Abort + Sync, T: Timeline + Send>(rt: &X, alloc: Global) {
-    let talks = talks(rt, alloc);
-    serve_meeting::<X, T>(rt, alloc, &talks);
+/// Sessions that send these lines meet: each is told a place of its own, and the engine comes to what is wanted.
+fn meet<X: Threads + Wait + Clock + Abort + Sync, T: Timeline + Send>(
+    rt: &X,
+    alloc: Global,
+    lines: &[&str],
+    wanted: Reply,
+) {
+    let talks = talks(rt, alloc, lines);
+    serve_meeting::<X, T>(rt, alloc, &talks, wanted);
     are_told(rt, &talks);
 }
 
 #[test]
 fn sixteen_sessions_meet(rt: HostRuntime) {
-    meet::<HostRuntime, Plain>(&rt, rt.alloc());
+    meet::<HostRuntime, Plain>(&rt, rt.alloc(), &SIXTEEN, ALL);
 }
 
-/// What a peer replies: both its records, and three times that there is no further one.
+/// What two clients send: an event of each origin.
+const TWO: [&str; 2] = ["event 0 5 0 0 3\n", "event 1 2 0 1 4\n"];
+
+/// What both come to.
+const BOTH: Reply = Reply::Var { log: 2, value: -5 };
+
+#[test]
+fn two_sessions_meet(rt: HostRuntime) {
+    meet::<HostRuntime, Plain>(&rt, rt.alloc(), &TWO, BOTH);
+}
+
+/// What a peer replies: both records, and three times that there is no further one.
 const REPLIES: &str =
     "log 2 event 0 5 0 0 3\nlog 2 event 1 2 0 1 4\nnone 2\nnone 2\nnone 2\nlog 3 withdraw 0 5 0\n";
-
-/// What they come to.
-const BOTH: Reply = Reply::Var { log: 2, value: -5 };
 
 /// A server without sessions pulls from this peer until it was quiet three times, and the door hears it.
 fn pulls<'a, X: Threads + Wait + Clock + Abort + Sync, T: Timeline + Send>(

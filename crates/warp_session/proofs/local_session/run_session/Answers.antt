@@ -37,6 +37,7 @@ pub returns-in-Ok-clause-front : goal.returns-in-Ok-clause-front
 returns-in-Ok-clause-front g c = λ ended.
     let new = c.new-in-Ok.ensures in
     front_from_empty c.args.program (local_state c.new-in-Ok.result) (local_state c.session.new.desk)
-    (g.R.Source.left c.args.source.now) (g.W.Sink.written c.args.sink.now) (g.W.Sink.written c.session.new.sink)
+    (g.R.Source.left c.args.source.now) (g.R.Source.left c.session.new.source)
+    (g.W.Sink.written c.args.sink.now) (g.W.Sink.written c.session.new.sink)
     (ap (λ r. r.program) new ∙ c.in-Ok.ensures.program) (ap (λ r. r.records) new ∙ c.in-Ok.ensures.records)
     (c.session.ensures.front ended)
