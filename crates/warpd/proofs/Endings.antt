@@ -15,7 +15,7 @@ use Rattle.warp_session.specs.declared.desk_session.SessionEnd.TheVariants.{End,
 pub writes_so : (P : Program) (before after : Seen) (end : SessionEnd)
     → (end ≡ End → TranscribesAll P before.left before.written after.written)
     → (end ≡ ReadFault → TranscribesSoFar P before.left after.left before.written after.written)
-    → (end ≡ WriteFault → TranscribesSome P before.left before.written after.written)
+    → (end ≡ WriteFault → TranscribesSome P before.left after.left before.written after.written)
     → (end ≡ TooManyReads → TranscribesSoFar P before.left after.left before.written after.written)
     → (end ≡ TooManyReads → IfSome before.left (λ input. most_reads ≤ length input))
     → (end ≡ NoMemory → after ≡ before)

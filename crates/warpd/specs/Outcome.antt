@@ -76,8 +76,8 @@ end_outcome WriteFault = Output
 end_outcome TooManyReads = Input
 end_outcome NoMemory = Memory
 
--- what the run ends as after the command line's parser has shown its text for an error of this kind:
--- help that was asked for is done, unless it couldn't be written
+-- what the run ends as after the command line's parser has shown its text for an error of this kind: help or a version
+-- that was asked for is done, unless it couldn't be written; want of memory is that, and any other kind is the words'
 abbrev pub IsShown : ErrorKind → Outcome → Type 0
 IsShown kind.OutOfMemory outcome = outcome ≡ Memory
 IsShown kind.DisplayHelp outcome = (outcome ≡ Done) ⊎ (outcome ≡ Output)
@@ -99,7 +99,7 @@ untouched left written = record { left = left; written = written; failed_reads =
 abbrev pub WritesSo : ReactorProgram → Seen → Seen → SessionEnd → Type 0
 WritesSo P before after End = TranscribesAll P before.left before.written after.written
 WritesSo P before after ReadFault = TranscribesSoFar P before.left after.left before.written after.written
-WritesSo P before after WriteFault = TranscribesSome P before.left before.written after.written
+WritesSo P before after WriteFault = TranscribesSome P before.left after.left before.written after.written
 WritesSo P before after TooManyReads =
     TranscribesSoFar P before.left after.left before.written after.written × IfSome before.left (λ input. most_reads ≤ length input)
 WritesSo P before after NoMemory = after ≡ before
@@ -110,8 +110,8 @@ EndsSo P before after end =
     WritesSo P before after end × FailsSo end before.failed_reads after.failed_reads before.failed_writes after.failed_writes
 
 -- these bytes begin what a reader tells, if it tells it: all of it, or the first `most` bytes
-abbrev pub IsFrontOf : ℕ → Option (List ℕ) → List ℕ → Type 0
-IsFrontOf most told bytes = IfSome told (λ all. bytes ≡ take most all)
+pub record IsFrontOf (most : ℕ) (told : Option (List ℕ)) (bytes : List ℕ) : Type 0 where
+  pub front : IfSome told (λ all. bytes ≡ take most all)
 
 -- the program of this name: `builtin:twice`, or that of some bytes, which were read of a file
 abbrev pub IsNamed : List ℕ → ReactorProgram → Type 0
@@ -150,7 +150,8 @@ abbrev pub IsToldOf : List ℕ → Bool → List ℕ → Type 0
 IsToldOf bytes with_numbers text =
     (P : ReactorProgram) × (names : Names) × IsLoaded bytes P × IsLabelled bytes names × (text ≡ account_text P names with_numbers)
 
--- a text tells so of the program of this name: of `builtin:twice`, or of that of some bytes, which were read of a file
+-- a text tells so of the program of this name: of `builtin:twice` by some names, or of that of some bytes, which were
+-- read of a file, by their labels
 abbrev pub IsTold : List ℕ → Bool → List ℕ → Type 0
 IsTold name with_numbers text =
     (name ≡ codes "builtin:twice" → (names : Names) × (text ≡ account_text twice names with_numbers))
@@ -231,8 +232,8 @@ trace_names labels = record {
   ports = labels.ports;
 }
 
--- the program of this name with the names that a trace writes: `builtin:twice`, or that of some bytes, which were read of a
--- file, with their labels
+-- the program of this name: `builtin:twice`, of whose names nothing is said; or that of some bytes, which were read of
+-- a file, with the names that a trace writes, which are their labels
 abbrev pub IsNamedWith : List ℕ → ReactorProgram → TraceNames → Type 0
 IsNamedWith name P names =
     (name ≡ codes "builtin:twice" → P ≡ twice)
@@ -292,15 +293,15 @@ abbrev pub failures_with : ℕ → TraceFault → ℕ
 failures_with n trace_fault.Output = n + 1
 failures_with n trace_fault.NoMemory = n
 
--- Something was printed, of which nothing is said, and the run ends so: done; or one write has failed; or memory was wanting.
+-- Something may have been printed, of which nothing is said, and the run ends so: done; or one write has failed; or memory was wanting.
 pub record PrintsSome (before after : Seen) (outcome : Outcome) : Type 0 where
   pub left : after.left ≡ before.left
   pub reads : after.failed_reads ≡ before.failed_reads
   pub ends : ((outcome ≡ Done) × (after.failed_writes ≡ before.failed_writes))
       ⊎ ((fault : TraceFault) × (outcome ≡ trace_outcome fault) × (after.failed_writes ≡ failures_with before.failed_writes fault))
 
--- Printing the steps ends so: all lines were read, and then something is printed; or reading came to no end, and nothing is. Of what is
--- printed contracts say nothing.
+-- Printing the steps ends so: no read failed, nothing was written till then, and then something may be printed; or
+-- reading came to no end, and nothing is. Contracts say neither what was read nor what is printed.
 abbrev pub StepsOver : Seen → Seen → Outcome → Type 0
 StepsOver before after outcome =
     (read : Seen) × WritesNothing before read

@@ -1,9 +1,10 @@
 //! What `warpd check` tells of the program that a word names.
-ghost use Rattle.std.specs.Prelude.{◌≡◌, ◌⊎◌, IfErr, IfOk, ℕ, List, string_bytes};
+ghost use Rattle.std.specs.Prelude.{◌≡◌, ◌⊎◌, ◌+◌, IfErr, IfOk, ℕ, List, string_bytes};
 ghost use Rattle.warp_step.specs.Twice.{twice};
 ghost use Rattle.warp_prog.specs.Explain.{Names, account_text};
 ghost use Rattle.warp_prog.specs.Load.{IsLoaded, IsRefused};
-ghost use Rattle.warpd.specs.Outcome.{IsNone, IsTold, IsToldOf, refused_outcome};
+ghost use Rattle.warp_prog.specs.Reading.{longest_file};
+ghost use Rattle.warpd.specs.Outcome.{IsFrontOf, IsNone, IsTold, IsToldOf, refused_outcome};
 
 use crate::file_bytes::{first_bytes, without_file};
 use crate::outcome::Outcome;
@@ -52,16 +53,20 @@ fn built_in_account(alloc: Global, with_numbers: bool) -> Result<String, Outcome
     }
 }
 
-/// What is told of the program that a reader's bytes spell.
+/// What is told of the program that a reader's bytes spell: all of them, or where there are more than a program file
+/// may have, so many that it is seen.
 fn file_account<R: Read + Drop>(
     alloc: Global,
     reader: R,
     with_numbers: bool,
     remark: &mut String,
 ) -> Result<String, Outcome>
-    ensures ok { IfOk result (λ text. (bytes : List ℕ) × IsToldOf bytes with_numbers (string_bytes text)) }
+    ensures ok { IfOk result (λ text. (bytes : List ℕ)
+        × IsFrontOf (longest_file + 1) (R.remaining reader) bytes
+        × IsToldOf bytes with_numbers (string_bytes text)) }
     ensures err { IfErr result (λ outcome. (outcome ≡ Outcome.NoProgram) ⊎ (outcome ≡ Outcome.Memory)
-        ⊎ ((bytes : List ℕ) × (error : LoadError) × IsRefused bytes error × (outcome ≡ refused_outcome error))) }
+        ⊎ ((bytes : List ℕ) × IsFrontOf (longest_file + 1) (R.remaining reader) bytes
+        × ((error : LoadError) × IsRefused bytes error × (outcome ≡ refused_outcome error)))) }
 {
     let bytes = first_bytes(alloc, reader, ENOUGH, Outcome::NoProgram)?;
     let text = bytes_account(alloc, &bytes, with_numbers, remark)?;

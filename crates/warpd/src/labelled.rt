@@ -1,10 +1,11 @@
 //! The program that a word names, with the names of its parts for a trace.
-ghost use Rattle.std.specs.Prelude.{◌≡◌, ◌⊎◌, ℕ, IfErr, IfOk, List};
+ghost use Rattle.std.specs.Prelude.{◌≡◌, ◌⊎◌, ◌+◌, ℕ, IfErr, IfOk, List};
 ghost use Rattle.warp_prog.specs.Explain.{IsLabelled, Names};
 ghost use Rattle.warp_prog.specs.Load.{IsLoaded, IsRefused};
+ghost use Rattle.warp_prog.specs.Reading.{longest_file};
 ghost use Rattle.warp_prog.specs.declared.error.LoadError.{LoadError};
 ghost use Rattle.warp_step.specs.Twice.{twice};
-ghost use Rattle.warpd.specs.Outcome.{IsNamedWith, IsNone, refused_outcome, trace_names};
+ghost use Rattle.warpd.specs.Outcome.{IsFrontOf, IsNamedWith, IsNone, refused_outcome, trace_names};
 
 use crate::file_bytes::{first_bytes, without_file};
 use crate::outcome::Outcome;
@@ -56,12 +57,16 @@ fn built_in_labelled(alloc: Global) -> Result<Labelled, Outcome>
     }
 }
 
-/// The program that a reader's bytes spell, with its names.
+/// The program that a reader's bytes spell, with its names: all of them, or where there are more than a program file
+/// may have, so many that it is seen.
 fn file_labelled<R: Read + Drop>(alloc: Global, reader: R) -> Result<Labelled, Outcome>
-    ensures ok { IfOk result (λ l. (bytes : List ℕ) × (labels : Names)
-        × IsLoaded bytes l.program × IsLabelled bytes labels × (l.labels ≡ trace_names labels)) }
+    ensures ok { IfOk result (λ l. (bytes : List ℕ)
+        × IsFrontOf (longest_file + 1) (R.remaining reader) bytes
+        × ((labels : Names) × IsLoaded bytes l.program × IsLabelled bytes labels
+        × (l.labels ≡ trace_names labels))) }
     ensures err { IfErr result (λ outcome. (outcome ≡ Outcome.NoProgram) ⊎ (outcome ≡ Outcome.Memory)
-        ⊎ ((bytes : List ℕ) × (error : LoadError) × IsRefused bytes error × (outcome ≡ refused_outcome error))) }
+        ⊎ ((bytes : List ℕ) × IsFrontOf (longest_file + 1) (R.remaining reader) bytes
+        × ((error : LoadError) × IsRefused bytes error × (outcome ≡ refused_outcome error)))) }
 {
     let bytes = first_bytes(alloc, reader, ENOUGH, Outcome::NoProgram)?;
     let labelled = bytes_labelled(alloc, &bytes)?;

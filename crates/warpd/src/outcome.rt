@@ -36,7 +36,7 @@ pub enum Outcome {
     Memory,
     /// The port can't be listened on.
     Listen,
-    /// A connection couldn't be accepted.
+    /// A connection couldn't be accepted, or a thread couldn't be started.
     Accept,
 }
 

@@ -1,4 +1,5 @@
-//! What becomes of the replies to lines that nobody wants answered: how many lines were refused is counted.
+//! What becomes of the replies to lines that nobody wants answered: how many lines were refused is counted, and which
+//! was the first, and why.
 
 use std::alloc::{AllocError, Global};
 use warp_record::{Feed, Refusal, Reply, read_reply};

@@ -1,6 +1,6 @@
 //! Serving sessions over TCP.
 
-ghost use Rattle.std.specs.Prelude.{◌≡◌, ◌+◌, ◌<◌, ◌≤◌, IfOk, MatchBool, length, vec_len};
+ghost use Rattle.std.specs.Prelude.{◌≡◌, ◌+◌, ◌<◌, ◌≤◌, ℕ, IfOk, MatchBool, length, vec_len};
 ghost use Rattle.warp_lanes.specs.Engine.{most_lanes};
 
 use crate::connection::Connection;
@@ -159,7 +159,11 @@ pub(crate) fn serve_at<
     service: &Service<'_>,
 ) -> Result<Engine<T>, ServeFault>
     requires { service.now.sessions + vec_len service.now.peers ≤ most_lanes }
-    ensures { IfOk result (λ engine. (engine.replica.program ≡ program) × (engine.began ≡ 0)) }
+    // The engine ran this program, and began with an empty log.
+    ensures engine { IfOk result (λ engine. (engine.replica.program ≡ program) × (engine.began ≡ 0)) }
+    // It had a lane for each session, and for each peer that was reached.
+    ensures lanes { IfOk result (λ engine. (reached : ℕ) × (reached ≤ vec_len service.now.peers)
+        × (length engine.lanes ≡ service.now.sessions + reached)) }
 {
     match reach_all(rt, alloc, &service.peers) {
         Ok(peers) => serve_with(rt, alloc, program, listener, service.sessions, peers),
@@ -177,7 +181,10 @@ fn serve_with<X: Host, T: Timeline + Send + Drop>(
     peers: Vec<Peer<Connection, Connection>>,
 ) -> Result<Engine<T>, ServeFault>
     requires { sessions + vec_len peers ≤ most_lanes }
-    ensures { IfOk result (λ engine. (engine.replica.program ≡ program) × (engine.began ≡ 0)) }
+    // The engine ran this program, and began with an empty log.
+    ensures engine { IfOk result (λ engine. (engine.replica.program ≡ program) × (engine.began ≡ 0)) }
+    // It had a lane for each session and each peer.
+    ensures lanes { IfOk result (λ engine. length engine.lanes ≡ sessions + vec_len peers) }
 {
     let mut door = Entrance { rt, listener };
     serve_sessions(rt, alloc, program, &mut door, sessions, peers, &Open)

@@ -13,6 +13,9 @@ returns-in-Ok-clause-bytes g c =
     let new = c.read_to_end.new.buf.items in
     let most = c.args.most in
     let left = g.R.Read.remaining in
-    fronts (left c.args.reader) most old new c.new-bytes.ensures.items
-    (subst (λ r. IfSome (option_map (take most) (left r)) (λ xs. new ≡ old ++ xs)) c.take-front.ensures.inner
-    (subst (λ n. IfSome (option_map (take n) (left c.take-front.result.inner)) (λ xs. new ≡ old ++ xs)) c.take-front.ensures.limit c.in-Ok.ensures.bytes))
+    record {
+      front =
+          fronts (left c.args.reader) most old new c.new-bytes.ensures.items
+          (subst (λ r. IfSome (option_map (take most) (left r)) (λ xs. new ≡ old ++ xs)) c.take-front.ensures.inner
+          (subst (λ n. IfSome (option_map (take n) (left c.take-front.result.inner)) (λ xs. new ≡ old ++ xs)) c.take-front.ensures.limit c.in-Ok.ensures.bytes));
+    }
