@@ -3,7 +3,7 @@
 A case is a list of steps. A step is lines for standard input, what they print, and what may be printed in the place of
 that where one request for memory of one of its calls was refused: `otherwise`, of which each must be seen in some run.
 What stands behind a refused step is printed as if nothing had been refused. All that must be printed comes from the
-definitions and the worked answers of FORMATS.md.
+definitions and the answers that FORMATS.md gives.
 
 A call that takes no memory (`is_quiet`) must make no request, and come to the same where each would be refused.
 """
@@ -66,7 +66,7 @@ def quiet(calls):
     return [Step([said], [line], is_quiet=True) for line, said in calls]
 
 
-# The records of the third worked row, and further ones; with each, what the looks say behind it.
+# The records of `tardy_event` in rows/events.rows, and further ones; with each, what the looks say behind it.
 LOOKS = ("ask var 0", "ask outputs", "ask horizon")
 RECORDS = [
     ("event 0 5 0 0 3", ("var 1 3", "outputs 1 1", "horizon 1 0 0")),

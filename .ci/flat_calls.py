@@ -150,7 +150,19 @@ def desks():
         ("event 0 5 0 0 3", "taken 1"), ("is_settled", "settled true"), ("collect", "collected 1")])
     yield paired("a desk pulls the log of another", "desks", "twice", [
         ("exchange",), ("event 0 5 0 0 3", "taken 1"), ("event 1 2 0 1 4", "taken 2"), ("exchange",),
-        ("pull", "got, then 2"), ("pull", "got, then 3"), ("pull", "level, then 3"), ("var 0", "var 2 -5")])
+        ("pull", "got, then 2"), ("pull", "got, then 3"), ("pull", "level, then 3"), ("var 0", "var 2 -5"), ("exchange",), ("var 0", "var 2 -5")])
+    event = "hear log 2 event 0 5 0 0 3"
+    yield paired("what each reply leads to in pulling", "desks", "twice", [
+        (event, "got, then 2"), (event, "got, then 3"), ("hear none 2", "level, then 3"), ("hear none 5", "strange, then 3"),
+        (event, "strange, then 3"), ("hear none", "strange, then 3"), ("var 0", "var 1 3")])
+
+
+def merging():
+    """Two replicas take over each other's records; merging the same again changes nothing."""
+    yield paired("two replicas that merge each other", "replicas", "twice", [
+        ("take event 1 2 0 1 4", "taken 1"), ("take withdraw 0 9 0", "taken 2"), ("exchange",), ("take event 0 5 0 0 3", "taken 1"),
+        ("merge", "merged 2 into 3"), ("exchange",), ("merge", "merged 3 into 3"), ("ask var 0", "var 3 -5"), ("exchange",),
+        ("ask var 0", "var 3 -5"), ("merge", "merged 3 into 3"), ("ask var 0", "var 3 -5")])
 
 
 # Two ways to the same records: some come twice, the other replica collects on its way and has not all announcements then.
@@ -320,5 +332,5 @@ def sessions():
 
 
 def cases():
-    for some in (slow, forty, collecting, desks, meeting, world, files, copies, feeding, spellings, streams, sessions):
+    for some in (slow, forty, collecting, desks, merging, meeting, world, files, copies, feeding, spellings, streams, sessions):
         yield from some()

@@ -6,7 +6,7 @@ from what each reply leads to.
 
 from calls import NO_MEMORY, Calls, Step
 
-# The third worked row: lines, answers, and how many records there are behind each.
+# `tardy_event` of rows/events.rows: lines, answers, and how many records there are behind each.
 ROW = [("event 0 5 0 0 3", "taken 1", 1), ("var 0", "var 1 3", 1), ("event 1 2 0 1 4", "taken 2", 2), ("var 0", "var 2 -5", 2),
        ("outputs", "outputs 2 2", 2), ("output 0", "output 2 2 0 0 -4", 2), ("output 1", "output 2 5 0 0 -5", 2)]
 LINES = "".join(f"{line}\n" for line, _, _ in ROW)
@@ -59,7 +59,7 @@ def session():
 
 def sessions():
     """The first takes nothing of the first reply, which is of a record."""
-    return Calls("the third worked row against each reader and writer", "sessions", "twice", [
+    return Calls("a tardy event against each reader and writer", "sessions", "twice", [
         Step(told("write fault", 1, ""), otherwise=[told(NO_MEMORY, 0, ""), told("write fault", 0, "")]),
         several([WHOLE]),
         several([read(count, "read fault") for count in range(len(LINES) + 1)]),

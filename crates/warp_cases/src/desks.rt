@@ -2,10 +2,15 @@
 //!
 //! - `pull` has the first take what the second replies to the next question of a puller, and tells what that came to,
 //!   and which place comes next;
+//! - `hear REPLY` has the first take what this reply to that question leads to, and tells the same;
 //! - `exchange` makes the second the first;
 //! - of the first, `is_settled` tells whether it is settled, `held` how many names its timeline holds, and
 //!   `behind TIME MICRO` whether a tag is behind what it let go of;
 //! - any other line is one of a session, which the first is asked.
+ghost use Rattle.std.specs.Prelude.{IfSome};
+ghost use Rattle.warp_tag.specs.Limits.{widest};
+ghost use Rattle.warp_record.specs.Reply.{IsReply};
+
 use crate::lines::{line_of, tag_of};
 use crate::programs::replica_of;
 use crate::transcript::Transcript;
@@ -13,9 +18,10 @@ use std::alloc::Global;
 use std::mem;
 use warp_exchange::{Desk, Pulled, Puller};
 use warp_line::Timeline;
-use warp_record::Line;
+use warp_record::{Line, Reply, read_reply};
 use warp_replica::Local;
 use warp_run::Warp;
+use warp_tag::Form;
 
 /// A timeline whose names can be counted.
 pub(crate) trait Holding: Timeline {
@@ -90,6 +96,9 @@ fn make_call<T: Holding>(
     if line == "held" {
         return out.say(format_args!("{} names", one.replica().timeline().names_held()));
     }
+    if let Some(text) = line.strip_prefix("hear ") {
+        return hear(out, puller, read_reply(Form::Two, text.as_bytes()), one);
+    }
     match line.strip_prefix("behind ") {
         Some(tag) => is_behind(out, one, tag),
         None => ask(out, one, line),
@@ -99,7 +108,14 @@ fn make_call<T: Holding>(
 /// Asks the other desk what the puller wants to know, and does what its reply leads to.
 fn pull<D: Desk, E: Desk>(out: &mut Transcript, puller: &mut Puller, other: &mut D, desk: &mut E) {
     let reply = other.ask(Line::Ask(puller.ask()));
-    let word = match puller.on_reply(Some(reply), desk) {
+    hear(out, puller, Some(reply), desk);
+}
+
+/// Does what a reply leads to, or a line that is none.
+fn hear<D: Desk>(out: &mut Transcript, puller: &mut Puller, reply: Option<Reply>, desk: &mut D)
+    requires { IfSome reply (IsReply widest) }
+{
+    let word = match puller.on_reply(reply, desk) {
         Pulled::Got => "got",
         Pulled::Level => "level",
         Pulled::Held(_) => "held",
