@@ -13,7 +13,8 @@ pub record Turned : Type 0 where
   pub pulled : Pulled
   pub next : ℕ
 
--- what the desk's own reply to the record leads to: the next place where the record is there now
+-- what the desk's own reply to the record leads to: the next place where the record is there now, else the same place,
+-- held for a refusal's reason, and strange at any other reply
 abbrev pub after_put : ℕ → Reply → Turned
 after_put next (reply.Taken place) = record { pulled = Got; next = next + 1 }
 after_put next (reply.Known place) = record { pulled = Got; next = next + 1 }

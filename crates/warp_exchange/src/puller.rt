@@ -22,7 +22,7 @@ pub enum Pulled {
     Held(Refusal),
     /// All of the other log is there.
     Level,
-    /// It is no reply to the question, or no reply at all.
+    /// It is no reply to the question, or no reply at all; or the desk's own reply is none to a record.
     Strange,
 }
 
