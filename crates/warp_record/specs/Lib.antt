@@ -1,5 +1,6 @@
 pub mod Number
 pub mod Record
+pub mod Order
 pub mod Line
 pub mod Lines
 pub mod Reply

@@ -34,6 +34,18 @@ IsRecord f (Event origin tag input value) = IsEvent f origin tag input value
 IsRecord f (Withdraw origin tag) = IsWithdrawal f origin tag
 IsRecord f (Announce origin tag events withdrawn) = IsAnnouncement f origin tag events withdrawn
 
+-- whose record it is
+abbrev pub origin_of : Record → ℕ
+origin_of (Event origin tag input value) = origin
+origin_of (Withdraw origin tag) = origin
+origin_of (Announce origin tag events withdrawn) = origin
+
+-- its tag
+abbrev pub tag_of : Record → Moment
+tag_of (Event origin tag input value) = tag
+tag_of (Withdraw origin tag) = tag
+tag_of (Announce origin tag events withdrawn) = tag
+
 -- the words of a tag
 abbrev pub tag_words : Moment → List (List ℕ)
 tag_words tag = decimal tag.time ∷ decimal tag.microstep ∷ []

@@ -12,6 +12,7 @@ mod front;
 mod law;
 mod line;
 mod number;
+mod order;
 mod query_text;
 mod record;
 mod record_text;

@@ -193,10 +193,11 @@ pub fn append(out: &mut Vec<u8>, text: &[u8])
     requires { vec_len out.old + length text.now ≤ vec_capacity out.old }
     ensures items { out.new.items ≡ out.old.items ++ text.now }
     ensures len { vec_len out.new ≡ vec_len out.old + length text.now }
-    ensures capacity { vec_capacity out.old ≤ vec_capacity out.new }
+    ensures capacity { vec_capacity out.new ≡ vec_capacity out.old }
 {
-    // There is room, so nothing can be refused.
-    let _ = out.extend_from_slice(text);
+    for byte in text {
+        out.push_reserved(*byte);
+    }
 }
 
 /// Appends a space and the number, for which there is room.
@@ -204,25 +205,25 @@ pub fn append_number<I: Integer>(out: &mut Vec<u8>, number: I)
     requires { vec_len out.old + (I.MAX_STR_LEN + 1) ≤ vec_capacity out.old }
     ensures items { out.new.items ≡ out.old.items ++ 32 ∷ I.text number }
     ensures len { vec_len out.new ≤ vec_len out.old + (I.MAX_STR_LEN + 1) }
-    ensures capacity { vec_capacity out.old ≤ vec_capacity out.new }
+    ensures capacity { vec_capacity out.new ≡ vec_capacity out.old }
 {
     out.push_reserved(b' ');
     let mut buffer = Buffer::new();
     append(out, buffer.format(number).as_bytes());
 }
 
-/// Appends the number, for which there is room for eight bytes: as a block of them, of which it leaves the digits.
+/// Appends the number, for which there is room for eight bytes.
 #[inline(always)]
 fn append_block(out: &mut Vec<u8>, number: u32)
     requires fits { number < BLOCK_END }
     requires room { vec_len out.old + 8 ≤ vec_capacity out.old }
     ensures items { out.new.items ≡ out.old.items ++ decimal number }
     ensures len { vec_len out.new ≤ vec_len out.old + 8 }
-    ensures capacity { vec_capacity out.old ≤ vec_capacity out.new }
+    ensures capacity { vec_capacity out.new ≡ vec_capacity out.old }
 {
     let mut block = [0; 16];
     let start = write_digits(u64::from(number), &mut block, 8);
-    append_from(out, &block, start, 8, 8);
+    append(out, &block[start..8]);
 }
 
 /// Appends a space and the number, for which there is room. It is quick where the number has up to eight digits.
@@ -231,7 +232,7 @@ pub(crate) fn append_u32(out: &mut Vec<u8>, number: u32)
     requires { vec_len out.old + 11 ≤ vec_capacity out.old }
     ensures items { out.new.items ≡ out.old.items ++ 32 ∷ decimal number }
     ensures len { vec_len out.new ≤ vec_len out.old + 11 }
-    ensures capacity { vec_capacity out.old ≤ vec_capacity out.new }
+    ensures capacity { vec_capacity out.new ≡ vec_capacity out.old }
 {
     if number >= BLOCK_END {
         append_number(out, number);
@@ -287,44 +288,44 @@ pub(crate) fn append_from(out: &mut Vec<u8>, block: &[u8], start: usize, end: us
         return;
     }
     let length = out.len() + (end - start);
-    append(out, &block[start..start + most]);
+    let _ = out.extend_from_slice(&block[start..start + most]);
     out.truncate(length);
 }
 
-/// Appends a space and the text that stands in the block up to `WIDE_END`, for which there is room for `WIDE` bytes.
+/// Appends a space and the text that stands in the block up to `WIDE_END`, for which there is room.
 #[inline(always)]
 fn append_wide(out: &mut Vec<u8>, block: &mut [u8; WIDE_BLOCK], start: usize)
     requires place { (1 ≤ start) × (start ≤ WIDE_END) }
     requires room { vec_len out.old + WIDE ≤ vec_capacity out.old }
     ensures items { out.new.items ≡ out.old.items ++ 32 ∷ take (WIDE_END - start) (drop start block.old) }
     ensures len { vec_len out.new ≤ vec_len out.old + WIDE }
-    ensures capacity { vec_capacity out.old ≤ vec_capacity out.new }
+    ensures capacity { vec_capacity out.new ≡ vec_capacity out.old }
 {
     let first = start - 1;
     block[first] = b' ';
-    append_from(out, block, first, WIDE_END, WIDE);
+    append(out, &block[first..WIDE_END]);
 }
 
-/// Appends a space and the number, where there is room for `WIDE` bytes: as a block, of which it leaves the text.
+/// Appends a space and the number, for which there is room.
 #[inline(always)]
 pub(crate) fn append_int(out: &mut Vec<u8>, number: i64)
     requires { vec_len out.old + 24 ≤ vec_capacity out.old }
     ensures items { out.new.items ≡ out.old.items ++ 32 ∷ signed_decimal number }
     ensures len { vec_len out.new ≤ vec_len out.old + 24 }
-    ensures capacity { vec_capacity out.old ≤ vec_capacity out.new }
+    ensures capacity { vec_capacity out.new ≡ vec_capacity out.old }
 {
     let mut block = [0; WIDE_BLOCK];
     let start = write_int(number, &mut block, WIDE_END);
     append_wide(out, &mut block, start);
 }
 
-/// Appends a space and the count, where there is room for `WIDE` bytes: as a block, of which it leaves the digits.
+/// Appends a space and the count, for which there is room.
 #[inline(always)]
 pub(crate) fn append_u64(out: &mut Vec<u8>, count: u64)
     requires { vec_len out.old + 24 ≤ vec_capacity out.old }
     ensures items { out.new.items ≡ out.old.items ++ 32 ∷ decimal count }
     ensures len { vec_len out.new ≤ vec_len out.old + 24 }
-    ensures capacity { vec_capacity out.old ≤ vec_capacity out.new }
+    ensures capacity { vec_capacity out.new ≡ vec_capacity out.old }
 {
     let mut block = [0; WIDE_BLOCK];
     let start = write_digits(count, &mut block, WIDE_END);

@@ -62,6 +62,32 @@ pub enum Record {
     },
 }
 
+impl Record {
+    ghost use Rattle.warp_record.specs.Record.{origin_of, tag_of};
+
+    /// Whose it is.
+    pub fn origin(&self) -> u32
+        ensures { result ≡ origin_of self.now }
+    {
+        match *self {
+            Record::Event { origin, .. } => origin,
+            Record::Withdraw { origin, .. } => origin,
+            Record::Announce { origin, .. } => origin,
+        }
+    }
+
+    /// Its tag.
+    pub fn tag(&self) -> Tag
+        ensures { result ≡ tag_of self.now }
+    {
+        match *self {
+            Record::Event { tag, .. } => tag,
+            Record::Withdraw { tag, .. } => tag,
+            Record::Announce { tag, .. } => tag,
+        }
+    }
+}
+
 /// The last origin that a line of this form can name.
 #[inline(always)]
 pub(crate) fn last_origin(form: Form) -> u32
@@ -164,7 +190,7 @@ pub(crate) fn append_tag(out: &mut Vec<u8>, tag: Tag)
     requires { vec_len out.old + 32 ≤ vec_capacity out.old }
     ensures items { out.new.items ≡ out.old.items ++ 32 ∷ join_with_byte 32 (tag_words tag) }
     ensures len { vec_len out.new ≤ vec_len out.old + 32 }
-    ensures capacity { vec_capacity out.old ≤ vec_capacity out.new }
+    ensures capacity { vec_capacity out.new ≡ vec_capacity out.old }
 {
     append_u32(out, tag.time() as u32);
     append_u32(out, tag.micro());
@@ -175,7 +201,7 @@ pub(crate) fn append_record(out: &mut Vec<u8>, record: &Record)
     requires { vec_len out.old + RECORD_ROOM ≤ vec_capacity out.old }
     ensures items { out.new.items ≡ out.old.items ++ record_spelling «record».now }
     ensures len { vec_len out.new ≤ vec_len out.old + RECORD_ROOM }
-    ensures capacity { vec_capacity out.old ≤ vec_capacity out.new }
+    ensures capacity { vec_capacity out.new ≡ vec_capacity out.old }
 {
     match *record {
         Record::Event {
@@ -215,7 +241,7 @@ pub fn write_record(out: &mut Vec<u8>, record: &Record)
     requires { vec_len out.old + REPLY_ROOM ≤ vec_capacity out.old }
     ensures items { out.new.items ≡ out.old.items ++ record_spelling «record».now }
     ensures len { vec_len out.new < vec_len out.old + REPLY_ROOM }
-    ensures capacity { vec_capacity out.old ≤ vec_capacity out.new }
+    ensures capacity { vec_capacity out.new ≡ vec_capacity out.old }
 {
     append_record(out, record);
 }

@@ -506,7 +506,7 @@ fn append_first(out: &mut Vec<u8>, number: u32)
     requires { vec_len out.old + 11 ≤ vec_capacity out.old }
     ensures items { out.new.items ≡ out.old.items ++ 32 ∷ decimal number }
     ensures len { vec_len out.new ≤ vec_len out.old + 11 }
-    ensures capacity { vec_capacity out.old ≤ vec_capacity out.new }
+    ensures capacity { vec_capacity out.new ≡ vec_capacity out.old }
 {
     append_u32(out, number);
 }
@@ -517,7 +517,7 @@ fn append_numbered(out: &mut Vec<u8>, word: &[u8], number: u32)
     requires { vec_len out.old + (length word.now + 11) ≤ vec_capacity out.old }
     ensures items { out.new.items ≡ out.old.items ++ join_with_byte 32 (word.now ∷ decimal number ∷ []) }
     ensures len { vec_len out.new ≤ vec_len out.old + (length word.now + 11) }
-    ensures capacity { vec_capacity out.old ≤ vec_capacity out.new }
+    ensures capacity { vec_capacity out.new ≡ vec_capacity out.old }
 {
     append(out, word);
     append_first(out, number);
@@ -529,7 +529,7 @@ fn append_length_and_count(out: &mut Vec<u8>, log: u32, count: u64)
     requires { vec_len out.old + 35 ≤ vec_capacity out.old }
     ensures items { out.new.items ≡ out.old.items ++ 32 ∷ decimal log ++ 32 ∷ decimal count }
     ensures len { vec_len out.new ≤ vec_len out.old + 35 }
-    ensures capacity { vec_capacity out.old ≤ vec_capacity out.new }
+    ensures capacity { vec_capacity out.new ≡ vec_capacity out.old }
 {
     append_u32(out, log);
     append_u64(out, count);
@@ -542,7 +542,7 @@ fn append_count(out: &mut Vec<u8>, word: &[u8], number: u32, count: u64)
     ensures items { out.new.items ≡ out.old.items ++
         join_with_byte 32 (word.now ∷ decimal number ∷ decimal count ∷ []) }
     ensures len { vec_len out.new ≤ vec_len out.old + (length word.now + 35) }
-    ensures capacity { vec_capacity out.old ≤ vec_capacity out.new }
+    ensures capacity { vec_capacity out.new ≡ vec_capacity out.old }
 {
     append(out, word);
     append_length_and_count(out, number, count);
@@ -575,7 +575,7 @@ fn append_flagged(out: &mut Vec<u8>, word: &[u8], number: u32, flag: bool)
     ensures items { out.new.items ≡ out.old.items ++
         join_with_byte 32 (word.now ∷ decimal number ∷ flag_word flag ∷ []) }
     ensures len { vec_len out.new ≤ vec_len out.old + (length word.now + 13) }
-    ensures capacity { vec_capacity out.old ≤ vec_capacity out.new }
+    ensures capacity { vec_capacity out.new ≡ vec_capacity out.old }
 {
     append_numbered(out, word, number);
     append(out, if flag { b" 1" } else { b" 0" });
@@ -586,7 +586,7 @@ fn append_output(out: &mut Vec<u8>, output: Out)
     requires { vec_len out.old + 67 ≤ vec_capacity out.old }
     ensures items { out.new.items ≡ out.old.items ++ 32 ∷ join_with_byte 32 (out_words output) }
     ensures len { vec_len out.new ≤ vec_len out.old + 67 }
-    ensures capacity { vec_capacity out.old ≤ vec_capacity out.new }
+    ensures capacity { vec_capacity out.new ≡ vec_capacity out.old }
 {
     append_tag(out, output.tag);
     append_u32(out, output.port);
@@ -599,7 +599,7 @@ fn append_any(out: &mut Vec<u8>, reply: &Reply)
     requires { vec_len out.old + REPLY_ROOM ≤ vec_capacity out.old }
     ensures items { out.new.items ≡ out.old.items ++ reply_spelling reply.now }
     ensures len { vec_len out.new < vec_len out.old + REPLY_ROOM }
-    ensures capacity { vec_capacity out.old ≤ vec_capacity out.new }
+    ensures capacity { vec_capacity out.new ≡ vec_capacity out.old }
 {
     match *reply {
         Reply::Taken(place) => append_numbered(out, TAKEN, place),
@@ -642,7 +642,7 @@ pub fn write_reply(out: &mut Vec<u8>, reply: &Reply)
     requires { vec_len out.old + REPLY_ROOM ≤ vec_capacity out.old }
     ensures items { out.new.items ≡ out.old.items ++ reply_spelling reply.now }
     ensures len { vec_len out.new < vec_len out.old + REPLY_ROOM }
-    ensures capacity { vec_capacity out.old ≤ vec_capacity out.new }
+    ensures capacity { vec_capacity out.new ≡ vec_capacity out.old }
 {
     append_any(out, reply);
 }
@@ -652,7 +652,7 @@ pub fn write_reply(out: &mut Vec<u8>, reply: &Reply)
 fn append_line(out: &mut Vec<u8>, reply: &Reply)
     requires { vec_len out.old + REPLY_ROOM ≤ vec_capacity out.old }
     ensures items { out.new.items ≡ out.old.items ++ reply_line reply.now }
-    ensures capacity { vec_capacity out.old ≤ vec_capacity out.new }
+    ensures capacity { vec_capacity out.new ≡ vec_capacity out.old }
 {
     append_any(out, reply);
     out.push_reserved(b'\n');

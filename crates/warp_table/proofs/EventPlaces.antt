@@ -3,6 +3,7 @@ use Rattle.std.proofs.Common.{◌≡◌, ◌≢◌, inl, inr, ℕ, ℤ, ◌+◌,
 use Rattle.std.specs.List.{All}
 use Rattle.std.specs.Map.{lookup}
 use Rattle.std.specs.Option.{unwrap_or}
+use Rattle.std.specs.Ordering.{is_eq}
 use Rattle.std.proofs.lemmas.Bool.{both_ways, cases_Bool, false_from_ne_true}
 use Rattle.std.proofs.lemmas.Bool.Decides.{Decides-eqb, Decides-like, same_from_decides}
 use Rattle.std.proofs.lemmas.List.Elements.{All-weaker}
@@ -10,6 +11,7 @@ use Rattle.warp_tag.specs.Moment.{Moment}
 use Rattle.warp_tag.specs.Table.{greater, is_lesser}
 use Rattle.warp_record.specs.declared.record.Record.{Record}
 use Rattle.warp_record.specs.declared.record.Record.TheVariants.{Event, Withdraw, Announce}
+use Rattle.warp_record.specs.Order.{cmp-Decides, record_cmp}
 use Rattle.warp_table.specs.Log.{IsAt}
 use Rattle.warp_table.specs.Records.{same_record}
 use Rattle.warp_table.specs.declared.rows.Known.{Known}
@@ -18,7 +20,7 @@ use Rattle.warp_table.specs.declared.table.Parted.{Parted}
 use Rattle.warp_table.specs.inner.Heard.{Heard, earlier_of, with_heard_event, with_tag}
 use Rattle.warp_table.specs.inner.Kept.{HoldsEvent, KeepsPlaces, NotesEvent, counts_less, event_place, is_named, is_this, known_of, nothing_known, other_place, parted_of, payload_at, payload_of, place_in, put_known, put_other, stands, with_event_at, with_withdrawal_at, withdrawal_place}
 use Rattle.warp_table.proofs.FirstNames.{named-Decides}
-use Rattle.warp_table.proofs.Places.{All-found, All-inserted, cond_apart, holds_more, kept_places, last_at, lookup_inserted, more_at, record_at-is, record_same, stands-is, stands_apart}
+use Rattle.warp_table.proofs.Places.{All-found, All-inserted, cond_apart, holds_more, kept_places, last_at, lookup_inserted, lookup_ordered, more_at, record_at-is, record_same, stands-is, stands_apart}
 use Rattle.warp_table.proofs.Sets.{same_record-Decides}
 
 -- One more event, beside the one that its name keeps
@@ -43,7 +45,9 @@ same_either a b = same_from_decides (same_record a b) (same_record b a) (same_re
 
 -- among the others is one more
 other_put : (others : List (Record × ℕ)) (new other : Record) (place : ℕ) → other_place (put_other others new place) other ≡ (if same_record other new then Some place else other_place others other)
-other_put others new other place = lookup_inserted same_record same_record-Decides other others new place
+other_put others new other place =
+    lookup_ordered record_cmp cmp-Decides other others new place
+    ∙ ap (λ b. if b then Some place else other_place others other) (same_from_decides (is_eq (record_cmp other new)) (same_record other new) (cmp-Decides other new) (same_record-Decides other new))
 
 -- what is found nowhere does not stand where its name keeps one
 found_nowhere : (stands : Bool) (place : ℕ) (other : Option ℕ) → (if stands then Some place else other) ≡ None → stands ≡ false

@@ -1,6 +1,5 @@
 pub mod Places
 pub mod EventPlaces
-pub mod SameRecords
 pub mod Sizes
 pub mod Allowed
 pub mod Members

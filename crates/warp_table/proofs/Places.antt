@@ -10,7 +10,10 @@ use Rattle.std.proofs.lemmas.List.{get_or_append_left}
 use Rattle.std.proofs.lemmas.List.Elements.{All-cons, All-head, All-tail}
 use Rattle.std.proofs.Math.Seq.{get_or-append_seam}
 use Rattle.std.proofs.lemmas.Option.{get_or_from_slice_get, slice_get-get_or, slice_get_within}
-use Rattle.indexmap.specs.IndexMap.{insert_entry}
+use Rattle.std.specs.BTreeMap.{insert_entry, is_at as is_key}
+use Rattle.std.specs.Ordering.{is_eq, match_ordering}
+use Rattle.std.specs.declared.cmp.Ordering.{Ordering}
+use Rattle.std.specs.declared.cmp.Ordering.TheVariants.{Less, Equal, Greater}
 use Rattle.warp_tag.specs.Limits.{most_records}
 use Rattle.warp_record.specs.declared.record.Record.{Record}
 use Rattle.warp_record.specs.declared.record.Record.TheVariants.{Event}
@@ -18,7 +21,7 @@ use Rattle.warp_table.specs.Log.{EachOnce, IsAt}
 use Rattle.warp_table.specs.Records.{same_record}
 use Rattle.warp_table.specs.declared.rows.Known.{Known}
 use Rattle.warp_table.specs.declared.names.Name.{Name}
-use Rattle.warp_table.specs.inner.Kept.{HoldsEvent, KeepsPlaces, is_this, place_in, record_at, stands}
+use Rattle.warp_table.specs.inner.Kept.{HoldsEvent, KeepsPlaces, is_this, place_in, record_at, stands, with_value}
 use Rattle.warp_table.proofs.Sets.{same_record-Decides}
 
 -- The record at a place
@@ -128,7 +131,7 @@ cond_apart false b h x y z = refl
 
 module _ {K V : Type 0} (eq : K → K → Bool) (is : (a b : K) → Decides (eq a b) (a ≡ b)) where
   -- the key that came in has the value, and the others have what they had
-  pub lookup_inserted : (q : K) (es : List (K × V)) (k : K) (v : V) → lookup (eq q) (insert_entry eq es k v) ≡ cond (eq q k) (Some v) (lookup (eq q) es)
+  pub lookup_inserted : (q : K) (es : List (K × V)) (k : K) (v : V) → lookup (eq q) (with_value eq es k v) ≡ cond (eq q k) (Some v) (lookup (eq q) es)
   lookup_inserted q [] k v = refl
   lookup_inserted q (e ∷ es) k v = elim (cases_Bool (eq k e.0)) [
     | inl same ↦ rw same (cond_twice (eq q e.0) (eq q k) (ap (eq q) ((is k e.0).0 same)) (Some v) (Some e.1) (lookup (eq q) es))
@@ -138,11 +141,11 @@ module _ {K V : Type 0} (eq : K → K → Bool) (is : (a b : K) → Decides (eq 
   ]
 
   -- what holds of each entry holds of each with one that came in
-  pub All-inserted : (P : K × V → Type 0) (es : List (K × V)) (k : K) (v : V) → All P es → P (k, v) → All P (insert_entry eq es k v)
+  pub All-inserted : (P : K × V → Type 0) (es : List (K × V)) (k : K) (v : V) → All P es → P (k, v) → All P (with_value eq es k v)
   All-inserted P [] k v all here = All-cons P (k, v) [] here all
   All-inserted P (e ∷ es) k v all here = elim (cases_Bool (eq k e.0)) [
     | inl same ↦ rw same (All-cons P (e.0, v) es (subst (λ (x : K). P (x, v)) ((is k e.0).0 same) here) (All-tail P e es all))
-    | inr other ↦ rw other (All-cons P e (insert_entry eq es k v) (All-head P e es all) (All-inserted P es k v (All-tail P e es all) here))
+    | inr other ↦ rw other (All-cons P e (with_value eq es k v) (All-head P e es all) (All-inserted P es k v (All-tail P e es all) here))
   ]
 
   -- what holds of each entry holds of the one that is found
@@ -155,6 +158,26 @@ module _ {K V : Type 0} (eq : K → K → Bool) (is : (a b : K) → Decides (eq 
         subst (λ (x : V). P (q, x)) value (subst (λ (x : K). P (x, e.1)) (sym ((is q e.0).0 same)) (All-head P e es all)))
     | inr other ↦ All-found P q v es (All-tail P e es all) (sym (ap (λ b. cond b (Some e.1) (lookup (eq q) es)) other) ∙ found)
   ]
+
+-- the same where the keys are in order
+module _ {K V : Type 0} (cmp : K → K → Ordering) (is : (a b : K) → Decides (is_eq (cmp a b)) (a ≡ b)) where
+  pub lookup_ordered : (q : K) (es : List (K × V)) (k : K) (v : V) → lookup (is_key (cmp q)) (insert_entry cmp es k v) ≡ cond (is_eq (cmp q k)) (Some v) (lookup (is_key (cmp q)) es)
+  lookup_ordered q [] k v = refl
+  lookup_ordered q (e ∷ es) k v = by (cmp k e.0) refl (lookup_ordered q es k v)
+    where
+      at : K → Bool
+      at x = is_eq (cmp q x)
+
+      rest : Option V
+      rest = lookup (is_key (cmp q)) es
+
+      by : (o : Ordering) → cmp k e.0 ≡ o → lookup (is_key (cmp q)) (insert_entry cmp es k v) ≡ cond (at k) (Some v) rest →
+          lookup (is_key (cmp q)) (match_ordering o ((k, v) ∷ e ∷ es) ((e.0, v) ∷ es) (e ∷ insert_entry cmp es k v)) ≡ cond (at k) (Some v) (cond (at e.0) (Some e.1) rest)
+      by Less o later = refl
+      by Equal o later = cond_twice (at e.0) (at k) (ap at ((is k e.0).0 (ap is_eq o))) (Some v) (Some e.1) rest
+      by Greater o later =
+          ap (λ r. cond (at e.0) (Some e.1) r) later
+          ∙ cond_apart (at e.0) (at k) (λ a c. both_ways (is_eq (cmp k e.0)) (ap is_eq o) ((is k e.0).1 (sym ((is q k).0 c) ∙ (is q e.0).0 a))) (Some v) (Some e.1) rest
 
 -- The places after one more record
 

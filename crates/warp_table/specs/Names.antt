@@ -1,18 +1,13 @@
 -- What a set of records says of names: what it tells of one name, and which events are live. No order of arrival plays a
 -- part in it.
 use Rattle.std.specs.Prelude.{◌≡◌, ◌≢◌, ℕ, ℤ, Bool, false, ◌&&◌, ◌||◌, nat_lt, IsTrue, ◌↔◌, Option, Some, None, List, Contains, AllPairs}
+pub use Rattle.warp_record.specs.Record.{origin_of}
 use Rattle.warp_tag.specs.Moment.{Moment, is_before, is_same}
 use Rattle.warp_tag.specs.Table.{Event as LiveEvent, is_lesser}
 use Rattle.warp_tag.specs.declared.entry.Entry.{Entry}
 use Rattle.warp_record.specs.declared.record.Record.{Record}
 use Rattle.warp_record.specs.declared.record.Record.TheVariants.{Event, Withdraw, Announce}
 use Rattle.warp_table.specs.Records.{Records, IsIn}
-
--- whose record it is
-abbrev pub origin_of : Record → ℕ
-origin_of (Event origin tag input value) = origin
-origin_of (Withdraw origin tag) = origin
-origin_of (Announce origin tag events withdrawn) = origin
 
 -- the record is of this name: an event or a withdrawal of it
 abbrev pub IsOf : ℕ → Moment → Record → Type 0

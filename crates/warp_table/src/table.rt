@@ -3,8 +3,9 @@
 //!
 //! Names are found by origin and tag, and a name keeps the places of its event that counts and of its withdrawal. So a
 //! new record in order of tags costs a look at the last name of its origin; only announcements, and events of a name
-//! with a lesser payload, are found by a hash. What an origin announced is kept by its `Announcer`, so that in order of
-//! tags no record costs a pass over all announcements or names. A horizon costs a look at each origin of the program.
+//! with a lesser payload, are found in a map, which is ordered, so that no choice of keys makes it slow. What an origin
+//! announced is kept by its `Announcer`, so that in order of tags no record costs a pass over all announcements or
+//! names. A horizon costs a look at each origin of the program.
 ghost use Rattle.std.specs.Prelude.{◌≡◌, ◌↔◌, ℕ, ℤ, ◌+◌, ◌<◌, ◌≤◌, List, [], ◌∷◌, ◌++◌, None, Some, true, false};
 ghost use Rattle.std.specs.Prelude.{length, slice_get, Contains, IsTrue, IfSome, IfNone, IfOk};
 ghost use Rattle.std.specs.Prelude.{OnErr, MatchResult};
@@ -29,8 +30,8 @@ use crate::announcer::Announcer;
 use crate::names::{Name, Names};
 use crate::rows::Known;
 use crate::ways::{note, note_last};
-use indexmap::IndexMap;
 use std::alloc::Global;
+use std::collections::BTreeMap;
 use std::marker::Model;
 use warp_record::{Record, Refusal};
 use warp_step::Program;
@@ -65,7 +66,7 @@ pub struct Table {
     records: Vec<Record>,
     names: Names,
     /// Of announcements, and of the events of a name that has one with a greater payload.
-    others: IndexMap<Record, u32>,
+    others: BTreeMap<Record, u32>,
     announcers: Vec<Announcer>,
 }
 
@@ -114,7 +115,7 @@ impl Table {
         Table {
             records: Vec::new(alloc),
             names: Names::new(alloc),
-            others: IndexMap::new(alloc),
+            others: BTreeMap::new(alloc),
             announcers: Vec::new(alloc),
         }
     }
@@ -312,7 +313,7 @@ fn known_of(names: &Names, name: Name) -> Known
 }
 
 /// The place of a record among those that no name keeps.
-fn other_place(others: &IndexMap<Record, u32>, record: &Record) -> Option<u32>
+fn other_place(others: &BTreeMap<Record, u32>, record: &Record) -> Option<u32>
     ensures { result ≡ other_place others.now.entries «record».now }
 {
     others.get(record).copied()
@@ -322,7 +323,7 @@ fn other_place(others: &IndexMap<Record, u32>, record: &Record) -> Option<u32>
 pub(crate) fn event_place(
     records: &[Record],
     kept: u32,
-    others: &IndexMap<Record, u32>,
+    others: &BTreeMap<Record, u32>,
     record: &Record,
 ) -> Option<u32>
     ensures { result ≡ event_place records.now kept others.now.entries «record».now }
@@ -339,7 +340,7 @@ pub(crate) fn event_place(
 fn place_of(
     records: &[Record],
     names: &Names,
-    others: &IndexMap<Record, u32>,
+    others: &BTreeMap<Record, u32>,
     record: &Record,
 ) -> Option<u32>
     ensures { result ≡ place_in records.now names.now others.now.entries «record».now }

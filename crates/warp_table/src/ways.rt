@@ -24,8 +24,8 @@ use crate::names::{Name, Names};
 use crate::rows::Known;
 use crate::table::{Added, event_place, part};
 use crate::tally::Kind;
-use indexmap::IndexMap;
-use indexmap::map::Entry as Place;
+use std::collections::BTreeMap;
+use std::collections::btree_map::Entry as Place;
 use warp_record::Record;
 use warp_tag::{OutOfMemory, Tag};
 
@@ -38,7 +38,7 @@ struct Noted {
 
 /// Notes the place of a record that no name keeps. An `Err` changes nothing.
 fn note_other(
-    others: &mut IndexMap<Record, u32>,
+    others: &mut BTreeMap<Record, u32>,
     record: Record,
     place: u32,
 ) -> Result<(), OutOfMemory>
@@ -53,7 +53,7 @@ fn note_other(
 /// else a second payload, which is told to its origin. An `Err` changes nothing.
 fn note_further_event(
     records: &[Record],
-    others: &mut IndexMap<Record, u32>,
+    others: &mut BTreeMap<Record, u32>,
     announcer: &mut Announcer,
     kept: u32,
     name: &Name,
@@ -150,7 +150,7 @@ fn keep_event(names: &mut Names, name: Name, known: Known, event: u32)
 fn add_event(
     records: &[Record],
     names: &mut Names,
-    others: &mut IndexMap<Record, u32>,
+    others: &mut BTreeMap<Record, u32>,
     announcer: &mut Announcer,
     name: &Name,
     payload: (u32, i64),
@@ -190,7 +190,7 @@ fn add_event(
 #[inline(never)]
 fn note_event(
     records: &[Record],
-    others: &mut IndexMap<Record, u32>,
+    others: &mut BTreeMap<Record, u32>,
     announcer: &mut Announcer,
     kept: u32,
     name: &Name,
@@ -259,7 +259,7 @@ fn add_withdrawal(
 /// An `Err` changes nothing.
 #[inline(never)]
 fn add_announcement(
-    others: &mut IndexMap<Record, u32>,
+    others: &mut BTreeMap<Record, u32>,
     announcer: &mut Announcer,
     said: &Record,
     tag: Tag,
@@ -294,17 +294,6 @@ fn add_announcement(
     }
 }
 
-/// Whose record it is.
-fn origin_of(record: &Record) -> u32
-    ensures { result ≡ origin_of «record».now }
-{
-    match *record {
-        Record::Event { origin, .. } => origin,
-        Record::Withdraw { origin, .. } => origin,
-        Record::Announce { origin, .. } => origin,
-    }
-}
-
 /// Keeps an announcer for each origin up to this one. What is heard stays, also on an `Err`.
 fn keep_up_to(announcers: &mut Vec<Announcer>, origin: u32) -> Result<(), OutOfMemory>
     requires origin { origin < most_origins widest }
@@ -325,7 +314,7 @@ fn keep_up_to(announcers: &mut Vec<Announcer>, origin: u32) -> Result<(), OutOfM
 fn note_own(
     records: &[Record],
     names: &mut Names,
-    others: &mut IndexMap<Record, u32>,
+    others: &mut BTreeMap<Record, u32>,
     announcer: &mut Announcer,
     record: &Record,
 ) -> Result<Added, OutOfMemory>
@@ -372,7 +361,7 @@ fn note_own(
 pub(crate) fn note(
     records: &[Record],
     names: &mut Names,
-    others: &mut IndexMap<Record, u32>,
+    others: &mut BTreeMap<Record, u32>,
     announcers: &mut Vec<Announcer>,
     record: &Record,
 ) -> Result<Added, OutOfMemory>
@@ -389,7 +378,7 @@ pub(crate) fn note(
     ensures err { OnErr result ((names.new ≡ names.old) × (others.new.entries ≡ others.old.entries) ×
         AreHeard records.now announcers.new.items) }
 {
-    let origin = origin_of(record);
+    let origin = record.origin();
     keep_up_to(announcers, origin)?;
     let announcer = &mut announcers[origin as usize];
     note_own(records, names, others, announcer, record)
@@ -401,7 +390,7 @@ pub(crate) fn note(
 pub(crate) fn note_last(
     records: &[Record],
     names: &mut Names,
-    others: &IndexMap<Record, u32>,
+    others: &BTreeMap<Record, u32>,
     announcers: &mut Vec<Announcer>,
     record: &Record,
 ) -> bool

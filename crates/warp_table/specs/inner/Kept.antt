@@ -3,12 +3,13 @@
 use Rattle.std.specs.Prelude.{◌≡◌, ◌⊎◌, ℕ, ℤ, ◌+◌, ◌-◌, Bool, false, not, ◌==◌, ◌&&◌, if◌then◌else◌, is_some, Option, Some, None, List, [], ◌∷◌, ◌++◌, length, map, slice_get, All, Contains}
 use Rattle.std.specs.Map.{lookup}
 use Rattle.std.specs.Option.{unwrap_or}
-use Rattle.indexmap.specs.IndexMap.{insert_entry}
+use Rattle.std.specs.BTreeMap.{insert_entry, is_at}
 use Rattle.warp_tag.specs.Moment.{Moment, is_same}
 use Rattle.warp_tag.specs.Table.{fresh, greater, is_lesser}
 use Rattle.warp_tag.specs.declared.entry.Entry.{Entry}
 use Rattle.warp_record.specs.declared.record.Record.{Record}
 use Rattle.warp_record.specs.declared.record.Record.TheVariants.{Event, Withdraw, Announce}
+use Rattle.warp_record.specs.Order.{record_cmp}
 use Rattle.warp_table.specs.Log.{IsAt}
 use Rattle.warp_table.specs.Names.{Tells}
 use Rattle.warp_table.specs.Records.{same_record, set_of}
@@ -50,9 +51,14 @@ is_named origin tag name = origin == name.origin && is_same tag name.tag
 abbrev pub kept_of : Name → List (Name × Entry) → Entry
 kept_of name names = unwrap_or (lookup (is_named name.origin name.tag) names) (fresh name.origin name.tag)
 
+-- the entries with this value of a key, which comes last where it is new
+abbrev pub with_value : {K V : Type 0} → (K → K → Bool) → List (K × V) → K → V → List (K × V)
+with_value eq [] key value = (key, value) ∷ []
+with_value eq (e ∷ es) key value = if eq key e.0 then (e.0, value) ∷ es else e ∷ with_value eq es key value
+
 -- the names with this kept of one, which comes last where it is new
 abbrev pub put : List (Name × Entry) → Name → Entry → List (Name × Entry)
-put names name known = insert_entry (λ one other. is_named one.origin one.tag other) names name known
+put names name known = with_value (λ one other. is_named one.origin one.tag other) names name known
 
 -- the entry of a name of which this is known
 abbrev pub entry_of : List Record → Name → Known → Entry
@@ -85,7 +91,7 @@ known_of name names = unwrap_or (lookup (is_named name.origin name.tag) names) n
 
 -- the names with this known of one, which comes last where it is new
 abbrev pub put_known : List (Name × Known) → Name → Known → List (Name × Known)
-put_known names name known = insert_entry (λ one other. is_named one.origin one.tag other) names name known
+put_known names name known = with_value (λ one other. is_named one.origin one.tag other) names name known
 
 -- these are kept of the names of a list of records, in the order in which the names came first: what the list's set tells
 -- of each
@@ -95,11 +101,11 @@ pub record KeepsNames (records : List Record) (names : List (Name × Entry)) : T
 
 -- the place of a record among those that no name keeps
 abbrev pub other_place : List (Record × ℕ) → Record → Option ℕ
-other_place others said = lookup (same_record said) others
+other_place others said = lookup (is_at (record_cmp said)) others
 
--- these with one more
+-- these with one more, in the order of records
 abbrev pub put_other : List (Record × ℕ) → Record → ℕ → List (Record × ℕ)
-put_other others said place = insert_entry same_record others said place
+put_other others said place = insert_entry record_cmp others said place
 
 -- the place of an event whose name keeps the event at `kept`
 abbrev pub event_place : List Record → ℕ → List (Record × ℕ) → Record → Option ℕ

@@ -10,8 +10,8 @@ use Rattle.warp_table.proofs.ways.note.Goals as goal
 pub note_own-requires-clause-heard : goal.note_own-requires-clause-heard
 note_own-requires-clause-heard c =
     let new : List Heard = c.keep_up_to.new.announcers.items in
-    let within : c.origin_of-origin.result < length new = omega (arith, c.in_ok-keep_up_to.ensures.ok, c.keep_up_to.new.announcers.ok.0) in
-    let own = looked_up new c.origin_of-origin.result (origin_of c.args.record.now) c.index_mut-announcer.result.now c.index_mut-announcer.ensures.value within c.origin_of-origin.ensures in
+    let within : c.origin-origin.result < length new = omega (arith, c.in_ok-keep_up_to.ensures.ok, c.keep_up_to.new.announcers.ok.0) in
+    let own = looked_up new c.origin-origin.result (origin_of c.args.record.now) c.index_mut-announcer.result.now c.index_mut-announcer.ensures.value within c.origin-origin.ensures in
     own_heard c.args.records.now c.args.announcers.now.items new c.args.record.now c.index_mut-announcer.result.now c.in_ok-keep_up_to.ensures.same own c.requires.heard
 
 pub returns-clause-new : goal.returns-clause-new
@@ -19,9 +19,9 @@ returns-clause-new c =
     let old : List Heard = c.args.announcers.now.items in
     let new : List Heard = c.keep_up_to.new.announcers.items in
     let said : Record = c.args.record.now in
-    let origin : ℕ = c.origin_of-origin.result in
+    let origin : ℕ = c.origin-origin.result in
     let after : Heard = c.note_own.new.announcer in
-    let is : origin ≡ origin_of said = c.origin_of-origin.ensures in
+    let is : origin ≡ origin_of said = c.origin-origin.ensures in
     let within : origin < length new = omega (arith, c.in_ok-keep_up_to.ensures.ok, c.keep_up_to.new.announcers.ok.0) in
     IfOk-weaker c.note_own.result _ _ (λ added adds new_one.
     let says = adds new_one in (
