@@ -1,19 +1,22 @@
 -- Whom a place concerns: that those whom a new value concerns are marked, and so that those that are due stay marked.
-use Rattle.std.proofs.Common.{◌≡◌, ◌⊎◌, inl, inr, ℕ, ℤ, zero, suc, ◌+◌, ◌<◌, ◌≤◌, Bool, true, false, ◌||◌, eqb, List, [], ◌∷◌, get_or, replicate, Option, None, Some, bit_or, is_some, if◌then◌else◌, refl, sym, ap, ◌∙◌, subst, arith}
+use Rattle.std.proofs.Common.{◌≡◌, ◌⊎◌, inl, inr, ℕ, ℤ, zero, suc, ◌+◌, ◌<◌, ◌≤◌, Bool, true, false, ◌||◌, eqb, List, [], ◌∷◌, get_or, replicate, Option, None, Some, IsTrue, bit_or, filter, is_some, if◌then◌else◌, refl, sym, ap, ◌∙◌, subst, arith}
 use Rattle.std.specs.Prelude.{slice_get, slice_index_or}
-use Rattle.std.specs.List.{list_any}
-use Rattle.std.proofs.lemmas.Bool.{cases_Bool, or_from, eqb-false}
+use Rattle.std.specs.List.{list_all, list_any}
+use Rattle.std.proofs.Math.Bool.{or-false}
+use Rattle.std.proofs.lemmas.Bool.{and_parts, cases_Bool, cond-false, cond-true, or_cases, or_from, or_left, eqb-false}
 use Rattle.std.proofs.lemmas.List.{get_or-set_other}
-use Rattle.warp_body.specs.Presence.{Presence, is_target, nothing_present, present_at, with_value}
+use Rattle.warp_body.specs.Presence.{Presence, is_target, nothing_present, present_at, target_fits, with_value}
 use Rattle.warp_body.specs.declared.place.Places.{Places}
 use Rattle.warp_body.specs.declared.place.Target.{Target}
 use Rattle.warp_body.specs.declared.place.Target.TheVariants as to
 use Rattle.warp_step.specs.inner.Marks.{first_link, first_output, first_reaction, mark_at, no_marks, with_mark}
-use Rattle.warp_step.specs.inner.Plan.{heeds, heeds_any, in_turn, link_heeds, marks_of, output_heeds, place_of, reaction_heeds, with_watchers}
+use Rattle.warp_step.specs.inner.Plan.{heeds, heeds_any, in_turn, is_port, link_heeds, marks_of, marks_of_places, output_heeds, place_number, place_of, reaction_heeds, with_ports, with_watchers}
 use Rattle.warp_step.specs.Program.{Program}
 use Rattle.warp_step.specs.Step.{sources_of}
+use Rattle.warp_step.specs.Valid.{is_valid, program_places}
 use Rattle.warp_step.specs.inner.Due.{AreDue, AreMarked}
 use Rattle.warp_step.proofs.MarkLemmas.{joined_adds, joined_keeps, with_mark_adds, with_mark_keeps}
+use Rattle.warp_step.proofs.PlaceLemmas.{concerned_fits}
 
 -- one number more, if a test says so
 module _ (n word : ℕ) where
@@ -25,28 +28,28 @@ module _ (n word : ℕ) where
   mark_if_adds true h = with_mark_adds n word
   mark_if_adds false h = let no : false ≡ true = h in cc
 
--- the marks of the elements of a list that heed one of the places
-module _ {X : Type 0} (triggers : ℕ → X → List Target) (first : ℕ) (sources : List ℕ) (places : List Target) where
-  with_watchers_keep : (n : ℕ) (xs : List X) (word m : ℕ) → mark_at word m ≡ 1 → mark_at (with_watchers triggers first sources places n xs word) m ≡ 1
+-- the marks of the elements of a list that heed a place
+module _ {X : Type 0} (triggers : ℕ → X → List Target) (first : ℕ) (sources : List ℕ) (place : Target) where
+  with_watchers_keep : (n : ℕ) (xs : List X) (word m : ℕ) → mark_at word m ≡ 1 → mark_at (with_watchers triggers first sources place n xs word) m ≡ 1
   with_watchers_keep n [] word m h = h
   with_watchers_keep n (x ∷ xs) word m h =
-      let test = heeds_any sources (triggers n x) places in
+      let test = heeds sources (triggers n x) place in
       with_watchers_keep (n + 1) xs (if test then with_mark (first + n) word else word) m (mark_if_keeps (first + n) word test m h)
 
   with_watchers_mark : (n : ℕ) (xs : List X) (word k j : ℕ) (x : X) → n + k ≡ j → slice_get xs k ≡ Some x
-      → heeds_any sources (triggers j x) places ≡ true → mark_at (with_watchers triggers first sources places n xs word) (first + j) ≡ 1
+      → heeds sources (triggers j x) place ≡ true → mark_at (with_watchers triggers first sources place n xs word) (first + j) ≡ 1
   with_watchers_mark n [] word k j x sum at heeded = let no : None ≡ Some x = at in cc
   with_watchers_mark n (y ∷ ys) word zero j x sum at heeded =
       let some : Some y ≡ Some x = at in
       let same : y ≡ x = cc in
       let here : n ≡ j = omega (arith, sum) in
-      let test = heeds_any sources (triggers n y) places in
-      let own : test ≡ true = (λ i. heeds_any sources (triggers (here i) (same i)) places) ∙ heeded in
+      let test = heeds sources (triggers n y) place in
+      let own : test ≡ true = (λ i. heeds sources (triggers (here i) (same i)) place) ∙ heeded in
       let marked = mark_if_adds (first + n) word test own in
       let kept = with_watchers_keep (n + 1) ys (if test then with_mark (first + n) word else word) (first + n) marked in
-      ap (λ (m : ℕ). mark_at (with_watchers triggers first sources places n (y ∷ ys) word) (first + m)) (sym here) ∙ kept
+      ap (λ (m : ℕ). mark_at (with_watchers triggers first sources place n (y ∷ ys) word) (first + m)) (sym here) ∙ kept
   with_watchers_mark n (y ∷ ys) word (suc k) j x sum at heeded =
-      let test = heeds_any sources (triggers n y) places in
+      let test = heeds sources (triggers n y) place in
       with_watchers_mark (n + 1) ys (if test then with_mark (first + n) word else word) k j x (omega (arith, sum)) at heeded
 
 -- all elements of a list that heed one of the places are marked
@@ -60,19 +63,66 @@ pub record Marks (P : Program) (places : List Target) (word : ℕ) : Type 0 wher
   pub links : MarksAll link_heeds (first_link P) P.links (sources_of P) places word
   pub outputs : MarksAll output_heeds (first_output P) P.outputs (sources_of P) places word
 
-pub marks_all : (P : Program) (places : List Target) → Marks P places (marks_of P places)
-marks_all P places =
+pub marks_all : (P : Program) (place : Target) → Marks P (place ∷ []) (marks_of P place)
+marks_all P place =
     let ss = sources_of P in
-    let a = with_watchers reaction_heeds first_reaction ss places 0 (in_turn P) no_marks in
-    let b = with_watchers link_heeds (first_link P) ss places 0 P.links a in
-    let keep_b = with_watchers_keep link_heeds (first_link P) ss places 0 P.links a in
-    let keep = with_watchers_keep output_heeds (first_output P) ss places 0 P.outputs b in
+    let a = with_watchers reaction_heeds first_reaction ss place 0 (in_turn P) no_marks in
+    let b = with_watchers link_heeds (first_link P) ss place 0 P.links a in
+    let keep_b = with_watchers_keep link_heeds (first_link P) ss place 0 P.links a in
+    let keep = with_watchers_keep output_heeds (first_output P) ss place 0 P.outputs b in
+    let alone : (triggers : List Target) → heeds_any ss triggers (place ∷ []) ≡ true → heeds ss triggers place ≡ true =
+    λ triggers h. sym (or-false (heeds ss triggers place)) ∙ h in
     record {
       reactions = λ n x at heeded. keep (first_reaction + n) (keep_b (first_reaction + n)
-          (with_watchers_mark reaction_heeds first_reaction ss places 0 (in_turn P) no_marks n n x (omega arith) at heeded));
+          (with_watchers_mark reaction_heeds first_reaction ss place 0 (in_turn P) no_marks n n x (omega arith) at (alone (reaction_heeds n x) heeded)));
       links = λ n x at heeded. keep (first_link P + n)
-          (with_watchers_mark link_heeds (first_link P) ss places 0 P.links a n n x (omega arith) at heeded);
-      outputs = λ n x at heeded. with_watchers_mark output_heeds (first_output P) ss places 0 P.outputs b n n x (omega arith) at heeded;
+          (with_watchers_mark link_heeds (first_link P) ss place 0 P.links a n n x (omega arith) at (alone (link_heeds n x) heeded));
+      outputs = λ n x at heeded.
+          with_watchers_mark output_heeds (first_output P) ss place 0 P.outputs b n n x (omega arith) at (alone (output_heeds n x) heeded);
+    }
+
+-- with the marks of more, all that were marked are
+with_ports_keep : (all : List ℕ) (targets : List Target) (word m : ℕ) → mark_at word m ≡ 1 → mark_at (with_ports all targets word) m ≡ 1
+with_ports_keep all [] word m h = h
+with_ports_keep all (t ∷ ts) word m h =
+    let one = bit_or word (slice_index_or all (place_number t) 0) in
+    with_ports_keep all ts (if is_port t then one else word) m
+    (elim (cases_Bool (is_port t)) [
+      | inl port ↦ ap (λ (w : ℕ). mark_at w m) (cond-true (is_port t) one word port) ∙ joined_keeps word (slice_index_or all (place_number t) 0) m h
+      | inr other ↦ ap (λ (w : ℕ). mark_at w m) (cond-false (is_port t) one word other) ∙ h
+    ])
+
+-- of ports all that heed one of them are marked
+module _ {X : Type 0} (triggers : ℕ → X → List Target) (first : ℕ) (xs : List X) (sources all : List ℕ) (places : Places) where
+  ports_mark : (targets : List Target) (word : ℕ) → IsTrue (list_all (target_fits places) targets)
+      → ((k : ℕ) → IsTrue (target_fits places (to.Port k)) → MarksAll triggers first xs sources (to.Port k ∷ []) (slice_index_or all (place_number (to.Port k)) 0))
+      → MarksAll triggers first xs sources (filter is_port targets) (with_ports all targets word)
+  ports_mark [] word fit own = λ n x at heeded. let no : false ≡ true = heeded in cc
+  ports_mark (to.Startup ∷ ts) word fit own = ports_mark ts word fit own
+  ports_mark ((to.Timer k) ∷ ts) word fit own = ports_mark ts word (and_parts (target_fits places (to.Timer k)) (list_all (target_fits places) ts) fit).1 own
+  ports_mark ((to.Action k) ∷ ts) word fit own = ports_mark ts word (and_parts (target_fits places (to.Action k)) (list_all (target_fits places) ts) fit).1 own
+  ports_mark ((to.Port k) ∷ ts) word fit own = λ n x at heeded.
+      let both = and_parts (target_fits places (to.Port k)) (list_all (target_fits places) ts) fit in
+      let called = slice_index_or all (place_number (to.Port k)) 0 in
+      elim (or_cases (heeds sources (triggers n x) (to.Port k)) (heeds_any sources (triggers n x) (filter is_port ts)) heeded) [
+        | inl here ↦
+            with_ports_keep all ts (bit_or word called) (first + n)
+            (joined_adds word called (first + n) (own k both.0 n x at (or_left (heeds sources (triggers n x) (to.Port k)) false here)))
+        | inr there ↦ ports_mark ts (bit_or word called) both.1 own n x at there
+      ]
+
+pub marks_ports : (P : Program) (targets : List Target) (word : ℕ) → IsTrue (is_valid P) → IsTrue (list_all (target_fits (program_places P)) targets)
+    → Marks P (filter is_port targets) (with_ports (marks_of_places P) targets word)
+marks_ports P targets word valid fit =
+    let ss = sources_of P in
+    let all = marks_of_places P in
+    let places = program_places P in
+    let own : (k : ℕ) → IsTrue (target_fits places (to.Port k)) → Marks P (to.Port k ∷ []) (slice_index_or all (place_number (to.Port k)) 0) =
+    λ k h. subst (λ (word : ℕ). Marks P (to.Port k ∷ []) word) (sym (concerned_fits P (to.Port k) valid h)) (marks_all P (to.Port k)) in
+    record {
+      reactions = ports_mark reaction_heeds first_reaction (in_turn P) ss all places targets word fit (λ k h. (own k h).reactions);
+      links = ports_mark link_heeds (first_link P) P.links ss all places targets word fit (λ k h. (own k h).links);
+      outputs = ports_mark output_heeds (first_output P) P.outputs ss all places targets word fit (λ k h. (own k h).outputs);
     }
 
 -- a place that a trigger does not heed leaves it
@@ -143,9 +193,8 @@ marked_after {X} triggers first xs places before after old called follows marks 
 
 -- Those that are due stay marked, where all whom the places concern are marked.
 pub due_after : (P : Program) (places : List Target) (before after : Presence) (old called new : ℕ) → before.sources ≡ sources_of P
-    → Follows places before after → called ≡ marks_of P places → new ≡ bit_or old called → AreDue P before old → AreDue P after new
-due_after P places before after old called new own follows is joined were =
-    let all = subst (λ (word : ℕ). Marks P places word) (sym is) (marks_all P places) in
+    → Follows places before after → Marks P places called → new ≡ bit_or old called → AreDue P before old → AreDue P after new
+due_after P places before after old called new own follows all joined were =
     let by_own : (triggers : List Target) → heeds_any before.sources triggers places ≡ true → heeds_any (sources_of P) triggers places ≡ true =
     λ triggers h. ap (λ (ss : List ℕ). heeds_any ss triggers places) (sym own) ∙ h in
     subst (λ (word : ℕ). AreDue P after word) (sym joined) (record {

@@ -5,6 +5,7 @@ pub mod DueLemmas
 pub mod EntryMoves
 pub mod FileOrder
 pub mod FrontLemmas
+pub mod HeededLemmas
 pub mod MarkLemmas
 pub mod OnceLists
 pub mod OutputsBefore

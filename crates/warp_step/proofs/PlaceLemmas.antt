@@ -1,12 +1,12 @@
 -- The numbers of places: each place of a program has one below the limit, and is the place with it.
-use Rattle.std.proofs.Common.{◌≡◌, ℕ, ◌+◌, ◌-◌, ◌<◌, nat_lt, nat_eq, [], ◌∷◌, length, IsTrue, refl, ap, ◌∙◌, arith}
+use Rattle.std.proofs.Common.{◌≡◌, ℕ, ◌+◌, ◌-◌, ◌<◌, nat_lt, nat_eq, length, IsTrue, refl, ap, ◌∙◌, arith}
 use Rattle.std.specs.Prelude.{slice_index_or}
 use Rattle.std.proofs.lemmas.Bool.{cond-true, cond-false, ltb-true, lt-ltb, le-ltb, ne_eqb}
 use Rattle.std.proofs.lemmas.List.FromFn.{get_or-map-range_with_len}
 use Rattle.warp_body.specs.Presence.{target_fits}
 use Rattle.warp_body.specs.declared.place.Target.{Target}
 use Rattle.warp_body.specs.declared.place.Target.TheVariants as to
-use Rattle.warp_step.specs.inner.Plan.{marks_of, most_places, numbered_place, place_number, place_numbers, plan_of}
+use Rattle.warp_step.specs.inner.Plan.{marks_of, marks_of_places, most_places, numbered_place, place_number, place_numbers}
 use Rattle.warp_step.specs.Program.{Program}
 use Rattle.warp_step.specs.Valid.{is_valid, program_places}
 use Rattle.warp_step.proofs.ValidLemmas.{validity}
@@ -59,8 +59,8 @@ place_with_own P (to.Port n) valid fits = port_with n
 
 -- a plan has the marks of those whom a place of the program concerns
 pub concerned_fits : (P : Program) (place : Target) → IsTrue (is_valid P) → IsTrue (target_fits (program_places P) place)
-    → slice_index_or (plan_of P).places (place_number place) 0 ≡ marks_of P (place ∷ [])
+    → slice_index_or (marks_of_places P) (place_number place) 0 ≡ marks_of P place
 unfolding place_numbers
 concerned_fits P place valid fits =
-    get_or-map-range_with_len (λ (n : ℕ). marks_of P (numbered_place n ∷ [])) 0 most_places (place_number place) (place_number place) 0 (place_within P place valid fits) (omega arith)
-    ∙ ap (λ (p : Target). marks_of P (p ∷ [])) (place_with_own P place valid fits)
+    get_or-map-range_with_len (λ (n : ℕ). marks_of P (numbered_place n)) 0 most_places (place_number place) (place_number place) 0 (place_within P place valid fits) (omega arith)
+    ∙ ap (λ (p : Target). marks_of P p) (place_with_own P place valid fits)

@@ -281,10 +281,11 @@ mutual
       let both = and_parts (statement_may P r s) (body_may P r rest) h in
       and_from _ _ (statement_in P r n s both.0) (body_in P r n rest both.1)
 
--- a rule's triggers are targets of the program, its body fits the sizes, and its schedulings have room
+-- a rule's triggers and what it writes are targets of the program, its body fits the sizes, and its schedulings have room
 pub record RuleFits (P : Program) (r : Rule) : Type 0 where
   pub reactor : r.reactor < P.reactors
   pub triggers : IsTrue (list_all (target_fits (program_places P)) r.triggers)
+  pub writes : IsTrue (list_all (target_fits (program_places P)) r.writes)
   pub body : IsTrue (body_fits (program_sizes P) r.body)
   pub room : schedules_of r.body ≤ most_wishes
 
@@ -306,6 +307,7 @@ rule_parts P r h =
     record {
       reactor = ltb-true _ _ e.0;
       triggers = triggers;
+      writes = named.writable;
       body = body_in P r named r.body b.1;
       room = leb-true _ _ a.1;
     }

@@ -1,5 +1,5 @@
 //! What a step enters into the pending entries: timers that repeat, wishes, and what links with a delay deliver.
-ghost use Rattle.std.specs.Prelude.{◌≡◌, ◌<◌, ◌≤◌, IsTrue, length, map, nat_lt, pos, replicate, List, []};
+ghost use Rattle.std.specs.Prelude.{◌≡◌, ◌<◌, ◌≤◌, IsTrue, length, map, nat_lt, pos, replicate, vec_capacity, List, []};
 ghost use Rattle.std.specs.Prelude.{if◌then◌else◌, ◌-◌, drop};
 ghost use Rattle.warp_step.specs.inner.Marks.{first_link};
 ghost use Rattle.std.specs.List.{list_all};
@@ -64,6 +64,7 @@ impl State {
         ensures state { self.new ≡ with_links program.now tag present.now program.now.links
             (with_all_wishes program.now tag (lists_of wishes.old.items) self.old) }
         ensures none { lists_of wishes.new.items ≡ replicate (length wishes.old.items) [] }
+        ensures room { vec_capacity wishes.new ≡ vec_capacity wishes.old }
     {
         self.enter_wishes(program, tag, wishes, wished);
         self.deliver(program, plan, tag, due, present);
@@ -85,6 +86,7 @@ impl State {
         requires none { AreOf wished (lists_of wishes.old.items) }
         ensures state { self.new ≡ with_all_wishes program.now tag (lists_of wishes.old.items) self.old }
         ensures none { lists_of wishes.new.items ≡ replicate (length wishes.old.items) [] }
+        ensures room { vec_capacity wishes.new ≡ vec_capacity wishes.old }
     {
         if wished.count == 0 {
             return;

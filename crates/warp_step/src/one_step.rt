@@ -37,7 +37,7 @@ pub struct Scratch {
 }
 
 impl Model for Scratch {
-    ghost use Rattle.std.specs.Prelude.{length};
+    ghost use Rattle.std.specs.Prelude.{length, vec_capacity};
     ghost use Rattle.warp_body.specs.Presence.{places_of};
     ghost use Rattle.warp_step.specs.inner.Room.{Room, room_code};
 
@@ -51,6 +51,7 @@ impl Model for Scratch {
           sources = s.present.sources;
           bodies = length s.wishes.items;
           plan = s.plan;
+          room = vec_capacity s.wishes;
         } };
 
     ghost use Rattle.std.specs.Prelude.{◌≡◌, [], replicate};
@@ -107,20 +108,21 @@ fn source(links: &[Link], port: u32) -> u32
     port
 }
 
-/// So many lists of wishes, all empty.
+/// So many lists of wishes, all empty, without room for more.
 fn empty_wishes(alloc: Global, count: usize) -> Result<Vec<Wishes>, OutOfMemory>
     ensures none { IfOk result (λ lists. lists_of lists.items ≡ replicate count []) }
     ensures len { IfOk result (λ lists. length lists.items ≡ count) }
+    ensures room { IfOk result (λ lists. vec_capacity lists ≡ count) }
 {
     let mut lists = Vec::with_capacity(alloc, count)?;
     for _ in 0..count {
-        lists.push(Wishes::new())?;
+        lists.push_reserved(Wishes::new());
     }
     Ok(lists)
 }
 
-/// One step of a program at a tag, with what is given there. The room of `out` stays as it is, and the meter ticks
-/// once.
+/// One step of a program at a tag, with what is given there. The room of `out` and that of the scratch stay as they
+/// are, and the meter ticks once.
 ///
 /// The state and the scratch are of this program, and `out` has room for each program output. The tag is not past the
 /// stop or the last microstep, nothing is pending before it, and something is pending at it or is given: inputs of the
@@ -189,6 +191,7 @@ fn advance(
     ensures places { places_of present.new ≡ places_of present.old }
     ensures sources { present.new.sources ≡ present.old.sources }
     ensures bodies { length wishes.new.items ≡ length wishes.old.items }
+    ensures room { vec_capacity wishes.new ≡ vec_capacity wishes.old }
     ensures none { lists_of wishes.new.items ≡ replicate (length wishes.new.items) [] }
     ensures due { AreDue program.now present.new result.word }
 {

@@ -1,19 +1,19 @@
 //! Whom the presence of a place concerns: a step looks only at those. And the bodies of reactions, ready to run.
-ghost use Rattle.std.specs.Prelude.{◌≡◌, ◌+◌, ◌<◌, ◌≤◌, [], ◌∷◌, map, filter, length, IfOk, slice_index_or};
-ghost use Rattle.std.specs.Prelude.{if◌then◌else◌, IsTrue, nat_lt, ◌==◌};
-ghost use Rattle.std.specs.List.{list_all, list_any};
+ghost use Rattle.std.specs.Prelude.{◌≡◌, ◌+◌, ◌<◌, ◌≤◌, [], ◌∷◌, map, length, IfOk, slice_index_or};
+ghost use Rattle.std.specs.Prelude.{false, if◌then◌else◌, IsTrue, nat_lt, ◌==◌};
+ghost use Rattle.std.specs.List.{list_all};
 ghost use Rattle.warp_tag.specs.Limits.{most_reactions};
 ghost use Rattle.warp_body.specs.declared.place.Target.{Target};
 ghost use Rattle.warp_body.specs.declared.place.Target.TheVariants as to;
-ghost use Rattle.warp_step.specs.inner.Marks.{first_link, first_output, first_reaction, marks_from, most_marks};
-ghost use Rattle.warp_step.specs.inner.Marks.{no_marks, with_mark};
-ghost use Rattle.warp_step.specs.inner.Plan.{first_heeding, heeds, heeds_any, is_port, link_heeds, most_places};
+ghost use Rattle.warp_step.specs.inner.Marks.{first_link, first_output, marks_from, most_marks, no_marks, with_mark};
+ghost use Rattle.warp_step.specs.inner.Plan.{first_heeding, first_row, heeded, heeded_in_turn, heeds, in_turn};
+ghost use Rattle.warp_step.specs.inner.Plan.{is_numbered, link_heeds, marks_of, marks_of_places, most_places};
 ghost use Rattle.warp_step.specs.inner.Plan.{numbered_place, output_heeds, place_number, place_numbers, place_of};
-ghost use Rattle.warp_step.specs.inner.Plan.{in_turn, reaction_heeds, rule_numbered, with_watchers};
+ghost use Rattle.warp_step.specs.inner.Plan.{plan_of, ready_turn, rule_numbered, shared_period, turn_plan};
+ghost use Rattle.warp_step.specs.inner.Plan.{with_heeding, with_ports, with_watchers};
 ghost use Rattle.warp_step.specs.Program.{rule_of};
 ghost use Rattle.warp_step.specs.Step.{sources_of};
 ghost use Rattle.warp_step.specs.Valid.{program_sizes};
-ghost use Rattle.warp_step.specs.inner.Plan.{marks_of, plan_of, ready_turn, shared_period, turn_plan};
 
 use crate::marks::{Marks, first_link, first_output};
 use crate::parts::{Link, Timer};
@@ -46,19 +46,12 @@ fn heeds(triggers: &[Target], sources: &[u32], place: Target) -> bool
         .any(|trigger| place.is_same(place_of(sources, *trigger)))
 }
 
-/// Whether one of the places is that of one of the triggers.
-fn heeds_any(triggers: &[Target], sources: &[u32], places: &[Target]) -> bool
-    ensures { result ≡ heeds_any sources.now triggers.now places.now }
-{
-    places.iter().any(|place| heeds(triggers, sources, *place))
-}
-
-/// Marks a number if one of the places is that of one of the triggers.
-fn watch(marks: &mut Marks, number: usize, triggers: &[Target], sources: &[u32], places: &[Target])
+/// Marks a number if the place is that of one of the triggers.
+fn watch(marks: &mut Marks, number: usize, triggers: &[Target], sources: &[u32], place: Target)
     ensures { marks.new.word ≡
-        (if heeds_any sources.now triggers.now places.now then with_mark number marks.old.word else marks.old.word) }
+        (if heeds sources.now triggers.now place then with_mark number marks.old.word else marks.old.word) }
 {
-    if heeds_any(triggers, sources, places) {
+    if heeds(triggers, sources, place) {
         marks.add(number);
     }
 }
@@ -71,66 +64,96 @@ fn triggers_of(reactions: &[Reaction], number: u32) -> &[Target]
     &reactions[number as usize].triggers
 }
 
-/// Marks the turns of the reactions that one of the places may trigger.
-fn watch_reactions(
-    marks: &mut Marks,
-    order: &[u32],
-    reactions: &[Reaction],
-    sources: &[u32],
-    places: &[Target],
-)
-    requires few { length order.now ≤ most_reactions }
-    requires known { IsTrue (list_all (λ n. nat_lt n (length reactions.now)) order.now) }
-    ensures { marks.new.word ≡
-        with_watchers reaction_heeds first_reaction sources.now places.now 0
-        (map (rule_numbered (map rule_of reactions.now)) order.now) marks.old.word }
+/// Which places are those of triggers, by the place's number. So a place asks each reaction once, however many triggers
+/// it has.
+fn heeded(alloc: Global, triggers: &[Target], sources: &[u32]) -> Result<Vec<bool>, OutOfMemory>
+    requires { IsTrue (list_all (λ trigger. is_numbered (place_of sources.now trigger)) triggers.now) }
+    ensures { IfOk result (λ row. row.items ≡ heeded sources.now triggers.now) }
 {
-    for (turn, number) in order.iter().enumerate() {
-        let triggers = triggers_of(reactions, *number);
-        watch(marks, turn, triggers, sources, places);
+    let mut row = vec![in alloc; false; PLACES]?;
+    for trigger in triggers {
+        row[place_number(place_of(sources, *trigger))] = true;
+    }
+    Ok(row)
+}
+
+/// Which places each reaction heeds, in the order in which a step runs them.
+fn heeded_in_turn(
+    alloc: Global,
+    program: &Program,
+    sources: &[u32],
+) -> Result<Vec<Vec<bool>>, OutOfMemory>
+    requires { sources.now ≡ sources_of program.now }
+    ensures { IfOk result (λ rows. map (λ row. row.items) rows.items ≡ heeded_in_turn program.now) }
+{
+    program.valid();
+    let mut rows = Vec::with_capacity(alloc, program.order().len())?;
+    for number in program.order() {
+        let triggers = triggers_of(program.reactions(), *number);
+        let row = heeded(alloc, triggers, sources)?;
+        rows.push(row)?;
+    }
+    Ok(rows)
+}
+
+/// Whether the place with this number is heeded.
+fn is_heeded(row: &[bool], number: usize) -> bool
+    ensures { result ≡ slice_index_or row.now number false }
+{
+    row.get(number).copied().unwrap_or(false)
+}
+
+/// Marks the turns of the reactions that heed the place with this number.
+fn watch_reactions(marks: &mut Marks, rows: &[Vec<bool>], number: usize)
+    ensures { marks.new.word ≡ with_heeding number 0 (map (λ row. row.items) rows.now) marks.old.word }
+{
+    for (turn, row) in rows.iter().enumerate() {
+        if is_heeded(row, number) {
+            marks.add(turn);
+        }
     }
 }
 
-/// Marks the links with a delay whose source's place is one of the places.
-fn watch_links(marks: &mut Marks, first: usize, links: &[Link], sources: &[u32], places: &[Target])
+/// Marks the links with a delay whose source's place this is.
+fn watch_links(marks: &mut Marks, first: usize, links: &[Link], sources: &[u32], place: Target)
     requires { first + length links.now ≤ most_marks }
-    ensures { marks.new.word ≡ with_watchers link_heeds first sources.now places.now 0 links.now marks.old.word }
+    ensures { marks.new.word ≡ with_watchers link_heeds first sources.now place 0 links.now marks.old.word }
 {
     for (number, link) in links.iter().enumerate() {
-        watch_link(marks, first, number, link, sources, places);
+        watch_link(marks, first, number, link, sources, place);
     }
 }
 
-/// Marks the link with this number if it has a delay, and one of the places is that of its source.
+/// Marks the link with this number if it has a delay, and the place is that of its source.
 fn watch_link(
     marks: &mut Marks,
     first: usize,
     number: usize,
     link: &Link,
     sources: &[u32],
-    places: &[Target],
+    place: Target,
 )
     requires { first + number < most_marks }
-    ensures { marks.new.word ≡ (if heeds_any sources.now (link_heeds number link.now) places.now
+    ensures { marks.new.word ≡ (if heeds sources.now (link_heeds number link.now) place
         then with_mark (first + number) marks.old.word
         else marks.old.word) }
 {
     match link.delay {
-        None => watch(marks, first + number, &[], sources, places),
+        None => watch(marks, first + number, &[], sources, place),
         Some(_) => watch(
             marks,
             first + number,
             &[Target::Port(link.source)],
             sources,
-            places,
+            place,
         ),
     }
 }
 
-/// Marks the program outputs whose port's place is one of the places.
-fn watch_outputs(marks: &mut Marks, first: usize, ports: &[u32], sources: &[u32], places: &[Target])
+/// Marks the program outputs whose port's place this is.
+fn watch_outputs(marks: &mut Marks, first: usize, ports: &[u32], sources: &[u32], place: Target)
     requires { first + length ports.now ≤ most_marks }
-    ensures { marks.new.word ≡ with_watchers output_heeds first sources.now places.now 0 ports.now marks.old.word }
+    ensures { marks.new.word ≡ with_watchers output_heeds first sources.now place 0 ports.now marks.old.word }
 {
     for (number, port) in ports.iter().enumerate() {
         watch(
@@ -138,29 +161,26 @@ fn watch_outputs(marks: &mut Marks, first: usize, ports: &[u32], sources: &[u32]
             first + number,
             &[Target::Port(*port)],
             sources,
-            places,
+            place,
         );
     }
 }
 
-/// The marks of those whom the presence of one of the places concerns.
-fn marks_of(program: &Program, sources: &[u32], places: &[Target]) -> Marks
-    requires { sources.now ≡ sources_of program.now }
-    ensures { result.word ≡ marks_of program.now places.now }
+/// The marks of those whom the presence of the place with this number concerns.
+fn marks_of(program: &Program, sources: &[u32], rows: &[Vec<bool>], number: usize) -> Marks
+    requires place { number < most_places }
+    requires sources { sources.now ≡ sources_of program.now }
+    requires rows { map (λ row. row.items) rows.now ≡ heeded_in_turn program.now }
+    ensures { result.word ≡ marks_of program.now (numbered_place number) }
 {
     program.valid();
+    let place = numbered_place(number);
     let mut marks = Marks::none();
-    watch_reactions(
-        &mut marks,
-        program.order(),
-        program.reactions(),
-        sources,
-        places,
-    );
+    watch_reactions(&mut marks, rows, number);
     let first = first_link(program);
-    watch_links(&mut marks, first, program.links(), sources, places);
+    watch_links(&mut marks, first, program.links(), sources, place);
     let first = first_output(program);
-    watch_outputs(&mut marks, first, program.outputs(), sources, places);
+    watch_outputs(&mut marks, first, program.outputs(), sources, place);
     marks
 }
 
@@ -218,34 +238,30 @@ impl Concerned {
     }
 }
 
-/// The turn of the first reaction that the place triggers where it is present, else how many reactions there are.
-fn first_heeding(order: &[u32], reactions: &[Reaction], sources: &[u32], place: Target) -> usize
-    requires { IsTrue (list_all (λ n. nat_lt n (length reactions.now)) order.now) }
-    ensures { result ≡
-        first_heeding sources.now place 0 (map (rule_numbered (map rule_of reactions.now)) order.now) }
+/// The turn of the first reaction that heeds the place with this number, else how many reactions there are.
+fn first_heeding(rows: &[Vec<bool>], number: usize) -> usize
+    ensures { result ≡ first_row number 0 (map (λ row. row.items) rows.now) }
 {
-    for (turn, number) in order.iter().enumerate() {
-        let triggers = triggers_of(reactions, *number);
-        if heeds(triggers, sources, place) {
+    for (turn, row) in rows.iter().enumerate() {
+        if is_heeded(row, number) {
             return turn;
         }
     }
-    order.len()
+    rows.len()
 }
 
 /// Whom the place with this number concerns.
-fn of_place(program: &Program, sources: &[u32], number: usize) -> Concerned
+fn of_place(program: &Program, sources: &[u32], rows: &[Vec<bool>], number: usize) -> Concerned
     requires place { number < most_places }
     requires sources { sources.now ≡ sources_of program.now }
-    ensures marks { result.marks.word ≡ marks_of program.now (numbered_place number ∷ []) }
+    requires rows { map (λ row. row.items) rows.now ≡ heeded_in_turn program.now }
+    ensures marks { result.marks.word ≡ marks_of program.now (numbered_place number) }
     ensures first { result.first ≡
         first_heeding (sources_of program.now) (numbered_place number) 0 (in_turn program.now) }
 {
-    program.valid();
-    let place = numbered_place(number);
     Concerned {
-        marks: marks_of(program, sources, &[place]),
-        first: first_heeding(program.order(), program.reactions(), sources, place),
+        marks: marks_of(program, sources, rows, number),
+        first: first_heeding(rows, number),
     }
 }
 
@@ -256,30 +272,30 @@ fn of_places(
     sources: &[u32],
 ) -> Result<Vec<Concerned>, OutOfMemory>
     requires { sources.now ≡ sources_of program.now }
-    ensures marks { IfOk result
-        (λ all.
-        map (λ one. one.marks.word) all.items ≡ map (λ n. marks_of program.now (numbered_place n ∷ [])) place_numbers) }
+    ensures marks { IfOk result (λ all. map (λ one. one.marks.word) all.items ≡ marks_of_places program.now) }
     ensures firsts { IfOk result (λ all. map (λ one. one.first) all.items
         ≡ map (λ n. first_heeding (sources_of program.now) (numbered_place n) 0 (in_turn program.now)) place_numbers) }
 {
+    let rows = heeded_in_turn(alloc, program, sources)?;
     let mut all = Vec::with_capacity(alloc, PLACES)?;
     for number in 0..PLACES {
-        all.push(of_place(program, sources, number))?;
+        all.push(of_place(program, sources, &rows, number))?;
     }
     Ok(all)
 }
 
-/// The ports among targets.
-fn ports_among(alloc: Global, targets: &[Target]) -> Result<Vec<Target>, OutOfMemory>
-    ensures { IfOk result (λ ports. ports.items ≡ filter is_port targets.now) }
+/// The marks of those whom the ports among these targets concern.
+fn marks_of_ports(places: &[Concerned], targets: &[Target]) -> Marks
+    requires { IsTrue (list_all (λ target. nat_lt (place_number target) (length places.now)) targets.now) }
+    ensures { result.word ≡ with_ports (map (λ one. one.marks.word) places.now) targets.now no_marks }
 {
-    let mut ports = Vec::new(alloc);
+    let mut marks = Marks::none();
     for target in targets {
         if let Target::Port(_) = *target {
-            ports.push(*target)?;
+            marks.add_all(places[place_number(*target)].marks);
         }
     }
-    Ok(ports)
+    marks
 }
 
 /// A reaction, ready to run: its number in the file, its triggers, its body, the marks of those whom what it writes
@@ -311,18 +327,18 @@ fn sizes(program: &Program) -> Sizes
 fn ready_reaction(
     alloc: Global,
     program: &Program,
-    sources: &[u32],
+    places: &[Concerned],
     number: usize,
 ) -> Result<ReadyReaction, OutOfMemory>
     requires number { number < length program.now.reactions }
-    requires sources { sources.now ≡ sources_of program.now }
+    requires places { map (λ one. one.marks.word) places.now ≡ marks_of_places program.now }
     ensures { IfOk result (λ ready. ready_turn ready ≡ turn_plan program.now number) }
 {
+    program.valid();
     let reaction = &program.reactions()[number];
     let triggers = reaction.triggers.as_slice().to_vec(alloc)?;
     let code = Code::new(alloc, &reaction.body)?;
-    let ports = ports_among(alloc, &reaction.writes)?;
-    let after = marks_of(program, sources, &ports);
+    let after = marks_of_ports(places, &reaction.writes);
     let may_wish = !fits(&reaction.body, sizes(program), 0);
     Ok(ReadyReaction {
         number,
@@ -337,15 +353,15 @@ fn ready_reaction(
 fn of_turns(
     alloc: Global,
     program: &Program,
-    sources: &[u32],
+    places: &[Concerned],
 ) -> Result<Vec<ReadyReaction>, OutOfMemory>
-    requires { sources.now ≡ sources_of program.now }
+    requires { map (λ one. one.marks.word) places.now ≡ marks_of_places program.now }
     ensures { IfOk result (λ all. map ready_turn all.items ≡ map (turn_plan program.now) program.now.order) }
 {
     program.valid();
     let mut all = Vec::with_capacity(alloc, program.order().len())?;
     for number in program.order() {
-        let ready = ready_reaction(alloc, program, sources, *number as usize)?;
+        let ready = ready_reaction(alloc, program, places, *number as usize)?;
         all.push(ready)?;
     }
     Ok(all)
@@ -389,7 +405,7 @@ impl Plan {
         ensures { IfOk result (λ plan. plan ≡ plan_of program.now) }
     {
         let places = of_places(alloc, program, sources)?;
-        let turns = of_turns(alloc, program, sources)?;
+        let turns = of_turns(alloc, program, &places)?;
         Ok(Plan {
             places,
             turns,

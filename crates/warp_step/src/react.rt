@@ -1,5 +1,5 @@
 //! The reactions of a step, and the outputs that it puts.
-ghost use Rattle.std.specs.Prelude.{◌≡◌, ℕ, ◌+◌, ◌≤◌, ◌<◌, ◌++◌, IsTrue, is_some, false, true, List, [], map, filter};
+ghost use Rattle.std.specs.Prelude.{◌≡◌, ℕ, ◌+◌, ◌≤◌, ◌<◌, ◌++◌, IsTrue, is_some, false, true, List, [], map};
 ghost use Rattle.std.specs.Prelude.{length, slice_index_or, vec_len, vec_capacity, if◌then◌else◌};
 ghost use Rattle.std.specs.List.{list_all, list_any};
 ghost use Rattle.warp_tag.specs.Limits.{most_wishes};
@@ -11,8 +11,8 @@ ghost use Rattle.warp_step.specs.Program.{Program, Rule};
 ghost use Rattle.warp_step.specs.Valid.{is_valid, program_places, program_sizes, rule_fits};
 ghost use Rattle.warp_step.specs.inner.Due.{AreDue};
 ghost use Rattle.warp_step.specs.inner.Flagged.{AreOf};
-ghost use Rattle.warp_step.specs.inner.Marks.{most_marks};
-ghost use Rattle.warp_step.specs.inner.Plan.{is_port, marks_of, plan_of, ready_turn, turn_rule};
+ghost use Rattle.warp_step.specs.inner.Marks.{most_marks, no_marks};
+ghost use Rattle.warp_step.specs.inner.Plan.{marks_of_places, plan_of, ready_turn, turn_rule, with_ports};
 ghost use Rattle.warp_step.specs.inner.Room.{lists_of};
 ghost use Rattle.warp_step.specs.inner.Sure.{IsSure};
 ghost use Rattle.warp_step.specs.Step.{Reacting, after_reactions, is_triggered, no_wishes};
@@ -129,10 +129,11 @@ fn run_reaction(
     ensures wishes { IsTrue (list_all (list_all (wish_fits (sizes_of vars.old present.old))) (lists_of wishes.old.items)) →
         IsTrue (list_all (list_all (wish_fits (sizes_of vars.old present.old))) (lists_of wishes.new.items)) }
     ensures bodies { length wishes.new.items ≡ length wishes.old.items }
+    ensures room { vec_capacity wishes.new ≡ vec_capacity wishes.old }
     ensures none { result ≡ false → lists_of wishes.new.items ≡ lists_of wishes.old.items }
     ensures due { (P : Program) (rule : Rule) → IsTrue (is_valid P) → IsTrue (rule_fits P rule) →
         rule.body ≡ (ready_turn ready.now).body → present.old.sources ≡ sources_of P →
-        (ready_turn ready.now).after ≡ marks_of P (filter is_port rule.writes) →
+        (ready_turn ready.now).after ≡ with_ports (marks_of_places P) rule.writes no_marks →
         AreDue P present.old due.old.word → AreDue P present.new due.new.word }
 {
     if triggered(is_sure, ready, present) {
@@ -174,6 +175,7 @@ pub(crate) fn run_reactions(
     ensures sources { present.new.sources ≡ present.old.sources }
     ensures wishes { IsTrue (list_all (list_all (wish_fits (program_sizes program.now))) (lists_of wishes.new.items)) }
     ensures bodies { length wishes.new.items ≡ length wishes.old.items }
+    ensures room { vec_capacity wishes.new ≡ vec_capacity wishes.old }
     ensures none { AreOf result (lists_of wishes.new.items) }
     ensures due { AreDue program.now present.new due.new.word }
 {

@@ -1,7 +1,8 @@
 -- Whom a step may have to look at where a place becomes present: the reactions that it may trigger, and the links and the
 -- program outputs whose port it is. Each has its triggers.
-use Rattle.std.specs.Prelude.{ℕ, ◌+◌, ◌-◌, ◌==◌, ◌&&◌, not, Bool, true, false, nat_lt, nat_le, nat_eq, List, [], ◌∷◌, length, map, filter, Option, None, Some, slice_index_or, if◌then◌else◌, refl}
+use Rattle.std.specs.Prelude.{ℕ, ◌+◌, ◌-◌, ◌==◌, ◌&&◌, not, Bool, true, false, nat_lt, nat_le, nat_eq, List, [], ◌∷◌, length, map, Option, None, Some, slice_index_or, if◌then◌else◌, refl}
 use Rattle.std.specs.Coded.{Coded, code_by, coded×, coded_ℕ, coded_bool, coded_list}
+use Rattle.std.specs.Int.RustNames.{bit_or}
 use Rattle.std.specs.List.{list_all, list_any, range_with_len}
 use Rattle.warp_body.specs.Codes.{body_code, target_code}
 use Rattle.warp_body.specs.Effect.{Body, Done, body_fits, schedules_of}
@@ -27,7 +28,7 @@ place_of sources (to.Port n) = to.Port (slice_index_or sources n n)
 abbrev pub heeds : List ℕ → List Target → Target → Bool
 heeds sources triggers place = list_any (λ trigger. is_target place (place_of sources trigger)) triggers
 
--- one of the places is
+-- one of the places is (no code asks it: a body makes several places present)
 abbrev pub heeds_any : List ℕ → List Target → List Target → Bool
 heeds_any sources triggers places = list_any (heeds sources triggers) places
 
@@ -54,12 +55,12 @@ rule_numbered rules n = slice_index_or rules n (record { reactor = 0; triggers =
 abbrev pub in_turn : Program → List Rule
 in_turn P = map (rule_numbered P.reactions) P.order
 
--- with a mark for each element of a list that heeds one of the places; the first mark is at this number, and the elements count
--- from the next one on
-abbrev pub with_watchers : {X : Type 0} → (ℕ → X → List Target) → ℕ → List ℕ → List Target → ℕ → List X → ℕ → ℕ
-with_watchers {X} triggers first sources places n [] word = word
-with_watchers {X} triggers first sources places n (x ∷ xs) word =
-    with_watchers triggers first sources places (n + 1) xs (if heeds_any sources (triggers n x) places then with_mark (first + n) word else word)
+-- with a mark for each element of a list that heeds the place; the first mark is at this number, and the elements count from the
+-- next one on
+abbrev pub with_watchers : {X : Type 0} → (ℕ → X → List Target) → ℕ → List ℕ → Target → ℕ → List X → ℕ → ℕ
+with_watchers {X} triggers first sources place n [] word = word
+with_watchers {X} triggers first sources place n (x ∷ xs) word =
+    with_watchers triggers first sources place (n + 1) xs (if heeds sources (triggers n x) place then with_mark (first + n) word else word)
 
 -- the turn of the first reaction that heeds the place, where turns count from this one on; where none does, the one behind them
 abbrev pub first_heeding : List ℕ → Target → ℕ → List Rule → ℕ
@@ -91,6 +92,27 @@ most_places = 337
 -- the numbers of all places. It is opened only where it is asked for, since a tactic would write all of them out.
 unfoldable pub place_numbers : List ℕ
 place_numbers = range_with_len 0 most_places
+
+-- the place is that of its number
+abbrev pub is_numbered : Target → Bool
+is_numbered place = nat_lt (place_number place) most_places && is_target (numbered_place (place_number place)) place
+
+-- which places are those of triggers, by the place's number; and those of each reaction's, in the order in which a step runs them
+abbrev pub heeded : List ℕ → List Target → List Bool
+heeded sources triggers = map (λ n. heeds sources triggers (numbered_place n)) place_numbers
+
+abbrev pub heeded_in_turn : Program → List (List Bool)
+heeded_in_turn P = map (λ n. heeded (sources_of P) (rule_numbered P.reactions n).triggers) P.order
+
+-- with a mark for each row in which the place with this number is heeded, where turns count from the next one on; and the first such turn
+abbrev pub with_heeding : ℕ → ℕ → List (List Bool) → ℕ → ℕ
+with_heeding number n [] word = word
+with_heeding number n (row ∷ rows) word =
+    with_heeding number (n + 1) rows (if slice_index_or row number false then with_mark n word else word)
+
+abbrev pub first_row : ℕ → ℕ → List (List Bool) → ℕ
+first_row number n [] = n
+first_row number n (row ∷ rows) = if slice_index_or row number false then n else first_row number (n + 1) rows
 
 -- What is kept for a turn: the number of the reaction that has it, what triggers it, its body, the marks of those whom what it
 -- writes concerns, and whether it may have wishes.
@@ -124,13 +146,22 @@ pub record Plan : Type 0 where
   pub links : ℕ
   pub period : ℕ
 
--- the marks of those whom the presence of one of these places concerns
-abbrev pub marks_of : Program → List Target → ℕ
-marks_of P places =
+-- the marks of those whom the presence of a place concerns, and those of all places by their numbers
+abbrev pub marks_of : Program → Target → ℕ
+marks_of P place =
     let sources = sources_of P in
-    with_watchers output_heeds (first_output P) sources places 0 P.outputs
-    (with_watchers link_heeds (first_link P) sources places 0 P.links
-    (with_watchers reaction_heeds first_reaction sources places 0 (in_turn P) no_marks))
+    with_watchers output_heeds (first_output P) sources place 0 P.outputs
+    (with_watchers link_heeds (first_link P) sources place 0 P.links
+    (with_watchers reaction_heeds first_reaction sources place 0 (in_turn P) no_marks))
+
+abbrev pub marks_of_places : Program → List ℕ
+marks_of_places P = map (λ n. marks_of P (numbered_place n)) place_numbers
+
+-- with the marks of those whom the ports among targets concern, given the marks of all places
+abbrev pub with_ports : List ℕ → List Target → ℕ → ℕ
+with_ports places [] word = word
+with_ports places (target ∷ targets) word =
+    with_ports places targets (if is_port target then bit_or word (slice_index_or places (place_number target) 0) else word)
 
 -- the rule may have wishes: its body schedules something, or does not fit the program
 abbrev pub may_wish : Program → Rule → Bool
@@ -144,7 +175,7 @@ turn_plan P n =
       number = n;
       triggers = rule.triggers;
       body = rule.body;
-      after = marks_of P (filter is_port rule.writes);
+      after = with_ports (marks_of_places P) rule.writes no_marks;
       may_wish = may_wish P rule;
     }
 
@@ -152,7 +183,7 @@ turn_plan P n =
 -- and the period of its timers
 abbrev pub plan_of : Program → Plan
 plan_of P = record {
-  places = map (λ n. marks_of P (numbered_place n ∷ [])) place_numbers;
+  places = marks_of_places P;
   firsts = map (λ n. first_heeding (sources_of P) (numbered_place n) 0 (in_turn P)) place_numbers;
   turns = map (turn_plan P) P.order;
   outputs = marks_from (first_output P) (length P.outputs);

@@ -9,15 +9,17 @@ use Rattle.warp_step.specs.Valid.{program_places}
 use Rattle.warp_step.specs.Step.{sources_of}
 use Rattle.warp_step.specs.inner.Plan.{Plan, plan_code, plan_of}
 
--- the places of the program, the sources of its ports, for how many bodies wishes are kept, and the plan
+-- the places of the program, the sources of its ports, for how many bodies wishes are kept, the plan, and for how many bodies there is
+-- room, which are no more: a step takes no memory for them
 pub record Room : Type 0 where
   pub places : Places
   pub sources : List ℕ
   pub bodies : ℕ
   pub plan : Plan
+  pub room : ℕ
 
 abbrev pub room_of : Program → Room
-room_of P = record { places = program_places P; sources = sources_of P; bodies = length P.reactions; plan = plan_of P }
+room_of P = record { places = program_places P; sources = sources_of P; bodies = length P.reactions; plan = plan_of P; room = length P.reactions }
 
 -- how many places there are of each kind
 abbrev pub places_code : Coded Places
@@ -27,8 +29,9 @@ places_code =
 
 abbrev pub room_code : Coded Room
 room_code =
-    code_by (Places × (List ℕ × (ℕ × Plan))) (coded× places_code (coded× (coded_list coded_ℕ) (coded× coded_ℕ plan_code)))
-    (λ r. (r.places, (r.sources, (r.bodies, r.plan)))) (λ q. record { places = q.0; sources = q.1.0; bodies = q.1.1.0; plan = q.1.1.1 }) (λ _. refl)
+    code_by (Places × (List ℕ × (ℕ × (Plan × ℕ)))) (coded× places_code (coded× (coded_list coded_ℕ) (coded× coded_ℕ (coded× plan_code coded_ℕ))))
+    (λ r. (r.places, (r.sources, (r.bodies, (r.plan, r.room)))))
+    (λ q. record { places = q.0; sources = q.1.0; bodies = q.1.1.0; plan = q.1.1.1.0; room = q.1.1.1.1 }) (λ _. refl)
 
 -- lists of wishes, without the room that they have
 abbrev pub lists_of : List (ArrayVec Wish) → List (List Wish)

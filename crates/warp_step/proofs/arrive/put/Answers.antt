@@ -10,7 +10,7 @@ use Rattle.warp_step.specs.inner.Plan.{Plan, marks_of, most_places, numbered_pla
 use Rattle.warp_step.specs.Step.{sources_of}
 use Rattle.warp_step.specs.Valid.{program_places}
 use Rattle.warp_step.specs.inner.Due.{AreDue}
-use Rattle.warp_step.proofs.DueLemmas.{due_after, follows_value}
+use Rattle.warp_step.proofs.DueLemmas.{Marks, due_after, follows_value, marks_all}
 use Rattle.warp_step.proofs.PlaceLemmas.{concerned_fits, place_within}
 use Rattle.warp_step.proofs.SureLemmas.{first_fits, sure_after}
 use Rattle.warp_step.proofs.arrive.put.Goals as goal
@@ -23,14 +23,15 @@ concerned-concerned-requires c =
     let fits : IsTrue (target_fits (program_places P) target) =
     subst (λ (places : Places). IsTrue (target_fits places target)) c.requires.places c.requires.target in
     let len : length c.args.plan.now.places ≡ 337 =
-    ap (λ (plan : Plan). length plan.places) c.requires.plan ∙ length-map-range_with_len (λ n. marks_of P (numbered_place n ∷ [])) 0 most_places in
+    ap (λ (plan : Plan). length plan.places) c.requires.plan ∙ length-map-range_with_len (λ n. marks_of P (numbered_place n)) 0 most_places in
     omega (arith, len, place_within P target c.valid.ensures fits)
 
 put_due : (P : Program) (target : Target) (v : ℤ) (before after : Presence) (old called new : ℕ) → before.sources ≡ sources_of P
-    → after ≡ with_value target v before → called ≡ marks_of P (target ∷ []) → new ≡ bit_or old called → AreDue P before old → AreDue P after new
+    → after ≡ with_value target v before → called ≡ marks_of P target → new ≡ bit_or old called → AreDue P before old → AreDue P after new
 put_due P target v before after old called new own arrives called_is joined were =
     subst (λ (p : Presence). AreDue P p new) (sym arrives)
-    (due_after P (target ∷ []) before (with_value target v before) old called new own (follows_value target v before) called_is joined were)
+    (due_after P (target ∷ []) before (with_value target v before) old called new own (follows_value target v before)
+    (subst (λ (word : ℕ). Marks P (target ∷ []) word) (sym called_is) (marks_all P target)) joined were)
 
 pub returns-clause-due : goal.returns-clause-due
 returns-clause-due c = λ were.

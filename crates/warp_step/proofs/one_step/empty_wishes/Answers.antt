@@ -11,9 +11,10 @@ loop-preserved c =
     let so_far = c.loop.invariant.none in
     let empty = c.new.ensures in
     record {
-      none = ap lists_of c.in_ok-push.ensures.items
+      none = ap lists_of c.push_reserved.ensures.items
           ∙ map_push (λ (w : ArrayVec Wish). w.items) c.loop.lists.items c.new.result
           ∙ (λ j. so_far j ++ empty j ∷ [])
           ∙ replicate_more c.loop.counter [];
-      len = omega (arith, c.in_ok-push.ensures.len, c.loop.invariant.len);
+      len = omega (arith, c.push_reserved.ensures.len, c.loop.invariant.len);
+      room = c.push_reserved.ensures.capacity ∙ c.loop.invariant.room;
     }

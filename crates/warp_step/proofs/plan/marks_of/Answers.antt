@@ -1,22 +1,18 @@
--- a valid program has few reactions, and its order names no other
-use Rattle.std.proofs.Common.{ℕ, List, IsTrue, nat_lt, length, ap, sym, ◌∙◌, subst, arith}
-use Rattle.std.specs.List.{list_all}
-use Rattle.std.proofs.lemmas.List.{length-map}
-use Rattle.warp_step.specs.Program.{rule_of}
-use Rattle.warp_step.proofs.TurnLemmas.{own_order}
-use Rattle.warp_step.proofs.ValidLemmas.{validity}
+-- the rows mark the reactions, and links and outputs are marked one after another
+use Rattle.std.proofs.Common.{ℕ, map, ap, ◌∙◌}
+use Rattle.warp_step.specs.inner.Marks.{no_marks}
+use Rattle.warp_step.specs.inner.Plan.{link_heeds, output_heeds, with_heeding, with_watchers}
+use Rattle.warp_step.proofs.HeededLemmas.{marked_by_rows}
 use Rattle.warp_step.proofs.plan.marks_of.Goals as goal
 
-pub watch_reactions-requires : goal.watch_reactions-requires
-watch_reactions-requires c =
+pub returns : goal.returns
+returns c =
     let P = c.args.program.now in
-    let own = own_order P c.valid.ensures in
-    let count = sym (length-map c.reactions.result.now rule_of) ∙ ap length c.reactions.ensures in
-    let few = (validity P c.valid.ensures).limits.reactions in
-    let whole = own.whole in
-    let turns = ap length c.order.ensures in
-    record {
-      few = omega (arith, few, whole, turns);
-      known = subst (λ (ns : List ℕ). IsTrue (list_all (λ n. nat_lt n (length c.reactions.result.now)) ns)) (sym c.order.ensures)
-          (subst (λ (k : ℕ). IsTrue (list_all (λ n. nat_lt n k) P.order)) (sym count) own.known);
-    }
+    let n = c.args.number in
+    let reactions = c.watch_reactions.ensures
+    ∙ ap (λ (word : ℕ). with_heeding n 0 (map (λ row. row.items) c.args.rows.now) word) c.none-marks.ensures
+    ∙ marked_by_rows P _ n no_marks c.requires.place c.requires.rows in
+    let links = c.watch_links.ensures
+    ∙ (λ i. with_watchers link_heeds (c.first_link-first.ensures.first i) (c.requires.sources i) (c.numbered_place-place.ensures i) 0 (c.links.ensures i) (reactions i)) in
+    c.watch_outputs.ensures
+    ∙ (λ i. with_watchers output_heeds (c.first_output-first.ensures.first i) (c.requires.sources i) (c.numbered_place-place.ensures i) 0 (c.outputs.ensures i) (links i))

@@ -19,7 +19,7 @@ loop-number-preserved c =
     let P = c.args.program.now in
     let n = c.loop-number.number in
     record {
-      marks = one_more (λ (one : Concerned). one.marks.word) (λ (k : ℕ). marks_of P (numbered_place k ∷ [])) n
+      marks = one_more (λ (one : Concerned). one.marks.word) (λ (k : ℕ). marks_of P (numbered_place k)) n
           c.loop-number.all.items _ c.of_place.result c.in_ok-push.ensures.items c.loop-number.invariant.marks c.of_place.ensures.marks;
       firsts = one_more (λ (one : Concerned). one.first) (λ (k : ℕ). first_heeding (sources_of P) (numbered_place k) 0 (in_turn P)) n
           c.loop-number.all.items _ c.of_place.result c.in_ok-push.ensures.items c.loop-number.invariant.firsts c.of_place.ensures.first;
@@ -36,6 +36,6 @@ returns c =
     let most : c.loop-number.number ≤ 337 = c.loop-number.auto.number-end in
     let all : c.loop-number.number ≡ 337 = omega (arith, most, c.loop-number-test.false) in
     record {
-      marks = all_filled _ (λ n. marks_of P (numbered_place n ∷ [])) c.loop-number.number all c.loop-number.invariant.marks;
+      marks = all_filled _ (λ n. marks_of P (numbered_place n)) c.loop-number.number all c.loop-number.invariant.marks;
       firsts = all_filled _ (λ n. first_heeding (sources_of P) (numbered_place n) 0 (in_turn P)) c.loop-number.number all c.loop-number.invariant.firsts;
     }

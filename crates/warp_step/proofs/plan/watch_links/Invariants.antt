@@ -5,5 +5,5 @@ use Rattle.warp_step.proofs.plan.watch_links.Given as goal
 
 abbrev pub invariant-loop-number : goal.invariant-loop-number
 invariant-loop-number l =
-    with_watchers link_heeds l.first l.sources l.places l.number (drop l.number l.links) l.marks.word
-    ≡ with_watchers link_heeds l.first l.sources l.places 0 l.links l.fn.marks.word
+    with_watchers link_heeds l.first l.sources l.place l.number (drop l.number l.links) l.marks.word
+    ≡ with_watchers link_heeds l.first l.sources l.place 0 l.links l.fn.marks.word

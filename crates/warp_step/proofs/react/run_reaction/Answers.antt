@@ -1,5 +1,5 @@
 -- what the body does is the reaction's effect, and the wishes of the others stay
-use Rattle.std.proofs.Common.{◌≡◌, List, [], IsTrue, length, filter, ap, sym, ◌∙◌, subst, refl, arith}
+use Rattle.std.proofs.Common.{◌≡◌, ℕ, List, [], IsTrue, length, filter, ap, sym, ◌∙◌, subst, refl, arith}
 use Rattle.std.specs.List.{list_all}
 use Rattle.std.specs.Prelude.{slice_set}
 use Rattle.std.proofs.lemmas.Bool.{cond-true}
@@ -12,10 +12,12 @@ use Rattle.warp_step.specs.Step.{Reacting, effect_in, is_triggered}
 use Rattle.warp_step.specs.inner.Room.{lists_of}
 use Rattle.warp_body.specs.Presence.{Presence}
 use Rattle.warp_step.specs.inner.Due.{AreDue}
+use Rattle.warp_step.specs.inner.Marks.{no_marks}
 use Rattle.warp_step.specs.inner.Plan.{is_port, ready_turn, turn_rule}
 use Rattle.warp_step.proofs.DueBodies.{follows_body}
-use Rattle.warp_step.proofs.DueLemmas.{due_after}
+use Rattle.warp_step.proofs.DueLemmas.{Marks, due_after, marks_ports}
 use Rattle.warp_step.proofs.ReactLemmas.{list_all_set}
+use Rattle.warp_step.proofs.ValidLemmas.{rule_parts}
 use Rattle.warp_step.proofs.react.run_reaction.Goals as goal
 
 pub returns-then-triggered-clause-effect : goal.returns-then-triggered-clause-effect
@@ -65,7 +67,9 @@ returns-then-triggered-clause-due c = λ P rule valid fits body own after_is wer
     c.run.ensures.effect ∙ ap (λ (b : Body). effect_of b now) (sym body) in
     subst (λ (p : Presence). AreDue P p c.add_all.new.self.word) (sym (ap (λ (e : Effect). e.present) effect))
     (due_after P (filter is_port rule.writes) c.args.present.now (effect_of rule.body now).present c.args.due.now.word c.args.ready.now.after.word c.add_all.new.self.word
-    own (follows_body P rule fits now) after_is c.add_all.ensures were)
+    own (follows_body P rule fits now)
+    (subst (λ (word : ℕ). Marks P (filter is_port rule.writes) word) (sym after_is) (marks_ports P rule.writes no_marks valid (rule_parts P rule fits).writes))
+    c.add_all.ensures were)
 
 pub returns-then-triggered-clause-none : goal.returns-then-triggered-clause-none
 returns-then-triggered-clause-none c = λ h.

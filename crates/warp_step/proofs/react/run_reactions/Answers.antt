@@ -98,6 +98,7 @@ loop-turn-init c =
       places = refl;
       sources = refl;
       bodies = refl;
+      room = refl;
       none = λ k h within. ap (λ (wss : List (List Wish)). get_or wss (get_or P.order k 0) []) c.requires.wishes ∙ empty_at (length P.reactions) (get_or P.order k 0);
       wishes = subst (λ (wss : List (List Wish)). IsTrue (list_all (list_all (wish_fits (program_sizes P))) wss))
           (sym c.requires.wishes) (empty_pass (wish_fits (program_sizes P)) (length P.reactions));
@@ -169,6 +170,7 @@ loop-turn-preserved c =
       places = ran.ensures.places ∙ c.loop-turn.invariant.places;
       sources = ran.ensures.sources ∙ c.loop-turn.invariant.sources;
       bodies = ran.ensures.bodies ∙ c.loop-turn.invariant.bodies;
+      room = ran.ensures.room ∙ c.loop-turn.invariant.room;
       none = λ k h within.
           let later : turn + 1 ≤ next.result = next.ensures.from in
           let past : turn < k = omega (arith, later, h) in

@@ -1,6 +1,6 @@
 -- the reactions that are left go on from here as all do from the start, have no wishes yet, and are due where triggered; the
 -- next one is triggered where that is sure
-use Rattle.std.proofs.Common.{◌≡◌, ℕ, ◌-◌, ◌<◌, ◌≤◌, [], drop, get_or, length, IsTrue, true}
+use Rattle.std.proofs.Common.{◌≡◌, ℕ, ◌-◌, ◌<◌, ◌≤◌, [], drop, get_or, length, IsTrue, true, vec_capacity}
 use Rattle.std.specs.List.{list_all}
 use Rattle.warp_body.specs.Effect.{wish_fits}
 use Rattle.warp_body.specs.Presence.{places_of}
@@ -22,6 +22,7 @@ invariant-loop-turn l = record {
   places : places_of l.present ≡ places_of l.fn.present;
   sources : l.present.sources ≡ l.fn.present.sources;
   bodies : length l.wishes.items ≡ length l.fn.wishes.items;
+  room : vec_capacity l.wishes ≡ vec_capacity l.fn.wishes;
   none : (k : ℕ) → l.turn ≤ k → k < length l.program.order → get_or (lists_of l.wishes.items) (get_or l.program.order k 0) [] ≡ [];
   wishes : IsTrue (list_all (list_all (wish_fits (program_sizes l.program))) (lists_of l.wishes.items));
   wished : AreOf l.wished (lists_of l.wishes.items);

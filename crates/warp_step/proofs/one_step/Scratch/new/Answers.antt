@@ -31,5 +31,7 @@ returns c =
     let counts : places_of c.in_ok-present.present ≡ program_places P =
     ap places_of absent ∙ (λ i. record { timers = timers i; actions = actions i; ports = ports i }) in
     let sources = ap (λ (p : Presence). p.sources) absent ∙ c.in_ok-sources.ensures in
-    let bodies = c.in_ok-wishes.ensures.len ∙ sym (length-map c.reactions.result.now rule_of) ∙ ap length c.reactions.ensures in
-    λ i. record { places = counts i; sources = sources i; bodies = bodies i; plan = c.in_ok-plan.ensures i }
+    let count = sym (length-map c.reactions.result.now rule_of) ∙ ap length c.reactions.ensures in
+    let bodies = c.in_ok-wishes.ensures.len ∙ count in
+    let room = c.in_ok-wishes.ensures.room ∙ count in
+    λ i. record { places = counts i; sources = sources i; bodies = bodies i; plan = c.in_ok-plan.ensures i; room = room i }
