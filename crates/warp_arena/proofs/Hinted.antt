@@ -1,10 +1,10 @@
 -- What becomes of the hints when an arena changes.
-use Rattle.std.proofs.Common.{zero, suc, ◌<◌, ◌≤◌, [], length, get_or, IsSomeAnd, ◌≡◌, ◌≢◌, ℕ, true, List, ◌∷◌, refl, sym, ap, ◌∙◌, subst, inl, inr, arith, map, Option, Some, None, IsSome}
+use Rattle.std.proofs.Common.{zero, suc, Bool, IsTrue, ◌<◌, ◌≤◌, [], length, get_or, IsSomeAnd, ◌≡◌, ◌≢◌, ℕ, true, List, ◌∷◌, refl, sym, ap, ◌∙◌, subst, inl, inr, arith, map, Option, Some, None, IsSome}
 use Rattle.std.specs.List.{AllByRecursion}
 use Rattle.std.specs.Option.{option_map}
 use Rattle.std.proofs.lemmas.Bool.{cases_eq, false≢true}
 use Rattle.std.proofs.lemmas.Bool.Decides.{nat_tests}
-use Rattle.warp_tag.specs.Moment.{Moment}
+use Rattle.warp_tag.specs.Moment.{Moment, is_before}
 use Rattle.warp_tag.specs.Table.{name_before}
 use Rattle.warp_tag.specs.declared.entry.Entry.{Entry}
 use Rattle.warp_arena.specs.declared.arena.Arena.TheInside.{Inside}
@@ -132,3 +132,29 @@ nearest_behind a h o g hint at ns nodes own other =
           (node_behind a h o g hint (subst (λ ms. name_before o g (entry_at ms hint) ≡ true) nodes own))
       | inr apart ↦ after_behind o g at (places a) (other apart)
     ]
+
+-- ---- whether a handle names an entry after a tag
+
+-- the entry is after the tag
+abbrev IsLater : Moment → Entry → Type 0
+IsLater g e = is_before g e.tag ≡ true
+
+later_named : (g : Moment) (e : Entry) → is_before g e.tag ≡ true → name_before 0 g e ≡ true
+later_named g e h = grind (arith, nat_tests)
+
+is_some_later : (g : Moment) (x : Option Entry) → IsSomeAnd x (IsLater g) → IsSome x
+is_some_later g None h = absurd h
+is_some_later g (Some e) h = refl
+
+-- a node's tag is after it just where the handle names an entry after it
+pub later_node : (a : Inside) → IsHinted (threads a) a.used a.hints.items a.own_hints.items → (g : Moment) (i : ℕ) (b : Bool) → b ≡ is_before g (entry_at a.nodes.items i).tag → (IsTrue b → IsSomeAnd (entry_of i (places a)) (IsLater g)) × (IsSomeAnd (entry_of i (places a)) (IsLater g) → IsTrue b)
+later_node a h g i b is = (
+  λ yes.
+      let later : is_before g (entry_at a.nodes.items i).tag ≡ true = sym is ∙ yes in
+      subst (λ x. IsSomeAnd x (IsLater g)) (sym (entry_found a h.whole i (h.used i 0 g (later_named g (entry_at a.nodes.items i) later)))) later,
+  λ named. is ∙ subst (λ x. IsSomeAnd x (IsLater g)) (entry_found a h.whole i (is_some_later g (entry_of i (places a)) named)) named,
+)
+
+-- past the nodes no handle names one
+pub later_none : (a : Inside) → IsHinted (threads a) a.used a.hints.items a.own_hints.items → (g : Moment) (i : ℕ) → length a.nodes.items ≤ i → IsSomeAnd (entry_of i (places a)) (IsLater g) → ⊥
+later_none a h g i past named = omega (arith, past, used_found_below a h.whole i (is_some_later g (entry_of i (places a)) named))

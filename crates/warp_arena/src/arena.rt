@@ -372,6 +372,17 @@ impl Arena {
         handle(self.nodes[node.index() as usize].of_origin.next)
     }
 
+    /// Whether the handle names an entry now, and one whose tag is after this one. So a handle may be kept past the
+    /// time when its node is freed, and be asked for when it is used.
+    pub fn is_after(&self, node: NodeId, tag: Tag) -> bool
+        ensures { IsTrue result ↔ IsSomeAnd (entry_of node self.now.places) (λ e. is_before tag e.tag ≡ true) }
+    {
+        match self.nodes.get(node.index() as usize) {
+            Some(node) => tag.is_before(node.entry.tag()),
+            None => false,
+        }
+    }
+
     /// Where a walk stands at this handle's entry, or behind the last one where there is none.
     #[inline(always)]
     pub fn cursor_at(&self, node: Option<NodeId>) -> Cursor

@@ -1,4 +1,4 @@
-//! The slow twin: a sorted table, and a run from the start after each change.
+//! The slow twin: a sorted table, and a run from the start where it is settled after a change.
 use crate::replay::replay;
 use crate::sorted_names::{note_event, note_withdrawal};
 use crate::timeline::Timeline;
@@ -6,7 +6,7 @@ use std::alloc::Global;
 use warp_step::{Meter, Out, Program, State};
 use warp_tag::{Entry, OutOfMemory, Tag};
 
-/// The timeline that keeps a sorted table, and after a change runs from the start.
+/// The timeline that keeps a sorted table, and runs from the start where it is settled after a change.
 #[derive(Drop)]
 pub struct Plain {
     entries: Vec<Entry>,

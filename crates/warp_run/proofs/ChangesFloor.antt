@@ -244,6 +244,7 @@ collected w a x m below h is at moves same =
           (still_reaches x.floor x.last narrow w.arena.places w.cursor cursor);
       latest = h.latest;
       settled = h.settled;
+      skips = h.skips;
     }
 
 -- ---- how many it holds

@@ -19,6 +19,7 @@ use Rattle.warp_arena.proofs.Handles.{entry_of-with_change_same}
 use Rattle.warp_line.specs.Timeline.{Standing, NowStands}
 use Rattle.warp_run.specs.Tip.{GoesBack, HasExecuted, KeepsRoom}
 use Rattle.warp_run.specs.History.{spacing}
+use Rattle.warp_run.specs.Skips.{AreFree}
 use Rattle.warp_run.specs.Walk.{AreThrough, ahead}
 use Rattle.warp_run.specs.Warp.{ChangedFrom, NamesAt, StandsFor, ahead_of, latest_with, room_in}
 use Rattle.warp_run.specs.declared.tip.Tip.{Tip}
@@ -54,8 +55,9 @@ module _ (f : Entry → Entry) (names : KeepsNames f) {was : Entry} {origin : �
         → (w : Warp) → w.arena ≡ new.arena → w.tip.floor ≡ new.tip.floor → w.latest ≡ latest_with tag new.latest → w.settled ≡ false
         → ((P : Program) (E : List Event) (done : List Row) → HasExecuted P E new.tip done → GoesBack P E tag done w.tip)
         → (Reaches new.arena.places (ahead new.tip.last new.arena.places) new.cursor → Reaches w.arena.places (ahead w.tip.last w.arena.places) w.cursor)
+        → AreFree w.skips (live (changed f origin tag m.table))
         → NowStands StandsFor spacing 0 tag w m (changed f origin tag m.table)
-    undone_from differs fits through w kept floor latest unsettled back cursor =
+    undone_from differs fits through w kept floor latest unsettled back cursor free =
         let E : List Event = live (changed f origin tag m.table) in
         let goes = back m.program (live m.table) m.done front_at in
         let early = early_stay f names origin tag m.table in
@@ -73,6 +75,7 @@ module _ (f : Entry → Entry) (names : KeepsNames f) {was : Entry} {origin : �
             cursor = cursor is.cursor;
             latest = subst (λ l. AreThrough l E) (sym (latest ∙ ap (λ v. latest_with tag v.latest) is.others)) through;
             settled = λ yes. let no : true ≡ false = sym yes ∙ unsettled in cc;
+            skips = free;
           },
           keeps_done m tag (changed f origin tag m.table) (take goes.left m.done) early
               (drop goes.left m.done, sym (take-append-drop goes.left m.done)) (λ later. lengths ∙ goes.ahead later)
@@ -100,6 +103,7 @@ module _ (f : Entry → Entry) (names : KeepsNames f) {was : Entry} {origin : �
             cursor = is.cursor;
             latest = subst (AreThrough new.latest) lives (subst (λ l. AreThrough l (live m.table)) (sym (ap (λ w. w.latest) is.others)) h.latest);
             settled = λ yes. subst (λ E. Run m.program E m.done) lives (h.settled (sym (ap (λ w. w.settled) is.others) ∙ yes));
+            skips = subst (AreFree new.skips) lives (subst (λ s. AreFree s (live m.table)) (sym (ap (λ w. w.skips) is.others)) h.skips);
           },
           keeps_done m tag (changed f origin tag m.table) m.done (early_stay f names origin tag m.table) ([], sym (append-nil m.done))
               (λ later. refl) (inl refl) (λ kept. refl),
@@ -136,6 +140,7 @@ module _ (f : Entry → Entry) (names : KeepsNames f) {origin : ℕ} {tag : Mome
         → (w : Warp) → w.arena ≡ arena → w.tip.floor ≡ new.tip.floor → w.latest ≡ latest_with tag new.latest → w.settled ≡ false
         → ((P : Program) (E : List Event) (done : List Row) → HasExecuted P E new.tip done → GoesBack P E tag done w.tip)
         → (Reaches arena.places (ahead new.tip.last arena.places) new.cursor → Reaches w.arena.places (ahead w.tip.last w.arena.places) w.cursor)
+        → AreFree w.skips (live (changed f origin tag m.table))
         → NowStands StandsFor spacing 0 tag w m (changed f origin tag m.table)
     undone_stands differs = undone_from f names changed_from later h (λ same. differs (ap live_event after ∙ same))
 

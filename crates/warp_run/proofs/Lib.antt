@@ -17,6 +17,8 @@ pub mod ChangesStand
 pub mod PlacesWalks
 pub mod PlacesBack
 pub mod PlacesCursor
+pub mod PlacesSkipped
+pub mod SkipsKept
 pub mod Marks
 pub mod TurnsLive
 pub mod TurnsNext

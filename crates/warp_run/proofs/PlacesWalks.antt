@@ -189,7 +189,7 @@ none_before_of tag (p ∷ ps) later =
     none (Some v) E rest tags = let first = tags v refl in grind (arith, nat_tests)
 
 -- where the first place is not before it, no place is
-not_before_from : (ps : List Place) (node : ℕ) (e : Entry) (tag : Moment) → IsTable (entries_of ps) → Heads ps node e → is_before e.tag tag ≡ false
+pub not_before_from : (ps : List Place) (node : ℕ) (e : Entry) (tag : Moment) → IsTable (entries_of ps) → Heads ps node e → is_before e.tag tag ≡ false
     → AllByRecursion (λ p. is_before p.entry.tag tag ≡ false) (places_from node ps)
 not_before_from ps node e tag t head h =
     subst (AllByRecursion (λ (p : Place). is_before p.entry.tag tag ≡ false)) (sym head) (

@@ -56,5 +56,5 @@ tip_send = declared_send tip.the_type (
 pub warp_send : IsSend warp.the_row
 warp_send = declared_send warp.the_type (
   arena.the_send,
-  (search sendable depth 60, (search sendable depth 60, (tip_send, (search (crosses, sendable) depth 60, (search sendable, tt))))),
+  (search sendable depth 60, (search sendable depth 60, (tip_send, (search (crosses, sendable) depth 60, (search sendable, (search (crosses, sendable) depth 60, tt)))))),
 )

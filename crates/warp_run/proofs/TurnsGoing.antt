@@ -30,6 +30,10 @@ goes_on P a b c i j k g h is = λ m stands same.
       omega arith,
     )
 
+-- what stands for no less goes on as far
+pub goes_noted : (P : Program) (a b c : Warp) (n : ℕ) → ((m : Standing) → StandsFor a m → StandsFor b m) → Goes P b c n → Goes P a c n
+goes_noted P a b c n stands g = λ m h same. g m (stands m h) same
+
 -- a row more leaves fewer, since they are no more than there may be names
 pub fewer_left : (P : Program) (v w : Warp) (m : Standing) (rows : List Row) → StandsFor v m
     → StandsFor w (record m { done = m.done ++ rows }) → m.program ≡ P → 1 ≤ length rows

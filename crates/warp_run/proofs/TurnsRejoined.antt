@@ -56,10 +56,10 @@ pub may_rejoin : (w : Warp) (m : Standing) → StandsFor w m → AreFew m.progra
 may_rejoin w m h = begin_names m.program (live m.table) h.program h.events
 
 -- a value that went on over what was aside, with a cursor behind
-pub rejoined : (P : Program) (w v : Warp) → w.settled ≡ false → v.arena ≡ w.arena → v.latest ≡ w.latest → v.settled ≡ w.settled → ExecutesMore w.tip v.tip
+pub rejoined : (P : Program) (w v : Warp) → w.settled ≡ false → v.arena ≡ w.arena → v.latest ≡ w.latest → v.settled ≡ w.settled → v.skips ≡ w.skips → ExecutesMore w.tip v.tip
     → ((m : Standing) → StandsFor w m → Reaches w.arena.places (ahead v.tip.last (ahead w.tip.last w.arena.places)) v.cursor)
     → Goes P w v 0
-rejoined P w v unsettled arena latest settled on cursor = λ m h same.
+rejoined P w v unsettled arena latest settled skips on cursor = λ m h same.
     let more = on.rows m.program (live m.table) m.done h.tip in
     let places = w.arena.places in (
       more.0,
@@ -67,7 +67,7 @@ rejoined P w v unsettled arena latest settled on cursor = λ m h same.
           (subst (λ (qs : List Place). Reaches places qs v.cursor)
           (ahead_on m.program (live m.table) w.tip v.tip m.done more.0 places h.tip more.1) (cursor m h))
           (subst (λ (l : Option Moment). AreThrough l (live m.table)) (sym latest) h.latest)
-          (λ yes. let never : true ≡ false = sym yes ∙ settled ∙ unsettled in cc),
+          (λ yes. let never : true ≡ false = sym yes ∙ settled ∙ unsettled in cc) skips,
       omega arith,
     )
 

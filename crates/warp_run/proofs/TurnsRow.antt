@@ -64,12 +64,12 @@ module _ (P : Program) (w : Warp) (t : Moment) (n : NextAt P w t) where
 
   -- and where it was made, and the cursor is behind the tag, one more row is done
   pub row_done : (v : Warp) (x : Tip) (X : List Given) (count : ℕ) → IsSame w.tip x → X ≡ given_through w t → w.settled ≡ false
-      → v.arena ≡ w.arena → v.latest ≡ w.latest → v.settled ≡ w.settled → v.tip.last ≡ Some t → v.tip.floor ≡ x.floor
+      → v.arena ≡ w.arena → v.latest ≡ w.latest → v.settled ≡ w.settled → v.skips ≡ w.skips → v.tip.last ≡ Some t → v.tip.floor ≡ x.floor
       → Reaches w.arena.places (ahead (Some t) (ahead w.tip.last w.arena.places)) v.cursor
       → ((E : List Event) (done : List Row) → HasExecuted P E x done → IsNext E x.last x.state t → X ≡ given_at t E
       → (row : Row) × HasExecuted P E v.tip (done ++ row ∷ []))
       → count ≤ 1 → Goes P w v count
-  row_done v x X count alike is waits arena latest settled last floor cursor stepped most = λ m h same.
+  row_done v x X count alike is waits arena latest settled skips last floor cursor stepped most = λ m h same.
       let next = same_next w n.0 m t n.1 h n.3 in
       let at = alike.kept P (live m.table) m.done (subst (λ (Q : Program). HasExecuted Q (live m.table) w.tip m.done) same h.tip) in
       let row = stepped (live m.table) m.done at (still_next (live m.table) t w.tip x alike next) (given_is w m h t next X X refl is) in (
@@ -78,19 +78,19 @@ module _ (P : Program) (w : Warp) (t : Moment) (n : NextAt P w t) where
             (subst (λ (Q : Program). HasExecuted Q (live m.table) v.tip (m.done ++ row.0 ∷ [])) (sym same) row.1)
             (cursor_next w m h t next v.cursor cursor v.tip.last last)
             (subst (λ (l : Option Moment). AreThrough l (live m.table)) (sym latest) h.latest)
-            (λ is_settled. let never : true ≡ false = sym is_settled ∙ settled ∙ waits in cc),
+            (λ is_settled. let never : true ≡ false = sym is_settled ∙ settled ∙ waits in cc) skips,
         most,
       )
 
 -- where no step was made, no row is done more
 pub row_failed : (P : Program) (w v : Warp) (count : ℕ) → v.arena ≡ w.arena → v.cursor ≡ w.cursor → v.latest ≡ w.latest
-    → v.settled ≡ w.settled → IsSame w.tip v.tip → count ≤ 0 → Goes P w v count
-row_failed P w v count arena cursor latest settled same none = λ m h is. (
+    → v.settled ≡ w.settled → v.skips ≡ w.skips → IsSame w.tip v.tip → count ≤ 0 → Goes P w v count
+row_failed P w v count arena cursor latest settled skips same none = λ m h is. (
   [],
   stays w v m h arena same.floor (same.kept m.program (live m.table) m.done h.tip)
       (subst (λ (l : Option Moment). Reaches w.arena.places (ahead l w.arena.places) v.cursor) (sym same.last)
       (subst (λ o. Reaches w.arena.places (ahead w.tip.last w.arena.places) o) (sym cursor) h.cursor))
-      latest settled,
+      latest settled skips,
   none,
 )
 

@@ -24,8 +24,10 @@ use Rattle.warp_line.specs.inner.Replay.{is_waiting}
 use Rattle.warp_line.proofs.ReplayLemmas.{can_step}
 use Rattle.warp_line.proofs.RunLemmas.{stands}
 use Rattle.warp_run.specs.Tip.{CanGive, HasExecuted}
+use Rattle.warp_run.specs.Skips.{AreFree}
 use Rattle.warp_run.specs.Walk.{AreThrough, ahead, given_by, through}
 use Rattle.warp_run.specs.Warp.{StandsFor, ahead_of}
+use Rattle.warp_run.specs.declared.skips.Skips.{Skips}
 use Rattle.warp_run.specs.declared.warp.Warp.{Warp}
 use Rattle.warp_run.proofs.TurnsLive.{ahead_twice, all_kept, at_next, live_kept, live_places}
 use Rattle.warp_line.proofs.ProgressLemmas.{turned}
@@ -60,8 +62,8 @@ waiting_given E last s t next =
 -- a value with the same arena, of which these rows are done
 pub stands_on : (w v : Warp) (m : Standing) (done : List Row) → StandsFor w m → v.arena ≡ w.arena → v.tip.floor ≡ w.tip.floor → HasExecuted m.program (live m.table) v.tip done
     → Reaches w.arena.places (ahead v.tip.last w.arena.places) v.cursor → AreThrough v.latest (live m.table)
-    → (IsTrue v.settled → IsDone (record m { done = done })) → StandsFor v (record m { done = done })
-stands_on w v m done h arena floor tip cursor latest settled = record {
+    → (IsTrue v.settled → IsDone (record m { done = done })) → v.skips ≡ w.skips → StandsFor v (record m { done = done })
+stands_on w v m done h arena floor tip cursor latest settled skips = record {
   program = h.program;
   origins = ap (λ (a : Contents). a.origins) arena ∙ h.origins;
   table = ap (λ (a : Contents). entries_of a.places) arena ∙ h.table ∙ ap (λ (o : Option Moment). ahead_of o m.table) (sym floor);
@@ -71,16 +73,17 @@ stands_on w v m done h arena floor tip cursor latest settled = record {
   cursor = subst (λ (a : Contents). Reaches a.places (ahead v.tip.last a.places) v.cursor) (sym arena) cursor;
   latest = latest;
   settled = settled;
+  skips = subst (λ (s : Skips). AreFree s (live m.table)) (sym skips) h.skips;
 }
 
 -- where no row was done more
 pub stays : (w v : Warp) (m : Standing) → StandsFor w m → v.arena ≡ w.arena → v.tip.floor ≡ w.tip.floor → HasExecuted m.program (live m.table) v.tip m.done
     → Reaches w.arena.places (ahead v.tip.last w.arena.places) v.cursor → v.latest ≡ w.latest → v.settled ≡ w.settled
-    → StandsFor v (record m { done = m.done ++ [] })
-stays w v m h arena floor tip cursor latest settled =
+    → v.skips ≡ w.skips → StandsFor v (record m { done = m.done ++ [] })
+stays w v m h arena floor tip cursor latest settled skips =
     subst (λ (rows : List Row). StandsFor v (record m { done = rows })) (sym (append-nil m.done))
     (stands_on w v m m.done h arena floor tip cursor (subst (λ (l : Option Moment). AreThrough l (live m.table)) (sym latest) h.latest)
-    (λ is. h.settled (sym settled ∙ is)))
+    (λ is. h.settled (sym settled ∙ is)) skips)
 
 -- where the events after the last row are the same, so is what waits
 waits_ahead : (last : Option Moment) (s : Snapshot) (D E : List Event) → filter (λ e. is_after last e.tag) D ≡ filter (λ e. is_after last e.tag) E

@@ -8,6 +8,7 @@ use Rattle.warp_line.specs.Timeline.{Standing, IsDone}
 use Rattle.warp_line.proofs.RunLemmas.{past, none_waits}
 use Rattle.warp_line.proofs.NextLemmas.{none_pending}
 use Rattle.warp_arena.specs.Places.{IsOrdered}
+use Rattle.warp_run.specs.Skips.{AreFree, covers}
 use Rattle.warp_run.specs.Walk.{AreThrough, ahead, first_tag, live_of}
 use Rattle.warp_run.specs.Warp.{StandsFor}
 use Rattle.warp_run.specs.declared.warp.Warp.{Warp}
@@ -32,6 +33,12 @@ module _ (w : Warp) (m : Standing) (h : StandsFor w m) where
   ahead_through =
       subst (AreThrough w.latest) (sym ahead_events)
       (all_kept (λ (e : Event). is_after w.tip.last e.tag) (λ e. not (is_after w.latest e.tag)) (live m.table) h.latest)
+
+  -- and none is at a tag of a stretch
+  pub ahead_free : AreFree w.skips (live_of (ahead w.tip.last w.arena.places))
+  ahead_free =
+      subst (AreFree w.skips) (sym ahead_events)
+      (all_kept (λ (e : Event). is_after w.tip.last e.tag) (λ e. not (covers w.skips e.tag)) (live m.table) h.skips)
 
   sorted : IsOrdered w.arena → AreSorted (live m.table)
   sorted ordered = live_sorted m.table h.ordered

@@ -11,6 +11,7 @@ use Rattle.warp_step.specs.Valid.{is_valid}
 use Rattle.warp_step.specs.Events.{event_fits}
 use Rattle.warp_arena.specs.Places.{Reaches, entries_of, entry_of, with_change}
 use Rattle.warp_line.specs.Timeline.{Standing, IsDone}
+use Rattle.warp_run.specs.Skips.{AreFree}
 use Rattle.warp_run.specs.Tip.{HasExecuted}
 use Rattle.warp_run.specs.Walk.{AreThrough, ahead}
 use Rattle.warp_run.specs.declared.warp.Warp.{Warp}
@@ -25,7 +26,7 @@ ahead_of floor entries = filter (λ e. is_after floor e.tag) entries
 
 -- The program is valid, and the arena has its origins; the table is sorted, with events that the program takes, and the
 -- arena holds what is not behind; what is executed are the done rows; the cursor is at the first place after the last
--- of them; no live event is after the latest tag; and where it is settled, all rows are done.
+-- of them; no live event is after the latest tag, or at the tag of a stretch; and where it is settled, all rows are done.
 pub record StandsFor (w : Warp) (m : Standing) : Type 0 where
   pub program : IsTrue (is_valid m.program)
   pub origins : w.arena.origins ≡ m.program.origins
@@ -36,6 +37,7 @@ pub record StandsFor (w : Warp) (m : Standing) : Type 0 where
   pub cursor : Reaches w.arena.places (ahead w.tip.last w.arena.places) w.cursor
   pub latest : AreThrough w.latest (live m.table)
   pub settled : IsTrue w.settled → IsDone m
+  pub skips : AreFree w.skips (live m.table)
 
 -- from what a timeline of this program stands for, at least so many more rows are done
 abbrev pub Goes : Program → Warp → Warp → ℕ → Type 0

@@ -12,6 +12,7 @@
 
 mod aside;
 mod history;
+mod skips;
 mod tip;
 mod walk;
 mod warp;

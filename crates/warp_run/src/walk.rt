@@ -5,9 +5,11 @@ ghost use Rattle.std.specs.Option.{option_map};
 ghost use Rattle.warp_tag.specs.Table.{live, live_event};
 ghost use Rattle.warp_step.specs.Run.{given_of, is_after};
 ghost use Rattle.warp_arena.specs.Places.{Place, Reaches, entry_of};
+ghost use Rattle.warp_run.specs.Skips.{AreFree};
 ghost use Rattle.warp_run.specs.Walk.{AreThrough, FindsBefore, FindsFirst, FindsPlace, FindsPlaceBefore};
 ghost use Rattle.warp_run.specs.Walk.{ahead, event_at, given_by, live_of, through};
 
+use crate::skips::Skips;
 use warp_arena::{Arena, NodeId};
 use warp_step::Given;
 use warp_tag::{Entry, OutOfMemory, Tag};
@@ -83,10 +85,12 @@ fn add_given(entry: &Entry, given: &mut Vec<Given>) -> Result<(), OutOfMemory>
 #[inline(always)]
 pub(crate) fn next_event(
     arena: &Arena,
+    skips: &Skips,
     cursor: Option<NodeId>,
     latest: &Option<Tag>,
 ) -> Option<Live>
-    requires { (rest : List Place) × Reaches arena.now.places rest cursor × AreThrough latest.now (live_of rest) }
+    requires { (rest : List Place) × Reaches arena.now.places rest cursor × AreThrough latest.now (live_of rest) ×
+        AreFree skips.now (live_of rest) }
     ensures { (rest : List Place) → Reaches arena.now.places rest cursor → AreThrough latest.now (live_of rest) →
         FindsFirst arena.now.places rest result }
 {
@@ -95,25 +99,32 @@ pub(crate) fn next_event(
     if live.is_some() {
         return live;
     }
-    let found = later_event(arena, node, latest)?;
+    let found = later_event(arena, skips, node, latest)?;
     live_at(found, &arena.entry(found))
 }
 
 /// The place of the first live event from a place on, sought apart from where it is mostly that of the first place.
 #[inline(never)]
-fn later_event(arena: &Arena, node: NodeId, latest: &Option<Tag>) -> Option<NodeId>
-    requires { (rest : List Place) × Reaches arena.now.places rest (Some node) × AreThrough latest.now (live_of rest) }
+fn later_event(arena: &Arena, skips: &Skips, node: NodeId, latest: &Option<Tag>) -> Option<NodeId>
+    requires { (rest : List Place) × Reaches arena.now.places rest (Some node) × AreThrough latest.now (live_of rest) ×
+        AreFree skips.now (live_of rest) }
     ensures { (rest : List Place) → Reaches arena.now.places rest (Some node) → AreThrough latest.now (live_of rest) →
         FindsPlace arena.now.places rest result }
 {
-    let live = seek_event(arena, Some(node), latest)?;
+    let live = seek_event(arena, skips, Some(node), latest)?;
     Some(live.node)
 }
 
 /// The first live event from the cursor on, sought. No live event is after the latest tag, so the walk ends there.
 #[inline(always)]
-fn seek_event(arena: &Arena, cursor: Option<NodeId>, latest: &Option<Tag>) -> Option<Live>
-    requires { (rest : List Place) × Reaches arena.now.places rest cursor × AreThrough latest.now (live_of rest) }
+fn seek_event(
+    arena: &Arena,
+    skips: &Skips,
+    cursor: Option<NodeId>,
+    latest: &Option<Tag>,
+) -> Option<Live>
+    requires { (rest : List Place) × Reaches arena.now.places rest cursor × AreThrough latest.now (live_of rest) ×
+        AreFree skips.now (live_of rest) }
     ensures { (rest : List Place) → Reaches arena.now.places rest cursor → AreThrough latest.now (live_of rest) →
         FindsFirst arena.now.places rest result }
 {
@@ -131,7 +142,7 @@ fn seek_event(arena: &Arena, cursor: Option<NodeId>, latest: &Option<Tag>) -> Op
         if latest.is_before(entry.tag) {
             return None;
         }
-        at = arena.next(node);
+        at = skips.behind(arena, node, entry.tag);
     }
     None
 }
@@ -139,8 +150,13 @@ fn seek_event(arena: &Arena, cursor: Option<NodeId>, latest: &Option<Tag>) -> Op
 /// The first live event from the cursor on that is before the tag: mostly that of the first place, or none, since that
 /// place is not before it.
 #[inline(always)]
-pub(crate) fn event_before(arena: &Arena, cursor: Option<NodeId>, tag: Tag) -> Option<Live>
-    requires { (rest : List Place) × Reaches arena.now.places rest cursor }
+pub(crate) fn event_before(
+    arena: &Arena,
+    skips: &Skips,
+    cursor: Option<NodeId>,
+    tag: Tag,
+) -> Option<Live>
+    requires { (rest : List Place) × Reaches arena.now.places rest cursor × AreFree skips.now (live_of rest) }
     ensures { (rest : List Place) →
         Reaches arena.now.places rest cursor → FindsBefore arena.now.places rest tag result }
 {
@@ -154,27 +170,27 @@ pub(crate) fn event_before(arena: &Arena, cursor: Option<NodeId>, tag: Tag) -> O
     if live.is_some() {
         return live;
     }
-    let found = later_before(arena, node, tag)?;
+    let found = later_before(arena, skips, node, tag)?;
     live_at(found, &arena.entry(found))
 }
 
 /// The place of the first live event from a place on that is before the tag, sought apart from where it is mostly that
 /// of the first place.
 #[inline(never)]
-fn later_before(arena: &Arena, node: NodeId, tag: Tag) -> Option<NodeId>
-    requires { (rest : List Place) × Reaches arena.now.places rest (Some node) }
+fn later_before(arena: &Arena, skips: &Skips, node: NodeId, tag: Tag) -> Option<NodeId>
+    requires { (rest : List Place) × Reaches arena.now.places rest (Some node) × AreFree skips.now (live_of rest) }
     ensures { (rest : List Place) → Reaches arena.now.places rest (Some node) →
         FindsPlaceBefore arena.now.places rest tag result }
 {
-    let live = seek_before(arena, Some(node), tag)?;
+    let live = seek_before(arena, skips, Some(node), tag)?;
     Some(live.node)
 }
 
 /// The first live event from the cursor on that is before the tag, sought: the walk ends at the first place that is
 /// not.
 #[inline(always)]
-fn seek_before(arena: &Arena, cursor: Option<NodeId>, tag: Tag) -> Option<Live>
-    requires { (rest : List Place) × Reaches arena.now.places rest cursor }
+fn seek_before(arena: &Arena, skips: &Skips, cursor: Option<NodeId>, tag: Tag) -> Option<Live>
+    requires { (rest : List Place) × Reaches arena.now.places rest cursor × AreFree skips.now (live_of rest) }
     ensures { (rest : List Place) →
         Reaches arena.now.places rest cursor → FindsBefore arena.now.places rest tag result }
 {
@@ -189,7 +205,7 @@ fn seek_before(arena: &Arena, cursor: Option<NodeId>, tag: Tag) -> Option<Live>
         if live.is_some() {
             return live;
         }
-        at = arena.next(node);
+        at = skips.behind(arena, node, entry.tag);
     }
     None
 }

@@ -10,10 +10,12 @@ ghost use Rattle.warp_arena.specs.Shape.{IsGap};
 ghost use Rattle.warp_line.specs.Begin.{last_after};
 ghost use Rattle.warp_line.specs.Timeline.{NowStands, Standing, IsDone, is_behind};
 ghost use Rattle.warp_run.specs.Walk.{IsAhead, IsAtFirst, ahead, tag_of_next};
+ghost use Rattle.warp_run.specs.Skips.{IsCut};
 ghost use Rattle.warp_run.specs.Tip.{GoesBack, HasExecuted, KeepsRoom};
 ghost use Rattle.warp_run.specs.Warp.{ChangedFrom, Goes, HasRoom, NamesAt, StandsFor};
 ghost use Rattle.warp_run.specs.Warp.{ahead_of, floor_of, latest_with, room_in};
 
+use crate::skips::Skips;
 use crate::tip::Tip;
 use crate::walk::{
     Live, Next, event_before, first_after, first_from, free_behind, gather_from, is_after, is_past,
@@ -42,6 +44,8 @@ pub struct Warp {
     /// Room for what is given to a step, where it is gathered.
     given: Vec<Given>,
     settled: bool,
+    /// Stretches at whose tags no live event is.
+    skips: Skips,
 }
 
 impl Timeline for Warp {
@@ -84,6 +88,7 @@ impl Timeline for Warp {
             tip: Tip::start(alloc, program)?,
             given: Vec::new(alloc),
             settled: false,
+            skips: Skips::new(),
         })
     }
 
@@ -186,6 +191,7 @@ impl Warp {
         ensures done { OnOk result ((m : Standing) → StandsFor self.new m → m.program ≡ program.now → IsDone m) }
     {
         while let Some(next) = self.next_row() {
+            self.note_passed(&next);
             self.turn(program, &next, meter)?;
             if self.tip.comes_to_aside() {
                 self.rejoin()?;
@@ -225,12 +231,33 @@ impl Warp {
     {
         self.arena.ordered();
         let Some(pending) = self.tip.state().next() else {
-            let live = next_event(&self.arena, self.cursor.node(), &self.latest)?;
+            let live = next_event(&self.arena, &self.skips, self.cursor.node(), &self.latest)?;
             return Some(Next::AtEvent(live));
         };
-        match event_before(&self.arena, self.cursor.node(), pending) {
+        match event_before(&self.arena, &self.skips, self.cursor.node(), pending) {
             Some(live) => Some(Next::AtEvent(live)),
             None => Some(Next::AtEntry(pending)),
+        }
+    }
+
+    /// Keeps what was passed up to the next row's event, where that is a long way.
+    #[inline(always)]
+    fn note_passed(&mut self, next: &Next)
+        requires next { (m : Standing) → StandsFor self.old m →
+            IsNext (live m.table) self.old.tip.last self.old.tip.state (tag_of_next next.now) }
+        requires cursor { Reaches self.old.arena.places
+            (ahead self.old.tip.last self.old.arena.places) self.old.cursor }
+        requires event { IsAtFirst self.old.arena.places (ahead self.old.tip.last self.old.arena.places) next.now }
+        ensures others { self.new ≡ record self.old { skips = self.new.skips } }
+        ensures stands { (m : Standing) → StandsFor self.old m → StandsFor self.new m }
+    {
+        if let Next::AtEvent(live) = *next
+            && let Some(first) = self.cursor.node()
+            && first != live.node
+        {
+            let last = self.tip.last();
+            self.skips
+                .note(&self.arena, last, live.tag, first, live.node);
         }
     }
 
@@ -382,6 +409,7 @@ impl Warp {
         ensures room { room_in self.new ≡ room_in self.old }
     {
         let place = self.come_in(origin, tag, input, value, gap);
+        self.skips.cut(&self.arena, place, tag);
         self.note_change(tag);
         self.tip.let_go_before(tag);
         // A hint is put by a call in last place, so no register is saved for it.
@@ -457,7 +485,9 @@ impl Warp {
             (ahead self.old.tip.last self.old.arena.places) self.old.cursor →
             Reaches self.new.arena.places (ahead self.new.tip.last self.new.arena.places) self.new.cursor }
         ensures floor { self.new.tip.floor ≡ self.old.tip.floor }
+        ensures skips { IsCut tag self.old.skips self.new.skips }
     {
+        self.skips.cut(&self.arena, node, tag);
         self.note_change(tag);
         if !is_after(self.tip.last(), tag) {
             self.go_back(node, tag);
@@ -492,7 +522,8 @@ impl Warp {
         ensures floor { self.new.tip.floor ≡ self.old.tip.floor }
     {
         self.tip.go_back(tag);
-        let place = first_after(&self.arena, node, self.tip.last());
+        let start = self.skips.start(&self.arena, node, self.tip.last());
+        let place = first_after(&self.arena, start, self.tip.last());
         self.cursor = self.arena.cursor_at(place);
     }
 }

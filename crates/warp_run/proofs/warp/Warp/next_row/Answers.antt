@@ -5,14 +5,23 @@ use Rattle.warp_step.specs.Snapshot.{Snapshot, least_pending}
 use Rattle.warp_run.specs.Walk.{ahead}
 use Rattle.warp_run.proofs.PlacesWalks.{HasBefore, HasFound, reaches_as}
 use Rattle.warp_run.proofs.TurnsNext.{event_alone, event_before, entry_next}
-use Rattle.warp_run.proofs.TurnsWarp.{ahead_through, all_done_there, least_entry}
+use Rattle.warp_run.proofs.TurnsWarp.{ahead_free, ahead_through, all_done_there, least_entry}
 use Rattle.warp_run.proofs.TurnsFirst.{before_at, first_live, found_at, live_ahead, no_live, none_before_tag}
 use Rattle.warp_run.proofs.warp.Warp.next_row.Goals as goal
 
 pub next_event-requires : goal.next_event-requires
 next_event-requires c =
+    let w = c.args.self.now in (
+      ahead w.tip.last w.arena.places,
+      reaches_as _ _ _ _ c.node.ensures c.requires.1.cursor,
+      ahead_through w c.requires.0 c.requires.1,
+      ahead_free w c.requires.0 c.requires.1,
+    )
+
+pub event_before-requires : goal.event_before-requires
+event_before-requires c =
     let w = c.args.self.now in
-    (ahead w.tip.last w.arena.places, reaches_as _ _ _ _ c.node.ensures c.requires.1.cursor, ahead_through w c.requires.0 c.requires.1)
+    (ahead w.tip.last w.arena.places, reaches_as _ _ _ _ c.node-2.ensures c.requires.1.cursor, ahead_free w c.requires.0 c.requires.1)
 
 pub returns-in_err-live-clause-none : goal.returns-in_err-live-clause-none
 returns-in_err-live-clause-none c = λ none m h.

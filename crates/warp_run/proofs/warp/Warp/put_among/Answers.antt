@@ -6,12 +6,14 @@ use Rattle.warp_tag.proofs.Tables.{events_pass, with_event_names}
 use Rattle.warp_step.specs.Events.{event_fits}
 use Rattle.warp_step.specs.Run.{is_after}
 use Rattle.warp_arena.specs.Places.{Contents}
+use Rattle.warp_run.specs.Skips.{IsCut, covers}
 use Rattle.warp_run.specs.Tip.{KeepsRoom}
 use Rattle.warp_run.specs.Warp.{latest_with}
 use Rattle.warp_run.specs.declared.tip.Tip.{Tip}
 use Rattle.warp_run.specs.declared.warp.Warp.{Warp}
 use Rattle.warp_run.proofs.ChangesFloor.{not_behind}
 use Rattle.warp_run.proofs.ChangesEvents.{all_through, one_through}
+use Rattle.warp_run.proofs.SkipsKept.{cut_free}
 use Rattle.warp_run.proofs.ChangesStand.{keeps_room, named_after, never_same, same_room, same_stands, undone_stands}
 use Rattle.warp_run.proofs.warp.Warp.put_among.Goals as goal
 
@@ -40,9 +42,13 @@ returns-then-changes-clause-stands c = λ m h good.
     let through = events_pass (λ e. not (is_after (latest_with c.args.tag latest) e.tag)) c.args.origin c.args.tag c.args.input c.args.value m.table
     (all_through c.args.tag latest _ h.latest) (one_through c.args.tag latest) in
     let u = c.undo_from.ensures in
+    let skips = c.undo_from.new.self.skips in
+    let cut = subst (λ s. IsCut c.args.tag s skips) (ap (λ (w : Warp). w.skips) c.node-node.ensures.names.others) u.skips in
+    let free = events_pass (λ e. not (covers skips e.tag)) c.args.origin c.args.tag c.args.input c.args.value m.table
+    (cut_free c.args.tag _ _ cut _ h.skips) (ap not cut.apart) in
     undone_stands (with_event c.args.input c.args.value) (with_event_names c.args.input c.args.value) c.node-node.ensures.names made
     (not_behind c.args.self.now.tip.floor c.args.tag c.requires.ahead) c.entry.ensures.entry noted h (c.note_event-changes.ensures.changes c.if-changes.true) fits through
-    c.undo_from.new.self u.arena u.floor u.latest u.unsettled u.tip u.cursor
+    c.undo_from.new.self u.arena u.floor u.latest u.unsettled u.tip u.cursor free
 
 pub returns-else-changes-clause-stands : goal.returns-else-changes-clause-stands
 returns-else-changes-clause-stands c = λ m h good.

@@ -6,6 +6,7 @@ use Rattle.warp_tag.proofs.Tables.{events_pass, with_event_names}
 use Rattle.warp_step.specs.Events.{event_fits}
 use Rattle.warp_step.specs.Run.{is_after}
 use Rattle.warp_arena.specs.Places.{Contents, Reaches, entry_of}
+use Rattle.warp_run.specs.Skips.{IsCut, covers}
 use Rattle.warp_run.specs.Tip.{HasExecuted, KeepsRoom}
 use Rattle.warp_run.specs.Walk.{ahead}
 use Rattle.warp_run.specs.Warp.{latest_with}
@@ -13,6 +14,7 @@ use Rattle.warp_run.specs.declared.tip.Tip.{Tip}
 use Rattle.warp_run.specs.declared.warp.Warp.{Warp}
 use Rattle.warp_run.proofs.ChangesFloor.{not_behind}
 use Rattle.warp_run.proofs.ChangesEvents.{all_through, one_through}
+use Rattle.warp_run.proofs.SkipsKept.{cut_free}
 use Rattle.warp_run.proofs.ChangesStand.{never_from, same_room, undone_from}
 use Rattle.warp_run.proofs.warp.Warp.put_last.Goals as goal
 
@@ -42,6 +44,11 @@ returns-clause-stands c = λ m h good.
     let go = c.let_go_before.ensures in
     let kept = c.note_hint.ensures.same ∙ ap (λ (w : Warp). w.arena) noted in
     let last = ap (λ (x : Tip). x.last) go.others ∙ ap (λ (w : Warp). w.tip.last) noted in
+    let skips = c.note_change.new.self.skips in
+    let cut = subst (λ s. IsCut c.args.tag s skips) (ap (λ (w : Warp). w.skips) changed.others)
+    (subst (IsCut c.args.tag c.come_in-place.new.self.skips) (sym (ap (λ (w : Warp). w.skips) noted)) c.cut.ensures) in
+    let free = events_pass (λ e. not (covers skips e.tag)) c.args.origin c.args.tag c.args.input c.args.value m.table
+    (cut_free c.args.tag _ _ cut _ h.skips) (ap not cut.apart) in
     undone_from (with_event c.args.input c.args.value) (with_event_names c.args.input c.args.value) changed
     (not_behind c.args.self.now.tip.floor c.args.tag c.requires.ahead) h (λ same. let no : Some _ ≡ None = same in cc) fits through
     (record c.note_change.new.self { arena = c.note_hint.new.self; tip = c.let_go_before.new.self }) kept
@@ -54,6 +61,7 @@ returns-clause-stands c = λ m h good.
     let at_arena = subst (λ (a : Contents). Reaches a.places (ahead old.tip.last a.places) old.cursor) (sym kept) stood in
     let at_last = subst (λ l. Reaches c.note_hint.new.self.places (ahead l c.note_hint.new.self.places) old.cursor) (sym last) at_arena in
     subst (Reaches c.note_hint.new.self.places (ahead c.let_go_before.new.self.last c.note_hint.new.self.places)) (sym (ap (λ (w : Warp). w.cursor) noted)) at_last)
+    free
 
 pub returns-clause-settled : goal.returns-clause-settled
 returns-clause-settled c = λ m h good same.

@@ -21,7 +21,7 @@ cursor_at-self-requires c =
 pub returns-in-Some-clause-goes : goal.returns-in-Some-clause-goes
 returns-in-Some-clause-goes c = λ P.
     let w = c.args.self.now in
-    rejoined P w _ c.requires.unsettled refl refl refl c.rejoin-rejoined.ensures
+    rejoined P w _ c.requires.unsettled refl refl refl refl c.rejoin-rejoined.ensures
     (λ m h. reaches_as _ _ _ _ c.cursor_at-self.ensures
     (subst (λ (o : Option Moment). Reaches w.arena.places (ahead o (ahead w.tip.last w.arena.places)) c.first_from-place.result)
     (sym c.in-Some.is ∙ c.last.ensures)
@@ -29,6 +29,6 @@ returns-in-Some-clause-goes c = λ P.
 
 pub returns-in_default-clause-goes : goal.returns-in_default-clause-goes
 returns-in_default-clause-goes c = λ P.
-    rejoined P c.args.self.now _ c.requires.unsettled refl refl refl c.rejoin-rejoined.ensures
+    rejoined P c.args.self.now _ c.requires.unsettled refl refl refl refl c.rejoin-rejoined.ensures
     (λ m h. none_ahead c.rejoin-rejoined.new.self.last c.args.self.now.arena.places c.args.self.now.cursor c.args.self.now.tip.last
     (sym c.last.ensures ∙ c.in_default.is) h.cursor)

@@ -7,14 +7,14 @@ use Rattle.warp_run.proofs.warp.Warp.turn_at.Goals as goal
 
 pub returns-in_err-cursor-clause-goes : goal.returns-in_err-cursor-clause-goes
 returns-in_err-cursor-clause-goes g c =
-    row_failed c.args.program.now c.args.self.now _ _ refl refl refl refl (same_tip c.args.self.now.tip) (omega arith)
+    row_failed c.args.program.now c.args.self.now _ _ refl refl refl refl refl (same_tip c.args.self.now.tip) (omega arith)
 
 pub get_ready-requires : goal.get_ready-requires
 get_ready-requires g c = is_at c.args.program.now c.args.self.now c.args.tag c.requires.next
 
 pub returns-in_err-get_ready-clause-goes : goal.returns-in_err-get_ready-clause-goes
 returns-in_err-get_ready-clause-goes g c =
-    row_failed c.args.program.now c.args.self.now _ _ refl refl refl refl c.get_ready.ensures.same (omega arith)
+    row_failed c.args.program.now c.args.self.now _ _ refl refl refl refl refl c.get_ready.ensures.same (omega arith)
 
 pub cursor_at-self-requires : goal.cursor_at-self-requires
 cursor_at-self-requires g c =
@@ -47,4 +47,4 @@ returns-clause-goes g c =
     let gathered = c.in_ok-cursor.ensures (ahead w.tip.last w.arena.places) (reaches_as _ _ _ _ c.node.ensures c.requires.next.1.cursor) in
     row_done c.args.program.now w c.args.tag c.requires.next _ c.get_ready.new.self c.deref.result.now _ c.get_ready.ensures.same
     (c.deref.ensures.value ∙ gathered.1 ∙ ap (λ xs. xs ++ given_through w c.args.tag) c.clear.ensures.items)
-    c.requires.unsettled refl refl refl did.last did.floor (reaches_as _ _ _ _ c.cursor_at-self.ensures gathered.0) did.stepped (omega arith)
+    c.requires.unsettled refl refl refl refl did.last did.floor (reaches_as _ _ _ _ c.cursor_at-self.ensures gathered.0) did.stepped (omega arith)

@@ -10,7 +10,7 @@ get_ready-requires g c = is_at c.args.program.now c.args.self.now c.args.tag c.r
 
 pub returns-in_err-get_ready-clause-goes : goal.returns-in_err-get_ready-clause-goes
 returns-in_err-get_ready-clause-goes g c =
-    row_failed c.args.program.now c.args.self.now _ _ refl refl refl refl c.get_ready.ensures.same (omega arith)
+    row_failed c.args.program.now c.args.self.now _ _ refl refl refl refl refl c.get_ready.ensures.same (omega arith)
 
 pub step-requires-clause-at : goal.step-requires-clause-at
 step-requires-clause-at g c =
@@ -35,4 +35,4 @@ returns-clause-goes g c =
     let ticked = did.ticked in
     let past = c.is_past.ensures c.if-not-is_past.false (ahead w.tip.last w.arena.places) (reaches_as _ _ _ _ c.node.ensures c.requires.next.1.cursor) in
     row_done c.args.program.now w c.args.tag c.requires.next _ c.get_ready.new.self _ _ c.get_ready.ensures.same (sym past.1)
-    c.requires.unsettled refl refl refl did.last did.floor (reaches_as _ _ _ _ (sym c.node.ensures) past.0) did.stepped (omega arith)
+    c.requires.unsettled refl refl refl refl did.last did.floor (reaches_as _ _ _ _ (sym c.node.ensures) past.0) did.stepped (omega arith)

@@ -10,7 +10,7 @@ get_ready-requires g c = is_at c.args.program.now c.args.self.now c.args.first.n
 
 pub returns-in_err-get_ready-clause-goes : goal.returns-in_err-get_ready-clause-goes
 returns-in_err-get_ready-clause-goes g c =
-    row_failed c.args.program.now c.args.self.now _ _ refl refl refl refl c.get_ready.ensures.same (omega arith)
+    row_failed c.args.program.now c.args.self.now _ _ refl refl refl refl refl c.get_ready.ensures.same (omega arith)
 
 pub cursor_at-self-requires : goal.cursor_at-self-requires
 cursor_at-self-requires g c = c.next-behind.ensures.used
@@ -41,4 +41,4 @@ returns-clause-goes g c =
     let ticked = did.ticked in
     let past = c.is_past.ensures c.if-not-is_past.false (places_after l.node w.arena.places) c.next-behind.ensures in
     row_done c.args.program.now w l.tag c.requires.next _ c.get_ready.new.self c.from_ref-alone.result.now _ c.get_ready.ensures.same (c.from_ref-alone.ensures.value ∙ alone_given w l c.requires.event past.1)
-    c.requires.unsettled refl refl refl did.last did.floor (reaches_as _ _ _ _ c.cursor_at-self.ensures (cursor_behind w l c.requires.event _ past.0)) did.stepped (omega arith)
+    c.requires.unsettled refl refl refl refl did.last did.floor (reaches_as _ _ _ _ c.cursor_at-self.ensures (cursor_behind w l c.requires.event _ past.0)) did.stepped (omega arith)

@@ -26,7 +26,7 @@ returns-in_ok-catch_up-clause-stands g c = λ m h same.
     let n : Standing = record m { done = m.done ++ goes.0 } in
     let done : IsDone n = c.in_ok-catch_up.ensures.done n goes.1 same in
     let latest = subst (λ (l : Option Moment). AreThrough l (live m.table)) (sym c.last-self.ensures) (done_through v n goes.1 done) in
-    let stands = stands_on v _ n n.done goes.1 refl refl goes.1.tip goes.1.cursor latest (λ settled. done) in
+    let stands = stands_on v _ n n.done goes.1 refl refl goes.1.tip goes.1.cursor latest (λ settled. done) refl in
     (n.done, settles _ m goes.0 _ stands goes.2, done)
 
 pub returns-else-not-self-clause-stands : goal.returns-else-not-self-clause-stands

@@ -21,6 +21,7 @@ returns-clause-stands c =
           (subst (λ a. Reaches a.places (ahead last a.places) None) (sym arena) (record { handle = refl; used = tt; left = refl }));
       latest = refl;
       settled = λ yes. let no : false ≡ true = yes in cc;
+      skips = refl;
     }
 
 pub returns-clause-floor : goal.returns-clause-floor

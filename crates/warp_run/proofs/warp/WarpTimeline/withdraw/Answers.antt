@@ -5,12 +5,14 @@ use Rattle.warp_tag.proofs.Tables.{withdrawal_passes, with_withdrawal_names}
 use Rattle.warp_step.specs.Events.{event_fits}
 use Rattle.warp_step.specs.Run.{is_after}
 use Rattle.warp_arena.specs.Places.{Contents}
+use Rattle.warp_run.specs.Skips.{IsCut, covers}
 use Rattle.warp_run.specs.Tip.{KeepsRoom}
 use Rattle.warp_run.specs.Warp.{latest_with}
 use Rattle.warp_run.specs.declared.tip.Tip.{Tip}
 use Rattle.warp_run.specs.declared.warp.Warp.{Warp}
 use Rattle.warp_run.proofs.ChangesFloor.{not_behind}
 use Rattle.warp_run.proofs.ChangesEvents.{all_through}
+use Rattle.warp_run.proofs.SkipsKept.{cut_free}
 use Rattle.warp_run.proofs.ChangesStand.{keeps_room, named_after, never_same, same_room, same_stands, undone_stands}
 use Rattle.warp_run.proofs.warp.WarpTimeline.withdraw.Goals as goal
 
@@ -35,9 +37,12 @@ returns-then-changes-clause-stands c = λ m h good.
     let through = withdrawal_passes (λ e. not (is_after (latest_with c.args.tag latest) e.tag)) c.args.origin c.args.tag m.table
     (all_through c.args.tag latest _ h.latest) in
     let u = c.undo_from.ensures in
+    let skips = c.undo_from.new.self.skips in
+    let cut = subst (λ s. IsCut c.args.tag s skips) (ap (λ (w : Warp). w.skips) c.node-node.ensures.names.others) u.skips in
+    let free = withdrawal_passes (λ e. not (covers skips e.tag)) c.args.origin c.args.tag m.table (cut_free c.args.tag _ _ cut _ h.skips) in
     undone_stands with_withdrawal with_withdrawal_names c.node-node.ensures.names c.set_withdrawn.ensures.places (not_behind c.args.self.now.tip.floor c.args.tag c.requires.ahead)
     c.entry.ensures.entry c.withdraw-changes.ensures.entry h (c.withdraw-changes.ensures.changes c.if-changes.true) fits through
-    c.undo_from.new.self u.arena u.floor u.latest u.unsettled u.tip u.cursor
+    c.undo_from.new.self u.arena u.floor u.latest u.unsettled u.tip u.cursor free
 
 pub returns-else-changes-clause-stands : goal.returns-else-changes-clause-stands
 returns-else-changes-clause-stands c = λ m h good.
