@@ -18,8 +18,8 @@ use Rattle.warp_replica.specs.Gives.{Takes, came_in, tag_of}
 use Rattle.warp_replica.specs.Replica.{ReplicaState, standing_of, Stands}
 use Rattle.warp_replica.specs.Chain.{Taking, TakesIn, TakeAll, ComeAhead, ChangeAfter, ChangeFrom, ChangeNone}
 use Rattle.warp_replica.specs.Chain.{IsAllDone, SettlesWith}
-use Rattle.warp_replica.specs.declared.took.Took.{Took}
-use Rattle.warp_replica.specs.declared.took.Took.TheVariants.{New, Known}
+use Rattle.warp_replica.specs.declared.taking.Took.{Took}
+use Rattle.warp_replica.specs.declared.taking.Took.TheVariants.{New, Known}
 
 -- where nothing came in, the log stays
 same_log : (P : Program) (records : List Record) (said : Record) (result : Result Took Refusal) (after : List Record)

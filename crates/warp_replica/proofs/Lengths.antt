@@ -18,8 +18,8 @@ use Rattle.warp_table.proofs.Sets.{one_size}
 use Rattle.warp_replica.specs.Answers.{Answers}
 use Rattle.warp_replica.specs.Gives.{Gives, Takes, told, reply_to, record_at}
 use Rattle.warp_replica.specs.Length.{SaysLength}
-use Rattle.warp_replica.specs.declared.took.Took.{Took}
-use Rattle.warp_replica.specs.declared.took.Took.TheVariants.{New, Known}
+use Rattle.warp_replica.specs.declared.taking.Took.{Took}
+use Rattle.warp_replica.specs.declared.taking.Took.TheVariants.{New, Known}
 
 -- of a reply that is made of what is found, or else says no length but this
 says_found : {X : Type 0} (len : ℕ) (make : X → Reply) (other : Reply) (found : Option X)

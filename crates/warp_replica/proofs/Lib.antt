@@ -10,7 +10,8 @@ pub mod PulledRecords
 pub mod Lengths
 pub mod Chains
 pub mod MergeChains
-pub mod AnewTables
-pub mod AnewNames
+pub mod RebuiltTables
+pub mod RebuiltNames
+pub mod SortedNames
 pub mod Raised
 pub mod RaisedRecords

@@ -19,8 +19,8 @@ use Rattle.warp_table.specs.Records.{set_of}
 use Rattle.warp_replica.specs.Gives.{LacksRoom, Takes, came_in}
 use Rattle.warp_replica.specs.Merge.{merged, Merges}
 use Rattle.warp_replica.specs.Replica.{ReplicaState, Stands}
-use Rattle.warp_replica.specs.declared.took.Took.{Took}
-use Rattle.warp_replica.specs.declared.took.Took.TheVariants.{New, Known}
+use Rattle.warp_replica.specs.declared.taking.Took.{Took}
+use Rattle.warp_replica.specs.declared.taking.Took.TheVariants.{New, Known}
 use Rattle.warp_table.proofs.Sets.{in_set}
 
 -- the log after one more record of the other: the log before, and the record if the log lacked it at the start

@@ -11,8 +11,8 @@ use Rattle.warp_exchange.specs.Pulls.{Pulls, Turned}
 use Rattle.warp_step.specs.Program.{Program}
 use Rattle.warp_replica.specs.Desk.{LocalState, LocalGives}
 use Rattle.warp_replica.specs.Gives.{Takes}
-use Rattle.warp_replica.specs.declared.took.Took.{Took}
-use Rattle.warp_replica.specs.declared.took.Took.TheVariants.{New, Known}
+use Rattle.warp_replica.specs.declared.taking.Took.{Took}
+use Rattle.warp_replica.specs.declared.taking.Took.TheVariants.{New, Known}
 
 -- the log grew by the record that was replied, or not at all
 abbrev HasPulled : LocalState → Option Reply → LocalState → Type 0

@@ -20,8 +20,8 @@ use Rattle.warp_table.specs.Log.{EachOnce}
 use Rattle.warp_replica.specs.Floor.{comes_behind, floor_after}
 use Rattle.warp_replica.specs.Gives.{LacksRoom, Takes, came_in}
 use Rattle.warp_replica.specs.Replica.{ReplicaState}
-use Rattle.warp_replica.specs.declared.took.Took.{Took}
-use Rattle.warp_replica.specs.declared.took.Took.TheVariants.{New, Known}
+use Rattle.warp_replica.specs.declared.taking.Took.{Took}
+use Rattle.warp_replica.specs.declared.taking.Took.TheVariants.{New, Known}
 use Rattle.warp_replica.proofs.MergeProgress.{at_contained, others_before}
 
 -- a tag that is in time stays so

@@ -18,8 +18,8 @@ use Rattle.warp_table.specs.Log.{EachOnce, IsAt}
 use Rattle.warp_table.specs.Records.{set_of}
 use Rattle.warp_table.proofs.Sets.{in_set}
 use Rattle.warp_replica.specs.Gives.{IsNew, LacksRoom, Takes}
-use Rattle.warp_replica.specs.declared.took.Took.{Took}
-use Rattle.warp_replica.specs.declared.took.Took.TheVariants.{New, Known}
+use Rattle.warp_replica.specs.declared.taking.Took.{Took}
+use Rattle.warp_replica.specs.declared.taking.Took.TheVariants.{New, Known}
 
 -- the list has the record that stands at a place
 at_contains : (records : List Record) (place : ℕ) (said : Record) → IsAt records place said → Contains records said

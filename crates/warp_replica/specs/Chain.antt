@@ -11,7 +11,7 @@ use Rattle.warp_table.specs.LogNames.{table_of}
 use Rattle.warp_replica.specs.Floor.{comes_behind, floor_after}
 use Rattle.warp_replica.specs.Gives.{Takes, came_in, tag_of}
 use Rattle.warp_replica.specs.Replica.{ReplicaState, standing_of, Stands}
-use Rattle.warp_replica.specs.declared.took.Took.{Took}
+use Rattle.warp_replica.specs.declared.taking.Took.{Took}
 
 -- a record that was put, how it was taken, and the replica after it
 pub record Taking (T : Type 0) : Type 0 where

@@ -14,7 +14,7 @@ use Rattle.warp_table.specs.Announced.{IsHorizon}
 use Rattle.warp_table.specs.Records.{set_of}
 use Rattle.warp_table.specs.LogNames.{table_of}
 use Rattle.warp_replica.specs.Gives.{came_in}
-use Rattle.warp_replica.specs.declared.took.Took.{Took}
+use Rattle.warp_replica.specs.declared.taking.Took.{Took}
 
 -- the record is of a name behind the floor, so that the run has to be made anew for it; an announcement is of no name
 abbrev pub comes_behind : Option Moment → Record → Bool

@@ -20,8 +20,8 @@ use Rattle.warp_table.specs.Records.{set_of}
 use Rattle.warp_table.specs.Log.{IsAt}
 use Rattle.warp_table.specs.Check.{refusal_of}
 use Rattle.warp_replica.specs.Answers.{Answers, AreAnswers}
-use Rattle.warp_replica.specs.declared.took.Took.{Took}
-use Rattle.warp_replica.specs.declared.took.Took.TheVariants.{New, Known}
+use Rattle.warp_replica.specs.declared.taking.Took.{Took}
+use Rattle.warp_replica.specs.declared.taking.Took.TheVariants.{New, Known}
 
 -- the tag of a record
 abbrev pub tag_of : Record → Moment

@@ -3,7 +3,7 @@ pub mod Answers
 pub mod Release
 pub mod Gives
 pub mod Floor
-pub mod Anew
+pub mod Rebuilding
 pub mod Merge
 pub mod Desk
 pub mod Length

@@ -16,7 +16,7 @@ ghost use Rattle.warp_replica.specs.Answers.{Answers, AreAnswers};
 ghost use Rattle.warp_replica.specs.Desk.{LocalState, LocalGives};
 ghost use Rattle.warp_replica.specs.Gives.{GivesQuery, AsksPlace, Takes};
 ghost use Rattle.warp_replica.specs.Merge.{merged};
-ghost use Rattle.warp_replica.specs.declared.took.Took.{Took};
+ghost use Rattle.warp_replica.specs.declared.taking.Took.{Took};
 
 /// A program that has an origin, as each valid one, has exactly one answer over the set of a log.
 pub fn one_answer()

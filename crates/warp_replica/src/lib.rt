@@ -8,16 +8,18 @@
 //! came is bounded (`rework_after_takes`).
 #![tactic(auto)]
 
-mod anew;
 mod asking;
+mod entering;
 mod idle;
 mod law;
 mod local;
+mod names;
 mod raise;
+mod rebuilding;
 mod release_law;
 mod replica;
 mod rework_law;
-mod took;
+mod taking;
 
 pub use idle::Idle;
 pub use law::{
@@ -25,10 +27,11 @@ pub use law::{
     same_replies,
 };
 pub use local::Local;
+pub use names::names_in_order;
 pub use release_law::{
     honest_subsets, released_agree, released_are_first, released_stays, rows_before_a_tag,
     same_release,
 };
 pub use replica::Replica;
 pub use rework_law::rework_after_takes;
-pub use took::Took;
+pub use taking::Took;

@@ -22,8 +22,9 @@ ghost use Rattle.warp_replica.specs.Merge.{Merges};
 ghost use Rattle.warp_replica.specs.Replica.{AreAllowed, standing_of, Stands};
 ghost use Rattle.warp_replica.specs.Gives.{GivesQuery, Takes, came_in, tag_of, told};
 
-use crate::anew::{anew, comes_behind, enter_record};
-use crate::took::Took;
+use crate::entering::{comes_behind, enter_record};
+use crate::rebuilding::rebuilt;
+use crate::taking::Took;
 use std::alloc::Global;
 use std::marker::Model;
 use warp_line::Timeline;
@@ -147,25 +148,11 @@ impl<T: Timeline> Replica<T> {
     {
         Table::check(&self.program, record)?;
         if self.table.is_full() {
-            return self.find(record, Refusal::LogFull);
+            return Took::known_or(&self.table, record, Refusal::LogFull);
         }
         match self.add(alloc, record) {
             Ok(took) => Ok(took),
-            Err(_) => self.find(record, Refusal::NoMemory),
-        }
-    }
-
-    /// The place of a record that was there before, which needs neither room nor memory; of another one why it does
-    /// not come in.
-    fn find(&self, record: &Record, refusal: Refusal) -> Result<Took, Refusal>
-        ensures known { IfOk result
-            (λ took. (place : ℕ) × (took ≡ Took.Known place) × IsAt self.now.records place «record».now ×
-            (place ≤ most_records)) }
-        ensures lacking { IfErr result (λ why. (why ≡ refusal) × (¬ Contains self.now.records «record».now)) }
-    {
-        match self.table.position(record) {
-            Some(place) => Ok(Took::Known(place)),
-            None => Err(refusal),
+            Err(_) => Took::known_or(&self.table, record, Refusal::NoMemory),
         }
     }
 
@@ -237,7 +224,7 @@ impl<T: Timeline> Replica<T> {
         if let Some(place) = self.table.position(record) {
             return Ok(Took::Known(place));
         }
-        let fresh = anew(alloc, &self.program, &self.table, record)?;
+        let fresh = rebuilt(alloc, &self.program, &self.table, record)?;
         let added = self.table.add(record)?;
         self.timeline = fresh;
         Ok(Took::New(added.place))

@@ -13,7 +13,6 @@ pub mod OneSchedule
 pub mod ReleasedByTwo
 pub mod LogsOfFronts
 pub mod Printings
-pub mod SortedNames
 pub mod TraceTurns
 pub mod TraceText
 pub mod TraceItems

@@ -15,8 +15,8 @@ use Rattle.warp_record.specs.declared.reply.Reply.{Reply}
 use Rattle.warp_record.specs.declared.reply.Reply.TheVariants as reply
 use Rattle.warp_table.specs.Records.{IsIn, Records, set_of, union}
 use Rattle.warp_replica.specs.Gives.{Gives, IsNew, Takes, told}
-use Rattle.warp_replica.specs.declared.took.Took.{Took}
-use Rattle.warp_replica.specs.declared.took.Took.TheVariants.{New, Known}
+use Rattle.warp_replica.specs.declared.taking.Took.{Took}
+use Rattle.warp_replica.specs.declared.taking.Took.TheVariants.{New, Known}
 use Rattle.warp_world.specs.Lines.{GiveAll, LineAt, moves_of, moves_of_all}
 use Rattle.warp_world.specs.World.{World, after_carry, after_make, happens, log_entry, log_of, new_world, takes_in, with_log, world_after}
 use Rattle.warp_world.specs.declared.moves.Move.{Move}

@@ -16,8 +16,8 @@ use Rattle.warp_table.specs.Records.{IsIn, Records, set_of}
 use Rattle.warp_table.proofs.Sets.{in_set, set_append}
 use Rattle.warp_table.proofs.Members.{Contains-here}
 use Rattle.warp_replica.specs.Gives.{Gives, Takes, told}
-use Rattle.warp_replica.specs.declared.took.Took.{Took}
-use Rattle.warp_replica.specs.declared.took.Took.TheVariants.{New, Known}
+use Rattle.warp_replica.specs.declared.taking.Took.{Took}
+use Rattle.warp_replica.specs.declared.taking.Took.TheVariants.{New, Known}
 use Rattle.warp_world.specs.Lines.{GiveAll, LineAt, moves_of, moves_of_all}
 use Rattle.warp_world.specs.World.{World, happens, log_of, new_world, world_after}
 use Rattle.warp_world.specs.declared.moves.Move.{Move}

@@ -19,8 +19,8 @@ use Rattle.warp_table.specs.Records.{set_of}
 use Rattle.warp_table.proofs.Sets.{in_set}
 use Rattle.warp_record.specs.declared.reply.Reply.TheVariants as tell
 use Rattle.warp_replica.specs.Gives.{IsNew, LacksRoom, Takes, told}
-use Rattle.warp_replica.specs.declared.took.Took.{Took}
-use Rattle.warp_replica.specs.declared.took.Took.TheVariants.{New, Known}
+use Rattle.warp_replica.specs.declared.taking.Took.{Took}
+use Rattle.warp_replica.specs.declared.taking.Took.TheVariants.{New, Known}
 use Rattle.warp_world.specs.World.{takes_in}
 
 -- what a log is where its taking in is decided

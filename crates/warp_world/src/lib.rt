@@ -15,7 +15,6 @@ mod labels;
 mod line_law;
 mod moves;
 mod moves_law;
-mod names;
 mod printer;
 mod printing;
 mod recorder;

@@ -91,27 +91,13 @@ impl Recorder {
     {
         Table::check(&self.program, record)?;
         if self.table.is_full() {
-            return self.find(record, Refusal::LogFull);
+            return Took::known_or(&self.table, record, Refusal::LogFull);
         }
         origin_in_range(&self.program, record);
         match self.table.add(record) {
             Ok(added) if added.is_new => Ok(Took::New(added.place)),
             Ok(added) => Ok(Took::Known(added.place)),
-            Err(_) => self.find(record, Refusal::NoMemory),
-        }
-    }
-
-    /// The place of a record that was there before, which needs neither room nor memory; of another one why it does
-    /// not come in.
-    fn find(&self, record: &Record, refusal: Refusal) -> Result<Took, Refusal>
-        ensures known { IfOk result
-            (λ took. (place : ℕ) × (took ≡ Took.Known place) × IsAt self.now.records place «record».now ×
-            (place ≤ most_records)) }
-        ensures lacking { IfErr result (λ why. (why ≡ refusal) × (¬ Contains self.now.records «record».now)) }
-    {
-        match self.table.position(record) {
-            Some(place) => Ok(Took::Known(place)),
-            None => Err(refusal),
+            Err(_) => Took::known_or(&self.table, record, Refusal::NoMemory),
         }
     }
 }

@@ -20,14 +20,13 @@ ghost use Rattle.warp_world.specs.inner.Tracing.{TellsRow, TellsTag};
 
 use crate::item::{Item, gather_changed, gather_due, gather_events, gather_put};
 use crate::labels::Labels;
-use crate::names::names_in_order;
 use crate::printer::{Printer, TraceFault, print_full};
 use crate::recorder::Recorder;
 use crate::row_text::{append_last, append_part, append_tag};
 use std::alloc::Global;
 use std::marker::Brand;
 use std::sync::ledger::{Blank, Ledger};
-use warp_replica::Idle;
+use warp_replica::{Idle, names_in_order};
 use warp_step::{Given, Meter, Out, Program, Scratch, State, step};
 use warp_tag::{Entry, OutOfMemory, Tag};
 

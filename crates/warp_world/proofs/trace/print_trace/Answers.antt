@@ -30,12 +30,12 @@ returns-in_default-clause-prints g c =
 pub trace_names-requires-clause-table : goal.trace_names-requires-clause-table
 trace_names-requires-clause-table g c =
     let r = c.args.recorder.now in
-    subst IsTable (sym (c.deref.ensures.value ∙ c.in-Ok.ensures ∙ ap table_of c.table-table.ensures.table)) (is_table r.records)
+    subst IsTable (sym (c.deref.ensures.value ∙ c.in-Ok.ensures.ordered ∙ ap table_of c.table-table.ensures.table)) (is_table r.records)
 
 pub trace_names-requires-clause-events : goal.trace_names-requires-clause-events
 trace_names-requires-clause-events g c =
     let r = c.args.recorder.now in
-    let names = sym (c.deref.ensures.value ∙ c.in-Ok.ensures ∙ ap table_of c.table-table.ensures.table) in
+    let names = sym (c.deref.ensures.value ∙ c.in-Ok.ensures.ordered ∙ ap table_of c.table-table.ensures.table) in
     subst (λ (es : List Entry). IsTrue (list_all (event_fits c.program-program.result.now) (live es))) names
     (subst (λ P. IsTrue (list_all (event_fits P) (live (table_of r.records)))) (sym c.program-program.ensures) (log_fits r.program r.records c.table-table.ensures.allowed))
 
@@ -50,7 +50,7 @@ returns-clause-prints g c =
     let end = c.horizon-horizon.result in
     let horizon = subst (λ records. IsHorizon r.program (set_of records) end) c.table-table.ensures.table
     (subst (λ P. IsHorizon P (set_of c.table-table.result.now) end) c.program-program.ensures c.horizon-horizon.ensures) in
-    let names = c.deref.ensures.value ∙ c.in-Ok.ensures ∙ ap table_of c.table-table.ensures.table in
+    let names = c.deref.ensures.value ∙ c.in-Ok.ensures.ordered ∙ ap table_of c.table-table.ensures.table in
     traced labels r.program r.records end w w' f f' c.trace_names.result horizon
     (subst (λ (P : Program). (rows : List Row) → Run P (live (table_of r.records)) rows
     → PrintsText w w' f f' (row_lines labels P end (live (table_of r.records)) (start_state P) rows) c.trace_names.result) c.program-program.ensures

@@ -7,10 +7,10 @@ use Rattle.warp_table.specs.Check.{refusal_of}
 use Rattle.warp_table.specs.LogNames.{table_of}
 use Rattle.warp_table.proofs.Places.{at_has}
 use Rattle.warp_table.proofs.Sizes.{table_more}
-use Rattle.warp_replica.specs.Anew.{StandsWith}
+use Rattle.warp_replica.specs.Rebuilding.{StandsWith}
 use Rattle.warp_replica.specs.Gives.{Takes}
 use Rattle.warp_replica.specs.Replica.{AreAllowed}
-use Rattle.warp_replica.specs.declared.took.Took.TheVariants.{New}
+use Rattle.warp_replica.specs.declared.taking.Took.TheVariants.{New}
 use Rattle.warp_replica.proofs.replica.Replica.add_behind.Goals as goal
 
 is_new : (g : _) (c : goal.After-drop-self-inside g) → c.in_ok-added.added.is_new ≡ true

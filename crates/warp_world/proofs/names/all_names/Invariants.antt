@@ -1,6 +1,0 @@
--- The names before this number are gathered.
-use Rattle.warp_replica.proofs.AnewNames.{AreFirst}
-use Rattle.warp_world.proofs.names.all_names.Given as goal
-
-abbrev pub invariant-loop-number : goal.invariant-loop-number
-invariant-loop-number l = AreFirst l.table l.number l.names.items
