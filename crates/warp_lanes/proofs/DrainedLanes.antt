@@ -108,7 +108,7 @@ module _ {T : Type 0} (facts : TimelineFacts T) where
       → IsHistory r'.program r'.records began (set lanes k (record lane { commands = lane.commands ++ lines; answers = lane.answers ++ made }))
   lines_history began k r r' lanes lane [] [] s at a =
       let same : record lane { commands = lane.commands ++ []; answers = lane.answers ++ [] } ≡ lane =
-      λ i. record { lane = lane.lane; commands = append-nil lane.commands i; answers = append-nil lane.answers i } in
+      λ i. record { lane = lane.lane; commands = append-nil lane.commands i; answers = append-nil lane.answers i; free = lane.free } in
       subst (λ (x : ReplicaState T). IsHistory x.program x.records began (set lanes k (record lane { commands = lane.commands ++ []; answers = lane.answers ++ [] }))) (sym a)
       (subst (λ (ls : List LaneState). IsHistory r.program r.records began ls) (sym (ap (λ (l : LaneState). set lanes k l) same ∙ set_same lanes k lane at)) s)
   lines_history began k r r' lanes lane (said ∷ lines) (answer ∷ made) s at a =
@@ -120,7 +120,12 @@ module _ {T : Type 0} (facts : TimelineFacts T) where
       let more = lines_history began k next r' (set lanes k lane') lane' lines made here' (set_there lanes k lane lane' at) a.2 in
       let last : LaneState = record lane { commands = (lane.commands ++ said ∷ []) ++ lines; answers = (lane.answers ++ answer ∷ []) ++ made } in
       let same : last ≡ record lane { commands = lane.commands ++ (said ∷ lines); answers = lane.answers ++ (answer ∷ made) } =
-      λ i. record { lane = lane.lane; commands = append_assoc lane.commands (said ∷ []) lines i; answers = append_assoc lane.answers (answer ∷ []) made i } in
+      λ i. record {
+        lane = lane.lane;
+        commands = append_assoc lane.commands (said ∷ []) lines i;
+        answers = append_assoc lane.answers (answer ∷ []) made i;
+        free = lane.free;
+      } in
       subst (λ (ls : List LaneState). IsHistory r'.program r'.records began ls) (set-set lanes k lane' last ∙ ap (λ (l : LaneState). set lanes k l) same) more
   lines_history began k r r' lanes lane [] (answer ∷ made) s at a = absurd a
   lines_history began k r r' lanes lane (said ∷ lines) [] s at a = absurd a

@@ -18,8 +18,8 @@ use Rattle.warp_table.specs.Log.{IsAt}
 use Rattle.warp_table.proofs.Places.{last_at}
 use Rattle.warp_replica.specs.Answers.{Answers}
 use Rattle.warp_replica.specs.Gives.{Gives, Takes, told, reply_to, record_at}
-use Rattle.warp_replica.specs.declared.took.Took.{Took}
-use Rattle.warp_replica.specs.declared.took.Took.TheVariants.{New, Known}
+use Rattle.warp_replica.specs.declared.taking.Took.{Took}
+use Rattle.warp_replica.specs.declared.taking.Took.TheVariants.{New, Known}
 use Rattle.warp_lanes.specs.declared.answer.Answer.{Answer}
 use Rattle.warp_lanes.specs.History.{IsGiven, told_at}
 

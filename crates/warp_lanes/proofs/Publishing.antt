@@ -35,8 +35,8 @@ use Rattle.warp_table.proofs.Sets.{in_set}
 use Rattle.warp_line.specs.Timeline.{lesser}
 use Rattle.warp_replica.specs.Answers.{Answers, AreAnswers, IsReleased}
 use Rattle.warp_replica.specs.Gives.{Gives, Takes, tag_of, told}
-use Rattle.warp_replica.specs.declared.took.Took.{Took}
-use Rattle.warp_replica.specs.declared.took.Took.TheVariants.{New, Known}
+use Rattle.warp_replica.specs.declared.taking.Took.{Took}
+use Rattle.warp_replica.specs.declared.taking.Took.TheVariants.{New, Known}
 use Rattle.warp_replica.specs.Release.{AreTaken}
 use Rattle.warp_replica.specs.Replica.{AreAllowed}
 use Rattle.warp_replica.proofs.ReleasedLists.{released_stays}

@@ -171,6 +171,28 @@ set_same [] k lane e = absurd (grind (e, arith))
 set_same (l ∷ lanes) zero lane e = (let here : lane ≡ l = grind (e, arith) in ap (λ (x : LaneState). x ∷ lanes) here)
 set_same (l ∷ lanes) (suc k) lane e = ap (λ (xs : List LaneState). l ∷ xs) (set_same lanes k lane (grind (e, arith)))
 
+-- the history does not ask how many places are known to be free
+times_any_free : (place : ℕ) (lanes : List LaneState) (k : ℕ) (lane : LaneState) (n : ℕ)
+    → times_taken place (set lanes k (record lane { free = n })) ≡ times_taken place (set lanes k lane)
+times_any_free place [] k lane n = refl
+times_any_free place (l ∷ lanes) zero lane n = refl
+times_any_free place (l ∷ lanes) (suc k) lane n = ap (λ m. times_told place l.answers + m) (times_any_free place lanes k lane n)
+
+served_any_free : (P : Program) (log : List Record) (lanes : List LaneState) (k : ℕ) (lane : LaneState) (n : ℕ)
+    → AllByRecursion (IsServed P log) (set lanes k lane) → AllByRecursion (IsServed P log) (set lanes k (record lane { free = n }))
+served_any_free P log [] k lane n s = tt
+served_any_free P log (l ∷ lanes) zero lane n s = (record { given = s.0.given; rising = s.0.rising }, s.1)
+served_any_free P log (l ∷ lanes) (suc k) lane n s = (s.0, served_any_free P log lanes k lane n s.1)
+
+pub any_free : (P : Program) (log : List Record) (began : ℕ) (lanes : List LaneState) (k : ℕ) (lane : LaneState) (n : ℕ)
+    → IsHistory P log began (set lanes k lane) → IsHistory P log began (set lanes k (record lane { free = n }))
+any_free P log began lanes k lane n s = record {
+  each = served_any_free P log lanes k lane n s.each;
+  kept = s.kept;
+  once = λ place after upto. times_any_free place lanes k lane n ∙ s.once place after upto;
+  never = λ place out. times_any_free place lanes k lane n ∙ s.never place out;
+}
+
 -- a turn keeps what was served
 module _ {T : Type 0} (facts : TimelineFacts T) (r r' : ReplicaState T) (began : ℕ) (lanes : List LaneState) (k : ℕ) (lane lane' : LaneState) where
   still : IsHistory r.program r.records began lanes → slice_get lanes k ≡ Some lane → r' ≡ r → lane' ≡ lane → IsHistory r'.program r'.records began (set lanes k lane')
@@ -178,8 +200,11 @@ module _ {T : Type 0} (facts : TimelineFacts T) (r r' : ReplicaState T) (began :
 
   pub turn_keeps : (turn : Turn) → IsHistory r.program r.records began lanes → slice_get lanes k ≡ Some lane → TurnsLane facts r lane turn r' lane'
       → IsHistory r'.program r'.records began (set lanes k lane')
-  turn_keeps Served s at (said, answer, t) = rw (t.0.1, t.1) (one_more r.program r.records began lanes k lane said answer r'.records s at t.0.0 t.0.2)
-  turn_keeps Empty s at t = still s at t.0 t.1
+  turn_keeps Served s at (said, answer, t) =
+      rw (t.0.1, t.1)
+      (any_free r.program r'.records began lanes k _ lane'.free
+      (one_more r.program r.records began lanes k lane said answer r'.records s at t.0.0 t.0.2))
+  turn_keeps Empty s at t = rw (t.0, t.1) (any_free r.program r.records began lanes k lane lane'.free (rw (set_same lanes k lane at) s))
   turn_keeps Stalled s at t = still s at t.0 t.1
 
 fresh_each : (P : Program) (log : List Record) (lanes : List LaneState) → AreFresh lanes → AllByRecursion (IsServed P log) lanes

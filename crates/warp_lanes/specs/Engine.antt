@@ -20,7 +20,7 @@ use Rattle.warp_board.specs.Board.{WriterState}
 use Rattle.warp_lanes.specs.declared.answer.Answer.{Answer}
 use Rattle.warp_lanes.specs.declared.turn.Turn.{Turn}
 use Rattle.warp_lanes.specs.declared.turn.Turn.TheVariants.{Served, Empty, Stalled}
-use Rattle.warp_lanes.specs.Lanes.{LaneId, LaneState, PortState, IsAnswer, places}
+use Rattle.warp_lanes.specs.Lanes.{LaneId, LaneState, PortEndState, IsAnswer, places}
 
 -- how many lanes an engine may serve
 abbrev pub most_lanes : ℕ
@@ -91,15 +91,16 @@ abbrev pub Serves : {T : Type 0} → TimelineFacts T → ReplicaState T → Lane
     → ReplicaState T → LaneState → Type 0
 Serves facts r lane said answer r' lane' =
     Answered facts r said answer r'
-    × (lane' ≡ record lane { commands = lane.commands ++ said ∷ []; answers = lane.answers ++ answer ∷ [] })
+    × (lane' ≡ record lane { commands = lane.commands ++ said ∷ []; answers = lane.answers ++ answer ∷ []; free = lane'.free })
 
--- what a turn at a lane does to the replica and the lane
+-- What a turn at a lane does to the replica and the lane. A place for an answer is looked for first: where none is found it is
+-- stalled, also where no command is there.
 abbrev pub TurnsLane : {T : Type 0} → TimelineFacts T → ReplicaState T → LaneState → Turn
     → ReplicaState T → LaneState → Type 0
 TurnsLane facts r lane Served r' lane' =
     (said : Line) × (answer : Answer) × Serves facts r lane said answer r' lane'
-TurnsLane facts r lane Empty r' lane' = (r' ≡ r) × (lane' ≡ lane)
-TurnsLane facts r lane Stalled r' lane' = (r' ≡ r) × (lane' ≡ lane)
+TurnsLane facts r lane Empty r' lane' = (r' ≡ r) × (lane' ≡ record lane { free = lane'.free }) × (0 < lane'.free)
+TurnsLane facts r lane Stalled r' lane' = (r' ≡ r) × (lane' ≡ lane) × (lane.free ≡ 0)
 
 -- what a turn at the lane of this number, from 0, does to the engine
 abbrev pub Turns : {T : Type 0} → TimelineFacts T → EngineState T → ℕ → Turn → EngineState T → Type 0
@@ -120,16 +121,16 @@ AreAnswered facts r lines answers r' = ⊥
 -- answers stand behind those that the lane sent. So the lane received all that its port sent, and what the port
 -- fetched, followed by what is handed out, is all that the lane sent. No answer that was made has less than the length
 -- that was found.
-abbrev pub DrainsLane : {T : Type 0} → TimelineFacts T → ReplicaState T → LaneState → PortState → List Answer
+abbrev pub DrainsLane : {T : Type 0} → TimelineFacts T → ReplicaState T → LaneState → PortEndState → List Answer
     → ReplicaState T → LaneState → Type 0
 DrainsLane facts r lane end handed r' lane' =
     (lines : List Line) × (made : List Answer) × AreAnswered facts r lines made r'
-    × (lane' ≡ record lane { commands = lane.commands ++ lines; answers = lane.answers ++ made })
+    × (lane' ≡ record lane { commands = lane.commands ++ lines; answers = lane.answers ++ made; free = lane'.free })
     × (lane'.commands ≡ end.sent) × (lane'.answers ≡ end.fetched ++ handed)
     × AllByRecursion (λ (answer : Answer). length r.records ≤ answer.len) made
 
 -- what draining the lane of this number does to the engine
-abbrev pub Drains : {T : Type 0} → TimelineFacts T → EngineState T → ℕ → PortState → List Answer → EngineState T
+abbrev pub Drains : {T : Type 0} → TimelineFacts T → EngineState T → ℕ → PortEndState → List Answer → EngineState T
     → Type 0
 Drains facts e number end handed e' =
     (lane lane' : LaneState) × (slice_get e.lanes number ≡ Some lane)

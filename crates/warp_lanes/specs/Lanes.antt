@@ -1,5 +1,5 @@
 -- What the two ends of a lane have sent and received.
-use Rattle.std.specs.Prelude.{ℕ, ◌≤◌, List, refl}
+use Rattle.std.specs.Prelude.{◌≡◌, ◌⊎◌, ℕ, ◌+◌, ◌≤◌, List, length, refl}
 use Rattle.std.specs.Coded.{Coded, code_by, coded×, coded_ℕ}
 use denote.RawPtr.{Ptr, coded_ptr}
 use Rattle.warp_tag.specs.Limits.{most_records, widest}
@@ -41,14 +41,32 @@ lane_id_code = coded× ring_id_code ring_id_code
 abbrev pub IsAnswer : Answer → Type 0
 IsAnswer answer = IsReply widest answer.reply × SaysLength answer.len answer.reply × (answer.len ≤ most_records)
 
--- the lane of a port, the lines that it sent, and the answers that it fetched, each in order
+-- the lane of a port, the lines that it sent, and the answers that it fetched, each in order; and how many places for
+-- commands it knows to be free
 pub record PortState : Type 0 where
   pub lane : LaneId
   pub sent : List Line
   pub fetched : List Answer
+  pub free : ℕ
 
--- a lane, the commands that it received, and the answers that it sent, each in order
+-- a port that has ended: nothing more is sent, so no place counts
+pub record PortEndState : Type 0 where
+  pub lane : LaneId
+  pub sent : List Line
+  pub fetched : List Answer
+
+-- the end of a port
+abbrev pub end_of_port : PortState → PortEndState
+end_of_port p = record { lane = p.lane; sent = p.sent; fetched = p.fetched }
+
+-- the port may give a line back: so many answers are missing as may be, or it knows of no free place
+abbrev pub IsFull : PortState → Type 0
+IsFull p = (length p.sent ≡ length p.fetched + most_missing) ⊎ (p.free ≡ 0)
+
+-- a lane, the commands that it received, and the answers that it sent, each in order; and how many places for answers
+-- it knows to be free
 pub record LaneState : Type 0 where
   pub lane : LaneId
   pub commands : List Line
   pub answers : List Answer
+  pub free : ℕ

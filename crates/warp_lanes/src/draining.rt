@@ -38,9 +38,9 @@ pub(crate) fn drain<T: Timeline>(
         missing,
     } = end;
     let left = lane.commands.slots_after(&mut finished);
-    unfetched.slots_beside(&mut lane.answers);
     let mut handed = Vec::with_capacity(alloc, usize::from(missing))?;
     lane.last.reserve(left)?;
+    unfetched.slots_beside(&mut lane.answers);
     answer_all(&mut lane.commands, &mut lane.last, replica, alloc);
     fetch_all(&mut unfetched, &mut handed);
     copy_all(&lane.last, &mut handed);

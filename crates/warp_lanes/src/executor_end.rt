@@ -30,6 +30,7 @@ impl Model for Lane {
           );
           commands = received l.commands;
           answers = sent l.answers ++ l.last.items;
+          free = known_free l.answers;
         } };
 
     ghost invariant = { λ l. places ≤ known_free l.answers + length (sent l.answers) };

@@ -1,6 +1,7 @@
 //! The end of a lane in a thread that sends lines.
-ghost use Rattle.std.specs.Prelude.{◌≡◌, ◌+◌, ◌≤◌, ◌<◌, ◌++◌, [], ◌∷◌, IfSome, IfNone, IfErr, IsOk, OnOk, length};
-ghost use Rattle.warp_lanes.specs.Lanes.{IsAnswer, most_missing, places};
+ghost use Rattle.std.specs.Prelude.{◌≡◌, ◌+◌, ◌≤◌, ◌<◌, ◌++◌, [], ◌∷◌, IfSome, IfNone, IfErr, IsOk, OnErr, OnOk};
+ghost use Rattle.std.specs.Prelude.{length};
+ghost use Rattle.warp_lanes.specs.Lanes.{IsAnswer, IsFull, end_of_port, most_missing, places};
 
 use crate::answer::{Answer, AnswerRule};
 use rtrb::{Consumer, Finished, Producer, PushError};
@@ -34,6 +35,7 @@ impl Model for Port {
           );
           sent = sent p.commands;
           fetched = received p.answers;
+          free = known_free p.commands;
         } };
 
     ghost invariant = { λ p.
@@ -44,10 +46,13 @@ impl Model for Port {
 
 impl Port {
     /// Sends a line; or gives it back, and nothing changes, where the ring of commands is found full or 128 answers are
-    /// missing. Of the first 64 lines none comes back; which of the later ones do, no clause says.
+    /// missing. Where a place is known to be free, and so of the first 64 lines, none comes back for a full ring.
     pub fn send(&mut self, line: Line) -> Result<(), Line>
-        ensures ok { OnOk result (self.new ≡ record self.old { sent = self.old.sent ++ «line» ∷ [] }) }
+        ensures ok { OnOk result
+            (self.new ≡ record self.old { sent = self.old.sent ++ «line» ∷ []; free = self.new.free }) }
+        ensures free { OnOk result (self.old.free ≤ self.new.free + 1) }
         ensures err { IfErr result (λ back. (back ≡ «line») × (self.new ≡ self.old)) }
+        ensures full { OnErr result (IsFull self.old) }
         ensures first { length self.old.sent < places → IsOk result }
     {
         if self.missing == MOST_MISSING {
@@ -93,7 +98,7 @@ impl Port {
     /// Ends the port, and gives what its lane may be drained with; `None` where the other end was dropped before, as
     /// far as tests show.
     pub fn finish(self) -> Option<PortEnd>
-        ensures { IfSome result (λ end. end ≡ self) }
+        ensures { IfSome result (λ end. end ≡ end_of_port self) }
     {
         let Port {
             commands,
@@ -120,9 +125,9 @@ pub struct PortEnd {
 impl Model for PortEnd {
     ghost use Rattle.std.specs.Prelude.{◌≡◌, ◌+◌, ◌≤◌, length};
     ghost use Rattle.rtrb.specs.Ring.{all_sent, received};
-    ghost use Rattle.warp_lanes.specs.Lanes.{PortState, most_missing};
+    ghost use Rattle.warp_lanes.specs.Lanes.{PortEndState, most_missing};
 
-    ghost Value = { PortState };
+    ghost Value = { PortEndState };
 
     ghost view = { λ p.
         record {

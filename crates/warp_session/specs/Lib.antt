@@ -4,4 +4,5 @@ pub mod LocalSession
 pub mod PortDesk
 pub mod Pull
 pub mod Serve
+pub mod Told
 pub mod inner

@@ -1,5 +1,5 @@
 -- The desk of a session: a port, whose lines another thread answers, and a reader of the board.
-use Rattle.std.specs.Prelude.{◌≡◌, ◌⊎◌, ◌≤◌, true, List, [], ◌∷◌, ◌++◌, length, slice_get, Option, Some, None, refl}
+use Rattle.std.specs.Prelude.{◌≡◌, ◌⊎◌, ◌+◌, ◌≤◌, true, List, [], ◌∷◌, ◌++◌, length, slice_get, Option, Some, None, refl}
 use Rattle.std.specs.Coded.{Coded, code_by, coded×}
 use Rattle.warp_tag.specs.Lists.{StartsWith}
 use Rattle.warp_tag.specs.declared.form.Form.{Form}
@@ -16,7 +16,7 @@ use Rattle.warp_board.specs.Board.{ReaderState}
 use Rattle.warp_board.specs.contracts.reader.Reader as reader
 use Rattle.warp_lanes.specs.declared.answer.Answer.{Answer}
 use Rattle.warp_lanes.specs.contracts.port.Port as port
-use Rattle.warp_lanes.specs.Lanes.{PortState, IsAnswer, places}
+use Rattle.warp_lanes.specs.Lanes.{PortState, IsAnswer, IsFull, places}
 
 -- what the port sent and fetched, what the reader knows of the board, and the form of the program that is served
 pub record PortDeskState : Type 0 where
@@ -36,14 +36,17 @@ FetchesAll p last p' =
     (front : List Answer) × (p' ≡ record p { fetched = (p.fetched ++ front) ++ last ∷ [] })
     × (length p'.fetched ≡ length p'.sent) × IsAnswer last
 
--- The port sent just this line more, and fetched as many answers as it sent lines; the reply is that of the last of them.
+-- The port sent just this line more, and fetched as many answers as it sent lines; the reply is that of the last of them. It took
+-- one place at most of those that it knew to be free.
 abbrev pub Asks : PortState → Line → Reply → PortState → Type 0
 Asks p said answer p' =
-    (last : Answer) × FetchesAll (record p { sent = p.sent ++ said ∷ [] }) last p' × (answer ≡ last.reply)
+    (last : Answer) × FetchesAll (record p { sent = p.sent ++ said ∷ []; free = p'.free }) last p' × (answer ≡ last.reply)
+    × (p.free ≤ p'.free + 1)
 
--- the lane is full, and so it was sent as many lines as it has places for at least: nothing was sent
+-- The lane is full: so many answers are missing as may be, or no place is known to be free. So it was sent as many lines as it has
+-- places for at least. Nothing was sent.
 abbrev pub IsBusy : PortState → Reply → PortState → Type 0
-IsBusy p answer p' = (answer ≡ reply.Refused Busy) × (p' ≡ p) × (places ≤ length p.sent)
+IsBusy p answer p' = (answer ≡ reply.Refused Busy) × (p' ≡ p) × (places ≤ length p.sent) × IsFull p
 
 -- the reader knows no less of the same board
 pub record Learns (r r' : ReaderState) : Type 0 where

@@ -1,10 +1,12 @@
 -- What serving keeps of an engine, and what it shows on its board.
-use Rattle.std.specs.Prelude.{◌≡◌, ◌⊎◌, Bool, IsTrue, List, length, min, take, true}
+use Rattle.std.specs.Prelude.{◌≡◌, ◌⊎◌, Bool, IsTrue, List, length, map, min, take, true}
 use Rattle.warp_tag.specs.declared.out.Out.{Out}
 use Rattle.warp_table.specs.Records.{set_of}
 use Rattle.warp_replica.specs.Answers.{IsReleased}
 use Rattle.warp_board.specs.Board.{room_of}
 use Rattle.warp_lanes.specs.Engine.{EngineState}
+use Rattle.warp_lanes.specs.Lanes.{LaneId}
+use Rattle.warp_session.specs.PortDesk.{PortDeskState}
 
 -- the engine has the program, the beginning, the board and the number of lanes that it had
 pub record KeepsEngine {T : Type 0} (old new : EngineState T) : Type 0 where
@@ -29,3 +31,7 @@ IsPublished settled old new =
 pub record HasServed {T : Type 0} (settled : T → Bool) (old new : EngineState T) : Type 0 where
   pub keeps : KeepsEngine old new
   pub published : IsPublished settled old new
+
+-- which lanes these desks' ports have, each at its place
+abbrev pub lanes_of : List PortDeskState → List LaneId
+lanes_of desks = map (λ desk. desk.port.lane) desks

@@ -1,3 +1,4 @@
 pub mod Turns
 pub mod Inbox
 pub mod Pulling
+pub mod Room

@@ -1,4 +1,5 @@
 //! Who comes to be served, and who looks on.
+ghost use Rattle.std.specs.Prelude.{◌≡◌};
 
 use crate::pulling::PullEnd;
 use crate::stream::{Sink, Source};
@@ -12,6 +13,13 @@ pub struct DoorFault;
 
 /// Gives the connections that come to be served, and hears how pulls ended.
 pub trait Door {
+    ghost use Rattle.std.specs.Prelude.{◌≡◌, ℕ, List, None, Option};
+    ghost use Rattle.warp_session.specs.Told.{told_more};
+    ghost use Rattle.warp_session.specs.declared.pulling.PullEnd.{PullEnd};
+
+    /// The peers of whose pulls it heard, and how these ended, in order; `None` where the door doesn't tell.
+    ghost told: { Self → Option (List (ℕ × PullEnd)) } = { λ _. None };
+
     /// What a session, or a peer, is read from.
     type R: Source + Send + Drop;
 
@@ -19,11 +27,13 @@ pub trait Door {
     type W: Sink + Send + Drop;
 
     /// Waits for the next session.
-    fn next(&mut self) -> Result<(Self::R, Self::W), DoorFault>;
+    fn next(&mut self) -> Result<(Self::R, Self::W), DoorFault>
+        ensures { told self.new ≡ told self.old };
 
     /// Hears how the pull from a peer ended, when all sessions and all pulls have: once for each peer that was pulled
     /// from, in their order.
-    fn pull_ended(&mut self, peer: u32, end: PullEnd);
+    fn pull_ended(&mut self, peer: u32, end: PullEnd)
+        ensures { told self.new ≡ told_more peer end (told self.old) };
 }
 
 /// Is called round each line that a session asks its desk. Sessions are numbered from 0, and in each its asks, which
@@ -73,7 +83,9 @@ pub enum ServeFault {
 }
 
 impl From<AllocError> for ServeFault {
-    fn from(_refused: AllocError) -> ServeFault {
+    fn from(_refused: AllocError) -> ServeFault
+        ensures { result ≡ ServeFault.NoMemory }
+    {
         ServeFault::NoMemory
     }
 }

@@ -2,6 +2,7 @@
 ghost use Rattle.std.specs.Prelude.{◌≡◌, IfSome};
 ghost use Rattle.warp_tag.specs.Limits.{widest};
 ghost use Rattle.warp_record.specs.Reply.{IsReply};
+ghost use Rattle.warp_lanes.specs.Lanes.{end_of_port};
 ghost use Rattle.warp_lanes.specs.declared.answer.Answer.{Answer};
 ghost use Rattle.warp_session.specs.PortDesk.{GivesAt, FetchesAll, Learns, PortDeskState, look_reply};
 
@@ -63,7 +64,7 @@ impl<'a, X: Wait + Clock> PortDesk<'a, X> {
 
     /// Ends the desk: what the port's lane may be drained with, if its other end is still there, and the reader.
     pub fn finish(self) -> (Option<PortEnd>, Reader)
-        ensures end { IfSome result.0 (λ end. end ≡ self.entry.port) }
+        ensures end { IfSome result.0 (λ end. end ≡ end_of_port self.entry.port) }
         ensures reader { result.1 ≡ self.entry.reader }
     {
         let PortDesk { port, reader, .. } = self;

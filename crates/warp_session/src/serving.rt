@@ -1,12 +1,16 @@
 //! Serving many sessions at once: a thread for the replica, one for each session, and one for each pull from a peer.
-ghost use Rattle.std.specs.Prelude.{◌≡◌, ◌⊎◌, ◌+◌, ◌≤◌, [], ◌∷◌, ◌++◌, All, IfOk, IsTrue, Ok, OnOk, false, length};
-ghost use Rattle.std.specs.Prelude.{vec_len};
+ghost use Rattle.std.specs.Prelude.{◌≡◌, ◌⊎◌, ◌↔◌, ℕ, ◌+◌, ◌≤◌, [], ◌∷◌, ◌++◌, All, Err, IfErr, IfOk, IsOk, IsTrue, List, Ok, OnOk, Option};
+ghost use Rattle.std.specs.Prelude.{false, length, vec_capacity, vec_len};
 ghost use Rattle.warp_tag.specs.Limits.{most_rows};
 ghost use Rattle.warp_board.specs.Board.{room_of};
-ghost use Rattle.warp_lanes.specs.Engine.{AreFresh, IsFresh, most_lanes};
+ghost use Rattle.warp_lanes.specs.Engine.{AreFresh, IsFresh, ids_of, most_lanes};
 ghost use Rattle.warp_lanes.specs.Lanes.{LaneState};
 ghost use Rattle.warp_session.specs.PortDesk.{PortDeskState};
-ghost use Rattle.warp_session.specs.Serve.{HasServed, Shows};
+ghost use Rattle.warp_session.specs.Serve.{HasServed, Shows, lanes_of};
+ghost use Rattle.warp_session.specs.Told.{ended_of, numbers_of, told_all};
+ghost use Rattle.warp_session.specs.declared.pulling.PullEnd.{PullEnd};
+ghost use Rattle.warp_session.specs.declared.serving.EndedPull.{EndedPull};
+ghost use Rattle.warp_session.specs.inner.Room.{HasRoom, running_of};
 
 use crate::desk_session::session;
 use crate::door::{Door, Gate, Peer, ServeFault};
@@ -52,9 +56,9 @@ fn add_desk<'a, X: Wait + Clock>(
 ) -> Result<Reader, AllocError>
     requires { reader.board ≡ board.now }
     ensures reader { IfOk result (λ rest. rest.board ≡ board.now) }
-    ensures desks { OnOk result ((desk : PortDeskState) × (desk.form ≡ form)
-        × (desks.new.items ≡ desks.old.items ++ desk ∷ [])) }
-    ensures lanes { OnOk result ((lane : LaneState) × IsFresh lane × (lanes.new.items ≡ lanes.old.items ++ lane ∷ [])) }
+    ensures both { OnOk result ((desk : PortDeskState) × (lane : LaneState)
+        × (desk.form ≡ form) × IsFresh lane × (desk.port.lane ≡ lane.lane)
+        × (desks.new.items ≡ desks.old.items ++ desk ∷ []) × (lanes.new.items ≡ lanes.old.items ++ lane ∷ [])) }
 {
     let (port, end) = lane(alloc)?;
     let Ok((rest, own)) = split_reader(board, reader) else {
@@ -82,6 +86,7 @@ fn add_desks<'a, X: Wait + Clock>(
     ensures lanes { OnOk result (vec_len lanes.new ≡ count) }
     ensures fresh { OnOk result (AreFresh lanes.new.items) }
     ensures form { OnOk result (All (λ desk. desk.form ≡ form) desks.new.items) }
+    ensures ports { OnOk result (lanes_of desks.new.items ≡ ids_of lanes.new.items) }
 {
     let mut reader = reader;
     for _ in 0..count {
@@ -90,7 +95,7 @@ fn add_desks<'a, X: Wait + Clock>(
     Ok(())
 }
 
-/// So many lanes, and a desk at each, whose lines are of this form.
+/// So many lanes, and a desk at each, whose lines are of this form: each desk's port is that of the lane at its place.
 fn make_desks<'a, X: Wait + Clock>(
     rt: &'a X,
     alloc: Global,
@@ -104,6 +109,7 @@ fn make_desks<'a, X: Wait + Clock>(
     ensures lanes { IfOk result (λ made. vec_len made.1 ≡ count) }
     ensures fresh { IfOk result (λ made. AreFresh made.1.items) }
     ensures form { IfOk result (λ made. All (λ desk. desk.form ≡ form) made.0.items) }
+    ensures ports { IfOk result (λ made. lanes_of made.0.items ≡ ids_of made.1.items) }
 {
     let mut desks = Vec::new(alloc);
     let mut lanes = Vec::new(alloc);
@@ -114,7 +120,7 @@ fn make_desks<'a, X: Wait + Clock>(
 }
 
 /// One session, from its first byte to its end.
-fn attend<K: Desk + Drop, R: Source + Drop, W: Sink + Drop, G: Gate>(
+pub(crate) fn attend<K: Desk + Drop, R: Source + Drop, W: Sink + Drop, G: Gate>(
     alloc: Global,
     desk: K,
     mut source: R,
@@ -128,7 +134,8 @@ fn attend<K: Desk + Drop, R: Source + Drop, W: Sink + Drop, G: Gate>(
 
 /// The handle of a thread, if it could be started.
 fn started<H, F: Drop>(running: Result<H, SpawnError<F>>) -> Result<H, ServeFault>
-    ensures { IfOk result (λ handle. running ≡ Ok handle) }
+    ensures ok { IfOk result (λ handle. running ≡ Ok handle) }
+    ensures err { IfErr result (λ fault. fault ≡ ServeFault.Accept) }
 {
     match running {
         Ok(handle) => Ok(handle),
@@ -148,6 +155,7 @@ fn start_session<'s, E, K: Desk + Send + Drop + 's, D: Door, G: Gate + Sync + 's
 where
     D::R: 's,
     D::W: 's,
+    ensures { IfErr result (λ fault. fault ≡ ServeFault.Accept) }
 {
     let Ok((source, sink)) = door.next() else {
         return Err(ServeFault::Accept);
@@ -168,6 +176,7 @@ fn start_sessions<'s, E, K: Desk + Send + Drop + 's, D: Door, G: Gate + Sync + '
 where
     D::R: 's,
     D::W: 's,
+    ensures { IfErr result (λ fault. fault ≡ ServeFault.Accept) }
 {
     let mut number = 0u32;
     for desk in desks {
@@ -221,6 +230,8 @@ where
     K: Desk + Send + Drop + 's,
     R: Source + Send + Drop + 's,
     W: Sink + Send + Drop + 's,
+    ensures number { IfOk result (λ pull. pull.peer ≡ peer.number) }
+    ensures err { IfErr result (λ fault. fault ≡ ServeFault.Accept) }
 {
     let number = peer.number;
     let thread = started(scope.spawn(move || pull_peer(rt, alloc, desk, peer)))?;
@@ -230,7 +241,7 @@ where
     })
 }
 
-/// Starts a pull from each peer, with one of the desks, and says which run.
+/// Starts a pull from each peer, in their order, with one of the desks, and says which run.
 fn start_pulls<'s, E, X, K, R, W>(
     scope: &'s Scope<'s, E>,
     rt: &'s X,
@@ -244,26 +255,33 @@ where
     K: Desk + Send + Drop + 's,
     R: Source + Send + Drop + 's,
     W: Sink + Send + Drop + 's,
+    requires desks { vec_len peers ≤ vec_len desks.old }
+    requires room { vec_len peers ≤ vec_capacity running.old }
+    requires none { running.old.items ≡ [] }
+    ensures all { OnOk result (running_of running.new.items ≡ numbers_of peers.items) }
+    ensures err { IfErr result (λ fault. fault ≡ ServeFault.Accept) }
+    ensures few { vec_len running.new ≤ vec_len peers }
 {
     for peer in peers {
         let Some(desk) = desks.pop() else {
-            break;
+            unreachable!()
         };
         let pull = start_pull(scope, rt, alloc, desk, peer)?;
-        let Ok(()) = running.push(pull) else {
-            return Err(ServeFault::NoMemory);
-        };
+        running.push_reserved(pull);
     }
     Ok(())
 }
 
 /// Waits for the pulls, in their order, and says how each ended.
-fn join_pulls<X: Threads>(rt: &X, running: Vec<RunningPull>, ended: &mut Vec<EndedPull>) {
+fn join_pulls<X: Threads>(rt: &X, running: Vec<RunningPull>, ended: &mut Vec<EndedPull>)
+    requires room { vec_len running ≤ vec_capacity ended.old }
+    requires none { ended.old.items ≡ [] }
+    ensures { ended_of ended.new.items ≡ running_of running.items }
+{
     for pull in running {
         let RunningPull { peer, thread } = pull;
         let end = thread.join(rt);
-        // There is room, so nothing can be refused.
-        let _ = ended.push(EndedPull { peer, end });
+        ended.push_reserved(EndedPull { peer, end });
     }
 }
 
@@ -282,7 +300,9 @@ struct Room {
 }
 
 impl Room {
-    fn new(alloc: Global, pulls: usize) -> Result<Room, ServeFault> {
+    fn new(alloc: Global, pulls: usize) -> Result<Room, AllocError>
+        ensures { IfOk result (λ made. HasRoom pulls made) }
+    {
         let running = Vec::with_capacity(alloc, pulls)?;
         let ended = Vec::with_capacity(alloc, pulls)?;
         Ok(Room { running, ended })
@@ -305,15 +325,19 @@ where
     K: Desk + Send + Drop + 's,
     D::R: 's,
     D::W: 's,
+    requires desks { vec_len peers ≤ vec_len desks }
+    requires room { HasRoom (vec_len peers) room }
+    ensures all { OnOk result.served (ended_of result.ended.items ≡ numbers_of peers.items) }
+    ensures err { IfErr result.served (λ fault. fault ≡ ServeFault.Accept) }
 {
     let Room {
         mut running,
         mut ended,
     } = room;
-    let mut served = start_pulls(scope, rt, alloc, &mut desks, peers, &mut running);
-    if served.is_ok() {
-        served = start_sessions(scope, alloc, desks, door, gate);
-    }
+    let served = match start_pulls(scope, rt, alloc, &mut desks, peers, &mut running) {
+        Ok(()) => start_sessions(scope, alloc, desks, door, gate),
+        Err(fault) => Err(fault),
+    };
     join_pulls(rt, running, &mut ended);
     Called { ended, served }
 }
@@ -327,13 +351,37 @@ fn call_in<X: Threads + Wait + Clock + Sync, K: Desk + Send + Drop, D: Door, G: 
     peers: Vec<Peer<D::R, D::W>>,
     gate: &G,
     room: Room,
-) -> Called {
-    thread::scope(thread::scope_env(), rt, move |scope| {
-        start_all(scope, rt, alloc, desks, door, peers, gate, room)
-    })
+) -> Called
+    requires desks { vec_len peers ≤ vec_len desks }
+    requires room { HasRoom (vec_len peers) room }
+    ensures all { OnOk result.served (ended_of result.ended.items ≡ numbers_of peers.items) }
+    ensures err { IfErr result.served (λ fault. fault ≡ ServeFault.Accept) }
+{
+    thread::scope(
+        thread::scope_env(),
+        rt,
+        move |scope| -> Called
+            requires desks { vec_len peers ≤ vec_len desks }
+            requires room { HasRoom (vec_len peers) room }
+            ensures all { OnOk result.served (ended_of result.ended.items ≡ numbers_of peers.items) }
+            ensures err { IfErr result.served (λ fault. fault ≡ ServeFault.Accept) }
+        { start_all(scope, rt, alloc, desks, door, peers, gate, room) },
+    )
 }
 
-/// The same, and tells the door how each pull ended.
+/// Tells the door how each pull ended, in this order, and says what kept sessions from being served.
+fn tell_all<D: Door>(door: &mut D, called: Called) -> Result<(), ServeFault>
+    ensures told { D.told door.new ≡ told_all called.ended.items (D.told door.old) }
+    ensures served { result ≡ called.served }
+{
+    let Called { ended, served } = called;
+    for pull in ended {
+        door.pull_ended(pull.peer, pull.end);
+    }
+    served
+}
+
+/// Serves and pulls so, and tells the door how each pull ended.
 fn call_all<X: Threads + Wait + Clock + Sync, K: Desk + Send + Drop, D: Door, G: Gate + Sync>(
     rt: &X,
     alloc: Global,
@@ -342,12 +390,16 @@ fn call_all<X: Threads + Wait + Clock + Sync, K: Desk + Send + Drop, D: Door, G:
     peers: Vec<Peer<D::R, D::W>>,
     gate: &G,
     room: Room,
-) -> Result<(), ServeFault> {
-    let Called { ended, served } = call_in(rt, alloc, desks, door, peers, gate, room);
-    for pull in ended {
-        door.pull_ended(pull.peer, pull.end);
-    }
-    served
+) -> Result<(), ServeFault>
+    requires desks { vec_len peers ≤ vec_len desks }
+    requires room { HasRoom (vec_len peers) room }
+    // What the door was told last are the ends of all pulls, one for each peer in their order.
+    ensures told { OnOk result ((ended : List EndedPull) × (before : Option (List (ℕ × PullEnd)))
+        × (ended_of ended ≡ numbers_of peers.items) × (D.told door.new ≡ told_all ended before)) }
+    ensures err { IfErr result (λ fault. fault ≡ ServeFault.Accept) }
+{
+    let called = call_in(rt, alloc, desks, door, peers, gate, room);
+    tell_all(door, called)
 }
 
 /// Starts the executor in a thread of its own.
@@ -358,7 +410,8 @@ fn start_executor<'s, E, X: Wait + Clock + Sync + 's, T: Timeline + Send + Drop 
     ended: &'s AtomicBool,
     executor: Executor<'s, T>,
 ) -> Result<PromisedHandle<Engine<T>, ServesOf<T>>, ServeFault>
-    ensures { IfOk result (λ h. h.promise.given.value ≡ executor.entry.engine) }
+    ensures ok { IfOk result (λ h. h.promise.given.value ≡ executor.entry.engine) }
+    ensures err { IfErr result (λ fault. fault ≡ ServeFault.Accept) }
 {
     let promise = ServesOf {
         given: Snapshot::of(&executor.engine),
@@ -379,7 +432,10 @@ fn end_executor<X: Threads, T: Timeline>(
     running: PromisedHandle<Engine<T>, ServesOf<T>>,
     served: Result<(), ServeFault>,
 ) -> Result<Engine<T>, ServeFault>
-    ensures { IfOk result (λ engine. HasServed T.settled running.promise.given.value engine) }
+    requires { IfErr served (λ fault. fault ≡ ServeFault.Accept) }
+    ensures ok { IfOk result (λ engine. HasServed T.settled running.promise.given.value engine) }
+    ensures served { IsOk result ↔ IsOk served }
+    ensures err { IfErr result (λ fault. fault ≡ ServeFault.Accept) }
 {
     ended.store(true, Ordering::SeqCst);
     let engine = running.join(rt);
@@ -406,7 +462,10 @@ where
     X: Threads + Wait + Clock + Sync + 's,
     T: Timeline + Send + Drop + 's,
     K: Desk + Send + Drop,
-    ensures { IfOk result (λ engine. HasServed T.settled executor.entry.engine engine) }
+    requires desks { vec_len peers ≤ vec_len desks }
+    requires room { HasRoom (vec_len peers) room }
+    ensures ok { IfOk result (λ engine. HasServed T.settled executor.entry.engine engine) }
+    ensures err { IfErr result (λ fault. fault ≡ ServeFault.Accept) }
 {
     match start_executor(scope, rt, alloc, ended, executor) {
         Ok(running) => {
@@ -435,8 +494,11 @@ fn serve_beside<
     gate: &G,
     room: Room,
 ) -> Result<Engine<T>, ServeFault>
-    requires { All (λ desk. K.form_of (K.state desk) ≡ executor.engine.replica.program.form) desks.items }
-    ensures { IfOk result (λ engine. HasServed T.settled executor.entry.engine engine) }
+    requires form { All (λ desk. K.form_of (K.state desk) ≡ executor.engine.replica.program.form) desks.items }
+    requires desks { vec_len peers ≤ vec_len desks }
+    requires room { HasRoom (vec_len peers) room }
+    ensures ok { IfOk result (λ engine. HasServed T.settled executor.entry.engine engine) }
+    ensures err { IfErr result (λ fault. fault ≡ ServeFault.Accept) }
 {
     let ended = AtomicBool::new(false);
     let ended = &ended;
@@ -444,7 +506,10 @@ fn serve_beside<
         thread::scope_env(),
         rt,
         move |scope| -> Result<Engine<T>, ServeFault>
-            ensures { IfOk result (λ engine. HasServed T.settled executor.entry.engine engine) }
+            requires desks { vec_len peers ≤ vec_len desks }
+            requires room { HasRoom (vec_len peers) room }
+            ensures ok { IfOk result (λ engine. HasServed T.settled executor.entry.engine engine) }
+            ensures err { IfErr result (λ fault. fault ≡ ServeFault.Accept) }
         {
             serve_in(
                 scope, rt, alloc, ended, executor, desks, door, peers, gate, room,
@@ -500,6 +565,8 @@ pub fn serve_sessions<
     // Where the replica is settled, the board shows what is released; or there was no record to show anything of.
     ensures shown { IfOk result (λ engine. IsTrue (T.settled engine.replica.timeline) →
         (engine.replica.records ≡ []) ⊎ Shows engine) }
+    // Without memory nobody was asked to come.
+    ensures memory { result ≡ Err ServeFault.NoMemory → door.new ≡ door.old }
 {
     let room = Room::new(alloc, peers.len())?;
     let (board, writer, reader) = board(alloc, MAX_ROWS)?;

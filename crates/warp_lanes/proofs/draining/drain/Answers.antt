@@ -1,6 +1,6 @@
 use Rattle.std.proofs.Common.{◌≡◌, ◌+◌, ◌++◌, ◌∙◌, ap, sym, arith, length, length-append}
 use Rattle.std.proofs.lemmas.List.{append_assoc}
-use Rattle.rtrb.specs.Ring.{all_sent, known_items, received, sent}
+use Rattle.rtrb.specs.Ring.{all_sent, known_free, known_items, received, sent}
 use Rattle.warp_lanes.specs.Engine.{facts_of}
 use Rattle.warp_lanes.proofs.DrainedLanes.{lines_count, lines_long}
 use Rattle.warp_lanes.proofs.draining.drain.Goals as goal
@@ -68,6 +68,7 @@ returns-clause-drains g c =
             (ap (λ l. l ++ last) beside.producer.1
             ∙ ap (λ l. sent c.lane.inside.answers ++ l) (made.2 ∙ ap (λ l. l ++ made.0) c.reserve.ensures.items)
             ∙ sym (append_assoc (sent c.lane.inside.answers) c.lane.inside.last.items made.0)) i;
+        free = known_free c.slots_beside.new.producer;
       },
       c.answer_all.ensures.commands ∙ after.fifo,
       ap (λ l. l ++ last) (sym beside.fifo) ∙ append_assoc (received c.slots_beside.new.self) left last

@@ -1,6 +1,7 @@
 use Rattle.std.proofs.Common.{◌≡◌, arith, ◌++◌, ◌∷◌, [], ap, ◌∙◌}
 use Rattle.std.proofs.lemmas.Bool.Decides.{nat_tests}
 use Rattle.std.proofs.lemmas.List.{nil_from_length}
+use Rattle.rtrb.specs.Ring.{known_free}
 use Rattle.warp_lanes.specs.declared.answer.Answer.{Answer}
 use Rattle.warp_lanes.proofs.Publishing.{has_news}
 use Rattle.warp_lanes.proofs.Serving.{before_none}
@@ -39,6 +40,7 @@ returns-clause-turns g c =
               );
               commands = p.ok.0 i;
               answers = before_none _ _ _ answer none (q.sent.0 ∙ ap (λ l. l ++ answer ∷ []) f.1) i;
+              free = known_free c.push_reserved.new.self;
             }),
       ),
     )

@@ -9,7 +9,7 @@ use Rattle.warp_lanes.specs.Engine.{EngineState, facts_of, ids_of}
 use Rattle.warp_lanes.specs.History.{IsHistory, IsServed}
 use Rattle.warp_lanes.specs.Lanes.{LaneState}
 use Rattle.warp_lanes.proofs.DrainedLanes.{counted, id_there, ids_within, lines_board, lines_history, lines_program}
-use Rattle.warp_lanes.proofs.Serving.{at_place, same_ids}
+use Rattle.warp_lanes.proofs.Serving.{any_free, at_place, same_ids}
 use Rattle.warp_lanes.proofs.engine.Engine.drain.Goals as goal
 
 -- a lane that is put back as it was leaves the lanes
@@ -66,7 +66,9 @@ invariant_of-self-2 g c =
     let some : 0 < c.self.inside.replica.program.origins = rw (← c.program.ensures) (validity c.program.result.now c.valid.ensures).limits.origins_some in
     let d = c.in_ok-handed.ensures.drains in (
       subst (λ (l : LaneState). IsHistory c.drain.new.replica.program c.drain.new.replica.records c.self.inside.began (set c.self.inside.lanes.items c.args.lane l))
-          (sym d.3) (lines_history facts _ _ _ _ _ _ d.0 d.1 c.self.invariant.0 at d.2),
+          (sym d.3)
+          (any_free c.drain.new.replica.program c.drain.new.replica.records c.self.inside.began _ _ _ c.drain.new.lane.free
+          (lines_history facts _ _ _ _ _ _ d.0 d.1 c.self.invariant.0 at d.2)),
       lines_board facts _ _ d.0 d.1 _ _ some c.valid-2.ensures.once c.valid-3.ensures.allowed d.2 c.self.invariant.1,
     )
 
