@@ -1,6 +1,6 @@
 """Calls of `warp_cases` that are refused nothing, with what each must come to: for `.ci/cases`.
 
-All that must be printed comes from the definitions, from the tables of FORMATS.md and from what stands beside the case.
+All that must be printed comes from the definitions, from the tables of the reference and from what stands beside the case.
 """
 
 import json
@@ -190,7 +190,7 @@ def world():
     yield Flat("a schedule that is refused", "schedule", "twice", lines, ["refused at line 7"])
 
 
-# The errors of program files, by FORMATS.md, and what each is called: two have one number, each in files of one version alone.
+# The errors of program files, by the reference, and what each is called: two have one number, each in files of one version alone.
 ERRORS = ["1 no JSON text", "2 not in the shape of a program file", "3 past a limit", "4 a name is not known", "5 something is there twice",
           "6 a link without delay leads back", "6 reactions wait for each other", "7 a body uses what its reaction does not declare",
           "8 out of memory"]

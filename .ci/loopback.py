@@ -64,18 +64,24 @@ def free_port():
 class Server:
     """A process `warpd serve`. As a context it ends with its last session, and must end well: with this status, on standard output
     the line `ready P` alone, on standard error what `errors` says, one text or any of several. A peer may name the server's own
-    port by `{port}`. It may have no more than so many `files` open, where that is given."""
+    port by `{port}`. It may have no more than so many `files` open, where that is given, and has these standard streams `closed`."""
 
-    def __init__(self, program, served, sessions, *peers, errors="", status=0, port=None, files=None):
+    def __init__(self, program, served, sessions, *peers, errors="", status=0, port=None, files=None, closed=()):
         self.talks, self.errors, self.status = [], (errors,) if isinstance(errors, str) else errors, status
-        limit = (lambda: resource.setrlimit(resource.RLIMIT_NOFILE, (files, files))) if files else None
+
+        def prepare():
+            if files:
+                resource.setrlimit(resource.RLIMIT_NOFILE, (files, files))
+            for descriptor in closed:
+                os.close(descriptor)
+
         for _ in range(5):
             self.port = port or free_port()
             self.files = [tempfile.TemporaryFile() for _ in range(2)]
             words = [program, "serve", served, "--port", str(self.port), "--sessions", str(sessions),
                      *(it.format(port=self.port) for it in peers)]
             self.process = subprocess.Popen(list(map(str, words)), stdin=subprocess.DEVNULL, stdout=self.files[0], stderr=self.files[1],
-                                            preexec_fn=limit)
+                                            preexec_fn=prepare)
             try:
                 wait_for(lambda: "\n" in self.printed(0) or self.process.poll() is not None, "the line ready")
             except Wrong:

@@ -206,11 +206,12 @@ def full_board():
 
 
 def full_lane():
-    """64 lines have places, and 64 answers."""
+    """64 lines have places, and 64 answers: so 128 are missing at most, and all of them are handed out."""
     ask = "send var 0"
-    steps = [before([(ask, "sent")] * 64), quiet(ask, "came back"), before([("turn", "served")] * 64),
+    steps = [before([(ask, "sent")] * 64), quiet(ask, "came back"), before([("turn", "served")] * 64), quiet("turn", "stalled"),
              quiet(ask, "sent"), quiet("turn", "stalled"), quiet("fetch", "var 0 0"), before([("turn", "served")]),
-             Step(["waiting 64"], ["waiting"], 0), drained(["var 0 0"] * 64 + ["length 0"], [NO_MEMORY, "length 0"])]
+             Step(["waiting 64"], ["waiting"], 0), before([(ask, "sent")] * 64), quiet(ask, "came back"),
+             Step(["waiting 128"], ["waiting"], 0), drained(["var 0 0"] * 128 + ["length 0"], [NO_MEMORY, "length 0"])]
     return Calls("a full lane", "lanes", "twice", steps)
 
 

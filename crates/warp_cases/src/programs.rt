@@ -100,7 +100,7 @@ fn tell_twice(alloc: Global, out: &mut Transcript, program: &Program, labels: &L
 /// Tells what is in a program.
 fn tell_once(alloc: Global, out: &mut Transcript, program: &Program, labels: &Labels) {
     begin(alloc);
-    let told = program_account(alloc, program, labels, true);
+    let told = program_account(alloc, program, labels, true, false);
     end(alloc);
     match told {
         Ok(text) => out.say_text(text.as_bytes()),

@@ -39,6 +39,12 @@ pub inputs_all : {X : Type 0} (shown : X → Word) (text : List ℕ) (labels : L
 inputs_all shown text labels inputs i past =
     ap (λ ss. text ++ input_lines inputs i (map shown ss)) (drop_all i labels past) ∙ append-nil text
 
+-- three parts, one behind another
+pub three : (t a b c t1 t2 t3 : List ℕ) → t1 ≡ t ++ a → t2 ≡ t1 ++ b → t3 ≡ t2 ++ c → t3 ≡ t ++ ((a ++ b) ++ c)
+three t a b c t1 t2 t3 p q r =
+    let two = q ∙ ap (λ x. x ++ b) p ∙ append_assoc t a b in
+    r ∙ ap (λ x. x ++ c) two ∙ append_assoc t (a ++ b) c
+
 -- six parts, one behind another
 pub six : (t a b c d e f t1 t2 t3 t4 t5 t6 : List ℕ) → t1 ≡ t ++ a → t2 ≡ t1 ++ b → t3 ≡ t2 ++ c → t4 ≡ t3 ++ d → t5 ≡ t4 ++ e → t6 ≡ t5 ++ f
     → t6 ≡ t ++ (((((a ++ b) ++ c) ++ d) ++ e) ++ f)

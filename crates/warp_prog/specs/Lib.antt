@@ -19,3 +19,4 @@ pub mod inner
 pub mod Reading
 pub mod Refusal
 pub mod Explain
+pub mod OwnRows

@@ -13,6 +13,7 @@ mod labels;
 pub(crate) mod limits;
 mod neighbour;
 pub(crate) mod reason;
+mod rows;
 mod shape;
 mod terms;
 mod text;
@@ -35,6 +36,7 @@ use crate::undeclared::is_undeclared;
 pub use account::program_account;
 pub use labels::Labels;
 pub(crate) use labels::labels_of;
+pub use rows::rows_warning;
 use serde_json::{Error, Value};
 use std::alloc::{AllocError, Global};
 

@@ -7,6 +7,7 @@
 
 mod backward;
 mod both;
+mod due;
 mod error;
 mod explain;
 mod file;
@@ -27,7 +28,8 @@ mod twice;
 mod undeclared;
 mod uses;
 
+pub use due::own_rows;
 pub use error::LoadError;
-pub use explain::{Labels, explanation, program_account};
+pub use explain::{Labels, explanation, program_account, rows_warning};
 pub use law::loader_order;
 pub use loading::{LabelledProgram, load, load_labelled};

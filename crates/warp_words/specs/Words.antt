@@ -1,5 +1,5 @@
 -- The command line of `warpd`, as the parser of the crate `clap` reads it, and what its words ask for.
-use Rattle.std.specs.Prelude.{◌≤◌, ℕ, Bool, List, [], false, true, Option, None, Some, codes, map, option_and_then, option_map, unwrap_or, if◌then◌else◌}
+use Rattle.std.specs.Prelude.{◌≤◌, ℕ, Bool, List, [], false, true, Option, None, Some, codes, map, option_and_then, option_map, unwrap_or, IfSome, if◌then◌else◌}
 use Rattle.std.specs.Option.{option_map_or}
 use Rattle.std.specs.Str.{bytes_eq}
 use Rattle.std.specs.Str.Parse.{digits_value, without_leading_plus}
@@ -32,6 +32,10 @@ wanted_number name most = record (new_rule name) {
   required = true;
 }
 
+-- an option for a number from 1 to `most`, which may be left out; help shows a name for the number
+abbrev pub further_number : Text → ℕ → Rule
+further_number name most = record (wanted_number name most) { required = false }
+
 -- places for any number of words
 abbrev pub any_words : Text → Rule
 any_words place = record (new_rule place) { action = Some Append }
@@ -43,20 +47,27 @@ last_port = 65535
 abbrev pub most_sessions : ℕ
 most_sessions = 16
 
--- `serve` with PROGRAM, `--port`, `--sessions` and PEERs
-abbrev pub serve_command : App
-serve_command =
-    with_rule (with_rule (with_rule (with_rule (new_app (codes "serve"))
-    (wanted_word (codes "PROGRAM"))) (wanted_number (codes "port") last_port))
-    (wanted_number (codes "sessions") most_sessions)) (any_words (codes "PEER"))
+-- the longest time that a peer may be silent, in seconds: a day
+abbrev pub most_seconds : ℕ
+most_seconds = 86400
 
 -- an option that is there or not
 abbrev pub flag : Text → Rule
 flag name = record (new_rule name) { long = Some name; action = Some SetTrue }
 
--- `check` with PROGRAM and `--numbers`
+-- `serve` with PROGRAM, `--port`, `--sessions`, `--tell-pulls`, `--peer-timeout` and PEERs
+abbrev pub serve_command : App
+serve_command =
+    with_rule (with_rule (with_rule (with_rule (with_rule (with_rule (new_app (codes "serve"))
+    (wanted_word (codes "PROGRAM"))) (wanted_number (codes "port") last_port))
+    (wanted_number (codes "sessions") most_sessions)) (flag (codes "tell-pulls")))
+    (further_number (codes "peer-timeout") most_seconds)) (any_words (codes "PEER"))
+
+-- `check` with PROGRAM, `--numbers` and `--rows`
 abbrev pub check_command : App
-check_command = with_rule (with_rule (new_app (codes "check")) (wanted_word (codes "PROGRAM"))) (flag (codes "numbers"))
+check_command =
+    with_rule (with_rule (with_rule (new_app (codes "check")) (wanted_word (codes "PROGRAM"))) (flag (codes "numbers")))
+    (flag (codes "rows"))
 
 -- `trace` with PROGRAM and `--steps`
 abbrev pub trace_command : App
@@ -75,14 +86,15 @@ warpd_command =
     serve_command.top) check_command.top) trace_command.top
 
 -- what the words may ask for: to run the program of this name; or over the program of the first name to play the schedule of
--- the second; or to serve the program of this name at a port, for so many sessions, and to pull from these peers; or to check the
--- program of this name, and to tell its numbers or not; or to print the rows of a run of the program of this
+-- the second; or to serve the program of this name at a port, for so many sessions, to tell how pulls ended or not, to bear so many
+-- seconds of a peer's silence or any number, and to pull from these peers; or to check the
+-- program of this name, and to tell its numbers or not, and its own rows or not; or to print the rows of a run of the program of this
 -- name, or its steps as they were executed
 pub data Task : Type 0 where
   RunProgram : Text → Task
   PlaySchedule : Text → Text → Task
-  ServeProgram : Text → ℕ → ℕ → List Text → Task
-  CheckProgram : Text → Bool → Task
+  ServeProgram : Text → ℕ → ℕ → Bool → Option ℕ → List Text → Task
+  CheckProgram : Text → Bool → Bool → Task
   TraceProgram : Text → Bool → Task
 
 -- what `run` asks for, of what was found for it: the word in the place of PROGRAM
@@ -107,22 +119,25 @@ number_found name most found = option_and_then (number_up_to most) (first_of nam
 abbrev pub all_of_or_none : Text → List Row → List Text
 all_of_or_none place found = unwrap_or (all_of place found) []
 
--- what `serve` asks for, of what was found for it: the word in the place of PROGRAM, the numbers, and the words in the
--- places of PEER
-abbrev pub serve_task : List Row → Option Task
-serve_task found =
-    option_and_then (λ program. option_and_then (λ port. option_map (λ sessions. ServeProgram program port sessions
-    (all_of_or_none (codes "PEER") found))
-    (number_found (codes "sessions") most_sessions found)) (number_found (codes "port") last_port found))
-    (first_of (codes "PROGRAM") found)
-
 -- whether the option of this name is there, of what was found
 abbrev pub is_set : Text → List Row → Bool
 is_set name found = option_map_or (λ word. bytes_eq word (codes "true")) (first_of name found) false
 
--- what `check` asks for, of what was found for it: the word in the place of PROGRAM, and whether `--numbers` is there
+-- what `serve` asks for, of what was found for it: the word in the place of PROGRAM, the numbers, whether `--tell-pulls` is there, and
+-- the words in the places of PEER
+abbrev pub serve_task : List Row → Option Task
+serve_task found =
+    option_and_then (λ program. option_and_then (λ port. option_map (λ sessions. ServeProgram program port sessions
+    (is_set (codes "tell-pulls") found) (number_found (codes "peer-timeout") most_seconds found) (all_of_or_none (codes "PEER") found))
+    (number_found (codes "sessions") most_sessions found)) (number_found (codes "port") last_port found))
+    (first_of (codes "PROGRAM") found)
+
+-- what `check` asks for, of what was found for it: the word in the place of PROGRAM, and whether `--numbers` and `--rows`
+-- are there
 abbrev pub check_task : List Row → Option Task
-check_task found = option_map (λ program. CheckProgram program (is_set (codes "numbers") found)) (first_of (codes "PROGRAM") found)
+check_task found =
+    option_map (λ program. CheckProgram program (is_set (codes "numbers") found) (is_set (codes "rows") found))
+    (first_of (codes "PROGRAM") found)
 
 -- what `trace` asks for, of what was found for it: the word in the place of PROGRAM, and whether `--steps` is there
 abbrev pub trace_task : List Row → Option Task
@@ -149,12 +164,14 @@ task_in words = task_found (subcommand_of warpd_command words)
 abbrev pub task_of : Job → Task
 task_of (Run program) = RunProgram program.now
 task_of (Play program schedule) = PlaySchedule program.now schedule.now
-task_of (Serve program port sessions peers) = ServeProgram program.now port sessions (map (λ word. word.now) peers.items)
-task_of (Check program with_numbers) = CheckProgram program.now with_numbers
+task_of (Serve program port sessions tells_pulls peer_timeout peers) =
+    ServeProgram program.now port sessions tells_pulls peer_timeout (map (λ word. word.now) peers.items)
+task_of (Check program with_numbers with_rows) = CheckProgram program.now with_numbers with_rows
 task_of (Trace program with_steps) = TraceProgram program.now with_steps
 
--- the port and the number of sessions are in their ranges
+-- the port, the number of sessions and the seconds are in their ranges
 abbrev pub IsInRange : Task → Type 0
-IsInRange (ServeProgram program port sessions peers) =
+IsInRange (ServeProgram program port sessions tells_pulls peer_timeout peers) =
     (1 ≤ port) × (port ≤ last_port) × (1 ≤ sessions) × (sessions ≤ most_sessions)
+    × IfSome peer_timeout (λ seconds. (1 ≤ seconds) × (seconds ≤ most_seconds))
 IsInRange task = Unit {0}

@@ -19,6 +19,8 @@ Standard input is not read. The exit status is 0 for a good file, and 3 for one 
 
 pub(crate) const NUMBERS_HELP: &str = "Tells the numbers too by which lines and replies speak";
 
+pub(crate) const ROWS_HELP: &str = "Tells too how many rows the program makes by itself";
+
 const NOTES: &str = "\
 With --numbers a line follows for each variable, program input and program output, with its
 number and its name:
@@ -26,6 +28,14 @@ number and its name:
   var K REACTOR.NAME
   input I REACTOR.NAME origin O
   output P REACTOR.NAME
+
+With --rows a line says how many rows the program makes up to its stop where no line comes: one
+for each time at which startup or a timer is due. Actions and links with a delay may add rows.
+
+  own rows N, outputs of each at most C
+
+They are executed as soon as a query comes, and where N is more than 1,000,000, standard error
+has a warning.
 
 Why a program file is refused: warpd run --help
 

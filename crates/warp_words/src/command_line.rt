@@ -38,6 +38,10 @@ pub enum Job<'a> {
         port: u16,
         /// How many sessions to serve in all, 1 to 16.
         sessions: usize,
+        /// Whether to tell on standard error how each pull ended.
+        tells_pulls: bool,
+        /// For how many seconds a peer may be silent, 1 to 86,400; without end where none is given.
+        peer_timeout: Option<u64>,
         /// The words that name the peers, in their order.
         peers: Vec<&'a str>,
     },
@@ -47,6 +51,8 @@ pub enum Job<'a> {
         program: &'a str,
         /// Whether to tell the numbers of its things too.
         with_numbers: bool,
+        /// Whether to tell how many rows it makes by itself too.
+        with_rows: bool,
     },
     /// Print the rows of the one run over the lines of standard input.
     Trace {
@@ -57,7 +63,7 @@ pub enum Job<'a> {
     },
 }
 
-const VERSION: &str = "0.1.0";
+const VERSION: &str = "1.1.0";
 
 const ABOUT: &str = "Runs a deterministic reactor program over events that may come late";
 
@@ -189,7 +195,13 @@ const SESSIONS: &str = "sessions";
 
 const PEER: &str = "PEER";
 
+const TELL_PULLS: &str = "tell-pulls";
+
+const PEER_TIMEOUT: &str = "peer-timeout";
+
 const NUMBERS: &str = "numbers";
+
+const ROWS: &str = "rows";
 
 const STEPS: &str = "steps";
 
@@ -198,6 +210,9 @@ const LAST_PORT: u64 = 65_535;
 
 /// The most sessions of a server.
 const MOST_SESSIONS: u64 = 16;
+
+/// The longest time that a peer may be silent, in seconds: a day.
+const MOST_SECONDS: u64 = 86_400;
 
 /// What a part of a subcommand is.
 enum Kind {
@@ -209,6 +224,8 @@ enum Kind {
     Flag,
     /// An option for a number from 1 to `most`, which has to be there; help calls the number `value`.
     Number { value: &'static str, most: u64 },
+    /// The same, which may be left out.
+    FurtherNumber { value: &'static str, most: u64 },
 }
 
 /// A part of a subcommand: a place for words or an option.
@@ -289,6 +306,19 @@ const SERVE: Subcommand = Subcommand {
             },
         },
         Part {
+            name: TELL_PULLS,
+            help: serve_help::TELL_PULLS_HELP,
+            kind: Kind::Flag,
+        },
+        Part {
+            name: PEER_TIMEOUT,
+            help: serve_help::PEER_TIMEOUT_HELP,
+            kind: Kind::FurtherNumber {
+                value: "SECONDS",
+                most: MOST_SECONDS,
+            },
+        },
+        Part {
             name: PEER,
             help: serve_help::PEER_HELP,
             kind: Kind::Words,
@@ -304,6 +334,11 @@ const CHECK: Subcommand = Subcommand {
         Part {
             name: NUMBERS,
             help: check_help::NUMBERS_HELP,
+            kind: Kind::Flag,
+        },
+        Part {
+            name: ROWS,
+            help: check_help::ROWS_HELP,
             kind: Kind::Flag,
         },
     ],
@@ -394,9 +429,11 @@ fn check_job<'a>(found: &ArgMatches<'a>) -> Option<Job<'a>>
 {
     let program = text(found, PROGRAM)?;
     let with_numbers = is_set(found, NUMBERS);
+    let with_rows = is_set(found, ROWS);
     Some(Job::Check {
         program,
         with_numbers,
+        with_rows,
     })
 }
 
@@ -435,11 +472,15 @@ fn serve_job<'a>(alloc: Global, found: &ArgMatches<'a>) -> Result<Option<Job<'a>
     let Some(sessions) = number(found, SESSIONS, MOST_SESSIONS) else {
         return Ok(None);
     };
+    let tells_pulls = is_set(found, TELL_PULLS);
+    let peer_timeout = number(found, PEER_TIMEOUT, MOST_SECONDS);
     let peers = texts(alloc, found, PEER)?;
     Ok(Some(Job::Serve {
         program,
         port: port as u16,
         sessions: sessions as usize,
+        tells_pulls,
+        peer_timeout,
         peers,
     }))
 }
@@ -612,6 +653,10 @@ fn argument<'a>(alloc: Global, part: &'static Part) -> Arg<'a>
             .long(part.name)
             .value_name(value)
             .required(true)
+            .value_parser(ValueParser::unsigned(1, most)),
+        Kind::FurtherNumber { value, most } => argument
+            .long(part.name)
+            .value_name(value)
             .value_parser(ValueParser::unsigned(1, most)),
     }
 }

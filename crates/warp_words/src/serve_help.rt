@@ -25,10 +25,11 @@ without asking the replica:
 A row on the board stays there. The board has room for 4,096 rows, and is frozen for good once
 a record takes back what was released.
 
-From each PEER, the HOST:PORT of another server, the log is pulled in the background. A pull
-ends once the peer had nothing new for 500 times in a row, 10 milliseconds apart, and for the
-reasons that docs/FORMATS.md lists; it is not begun again. A server that names itself as a peer
-serves that pull as one of its sessions.
+From each PEER, the HOST:PORT of another server, the log is pulled in the background. Connecting
+to all peers takes ten seconds at most, beside the lookup of their names. A pull ends once the
+peer had nothing new for 500 times in a row, 10 milliseconds apart, and for the reasons that
+docs/FORMATS.md lists; it is not begun again. A server that names itself as a peer serves that
+pull as one of its sessions.
 
 The server ends when all K sessions and all pulls have ended. Nothing is stored on disk: a
 server that is started anew is empty, and gets from its peers what they have. It can be
@@ -43,6 +44,7 @@ On standard error, I being the place of a PEER from 0:
   peer I failed     it can't be reached or is no HOST:PORT: told before sessions are served;
                     or its connection broke, or there was no memory for it: told when the
                     server ends. The server goes on
+  peer I: WORDS     with --tell-pulls, how the pull ended: told when the server ends
   cannot listen     the port is taken or not allowed
   cannot accept     no further session could be had; those so far were served to their end
   too many lanes    there are more than 16 sessions and peers together
@@ -56,6 +58,10 @@ Example:
 pub(crate) const PORT_HELP: &str = "The port to listen on, 1 to 65535";
 
 pub(crate) const SESSIONS_HELP: &str = "How many sessions to serve in all, 1 to 16";
+
+pub(crate) const TELL_PULLS_HELP: &str = "Tell on standard error how each pull ended";
+
+pub(crate) const PEER_TIMEOUT_HELP: &str = "Give up a peer that is silent for so long, 1 to 86400";
 
 pub(crate) const PEER_HELP: &str = "A server to pull from: HOST:PORT";
 

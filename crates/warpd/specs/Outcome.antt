@@ -144,23 +144,23 @@ IsPrinted text before after outcome =
     × (((outcome ≡ Done) × Appends before.written after.written text × (after.failed_writes ≡ before.failed_writes))
     ⊎ ((outcome ≡ Output) × WritesFront before.written after.written text × (after.failed_writes ≡ before.failed_writes + 1)))
 
--- a text tells of the program that these bytes spell what is in it, by the labels of the file, with its numbers where they are
--- wanted
-abbrev pub IsToldOf : List ℕ → Bool → List ℕ → Type 0
-IsToldOf bytes with_numbers text =
-    (P : ReactorProgram) × (names : Names) × IsLoaded bytes P × IsLabelled bytes names × (text ≡ account_text P names with_numbers)
+-- a text tells of the program that these bytes spell what is in it, by the labels of the file, with its numbers and its
+-- own rows where they are wanted
+abbrev pub IsToldOf : List ℕ → Bool → Bool → List ℕ → Type 0
+IsToldOf bytes with_numbers with_rows text =
+    (P : ReactorProgram) × (names : Names) × IsLoaded bytes P × IsLabelled bytes names × (text ≡ account_text P names with_numbers with_rows)
 
 -- a text tells so of the program of this name: of `builtin:twice` by some names, or of that of some bytes, which were
 -- read of a file, by their labels
-abbrev pub IsTold : List ℕ → Bool → List ℕ → Type 0
-IsTold name with_numbers text =
-    (name ≡ codes "builtin:twice" → (names : Names) × (text ≡ account_text twice names with_numbers))
-    × (name ≢ codes "builtin:twice" → (bytes : List ℕ) × IsToldOf bytes with_numbers text)
+abbrev pub IsTold : List ℕ → Bool → Bool → List ℕ → Type 0
+IsTold name with_numbers with_rows text =
+    (name ≡ codes "builtin:twice" → (names : Names) × (text ≡ account_text twice names with_numbers with_rows))
+    × (name ≢ codes "builtin:twice" → (bytes : List ℕ) × IsToldOf bytes with_numbers with_rows text)
 
 -- checking the program of this name ends so: what tells of it is printed; or where there is none, nothing is printed
-abbrev pub Checks : List ℕ → Bool → Seen → Seen → Outcome → Type 0
-Checks name with_numbers before after outcome =
-    ((text : List ℕ) × IsTold name with_numbers text × IsPrinted text before after outcome)
+abbrev pub Checks : List ℕ → Bool → Bool → Seen → Seen → Outcome → Type 0
+Checks name with_numbers with_rows before after outcome =
+    ((text : List ℕ) × IsTold name with_numbers with_rows text × IsPrinted text before after outcome)
     ⊎ (IsNone name outcome × (after ≡ before))
 
 -- the outcome where a schedule was refused so: the line where it was, but for want of memory
@@ -322,9 +322,9 @@ Traces name with_steps before after outcome =
 abbrev pub Does : Task → Seen → Seen → Outcome → Type 0
 Does (RunProgram program) before after outcome = Runs program before after outcome
 Does (PlaySchedule program schedule) before after outcome = Plays program before after outcome
-Does (ServeProgram program port sessions peers) before after outcome =
+Does (ServeProgram program port sessions tells_pulls peer_timeout peers) before after outcome =
     ServesInLanes program port (sessions + length peers) before after outcome
-Does (CheckProgram program with_numbers) before after outcome = Checks program with_numbers before after outcome
+Does (CheckProgram program with_numbers with_rows) before after outcome = Checks program with_numbers with_rows before after outcome
 Does (TraceProgram program with_steps) before after outcome = Traces program with_steps before after outcome
 
 -- the run whose words are these ends so: words with no fault have what they ask for done, and of others the

@@ -2,15 +2,18 @@
 #![tactic(auto)]
 
 mod checking;
+mod closed_streams;
 mod connection;
 mod file_bytes;
 mod gatherer;
 mod labelled;
 mod outcome;
+mod peers;
 mod program_file;
 mod refused_lines;
 mod schedule_file;
 mod service;
+mod stack;
 mod stepping;
 mod streams;
 mod tracing;
@@ -31,11 +34,13 @@ ghost use Rattle.warp_words.specs.Words.{task_of};
 
 use checking::account_of;
 use clap::error::ErrorKind;
+use closed_streams::take_closed;
 use labelled::{Labelled, labelled_program};
 use outcome::{Outcome, outcome_of, outcome_of_fault, outcome_of_serving, ready, say, status};
 use program_file::program_named;
 use schedule_file::schedule_bytes;
 use service::{Host, Service, listen, serve_at};
+use stack::take_stack;
 use std::alloc::{AllocError, Global};
 use std::fs::Files;
 use std::io::{Eprint, Print, Read, Write};
@@ -54,6 +59,7 @@ use warp_words::{Job, words};
 use warp_world::play_text;
 
 fn main(rt: HostRuntime) -> ExitCode {
+    let _closed = take_closed(&rt);
     start::<Brand, Brand, _, _, _, _>(
         &rt,
         rt.alloc(),
@@ -102,10 +108,13 @@ fn start<
     status
 }
 
-/// The words of the command line, or how the run ends without them.
+/// The words of the command line, or how the run ends without them or the stack that it may need.
 fn arguments(rt: &HostRuntime) -> Result<Vec<String>, Outcome>
     ensures { IfErr result (λ outcome. (outcome ≡ Outcome.Words) ⊎ (outcome ≡ Outcome.Memory)) }
 {
+    if !take_stack(rt.alloc()) {
+        return Err(Outcome::Memory);
+    }
     match env::args(rt) {
         Ok(words) => gathered(rt.alloc(), words),
         Err(error) => Err(without_words(rt, &error)),
@@ -197,11 +206,15 @@ fn carry_out<P: Host + Net<Listener = TcpListener, Stream = TcpStream>, R: Sourc
             program,
             port,
             sessions,
+            tells_pulls,
+            peer_timeout,
             peers,
         } => {
             let service = Service {
                 port,
                 sessions,
+                tells_pulls,
+                peer_timeout,
                 peers,
             };
             serve(rt, alloc, program, &service, streams)
@@ -209,7 +222,8 @@ fn carry_out<P: Host + Net<Listener = TcpListener, Stream = TcpStream>, R: Sourc
         Job::Check {
             program,
             with_numbers,
-        } => check(rt, alloc, program, with_numbers, streams),
+            with_rows,
+        } => check(rt, alloc, program, with_numbers, with_rows, streams),
         Job::Trace {
             program,
             with_steps,
@@ -332,11 +346,13 @@ fn check<F: Files, R: Source, W: Sink>(
     alloc: Global,
     name: &str,
     with_numbers: bool,
+    with_rows: bool,
     streams: &mut Streams<R, W>,
 ) -> Outcome
-    ensures { Checks name.now with_numbers streams.old streams.new result }
+    ensures { Checks name.now with_numbers with_rows streams.old streams.new result }
 {
-    match account_of(files, alloc, name, with_numbers, &mut streams.remark) {
+    let remark = &mut streams.remark;
+    match account_of(files, alloc, name, with_numbers, with_rows, remark) {
         Ok(text) => print(text.as_str().as_bytes(), streams),
         Err(outcome) => outcome,
     }

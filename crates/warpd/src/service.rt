@@ -1,10 +1,12 @@
 //! Serving sessions over TCP.
 
-ghost use Rattle.std.specs.Prelude.{◌≡◌, ◌+◌, ◌<◌, ◌≤◌, ℕ, IfOk, MatchBool, length, vec_len};
+ghost use Rattle.std.specs.Prelude.{◌≡◌, ◌⊎◌, ◌↔◌, ◌+◌, ◌<◌, ◌≤◌, ℕ, IfErr, IfOk, IsTrue, MatchBool, length, vec_len};
 ghost use Rattle.warp_lanes.specs.Engine.{most_lanes};
+ghost use Rattle.warp_session.specs.declared.pulling.PullEnd.{PullEnd};
 
-use crate::connection::Connection;
-use std::alloc::{AllocError, Global};
+use crate::connection::{Channel, Connection};
+use crate::peers::{reach_all, tell_end, tell_failed};
+use std::alloc::Global;
 use std::fs::Files;
 use std::io::{self, Eprint, Print};
 use std::net::{Ipv4Addr, Net, TcpListener, TcpStream};
@@ -18,12 +20,6 @@ use warp_step::Program;
 
 /// The most sessions and peers together.
 const MOST_LANES: usize = 16;
-
-/// So many replies in a row that a peer's log has no more end the pull from it.
-const QUIET: u32 = 500;
-
-/// The sleep behind each of them, in milliseconds.
-const PAUSE: u64 = 10;
 
 /// What a run needs of the system beside the network.
 pub(crate) trait Host: Print + Eprint + Files + Threads + Wait + Clock + Sync {}
@@ -40,6 +36,10 @@ pub(crate) struct Service<'a> {
     pub(crate) port: u16,
     /// How many sessions to serve.
     pub(crate) sessions: usize,
+    /// Whether to tell on standard error how each pull ended.
+    pub(crate) tells_pulls: bool,
+    /// For how many seconds a peer may be silent; without end where none is given.
+    pub(crate) peer_timeout: Option<u64>,
     /// The words that name the peers.
     pub(crate) peers: Vec<&'a str>,
 }
@@ -59,14 +59,15 @@ impl<'a> Service<'a> {
 struct Entrance<'a, X: Eprint> {
     rt: &'a X,
     listener: TcpListener,
+    tells_pulls: bool,
 }
 
 impl<'a, X: Eprint> Door for Entrance<'a, X> {
-    type R = Connection;
+    type R = Channel;
 
-    type W = Connection;
+    type W = Channel;
 
-    fn next(&mut self) -> Result<(Connection, Connection), DoorFault> {
+    fn next(&mut self) -> Result<(Channel, Channel), DoorFault> {
         match next_connection(&self.listener) {
             Ok(both) => Ok(both),
             Err(_) => Err(DoorFault),
@@ -74,21 +75,26 @@ impl<'a, X: Eprint> Door for Entrance<'a, X> {
     }
 
     fn pull_ended(&mut self, peer: u32, end: PullEnd) {
-        if matches!(end, PullEnd::Fault | PullEnd::NoMemory) {
+        if has_failed(end) {
             tell_failed(self.rt, peer);
+        }
+        if self.tells_pulls {
+            tell_end(self.rt, peer, end);
         }
     }
 }
 
-/// Both directions of the next connection that comes.
-fn next_connection(listener: &TcpListener) -> io::Result<(Connection, Connection)> {
-    let (stream, _address) = listener.accept()?;
-    Connection::both_of(stream)
+/// Whether a pull that ended so is told of as failed: a read or a write failed, or no memory was to be had.
+fn has_failed(end: PullEnd) -> bool
+    ensures { IsTrue result ↔ ((end ≡ PullEnd.Fault) ⊎ (end ≡ PullEnd.NoMemory)) }
+{
+    matches!(end, PullEnd::Fault | PullEnd::NoMemory)
 }
 
-/// Tells on standard error that this peer failed.
-fn tell_failed<X: Eprint>(rt: &X, peer: u32) {
-    let _ = eprintln!(rt; "peer {peer} failed");
+/// Both directions of the next connection that comes.
+fn next_connection(listener: &TcpListener) -> io::Result<(Channel, Channel)> {
+    let (stream, _address) = listener.accept()?;
+    Connection::both_of(stream)
 }
 
 /// A listener on this machine alone.
@@ -99,52 +105,20 @@ pub(crate) fn listen<X: Net<Listener = TcpListener, Stream = TcpStream>>(
     TcpListener::bind(rt, (Ipv4Addr::LOCALHOST, port))
 }
 
-/// Both directions of a connection to the peer that this word names.
-fn connect<X: Net<Listener = TcpListener, Stream = TcpStream>>(
-    rt: &X,
-    address: &str,
-) -> io::Result<(Connection, Connection)> {
-    Connection::both_of(TcpStream::connect(rt, address)?)
-}
-
-/// The connection to the peer with this number, or `None` where it can't be reached, which is told on standard error.
-fn reached<X: Eprint + Net<Listener = TcpListener, Stream = TcpStream>>(
-    rt: &X,
-    number: u32,
-    address: &str,
-) -> Option<Peer<Connection, Connection>> {
-    match connect(rt, address) {
-        Ok((source, sink)) => Some(Peer {
-            number,
-            source,
-            sink,
-            quiet: QUIET,
-            pause: Duration::from_millis(PAUSE),
-        }),
-        Err(_) => {
-            tell_failed(rt, number);
-            None
-        }
-    }
-}
-
-/// Connections to the peers that can be reached.
-fn reach_all<X: Eprint + Net<Listener = TcpListener, Stream = TcpStream>>(
+/// Connections to the peers that can be reached, or what keeps sessions from being served.
+fn reached_of<X: Clock + Eprint + Net<Listener = TcpListener, Stream = TcpStream>>(
     rt: &X,
     alloc: Global,
-    addresses: &[&str],
-) -> Result<Vec<Peer<Connection, Connection>>, AllocError>
-    ensures { IfOk result (λ peers. vec_len peers ≤ length addresses.now) }
+    service: &Service<'_>,
+) -> Result<Vec<Peer<Channel, Channel>>, ServeFault>
+    ensures few { IfOk result (λ peers. vec_len peers ≤ vec_len service.now.peers) }
+    ensures err { IfErr result (λ fault. fault ≡ ServeFault.NoMemory) }
 {
-    let mut peers = Vec::with_capacity(alloc, addresses.len())?;
-    let mut number = 0u32;
-    for address in addresses {
-        if let Some(peer) = reached(rt, number, *address) {
-            peers.push(peer)?;
-        }
-        number = number.wrapping_add(1);
+    let silence = service.peer_timeout.map(Duration::from_secs);
+    match reach_all(rt, alloc, &service.peers, silence) {
+        Ok(peers) => Ok(peers),
+        Err(_) => Err(ServeFault::NoMemory),
     }
-    Ok(peers)
 }
 
 /// Connects to the peers, and serves the sessions that come to the listener. Gives the engine that served them.
@@ -165,9 +139,9 @@ pub(crate) fn serve_at<
     ensures lanes { IfOk result (λ engine. (reached : ℕ) × (reached ≤ vec_len service.now.peers)
         × (length engine.lanes ≡ service.now.sessions + reached)) }
 {
-    match reach_all(rt, alloc, &service.peers) {
-        Ok(peers) => serve_with(rt, alloc, program, listener, service.sessions, peers),
-        Err(_) => Err(ServeFault::NoMemory),
+    match reached_of(rt, alloc, service) {
+        Ok(peers) => serve_with(rt, alloc, program, listener, service, peers),
+        Err(fault) => Err(fault),
     }
 }
 
@@ -177,15 +151,27 @@ fn serve_with<X: Host, T: Timeline + Send + Drop>(
     alloc: Global,
     program: Program,
     listener: TcpListener,
-    sessions: usize,
-    peers: Vec<Peer<Connection, Connection>>,
+    service: &Service<'_>,
+    peers: Vec<Peer<Channel, Channel>>,
 ) -> Result<Engine<T>, ServeFault>
-    requires { sessions + vec_len peers ≤ most_lanes }
+    requires { service.now.sessions + vec_len peers ≤ most_lanes }
     // The engine ran this program, and began with an empty log.
     ensures engine { IfOk result (λ engine. (engine.replica.program ≡ program) × (engine.began ≡ 0)) }
     // It had a lane for each session and each peer.
-    ensures lanes { IfOk result (λ engine. length engine.lanes ≡ sessions + vec_len peers) }
+    ensures lanes { IfOk result (λ engine. length engine.lanes ≡ service.now.sessions + vec_len peers) }
 {
-    let mut door = Entrance { rt, listener };
-    serve_sessions(rt, alloc, program, &mut door, sessions, peers, &Open)
+    let mut door = Entrance {
+        rt,
+        listener,
+        tells_pulls: service.tells_pulls,
+    };
+    serve_sessions(
+        rt,
+        alloc,
+        program,
+        &mut door,
+        service.sessions,
+        peers,
+        &Open,
+    )
 }

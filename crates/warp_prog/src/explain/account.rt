@@ -1,15 +1,18 @@
 //! What is in a program: one line, and the numbers by which lines and replies speak of it.
 ghost use Rattle.std.specs.Prelude.{◌≡◌, ◌++◌, ◌∷◌, [], IfOk, OnOk, codes, length, map, string_bytes};
-ghost use Rattle.warp_prog.specs.Explain.{account_text, counted, input_lines, number_lines, numbers_text};
+ghost use Rattle.std.specs.Prelude.{if◌then◌else◌};
+ghost use Rattle.warp_prog.specs.Explain.{account_text, counted, input_lines, number_lines, numbers_text, rows_line};
 ghost use Rattle.warp_prog.specs.Explain.{origin_at, summary_line};
 
+use crate::due::own_rows;
 use crate::explain::labels::Labels;
 use itoa::Buffer;
 use std::alloc::{AllocError, Global};
 use warp_step::{Program, ProgramInput};
 
 /// What is in a program with these labels, as a line; and with its numbers, for each variable, program input and
-/// program output a line with its number and its label, and an input's with its origin.
+/// program output a line with its number and its label, and an input's with its origin; and with its rows, how many it
+/// makes by itself.
 ///
 /// # Errors
 ///
@@ -19,15 +22,58 @@ pub fn program_account(
     program: &Program,
     labels: &Labels,
     with_numbers: bool,
+    with_rows: bool,
 ) -> Result<String, AllocError>
-    ensures { IfOk result (λ text. string_bytes text ≡ account_text program.now labels.now with_numbers) }
+    ensures { IfOk result (λ text. string_bytes text ≡ account_text program.now labels.now with_numbers with_rows) }
 {
     let mut text = String::new(alloc);
     add_summary(&mut text, program, labels.reactors.len())?;
-    if with_numbers {
-        add_numbers(&mut text, program, labels)?;
-    }
+    add_wanted_numbers(&mut text, program, labels, with_numbers)?;
+    add_wanted_rows(&mut text, program, with_rows)?;
     Ok(text)
+}
+
+/// Adds the numbers where they are wanted.
+fn add_wanted_numbers(
+    text: &mut String,
+    program: &Program,
+    labels: &Labels,
+    are_wanted: bool,
+) -> Result<(), AllocError>
+    ensures { let numbers = numbers_text program.now labels.now in
+        OnOk result (string_bytes text.new ≡ string_bytes text.old ++ (if are_wanted then numbers else [])) }
+{
+    if are_wanted {
+        add_numbers(text, program, labels)
+    } else {
+        Ok(())
+    }
+}
+
+/// Adds the line of a program's own rows where it is wanted.
+fn add_wanted_rows(text: &mut String, program: &Program, is_wanted: bool) -> Result<(), AllocError>
+    ensures { let line = rows_line program.now in
+        OnOk result (string_bytes text.new ≡ string_bytes text.old ++ (if is_wanted then line else [])) }
+{
+    if is_wanted {
+        add_rows(text, program)
+    } else {
+        Ok(())
+    }
+}
+
+/// Adds the line of how many rows a program makes by itself.
+fn add_rows(text: &mut String, program: &Program) -> Result<(), AllocError>
+    ensures { OnOk result (string_bytes text.new ≡ string_bytes text.old ++ rows_line program.now) }
+{
+    add_count(text, "own rows", own_rows(program))?;
+    add_count(
+        text,
+        ", outputs of each at most",
+        program.outputs().len() as u64,
+    )?;
+    end_line(text)?;
+    Ok(())
 }
 
 /// Adds the line of what is in a program with so many reactors.

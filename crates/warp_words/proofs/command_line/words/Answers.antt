@@ -1,11 +1,16 @@
 -- Where the parser finds no fault, a subcommand has each word that it wants.
-use Rattle.std.proofs.Common.{◌≡◌, ℕ, List, Option, None, Some, true, false, [], codes, is_some, map, option_map, refl, slice_index_or, subst, sym}
-use Rattle.std.specs.Prelude.{option_and_then}
+use Rattle.std.proofs.Common.{◌≡◌, ◌≤◌, ℕ, Bool, List, Option, None, Some, true, false, [], codes, cond, is_some, map, option_map, refl, slice_index_or, subst, sym}
+use Rattle.std.specs.Prelude.{IfSome, option_and_then}
+use Rattle.std.specs.Str.{bytes_eq}
+use Rattle.clap.specs.declared.builder.value_parser.ValueParser.TheVariants.{Unsigned}
+use Rattle.clap.proofs.ValueTestLemmas.{accepts-Accepts}
 use Rattle.clap.specs.Walk.{Row, Text}
 use Rattle.clap.specs.Simple.{App, argument_words, built, help_shape, subcommand_of}
 use Rattle.clap.specs.Faults.{fault_of}
 use Rattle.clap.specs.ValueTests.{is_unsigned_in}
-use Rattle.warp_words.specs.Words.{Task, last_port, most_sessions, number_up_to, task_found, warpd_command}
+use Rattle.warp_words.specs.Words.{IsInRange, Task, last_port, most_seconds, most_sessions, number_up_to, task_found, task_of, warpd_command}
+use Rattle.warp_words.specs.Words.{PlaySchedule, RunProgram, ServeProgram}
+use Rattle.clap.specs.Words.{first_of, subcommand_rows_of}
 use Rattle.warp_words.proofs.GivenArguments.{Gives, entered_gives, level_given}
 use Rattle.warp_words.proofs.command_line.words.Goals as goal
 
@@ -69,3 +74,55 @@ unreachable-requires c =
     let some = subst HasTask (sym c.in_ok-matches.ensures.ok.1) has in
     let asked = subst (λ o. is_some o ≡ true) (sym c.in_ok-asked.ensures) some in
     let none : false ≡ true = rw c.in-None.is at asked in cc
+
+-- ---- the numbers of a task are in their ranges
+
+abbrev IsUpTo : ℕ → ℕ → Type 0
+IsUpTo most n = (1 ≤ n) × (n ≤ most)
+
+spelled_in : (most : ℕ) (word : Text) → IfSome (number_up_to most word) (IsUpTo most)
+spelled_in most word = go (is_unsigned_in 1 most word) (λ e. let a = accepts-Accepts false (Unsigned 1 most) word e in (a.2, a.3))
+  where
+    go : {n : ℕ} (b : Bool) → (b ≡ true → IsUpTo most n) → IfSome (cond b (Some n) None) (IsUpTo most)
+    go true range = range refl
+    go false range = tt
+
+number_in : (most : ℕ) (o : Option Text) → IfSome (option_and_then (number_up_to most) o) (IsUpTo most)
+number_in most None = tt
+number_in most (Some word) = spelled_in most word
+
+served_in : (b : Bool) (peers : List Text) (r : Option ℕ) → IfSome r (IsUpTo most_seconds) → (o : Option Text) (p q : Option ℕ) → IfSome p (IsUpTo last_port) → IfSome q (IsUpTo most_sessions)
+    → IfSome (option_and_then (λ program. option_and_then (λ port. option_map (λ sessions. ServeProgram program port sessions b r peers) q) p) o) IsInRange
+served_in b peers r wait None p q port sessions = tt
+served_in b peers r wait (Some program) None q port sessions = tt
+served_in b peers r wait (Some program) (Some port) None is sessions = tt
+served_in b peers r wait (Some program) (Some port) (Some n) is sessions = (is.0, is.1, sessions.0, sessions.1, wait)
+
+by_one : (f : Text → Task) → ((word : Text) → IsInRange (f word)) → (o : Option Text) → IfSome (option_map f o) IsInRange
+by_one f all None = tt
+by_one f all (Some word) = all word
+
+by_two : (f : Text → Text → Task) → ((one other : Text) → IsInRange (f one other)) → (o p : Option Text)
+    → IfSome (option_and_then (λ one. option_map (f one) p) o) IsInRange
+by_two f all None p = tt
+by_two f all (Some one) p = by_one (f one) (all one) p
+
+either : (b : Bool) (o p : Option Task) → IfSome o IsInRange → IfSome p IsInRange → IfSome (cond b o p) IsInRange
+either true o p one other = one
+either false o p one other = other
+
+found_in : (found : Option (Text × List Row)) → IfSome (task_found found) IsInRange
+found_in None = tt
+found_in (Some (name, rows)) =
+    either (bytes_eq name (codes "run")) _ _ (by_one RunProgram (λ word. tt) (first_of (codes "PROGRAM") rows))
+    (either (bytes_eq name (codes "play")) _ _ (by_two PlaySchedule (λ one other. tt) (first_of (codes "PROGRAM") rows) (first_of (codes "SCHEDULE") rows))
+    (either (bytes_eq name (codes "serve")) _ _
+    (served_in _ _ _ (number_in most_seconds (first_of (codes "peer-timeout") rows)) (first_of (codes "PROGRAM") rows) _ _
+    (number_in last_port (first_of (codes "port") rows)) (number_in most_sessions (first_of (codes "sessions") rows)))
+    (either (bytes_eq name (codes "check")) _ _ (by_one _ (λ word. tt) (first_of (codes "PROGRAM") rows))
+    (either (bytes_eq name (codes "trace")) _ _ (by_one _ (λ word. tt) (first_of (codes "PROGRAM") rows)) tt))))
+
+pub returns-clause-range : goal.returns-clause-range
+returns-clause-range c =
+    let asked : Some (task_of c.in-Some.job) ≡ task_found (subcommand_rows_of c.in_ok-matches.matches) = rw c.in-Some.is at c.in_ok-asked.ensures in
+    subst (λ o. IfSome o IsInRange) (sym asked) (found_in (subcommand_rows_of c.in_ok-matches.matches))

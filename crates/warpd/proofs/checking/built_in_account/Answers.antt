@@ -6,5 +6,5 @@ use Rattle.warpd.proofs.checking.built_in_account.Goals as goal
 pub returns-in-Ok-program_account-clause-ok : goal.returns-in-Ok-program_account-clause-ok
 returns-in-Ok-program_account-clause-ok c = (
   c.in-Ok-load_labelled.labelled.labels,
-  c.in-Ok-program_account.ensures ∙ ap (λ P. account_text P c.in-Ok-load_labelled.labelled.labels c.args.with_numbers) c.in-Ok.ensures,
+  c.in-Ok-program_account.ensures ∙ ap (λ P. account_text P c.in-Ok-load_labelled.labelled.labels c.args.with_numbers c.args.with_rows) c.in-Ok.ensures,
 )
