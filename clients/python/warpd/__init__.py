@@ -9,6 +9,8 @@
             print(row.tag, row.value)
 
 `Client.run("builtin:twice")` speaks to a process `warpd run` of its own. Standard library alone, Python 3.9 and later.
+With `names=Names.read("game.names.json")`, which `warpd-compile` writes, `client.var("p1.lives")` asks by name. The
+compiler of programs is `warpd.language`, which wants `lark`.
 
     python3 -m warpd carry HOST:PORT HOST:PORT..
 
@@ -19,30 +21,37 @@ so repeats and order do no harm.
 from __future__ import annotations
 
 import bisect
+import difflib
 import io
+import json
 import socket
 import subprocess
-import sys
 import time as clock
-from collections.abc import Iterable, Iterator, Sequence
-from itertools import islice
+from collections.abc import Callable, Iterable, Iterator, Sequence
+from itertools import combinations, islice, permutations
+from os import PathLike
 from typing import NamedTuple, Optional, Union
 
 __all__ = [
-    "Announce", "Announcer", "Board", "Breach", "Client", "Collected", "Count", "Ended", "Entry", "Event", "Horizon",
-    "Known", "Nothing", "Output", "Record", "Refused", "Row", "Tag", "Taken", "Var", "Withdraw", "carry",
+    "Announce", "Announcer", "Board", "Breach", "Carrier", "Client", "Collected", "Count", "Differ", "Ended", "Entry", "Event", "Horizon",
+    "Known", "Names", "Nothing", "Output", "Record", "Refused", "Row", "Shape", "Tag", "Taken", "Var", "Withdraw", "carry",
 ]
 
 MEANINGS = {
     1: "the line is none, or out of range", 2: "the program has no such origin", 3: "past the program's stop",
     4: "the program has no such input", 5: "the input belongs to another origin", 6: "the program has no such variable",
-    7: "the log is full", 8: "no memory", 9: "the line is too long", 10: "busy: 64 lines wait for an answer",
+    7: "the log is full", 8: "no memory", 9: "the line is too long", 10: "busy: too many lines of this session wait",
     11: "there is no board: only a server has one",
 }
 # So many lines are sent before their replies are read: they fit into the buffers on the way, so neither side waits for the other.
 WINDOW = 256
 # A board takes no more rows.
 MOST_ROWS = 4_096
+# No program has more, of any version.
+MOST_ORIGINS, MOST_VARIABLES = 64, 256
+# Refusals that pass: the line may be sent again.
+FOR_NOW = (8, 10)
+FULL = 7
 
 
 class Refused(Exception):
@@ -169,6 +178,55 @@ class Row(NamedTuple):
     value: int
 
 
+class Shape(NamedTuple):
+    """What a server shows of its program without a record: whether its lines have the ranges of version 1, how many
+    origins and how many variables there are. Programs of two shapes differ; those of one shape may."""
+
+    narrow: bool
+    origins: int
+    variables: int
+
+    def __str__(self) -> str:
+        return f"version {'1' if self.narrow else '2+'} origins {self.origins} variables {self.variables}"
+
+
+class Names(NamedTuple):
+    """What the numbers of a program stand for, as `warpd-compile` writes it to FILE.names.json: a number is the place in
+    its list. An input has the origin that owns it beside its name."""
+
+    vars: Sequence[str]
+    inputs: Sequence[tuple[int, str]]
+    outputs: Sequence[str]
+
+    @classmethod
+    def read(cls, path: Union[str, PathLike]) -> Names:
+        with open(path, encoding="utf-8") as file:
+            it = json.load(file)
+        return cls(it["vars"], [(origin, name) for origin, name in it["inputs"]], it["outputs"])
+
+    def var(self, name: Union[int, str]) -> int:
+        """The number of a variable; a number is its own. What none is called is a KeyError that tells the nearest."""
+        return name if isinstance(name, int) else self._place("variable", name, self.vars)
+
+    def input(self, name: Union[int, str]) -> int:
+        """The number of an input, in the same way."""
+        return name if isinstance(name, int) else self._place("input", name, [it for _, it in self.inputs])
+
+    def owner(self, number: int) -> int:
+        """The origin that owns the input with this number."""
+        if number not in range(len(self.inputs)):
+            raise ValueError(f"the names have no input {number}: say whose event it is, by `origin`")
+        return self.inputs[number][0]
+
+    @staticmethod
+    def _place(kind: str, name: str, names: Sequence[str]) -> int:
+        if name in names:
+            return names.index(name)
+        near = difflib.get_close_matches(name, names, 1)
+        hint = f": did you mean `{near[0]}`?" if near else "" if names else ": the client was given no names of any"
+        raise KeyError(f"no {kind} is called `{name}`{hint}")
+
+
 def record_of(words: Sequence[str]) -> Record:
     """The record whose words these are."""
     numbers = [int(it) for it in words[1:]]
@@ -212,18 +270,28 @@ class Client:
     """Lines to one replica, and their answers. Each method waits for its answer; a refusal is raised as `Refused`. A client whose
     exchange breaks off, by `Ended` or by an interrupt, is closed: a later reply would be taken for another line's."""
 
-    def __init__(self, host: str, port: int, timeout: Optional[float] = 10.0):
-        """Connects to a TCP port; `timeout` is in seconds, None for no end."""
-        made = socket.create_connection((host, port), timeout)
-        made.setsockopt(socket.IPPROTO_TCP, socket.TCP_NODELAY, 1)
+    names = Names((), (), ())
+
+    def __init__(self, host: str, port: int, timeout: Optional[float] = 10.0, names: Optional[Names] = None):
+        """Connects to a TCP port; `timeout` is in seconds, None for no end. With `names` a variable and an input may be
+        called by name."""
+        self._address, self._timeout = (host, port), timeout
         self._child: Optional[subprocess.Popen] = None
+        self.names = names or self.names
+        self._connect()
+
+    def _connect(self) -> None:
+        made = socket.create_connection(self._address, self._timeout)
+        made.setsockopt(socket.IPPROTO_TCP, socket.TCP_NODELAY, 1)
         self._begin(made.makefile("rb"), made.makefile("wb", buffering=0))
         made.close()
 
     @classmethod
-    def run(cls, program: str, command: Sequence[str] = ("warpd",)) -> Client:
+    def run(cls, program: str, command: Sequence[str] = ("warpd",), names: Optional[Names] = None) -> Client:
         """A client of a new process `warpd run PROGRAM`, which ends with it. `command` is what starts warpd."""
         self = cls.__new__(cls)
+        self._address = None
+        self.names = names or self.names
         self._child = subprocess.Popen([*command, "run", program], stdin=subprocess.PIPE, stdout=subprocess.PIPE)
         self._begin(self._child.stdout, self._child.stdin)
         return self
@@ -239,6 +307,14 @@ class Client:
                 pass
         if self._child:
             self._child.wait()
+
+    def reconnect(self) -> None:
+        """Connects again to the same port, after a connection was lost or closed; it takes one more of a server's
+        sessions. What was sent and not answered may have been taken or not: send it again (an `Announcer` does)."""
+        if self._address is None:
+            raise ValueError("a process of its own ends with its connection, and its log with it")
+        self.close()
+        self._connect()
 
     def __enter__(self) -> Client:
         return self
@@ -269,6 +345,16 @@ class Client:
             raise reply
         return reply
 
+    def say(self, line: str) -> str:
+        """The text of the reply to one line: for words that have no method."""
+        data = _one_line(line).encode() + b"\n"
+        try:
+            self._send(data)
+            return self._text(line)
+        except BaseException:
+            self.close()
+            raise
+
     def _send(self, data: bytes) -> None:
         try:
             while data:
@@ -277,17 +363,24 @@ class Client:
         except (OSError, ValueError) as error:
             raise Ended(str(error)) from error
 
-    def _reply(self, line: str):
+    def _text(self, line: str) -> str:
         try:
             text = self._replies.readline()
         except (OSError, ValueError) as error:
             raise Ended(str(error)) from error
         if not text.endswith(b"\n"):
             raise Ended(f"no reply to {line!r}")
-        return reply_of(text[:-1].decode("ascii", "replace"), line)
+        return text[:-1].decode("ascii", "replace")
 
-    def event(self, *, origin: int, time: int, input: int, value: int, micro: int = 0) -> Union[Taken, Known]:
-        return self.ask(Event(origin, Tag(time, micro), input, value))
+    def _reply(self, line: str):
+        return reply_of(self._text(line), line)
+
+    def event(
+        self, *, time: int, input: Union[int, str], value: int, origin: Optional[int] = None, micro: int = 0
+    ) -> Union[Taken, Known]:
+        """Without `origin` it is the one that owns the input by the names."""
+        number = self.names.input(input)
+        return self.ask(Event(self.names.owner(number) if origin is None else origin, Tag(time, micro), number, value))
 
     def withdraw(self, *, origin: int, time: int, micro: int = 0) -> Union[Taken, Known]:
         return self.ask(Withdraw(origin, Tag(time, micro)))
@@ -295,8 +388,8 @@ class Client:
     def announce(self, *, origin: int, time: int, events: int, withdrawn: int = 0, micro: int = 0) -> Union[Taken, Known]:
         return self.ask(Announce(origin, Tag(time, micro), events, withdrawn))
 
-    def var(self, number: int) -> Var:
-        return self.ask(f"var {number}")
+    def var(self, number: Union[int, str]) -> Var:
+        return self.ask(f"var {self.names.var(number)}")
 
     def outputs(self) -> Count:
         return self.ask("outputs")
@@ -339,6 +432,33 @@ class Client:
         """How many records the log has."""
         return self.horizon().log
 
+    def shape(self) -> Shape:
+        """What can be seen of the server's program: what is asked for past its end is refused."""
+        # A program of version 1 has no line for its origin 32.
+        narrow = self._refusal(f"breach {MOST_ORIGINS - 1}") == 1
+        return Shape(narrow, self._first_refused("breach", MOST_ORIGINS), self._first_refused("var", MOST_VARIABLES))
+
+    def _first_refused(self, word: str, end: int) -> int:
+        """The least number below the end with which a query is refused, or the end. All greater ones are refused too."""
+        start = 0
+        while start < end:
+            middle = (start + end) // 2
+            if self._refusal(f"{word} {middle}") is None:
+                start = middle + 1
+            else:
+                end = middle
+        return start
+
+    def _refusal(self, line: str) -> Optional[int]:
+        """The number of a line's refusal; one that passes is raised."""
+        try:
+            self.ask(line)
+        except Refused as refused:
+            if refused.number in FOR_NOW:
+                raise
+            return refused.number
+        return None
+
     def records(self, start: int = 1) -> Iterator[Record]:
         """The records of the log from a place on, up to its present end."""
         end = self.length() + 1
@@ -370,22 +490,31 @@ class Client:
 
 
 class Announcer:
-    """Sends the events and withdrawals of one origin, and keeps their counts, so that its announcements are true. No other
-    may send for this origin. What would break an announcement, made or still to come, is a ValueError and not sent: what is
-    before the last announced tag, and a second payload of one name."""
+    """Sends the events and withdrawals of one origin, and keeps their counts, so that its announcements are true. No
+    other may send for this origin. What would break an announcement, made or still to come, is a ValueError and not
+    sent: what is before the last announced tag, and a second payload of one name.
+
+    After a lost connection give it another one, by `client.reconnect()` or `announcer.client = Client(..)`. The next
+    call puts all that was sent for the origin there first: what was not answered, and what a server that began anew
+    does not have."""
 
     def __init__(self, client: Client, origin: int):
-        """Takes up what this server's log has of the origin. That must be all that was ever sent for it: after a restart, or
-        at another server, carry the records there first; else the next announcement is false."""
+        """Takes up what this server's log has of the origin. That must be all that was ever sent for it: where it is
+        not, carry the records there first; else the next announcement is false."""
         self.client, self.origin, self.announced = client, origin, Tag(0)
         self._payloads: dict[Tag, tuple[int, int]] = {}
         self._events: list[Tag] = []
         self._withdrawn: list[Tag] = []
+        self._sent: dict[Record, None] = {}
+        self._unanswered: Optional[Record] = None
+        # The connection to which all of this was sent.
+        self._replies = client._replies
         for record in client.records():
             if record.origin == origin:
                 self._note(record)
 
     def _note(self, record: Record) -> None:
+        self._sent[record] = None
         if isinstance(record, Announce):
             self.announced = max(self.announced, record.tag)
             return
@@ -397,42 +526,86 @@ class Announcer:
         if tags[at : at + 1] != [record.tag]:
             tags.insert(at, record.tag)
 
+    def _catch_up(self) -> None:
+        """Over another connection puts again what was sent. What is refused now and was never answered was not
+        taken."""
+        last = self._unanswered
+        if self.client._replies is self._replies:
+            if last:
+                raise Ended(f"the connection was lost with {str(last)!r} under way")
+            return
+        replies = self.client.many([*self._sent, last] if last else self._sent)
+        if last:
+            refusal = replies[-1].number if isinstance(replies[-1], Refused) else None
+            if refusal is None:
+                self._note(last)
+            if refusal not in FOR_NOW:
+                self._unanswered = None
+        for refused in replies:
+            if isinstance(refused, Refused):
+                raise refused
+        self._replies = self.client._replies
+
+    def _ask(self, record: Record) -> Union[Taken, Known]:
+        self._unanswered = record
+        try:
+            reply = self.client.ask(record)
+        except Refused:
+            self._unanswered = None
+            raise
+        self._note(record)
+        self._unanswered = None
+        return reply
+
     def _put(self, record: Record) -> Union[Taken, Known]:
         if not isinstance(record, Announce) and record.tag < self.announced:
             raise ValueError(f"before what was announced, {self.announced.time} {self.announced.micro}: {record}")
-        reply = self.client.ask(record)
-        self._note(record)
-        return reply
+        return self._ask(record)
 
-    def event(self, *, time: int, input: int, value: int, micro: int = 0) -> Union[Taken, Known]:
-        record = Event(self.origin, Tag(time, micro), input, value)
-        if self._payloads.get(record.tag, (input, value)) != (input, value):
+    def event(self, *, time: int, input: Union[int, str], value: int, micro: int = 0) -> Union[Taken, Known]:
+        self._catch_up()
+        record = Event(self.origin, Tag(time, micro), self.client.names.input(input), value)
+        if self._payloads.get(record.tag, record[2:]) != record[2:]:
             raise ValueError(f"another payload of its name was sent: {record}")
         return self._put(record)
 
     def withdraw(self, *, time: int, micro: int = 0) -> Union[Taken, Known]:
+        self._catch_up()
         return self._put(Withdraw(self.origin, Tag(time, micro)))
 
     def announce(self, time: int, micro: int = 0) -> Union[Taken, Known]:
         """Announces that nothing more comes before this tag."""
+        self._catch_up()
         tag = Tag(time, micro)
         counts = (bisect.bisect_left(tags, tag) for tags in (self._events, self._withdrawn))
         return self._put(Announce(self.origin, tag, *counts))
 
 
 class _Server:
-    """One server of `carry`: its connection, its log as far as it is known, and how much of each other log it was given."""
+    """One server of a `Carrier`: its connection, its log as far as it is known, and how much of each other log it was
+    given."""
 
-    def __init__(self, address: tuple[str, int], timeout: float):
-        self.address, self.timeout = address, timeout
+    def __init__(self, address: tuple[str, int], timeout: float, tell: Callable[[str], None], compare: bool):
+        self.address, self.timeout, self.tell, self.compare = address, timeout, tell, compare
         self.client: Optional[Client] = None
+        self.program = None
         self.log: list[Record] = []
         self.given: dict[_Server, int] = {}
+        self.refused: set[tuple[_Server, int]] = set()
+        self.lost = self.whole = False
+
+    def __str__(self) -> str:
+        return "{}:{}".format(*self.address)
 
     def connect(self, others: Iterable[_Server]) -> None:
         """Connects, and begins anew with it: it may be another process, with another log."""
         self.client = Client(*self.address, timeout=self.timeout)
-        self.log, self.given = [], {}
+        if self.compare:
+            from .host import Program  # which imports this module
+
+            self.program = Program.of(self.client)
+        self.log, self.given, self.lost = [], {}, False
+        self.refused.clear()
         for other in others:
             other.given.pop(self, None)
 
@@ -444,22 +617,38 @@ class _Server:
         """Puts what another one has, and this one was not given; says how many records were new here."""
         start = self.given.get(other, 0)
         replies = self.client.many(other.log[start:])
-        held = next((at for at, it in enumerate(replies) if isinstance(it, Refused) and it.number in (8, 10)), len(replies))
+        held = next((at for at, it in enumerate(replies) if isinstance(it, Refused) and it.number in FOR_NOW), len(replies))
         self.given[other] = start + held
+        for reply in replies[:held]:
+            if isinstance(reply, Refused):
+                self.meet(other, reply)
         return sum(isinstance(it, Taken) for it in replies)
 
-    def turn(self, servers: Iterable[_Server]) -> int:
+    def meet(self, other: _Server, refusal: Refused) -> None:
+        """Tells of a refusal, once for each number and server."""
+        if (other, refusal.number) not in self.refused:
+            self.refused.add((other, refusal.number))
+            what = "its log is full, and lacks records" if refusal.number == FULL else f"it refuses {refusal.line!r}"
+            self.tell(f"{self}: {what} of {other} (refused {refusal.number}: {refusal.meaning})")
+
+    def turn(self, servers: Sequence[_Server]) -> int:
         """Reads its log, and gives it what the others have; says how many records were new to it. A lost connection is made
         again in the next turn, and what was refused is asked again there."""
+        self.whole = False
         try:
             if not self.client:
                 self.connect(servers)
             self.read()
-            return sum(self.give(other) for other in servers if other is not self)
+            moved = sum(self.give(other) for other in servers if other is not self)
+            self.whole = True
+            return moved
         except Refused:
             return 0
-        except OSError:
+        except OSError as error:
+            if not self.lost:
+                self.tell(f"{self}: no connection ({error})")
             self.close()
+            self.lost = True
             return 0
 
     def close(self) -> None:
@@ -468,39 +657,56 @@ class _Server:
         self.client = None
 
 
+class Differ(Exception):
+    """Two servers have different programs, as far as they tell."""
+
+
+class Carrier:
+    """Keeps servers equal, a round at a time: each log is followed, and what is new is put to all others. `tell` is
+    called with what it meets: a connection that is lost, a log that is full, a record that is refused. With `compare`
+    the programs are compared, as far as servers tell of them: a round raises `Differ`."""
+
+    def __init__(
+        self, addresses: Sequence[tuple[str, int]], timeout: float = 10.0, tell: Callable[[str], None] = lambda _: None, compare: bool = True
+    ):
+        self._servers = [_Server(it, timeout, tell, compare) for it in addresses]
+
+    def round(self) -> int:
+        """Says how many records were new somewhere."""
+        moved = sum(it.turn(self._servers) for it in self._servers)
+        for one, other in combinations((it for it in self._servers if it.program), 2):
+            if not one.program.fits(other.program):
+                raise Differ(f"the programs differ: {one} has {one.program}; {other} has {other.program}")
+        return moved
+
+    @property
+    def complete(self) -> bool:
+        """Whether the last round read every log, and nothing that it read is still to be put."""
+        pairs = permutations(self._servers, 2)
+        return all(it.whole for it in self._servers) and all(one.given.get(other, 0) == len(other.log) for one, other in pairs)
+
+    @property
+    def amiss(self) -> bool:
+        """Whether a server is not connected, or has refused what another one has."""
+        return any(not it.client or it.refused for it in self._servers)
+
+    def close(self) -> None:
+        for it in self._servers:
+            it.close()
+
+
 def carry(addresses: Sequence[tuple[str, int]], pause: float = 0.05, timeout: float = 10.0, rounds: Optional[int] = None) -> int:
-    """Follows the log of each server and puts what is new to all others, again after a lost connection, for ever or for so
-    many rounds. It sleeps `pause` seconds after a round that brought nothing. Returns how many records were new somewhere.
-    Each connection takes one of a server's K sessions; a run that takes longer than `timeout` loses the connection, and takes
-    another."""
-    servers, total, done = [_Server(it, timeout) for it in addresses], 0, 0
+    """Follows the log of each server and puts what is new to all others, again after a lost connection, for ever or
+    for so many rounds. It sleeps `pause` seconds after a round that brought nothing. Returns how many records were new
+    somewhere. Each connection takes one of a server's K sessions; a run that takes longer than `timeout` loses the
+    connection, and takes another. It says nothing of what it meets; a `Carrier` does."""
+    carrier, total, done = Carrier(addresses, timeout, compare=False), 0, 0
     try:
         while rounds is None or done < rounds:
-            moved = sum(server.turn(servers) for server in servers)
+            moved = carrier.round()
             total, done = total + moved, done + 1
             if not moved:
                 clock.sleep(pause)
         return total
     finally:
-        for server in servers:
-            server.close()
-
-
-def _is_address(host: str, port: str) -> bool:
-    return bool(host) and port.isdecimal() and 0 < int(port) < 65_536
-
-
-def main(words: Sequence[str]) -> int:
-    addresses = [it.rpartition(":") for it in words[1:]]
-    if words[:1] != ["carry"] or len(addresses) < 2 or not all(_is_address(host, port) for host, _, port in addresses):
-        print("usage: python3 -m warpd carry HOST:PORT HOST:PORT..", file=sys.stderr)
-        return 2
-    try:
-        carry([(host, int(port)) for host, _, port in addresses])
-    except KeyboardInterrupt:
-        pass
-    return 0
-
-
-if __name__ == "__main__":
-    sys.exit(main(sys.argv[1:]))
+        carrier.close()

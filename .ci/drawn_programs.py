@@ -1,0 +1,208 @@
+"""Drawn programs, and drawn statements of the language with what they come to: for `.ci/language`."""
+
+import json
+
+from body_calls import LEAST, MOST, OPERATORS, quotient, wrapped
+
+STOP, MOST_SCHEDULES = 40, 16
+# Names of a program file that are words of the language, beside plain ones.
+NAMES = "a b2 Ab state if let input true new x_1 max present kept_1 reaction timer put".split()
+NUMBERS = [0, 1, -1, 2, 5, -7, 1000, LEAST, MOST]
+
+
+def value(dice, names, triggers, depth=3):
+    """An expression of a program file, of every operator."""
+    kind = dice.random()
+    if depth == 0 or kind < 0.25:
+        return dice.choice([dice.choice(NUMBERS), *names, *names])
+    if kind < 0.35 and triggers:
+        return ["present", dice.choice(triggers)]
+    parts = [value(dice, names, triggers, depth - 1) for _ in range(3)]
+    word = dice.choice(["if", "neg", "not", "not", *OPERATORS])
+    return [word, *parts[: {"if": 3, "neg": 1, "not": 1}.get(word, 2)]]
+
+
+def statements(dice, reactor, reaction, depth=2):
+    seen = reaction["on"] + reaction.get("reads", [])
+    actions = [name for name, _ in reactor.get("actions", [])]
+    variables = [name for name, _ in reactor.get("vars", [])]
+    names = variables + [name for name in seen if name in reactor.get("inputs", []) or name in actions] or [3]
+    made = []
+    for _ in range(dice.randint(0, 3)):
+        kind = dice.random()
+        target = dice.choice(reaction.get("writes") or [""])
+        if kind < 0.25 and depth:
+            lists = [statements(dice, reactor, reaction, depth - 1) for _ in range(2)]
+            made.append(["if", value(dice, names, seen), *lists])
+        elif kind < 0.6 and variables:
+            made.append(["set", dice.choice(variables), value(dice, names, seen)])
+        elif target in reactor.get("outputs", []):
+            made.append(["put", target, value(dice, names, seen)])
+        elif target:
+            made.append(["schedule", target, dice.randint(0, 5), value(dice, names, seen)])
+    return made
+
+
+def reactor_of(dice, number):
+    names = dice.sample(NAMES, 10)
+    word = ["main", "state", "Ab"][number % 3] + str(number) * (number > 2)
+    reactor = {"name": f"r{number}" if dice.random() < 0.8 else word}
+
+    def take(most):
+        return [names.pop() for _ in range(dice.randint(0, most))]
+
+    lists = {
+        "vars": [[name, dice.choice(NUMBERS)] for name in take(3)],
+        "inputs": [names.pop(), *take(1)],
+        "outputs": [names.pop(), *take(1)],
+        "actions": [[name, dice.randint(0, 4)] for name in take(1)],
+        "timers": [[name, dice.randint(0, 9), dice.choice([0, 7])] for name in take(1)],
+    }
+    reactor.update({key: it for key, it in lists.items() if it or dice.random() < 0.2})
+    actions, timers = ([it[0] for it in lists[key]] for key in ("actions", "timers"))
+    triggers, effects = lists["inputs"] + actions + timers + ["startup"], lists["outputs"] + actions
+    reactor["reactions"] = []
+    for _ in range(dice.randint(0, 3)):
+        reaction = {"on": dice.sample(triggers, dice.randint(1, 2)), "reads": dice.sample(triggers, dice.randint(0, 2))}
+        reaction["writes"] = dice.sample(effects, dice.randint(0, len(effects)))
+        reaction["body"] = statements(dice, reactor, reaction)
+        while json.dumps(reaction["body"]).count('"schedule"') > MOST_SCHEDULES:
+            reaction["body"] = statements(dice, reactor, reaction)
+        reactor["reactions"].append({key: it for key, it in reaction.items() if it or dice.random() < 0.2})
+    return reactor
+
+
+def program_of(dice):
+    """A program file: links without delay lead to later reactors; some reactors differ in their names alone."""
+    reactors = [reactor_of(dice, number) for number in range(dice.randint(1, 6))]
+    if dice.random() < 0.3:
+        reactors.append({**reactors[0], "name": "again"})
+    links, inputs = [], []
+    for place, reactor in enumerate(reactors):
+        for name in reactor["inputs"]:
+            source = dice.choice(reactors[:place] or reactors)
+            link = [f"{source['name']}.{dice.choice(source['outputs'])}", f"{reactor['name']}.{name}"]
+            kind = dice.random()
+            if kind < 0.5 and place:
+                links.append(link)
+            elif kind < 0.65:
+                links.append([*link, dice.choice([0, 1, 6])])
+            elif kind < 0.95:
+                inputs.append([dice.randrange(3), link[1]])
+    outputs = [f"{it['name']}.{name}" for it in reactors for name in it["outputs"] if dice.random() < 0.8]
+    made = {"version": dice.choice([1, 2]), "stop": STOP, "origins": dice.choice([3, 5]), "reactors": reactors}
+    return {**made, "links": links, "inputs": inputs, "outputs": outputs}
+
+
+def events_of(dice, program, count=12):
+    """Lines of events for the program's inputs, some of them late."""
+    lines = []
+    for _ in range(count if program["inputs"] else 0):
+        number = dice.randrange(len(program["inputs"]))
+        tag = f"{dice.randint(0, STOP)} {dice.choice([0, 0, 1])}"
+        lines.append(f"event {program['inputs'][number][0]} {tag} {number} {dice.randint(-3, 9)}")
+    return lines
+
+
+def folded_value(it):
+    """An expression with what is constant worked out."""
+    if not isinstance(it, list) or it[0] == "present":
+        return it
+    word, *parts = [it[0], *map(folded_value, it[1:])]
+    if word == "if" and isinstance(parts[0], int):
+        return parts[1] if parts[0] else parts[2]
+    if word == "if" or not all(isinstance(part, int) for part in parts):
+        return [word, *parts]
+    if word in ("neg", "not"):
+        return wrapped(-parts[0]) if word == "neg" else int(parts[0] == 0)
+    return OPERATORS[word](*parts)
+
+
+def folded_list(body):
+    made = []
+    for word, *parts in body:
+        if word == "if":
+            test, yes, no = folded_value(parts[0]), folded_list(parts[1]), folded_list(parts[2])
+            made += (yes if test else no) if isinstance(test, int) else [["if", test, yes, no]]
+        else:
+            made.append([word, *parts[:-1], folded_value(parts[-1])])
+    return made
+
+
+def folded(program):
+    """The program with what is constant in its bodies worked out."""
+    def reaction(it):
+        return {**it, "body": folded_list(it.get("body", []))}
+
+    reactors = [{**it, "reactions": [reaction(each) for each in it.get("reactions", [])]} for it in program["reactors"]]
+    return {**program, "reactors": reactors}
+
+
+# Statements of the language: each with its text and what it does to the values of the names.
+
+SIGNS = {
+    **{sign: OPERATORS[sign] for sign in ("+", "-", "*", "/", "%", "<")},
+    "==": OPERATORS["="], "&&": OPERATORS["and"], "||": OPERATORS["or"], "!=": lambda a, b: int(a != b),
+    ">": lambda a, b: int(a > b), "<=": lambda a, b: int(a <= b), ">=": lambda a, b: int(a >= b),
+}
+FUNCTIONS = {"min": min, "max": max, "clamp": lambda it, low, high: low if it < low else high if high < it else it}
+VARIABLES = ["a", "b", "c"]
+
+
+def expression(dice, names, depth=2):
+    """Its text, and what gives its value."""
+    kind = dice.random()
+    if depth == 0 or kind < 0.2:
+        name, number = dice.choice(names), dice.choice(NUMBERS)
+        return (name, lambda now: now[name]) if dice.random() < 0.7 else (f"({number})", lambda now: number)
+    texts, meanings = zip(*(expression(dice, names, depth - 1) for _ in range(3)))
+    one, two, three = meanings
+    if kind < 0.3:
+        return f"({texts[0]} ? {texts[1]} : {texts[2]})", lambda now: two(now) if one(now) else three(now)
+    if kind < 0.4:
+        return f"abs({texts[0]})", lambda now: wrapped(-one(now)) if one(now) < 0 else one(now)
+    if kind < 0.6:
+        word = dice.choice([*FUNCTIONS])
+        count = 3 if word == "clamp" else dice.choice([2, 3])
+        return f"{word}({', '.join(texts[:count])})", lambda now: FUNCTIONS[word](*(it(now) for it in meanings[:count]))
+    sign = dice.choice([*SIGNS])
+    return f"({texts[0]} {sign} {texts[1]})", lambda now: SIGNS[sign](one(now), two(now))
+
+
+def text_body(dice, names, lets, depth=2):
+    """Statements as text, and what they do."""
+    names, texts, acts = list(names), [], []
+    for _ in range(dice.randint(2, 5)):
+        kind = dice.random()
+        text, meaning = expression(dice, names)
+        if kind < 0.35:
+            name = f"l{next(lets)}"
+            texts.append(f"let {name} = {text};")
+            acts.append(lambda now, name=name, meaning=meaning: now.update({name: meaning(now)}))
+            names += [name, name]
+        elif kind < 0.55 and depth:
+            yes, do_yes = text_body(dice, names, lets, depth - 1)
+            no, do_no = text_body(dice, names, lets, depth - 1)
+            texts.append(f"if ({text}) {{ {yes} }} else {{ {no} }}")
+            acts.append(lambda now, test=meaning, yes=do_yes, no=do_no: yes(now) if test(now) else no(now))
+        else:
+            name, sign = dice.choice(VARIABLES), dice.choice(["", "", "+", "-", "*", "/", "%"])
+            texts.append(f"{name} {sign}= {text};")
+            change = SIGNS[sign] if sign else lambda _, new: new
+            acts.append(lambda now, name=name, new=meaning, do=change: now.update({name: do(now[name], new(now))}))
+    return "\n".join(texts), lambda now: [act(now) for act in acts] and None
+
+
+def text_program(dice):
+    """A text with one reaction, what its variables come to over some events, and these events' values."""
+    body, does = text_body(dice, [*VARIABLES, "x", "step"], iter(range(1000)))
+    starts, step = {name: dice.choice(NUMBERS) for name in VARIABLES}, dice.choice(NUMBERS)
+    states = "".join(f"  state {name}: int = {start};\n" for name, start in starts.items())
+    reactor = f"reactor R(step: int) {{\n{states}  input x: int;\n  reaction(x) {{=\n{body}\n=}}\n}}\n"
+    main = f"main reactor {{ r = new R(step = {step}); @origin(0) input r.x; }}\n"
+    text = f"target warpd {{ stop: 9 }}\n{reactor}{main}"
+    given, now = [dice.choice([*NUMBERS, 3]) for _ in range(4)], dict(starts)
+    for number in given:
+        now.update(x=number, step=step)
+        does(now)
+    return text, given, {name: now[name] for name in VARIABLES}

@@ -1,0 +1,69 @@
+"""What is wrong with a text, and how that is shown: file, line, column, the line with a caret, and a hint."""
+
+from __future__ import annotations
+
+import difflib
+from collections.abc import Iterable
+from dataclasses import dataclass
+
+from .tree import At
+
+MOST_SHOWN = 50
+
+
+@dataclass(frozen=True, order=True)
+class Fault:
+    at: At
+    kind: str
+    text: str
+    hint: str = ""
+
+
+class Report:
+    """The faults and warnings of one text, each told once, in the order of the text."""
+
+    def __init__(self, file: str, text: str):
+        self.file, self.lines = file, text.split("\n")
+        self.faults: list[Fault] = []
+
+    def error(self, at: At, text: str, hint: str = "") -> None:
+        self._add(Fault(at, "error", text, hint))
+
+    def warning(self, at: At, text: str, hint: str = "") -> None:
+        self._add(Fault(at, "warning", text, hint))
+
+    def _add(self, fault: Fault) -> None:
+        if fault not in self.faults:
+            self.faults.append(fault)
+
+    @property
+    def errors(self) -> int:
+        return sum(it.kind == "error" for it in self.faults)
+
+    def __str__(self) -> str:
+        shown = sorted(self.faults)
+        texts = [self._shown(it) for it in shown[:MOST_SHOWN]]
+        if len(shown) > MOST_SHOWN:
+            texts.append(f"{self.file}: and {len(shown) - MOST_SHOWN} more\n")
+        return "".join(texts)
+
+    def _shown(self, fault: Fault) -> str:
+        line, column, width = fault.at
+        source = self.lines[line - 1].rstrip("\r") if line <= len(self.lines) else ""
+        number = f"{line:5}"
+        blank = "".join(it if it == "\t" else " " for it in source[: column - 1]).ljust(column - 1)
+        text = f"{self.file}:{line}:{column}: {fault.kind}: {fault.text}\n{number} | {source}\n"
+        text += f"{' ' * len(number)} | {blank}{'^' * max(1, min(width, len(source) - column + 1))}\n"
+        return text + (f"{' ' * len(number)} = hint: {fault.hint}\n" if fault.hint else "")
+
+
+def nearest(name: str, names: Iterable[str]) -> str:
+    """A hint that names what was meant, where something is near."""
+    found = difflib.get_close_matches(name, sorted(names), 1, 0.6)
+    return f"did you mean `{found[0]}`?" if found else ""
+
+
+def listed(words: Iterable[str], last: str = "and") -> str:
+    """`a`, `a and b`, `a, b and c`."""
+    *front, end = words
+    return f"{', '.join(front)} {last} {end}" if front else end

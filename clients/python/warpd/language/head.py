@@ -1,0 +1,74 @@
+"""The head of a text: its target with the properties of the program, and its constants."""
+
+from __future__ import annotations
+
+from typing import Optional
+
+from . import tree
+from .faults import Report, nearest
+from .model import Program, ranged
+from .scope import Kind, Scope
+
+PROPERTIES = ("stop", "unit", "origins", "version")
+
+
+class Head:
+    """Reads the head of one text into a program."""
+
+    def __init__(self, file: tree.File, program: Program, report: Report):
+        self.file, self.program, self.report = file, program, report
+        self.found: dict[str, tree.Property] = {}
+
+    def read(self) -> None:
+        self._target()
+        self._constants()
+
+    def _target(self) -> None:
+        program, target, before = self.program, self.file.target, self.report.errors
+        if not target:
+            hint = "begin with `target warpd { stop: 100 }`"
+            self.report.error(self.file.at, "the program has no target", hint)
+        elif target.text != "warpd":
+            hint = "write `target warpd { stop: 100 }`: bodies are in warpd's own statements"
+            self.report.error(target.at, f"the target is `{target.text}`", hint)
+        for it in self.file.properties:
+            self._property(it)
+        if "unit" in self.found:
+            program.unit = self._unit(self.found["unit"].value)
+        if "stop" not in self.found and self.report.errors == before:
+            hint = "write `target warpd { stop: 100 }`: the last time that is executed"
+            self.report.error(self.file.at, "the program has no stop", hint)
+        program.version = self._number("version", 2, 1, 2)
+        program.stop = self._number("stop", 0, 0, program.limits.stop)
+        program.origins = self._number("origins", 0, 1, program.limits.origins)
+
+    def _property(self, it: tree.Property) -> None:
+        name = it.name.text
+        if name in self.found:
+            self.report.error(it.name.at, f"`{name}` stands twice")
+        elif name not in PROPERTIES:
+            hint = "the last time is `stop`" if name == "timeout" else nearest(name, PROPERTIES)
+            hint = hint or "there are `stop`, `unit`, `origins` and `version`"
+            self.report.error(it.name.at, f"`{name}` is no property of a program", hint)
+        self.found.setdefault(name, it)
+
+    def _unit(self, it: tree.Expression) -> Optional[int]:
+        if isinstance(it, tree.Duration) and it.nanoseconds:
+            return it.nanoseconds
+        self.report.error(it.at, "the unit is a time", "write `unit: 1 ms`")
+        return None
+
+    def _number(self, name: str, default: int, least: int, most: int) -> int:
+        it = self.found.get(name)
+        if not it:
+            return default
+        value = self.program.constant(Scope(self.report, self.program.unit), it.value, {})
+        return ranged(self.report, value, least, most, it.value.at, f"`{name}`")
+
+    def _constants(self) -> None:
+        scope, constants = Scope(self.report, self.program.unit), self.program.constants
+        for it in self.file.constants:
+            scope.type(it.type)
+            value = self.program.constant(scope, it.value, constants)
+            scope.declare(it.name, Kind.CONSTANT)
+            constants.setdefault(it.name.text, value or 0)

@@ -1,0 +1,127 @@
+"""Each instance written out as a reactor of the program file; and what a program has too much of."""
+
+from __future__ import annotations
+
+from collections import Counter
+from collections.abc import Mapping
+from typing import Optional
+
+from . import tree
+from .faults import Report, listed
+from .lowering import Body
+from .model import Instance, Program, ranged
+from .scope import count_of
+from .tree import At
+from .values import depth, depth_of_list, schedules
+
+MOST_DEPTH, MOST_SCHEDULES = 24, 16
+MOST = {
+    "reactors": 64, "variables": 256, "ports": 256, "reactions": 256, "actions": 64, "timers": 16,
+    "connections": 256, "program inputs": 64, "program outputs": 64,
+}
+PARTS = {
+    "variables": ("vars",), "ports": ("inputs", "outputs"), "reactions": ("reactions",), "actions": ("actions",),
+    "timers": ("timers",),
+}
+
+
+class Writer:
+    """Writes one instance out."""
+
+    def __init__(self, it: Instance, program: Program, report: Report):
+        self.it, self.program, self.report = it, program, report
+        self.kept: list[str] = []
+
+    def write(self) -> None:
+        it, every = self.it, self.it.of.tree.every
+        reactions = [self._reaction(each) for each in every(tree.Reaction)]
+        starts = [[each.name.text, self._constant(each.start)] for each in every(tree.State)]
+        lists = {
+            "vars": starts + [[name, 0] for name in self.kept],
+            "inputs": [each.text for each in it.of.ports(True)],
+            "outputs": [each.text for each in it.of.ports(False)],
+            "actions": [[each.name.text, *self._times(each, "the delay")] for each in every(tree.Action)],
+            "timers": [[each.name.text, *self._times(each, "the offset", "the period")] for each in every(tree.Timer)],
+            "reactions": reactions,
+        }
+        it.kept = len(self.kept)
+        it.reactor = {"name": it.name, **{key: value for key, value in lists.items() if value}}
+
+    def _constant(self, it: Optional[tree.Expression]) -> int:
+        return self.program.lowered(it, self.it.constants) if it else 0
+
+    def _times(self, member, *meanings: str) -> list[int]:
+        """The times in the brackets of an action or a timer, 0 where one is missing."""
+        times = [self._time(self._constant(it), it.at, what) for it, what in zip(member.arguments, meanings)]
+        return times + [0] * (len(meanings) - len(times))
+
+    def _time(self, value: int, at: At, what: str) -> int:
+        return ranged(self.report, value, 0, self.program.limits.delay, at, what)
+
+    def _variable(self, number: int) -> str:
+        """The name of the compiler's variable with this number: one that the reactor has not."""
+        while len(self.kept) <= number:
+            name = f"kept_{len(self.kept) + 1}"
+            while name in self.it.of.scope.kinds:
+                name += "_"
+            self.kept.append(name)
+        return self.kept[number]
+
+    def _reaction(self, reaction: tree.Reaction) -> dict:
+        outputs = {each.text for each in self.it.of.ports(False)}
+        body = Body(self.it.constants, outputs, self.program.unit or 1, self._variable)
+        statements = body.made(reaction.body or ())
+        for at, value in body.values:
+            if depth(value) > MOST_DEPTH:
+                text = f"this expression is {depth(value)} deep: {MOST_DEPTH} is allowed"
+                self.report.error(at, text, "give a part of it a name by `let`")
+        for at, delay in body.delays:
+            self._time(delay, at, "the delay")
+        self._body_limits(reaction.at, statements)
+        lists = {part: [place.name.text for place in getattr(reaction, part)] for part in ("on", "reads", "writes")}
+        return {key: value for key, value in {**lists, "body": statements}.items() if value}
+
+    def _body_limits(self, at: At, statements: list) -> None:
+        deep, wishes = depth_of_list(statements), schedules(statements)
+        if deep > MOST_DEPTH:
+            text = f"the statements of this reaction are {deep} deep: {MOST_DEPTH} is allowed"
+            self.report.error(at, text, "each `if` counts, and so does each `else if` of a row")
+        if wishes > MOST_SCHEDULES:
+            self.report.error(at, f"this reaction has {wishes} `schedule`: {MOST_SCHEDULES} are allowed")
+
+
+def check_limits(program: Program, report: Report) -> None:
+    """Tells what the whole program has too much of."""
+    instances = program.instances.values()
+    if not instances:
+        report.error(program.at, "the program has no reactor", "make an instance in main: `p = new Player();`")
+    for what, parts in PARTS.items():
+        each = {it.name: sum(len(it.reactor.get(part, ())) for part in parts) for it in instances}
+        if sum(each.values()) > MOST[what]:
+            _too_many(program, report, what, each)
+    for what, places in {
+        "reactors": instances, "connections": program.links, "program inputs": program.inputs,
+        "program outputs": program.outputs,
+    }.items():
+        if len(places) > MOST[what]:
+            report.error([*places][MOST[what]].at, f"{len(places)} {what}, {MOST[what]} are allowed")
+
+
+def _too_many(program: Program, report: Report, what: str, each: Mapping[str, int]) -> None:
+    """Told at the instance that passes the limit, with what the instances of each reactor have."""
+    total = 0
+    for name, number in each.items():
+        total += number
+        if total > MOST[what]:
+            break
+    parts = []
+    shares = Counter(_share(program.instances[it], number, what) for it, number in each.items())
+    for (of, number, kept), count in shares.items():
+        has = f"{count_of(count, 'instance')} of {of} {'has' if count == 1 else 'have'} {number}{' each' * (count > 1)}"
+        parts.append(has + f" ({kept} for what the compiler keeps)" * (kept > 0))
+    text = f"{sum(each.values())} {what}, {MOST[what]} are allowed: {listed(parts)}"
+    report.error(program.instances[name].at, text)
+
+
+def _share(it: Instance, number: int, what: str) -> tuple[str, int, int]:
+    return it.of.name, number, it.kept if what == "variables" else 0

@@ -1,0 +1,146 @@
+"""A program as it is compiled: the reactors of the text, their instances, and what main connects."""
+
+from __future__ import annotations
+
+from dataclasses import dataclass, field
+from typing import NamedTuple, Optional
+
+from . import tree
+from .bodies import BodyCheck
+from .faults import Report
+from .lowering import lowered
+from .scope import Scope
+from .tree import At
+
+
+class Limits(NamedTuple):
+    """What the versions of program files differ in."""
+
+    stop: int
+    delay: int
+    origins: int
+
+
+LIMITS = {1: Limits(1_000_000, 1_000_000, 32), 2: Limits(10_000_000, 10_000_000, 64)}
+
+
+@dataclass
+class Class:
+    """A reactor of the text, checked."""
+
+    tree: tree.Reactor
+    scope: Scope
+    reactions: list[BodyCheck] = field(default_factory=list)
+    is_good: bool = True
+
+    @property
+    def name(self) -> str:
+        return self.tree.name.text if self.tree.name else "main"
+
+    def ports(self, is_input: bool) -> list[tree.Name]:
+        """The ports of its own, in the order of the text."""
+        lists = [it.places for it in self.tree.every(tree.Ports) if it.is_input == is_input]
+        return [place.name for places in lists for place in places if not place.owner]
+
+
+@dataclass
+class Instance:
+    """`reactor` is what stands in the program file; the last `kept` of its variables are the compiler's own."""
+
+    name: str
+    of: Class
+    constants: dict[str, int]
+    at: At
+    reactor: dict = field(default_factory=dict)
+    kept: int = 0
+
+
+class Port(NamedTuple):
+    """A port of an instance, as a program file names it."""
+
+    instance: str
+    name: str
+
+    def __str__(self) -> str:
+        return f"{self.instance}.{self.name}"
+
+
+class Link(NamedTuple):
+    source: Port
+    target: Port
+    delay: Optional[int]
+    at: At
+
+
+class Owned(NamedTuple):
+    """A program input."""
+
+    origin: int
+    port: Port
+    at: At
+
+
+class Shown(NamedTuple):
+    """A program output."""
+
+    port: Port
+    at: At
+
+
+@dataclass
+class Program:
+    """`unit` is in nanoseconds, None where the text states none; `origins` is 0 until it is known."""
+
+    at: At
+    version: int = 2
+    stop: int = 0
+    origins: int = 0
+    unit: Optional[int] = None
+    constants: dict[str, int] = field(default_factory=dict)
+    classes: dict[str, Class] = field(default_factory=dict)
+    instances: dict[str, Instance] = field(default_factory=dict)
+    links: list[Link] = field(default_factory=list)
+    inputs: list[Owned] = field(default_factory=list)
+    outputs: list[Shown] = field(default_factory=list)
+
+    @property
+    def limits(self) -> Limits:
+        return LIMITS[self.version]
+
+    def lowered(self, it: tree.Expression, names: dict[str, int]) -> int:
+        """The value of a constant that was checked."""
+        return lowered(it, names, self.unit or 1)
+
+    def constant(self, scope: Scope, it: tree.Expression, names: dict[str, int]) -> Optional[int]:
+        """Checks a constant, and gives its value; None where it is wrong."""
+        before = scope.report.errors
+        scope.constant(it)
+        return self.lowered(it, names) if scope.report.errors == before else None
+
+    def file(self) -> dict:
+        """The program file."""
+        lists = {
+            "links": [[str(it.source), str(it.target)] + [it.delay] * (it.delay is not None) for it in self.links],
+            "inputs": [[it.origin, str(it.port)] for it in self.inputs],
+            "outputs": [str(it.port) for it in self.outputs],
+        }
+        made = {"version": self.version, "stop": self.stop, "origins": self.origins}
+        made["reactors"] = [it.reactor for it in self.instances.values()]
+        return {**made, **{key: value for key, value in lists.items() if value}}
+
+    def names(self) -> dict:
+        """What each number of a line or a reply names: the place in its list is the number."""
+        variables = [(name, it.reactor.get("vars", ())) for name, it in self.instances.items()]
+        return {
+            "vars": [f"{name}.{each}" for name, starts in variables for each, _ in starts],
+            "inputs": [[it.origin, str(it.port)] for it in self.inputs],
+            "outputs": [str(it.port) for it in self.outputs],
+        }
+
+
+def ranged(report: Report, value: Optional[int], least: int, most: int, at: At, what: str) -> int:
+    """The value, or the least one where it is out of range, which is told."""
+    if value is None or least <= value <= most:
+        return least if value is None else value
+    report.error(at, f"{what} is {value}: {least} to {most} is allowed")
+    return least

@@ -1,0 +1,249 @@
+"""The tree of a program's text, as it was written: each part knows where it stands."""
+
+from __future__ import annotations
+
+from dataclasses import dataclass
+from typing import NamedTuple, Optional, Union
+
+
+class At(NamedTuple):
+    """A place in the text: line and column from 1, and how many characters of that line are meant."""
+
+    line: int
+    column: int
+    width: int = 1
+
+    def to(self, end: At) -> At:
+        """From here to the end of another place of the same line; else this place alone."""
+        if end.line != self.line or end.column < self.column:
+            return self
+        return self._replace(width=end.column + end.width - self.column)
+
+
+@dataclass(frozen=True)
+class Name:
+    text: str
+    at: At
+
+
+@dataclass(frozen=True)
+class Place:
+    """`port`, or `instance.port`."""
+
+    owner: Optional[Name]
+    name: Name
+
+    @property
+    def at(self) -> At:
+        return self.owner.at.to(self.name.at) if self.owner else self.name.at
+
+    def __str__(self) -> str:
+        return f"{self.owner.text}.{self.name.text}" if self.owner else self.name.text
+
+
+@dataclass(frozen=True)
+class Number:
+    """A number as it is written: it may be past the range of 64 bits."""
+
+    text: str
+    at: At
+
+
+@dataclass(frozen=True)
+class Duration:
+    """A time with a unit, in nanoseconds."""
+
+    nanoseconds: int
+    text: str
+    at: At
+
+
+@dataclass(frozen=True)
+class Reference:
+    name: str
+    at: At
+
+
+@dataclass(frozen=True)
+class Unary:
+    operator: str
+    part: Expression
+    at: At
+
+
+@dataclass(frozen=True)
+class Binary:
+    operator: str
+    left: Expression
+    right: Expression
+    at: At
+
+
+@dataclass(frozen=True)
+class Choice:
+    test: Expression
+    yes: Expression
+    no: Expression
+    at: At
+
+
+@dataclass(frozen=True)
+class Call:
+    name: Name
+    parts: tuple[Expression, ...]
+    at: At
+
+
+Expression = Union[Number, Duration, Reference, Unary, Binary, Choice, Call]
+
+
+@dataclass(frozen=True)
+class Let:
+    name: Name
+    type: Optional[Name]
+    value: Expression
+
+
+@dataclass(frozen=True)
+class Assign:
+    """`name = value;`, or with an operator before the `=`."""
+
+    name: Name
+    operator: Optional[str]
+    value: Expression
+
+
+@dataclass(frozen=True)
+class Invoke:
+    """`put(output, value);` or `schedule(action, delay, value);`."""
+
+    call: Call
+
+
+@dataclass(frozen=True)
+class If:
+    test: Expression
+    yes: tuple[Statement, ...]
+    no: tuple[Statement, ...]
+
+
+@dataclass(frozen=True)
+class Block:
+    statements: tuple[Statement, ...]
+
+
+Statement = Union[Let, Assign, Invoke, If, Block]
+
+
+@dataclass(frozen=True)
+class Parameter:
+    name: Name
+    type: Optional[Name]
+    default: Optional[Expression]
+
+
+@dataclass(frozen=True)
+class State:
+    name: Name
+    type: Optional[Name]
+    start: Optional[Expression]
+
+
+@dataclass(frozen=True)
+class Ports:
+    """`input a, b`, `output y`; at main also with a dot, and inputs with the origin that owns them."""
+
+    origin: Optional[Expression]
+    is_input: bool
+    places: tuple[Place, ...]
+    type: Optional[Name]
+    at: At
+
+
+@dataclass(frozen=True)
+class Action:
+    name: Name
+    arguments: tuple[Expression, ...]
+    type: Optional[Name]
+
+
+@dataclass(frozen=True)
+class Timer:
+    name: Name
+    arguments: tuple[Expression, ...]
+
+
+@dataclass(frozen=True)
+class Reaction:
+    """`body` is None where it could not be read."""
+
+    on: tuple[Place, ...]
+    reads: tuple[Place, ...]
+    writes: tuple[Place, ...]
+    body: Optional[tuple[Statement, ...]]
+    at: At
+
+
+@dataclass(frozen=True)
+class Argument:
+    name: Name
+    value: Expression
+
+
+@dataclass(frozen=True)
+class Instance:
+    name: Name
+    reactor: Name
+    arguments: tuple[Argument, ...]
+
+
+@dataclass(frozen=True)
+class Connection:
+    """Sources and targets side by side; of a broadcast the sources begin anew until each target has one."""
+
+    sources: tuple[Place, ...]
+    targets: tuple[Place, ...]
+    is_broadcast: bool
+    after: Optional[Expression]
+    at: At
+
+
+Member = Union[State, Ports, Action, Timer, Reaction, Instance, Connection]
+
+
+@dataclass(frozen=True)
+class Reactor:
+    name: Optional[Name]
+    is_main: bool
+    parameters: tuple[Parameter, ...]
+    members: tuple[Member, ...]
+    at: At
+
+    def every(self, kind: type) -> list:
+        """The members of this kind, in the order of the text."""
+        return [it for it in self.members if isinstance(it, kind)]
+
+
+@dataclass(frozen=True)
+class Constant:
+    name: Name
+    type: Optional[Name]
+    value: Expression
+
+
+@dataclass(frozen=True)
+class Property:
+    name: Name
+    value: Expression
+
+
+@dataclass(frozen=True)
+class File:
+    target: Optional[Name]
+    properties: tuple[Property, ...]
+    constants: tuple[Constant, ...]
+    reactors: tuple[Reactor, ...]
+
+    @property
+    def at(self) -> At:
+        return self.target.at if self.target else At(1, 1)

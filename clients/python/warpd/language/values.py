@@ -1,0 +1,65 @@
+"""Expressions as a program file has them, with warpd's arithmetic: what is constant is worked out while it is made.
+
+An expression is a number, a name, or a list of an operator and its parts."""
+
+from __future__ import annotations
+
+from typing import Union
+
+LEAST, MOST = -(2**63), 2**63 - 1
+Value = Union[int, str, list]
+
+
+def wrapped(number: int) -> int:
+    """The number of 64 bits that is left of it."""
+    return (number - LEAST) % 2**64 + LEAST
+
+
+def remainder(a: int, b: int) -> int:
+    """The Euclidean one: never negative; 0 where b is 0."""
+    return a % abs(b) if b else 0
+
+
+def quotient(a: int, b: int) -> int:
+    """What the Euclidean remainder leaves; 0 where b is 0."""
+    return wrapped((a - remainder(a, b)) // b) if b else 0
+
+
+OPERATIONS = {
+    "+": lambda a, b: wrapped(a + b), "-": lambda a, b: wrapped(a - b), "*": lambda a, b: wrapped(a * b),
+    "/": quotient, "%": remainder, "neg": lambda a: wrapped(-a),
+    "=": lambda a, b: int(a == b), "<": lambda a, b: int(a < b),
+    "and": lambda a, b: int(a != 0 and b != 0), "or": lambda a, b: int(a != 0 or b != 0), "not": lambda a: int(a == 0),
+}
+
+
+def made(word: str, *parts: Value) -> Value:
+    """The expression of this operator, or its value where that is constant."""
+    if word == "if" and isinstance(parts[0], int):
+        return parts[1] if parts[0] else parts[2]
+    if word in OPERATIONS and all(isinstance(it, int) for it in parts):
+        return OPERATIONS[word](*parts)
+    return [word, *parts]
+
+
+def is_simple(value: Value) -> bool:
+    """Whether nothing is worked out again where it stands twice."""
+    return not isinstance(value, list) or value[0] == "present"
+
+
+def depth(value: Value) -> int:
+    return 1 if is_simple(value) else 1 + max(depth(it) for it in value[1:])
+
+
+def size(value: Value) -> int:
+    return 1 if is_simple(value) else 1 + sum(size(it) for it in value[1:])
+
+
+def depth_of_list(statements: list) -> int:
+    """0 of an empty list; an `if` has one more than its deeper list."""
+    return max((1 + max(map(depth_of_list, it[2:])) if it[0] == "if" else 1 for it in statements), default=0)
+
+
+def schedules(statements: list) -> int:
+    """How many `schedule` a list has, those in both lists of an `if` counted."""
+    return sum(sum(map(schedules, it[2:])) if it[0] == "if" else it[0] == "schedule" for it in statements)

@@ -1,0 +1,74 @@
+"""What a program says that is right, and that its writer may not have meant."""
+
+from __future__ import annotations
+
+from collections.abc import Callable
+
+from .faults import Report, listed
+from .model import Class, Instance, Port, Program
+from .scope import Kind
+from .tree import At, State
+
+
+def warn(program: Program, report: Report) -> None:
+    for it in program.classes.values():
+        if not any(each.of is it for each in program.instances.values()):
+            report.warning(it.tree.at, f"no instance of {it.name}")
+    for one in {id(it.of): it.of for it in program.instances.values()}.values():
+        ClassWarnings(program, report, one).warn()
+    owned = {it.origin for it in program.inputs}
+    lacking = [str(it) for it in range(program.origins) if it not in owned]
+    if lacking[1:]:
+        text = f"origins {listed(lacking)} have no inputs: they hold the horizon at (0, 0)"
+        report.warning(program.at, f"{text} until somebody announces for them")
+    elif lacking:
+        text = f"origin {lacking[0]} has no inputs: it holds the horizon at (0, 0)"
+        report.warning(program.at, f"{text} until somebody announces for it")
+
+
+class ClassWarnings:
+    """Warnings of one reactor of the text: at itself where they hold for all its instances, else at each of these."""
+
+    def __init__(self, program: Program, report: Report, one: Class):
+        self.program, self.report, self.one = program, report, one
+        self.instances = [it for it in program.instances.values() if it.of is one]
+        self.used = {it.source for it in program.links} | {it.port for it in program.outputs}
+        self.sources = {it.target for it in program.links} | {it.port for it in program.inputs}
+
+    def warn(self) -> None:
+        for state in self.one.tree.every(State):
+            if state.name.text not in self.one.scope.read:
+                text = f"`{state.name.text}` is never read by a reaction"
+                self.report.warning(state.name.at, text, "it can be asked for from outside by its name")
+        for name in self.one.ports(False):
+            self._each(
+                lambda it, name=name: Port(it.name, name.text) not in self.used, name.at,
+                f"`{name.text}` leads nowhere", lambda it, name=name: f"`{it.name}.{name.text}` leads nowhere",
+            )
+        for number, check in enumerate(self.one.reactions):
+            at = check.reaction.at
+            never = "nothing comes to what triggers it"
+            self._each(
+                lambda it, number=number: not self._runs(it, number), at, f"this reaction never runs: {never}",
+                lambda it, at=at: f"the reaction at line {at.line} never runs in `{it.name}`: {never}",
+            )
+
+    def _each(self, holds: Callable[[Instance], bool], at: At, text: str, told: Callable[[Instance], str]) -> None:
+        found = [it for it in self.instances if holds(it)]
+        if len(found) == len(self.instances):
+            self.report.warning(at, text)
+        else:
+            for it in found:
+                self.report.warning(it.at, told(it))
+
+    def _runs(self, it: Instance, number: int) -> bool:
+        return any(self._comes(it, name) for name in it.reactor["reactions"][number]["on"])
+
+    def _comes(self, it: Instance, name: str) -> bool:
+        kind = self.one.scope.kinds[name]
+        if kind is Kind.INPUT:
+            return Port(it.name, name) in self.sources
+        if kind is Kind.ACTION:
+            return any(name in check.effects for check in self.one.reactions)
+        offsets = {timer: offset for timer, offset, _ in it.reactor.get("timers", ())}
+        return kind is Kind.STARTUP or offsets[name] <= self.program.stop

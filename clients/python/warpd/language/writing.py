@@ -1,0 +1,171 @@
+"""From a program file to its text. Reactors that differ in their names alone are instances of one."""
+
+from __future__ import annotations
+
+import json
+from collections.abc import Iterable, Mapping, Sequence
+from typing import Optional
+
+from .values import Value
+
+KEYWORDS = {
+    "target", "const", "reactor", "main", "state", "input", "output", "logical", "action", "timer", "reaction", "new",
+    "after", "let", "if", "else", "true", "false",
+}
+# Which keys each object of a program file has, those with lists apart.
+FILE = (("version", "stop", "origins"), ("reactors", "links", "inputs", "outputs"))
+REACTOR = (("name",), ("vars", "inputs", "outputs", "actions", "timers", "reactions"))
+REACTION = ((), ("on", "reads", "writes", "body"))
+# How tight each operator binds, as in C.
+CHOICE, UNARY, ATOM = 0, 7, 8
+BINDS = {
+    "or": ("||", 1), "and": ("&&", 2), "=": ("==", 3), "<": ("<", 4), "+": ("+", 5), "-": ("-", 5),
+    "*": ("*", 6), "/": ("/", 6), "%": ("%", 6),
+}
+NEGATED = {"=": ("!=", 3), "<": (">=", 4)}
+
+
+def checked(it: Mapping, keys: tuple[Sequence[str], Sequence[str]]) -> Mapping:
+    """The object, where it has these keys alone; else it is in no program file."""
+    if not set(it) <= {*keys[0], *keys[1]} or any(not isinstance(it.get(key, []), list) for key in keys[1]):
+        raise ValueError(it)
+    return it
+
+
+def number(it: int) -> str:
+    if type(it) is not int:
+        raise ValueError(it)
+    return str(it)
+
+
+def name(text: str) -> str:
+    """A name as the text has it: one that is a word of the language stands between backquotes."""
+    return f"`{text}`" if text in KEYWORDS else text
+
+
+def port(text: str) -> str:
+    reactor, its = text.split(".")
+    return f"{name(reactor)}.{name(its)}"
+
+
+def expression(value: Value, around: int = CHOICE) -> str:
+    """The text of an expression, in brackets where what is around it binds tighter."""
+    text, binds = _bound(value)
+    return f"({text})" if binds < around else text
+
+
+def _bound(value: Value) -> tuple[str, int]:
+    if isinstance(value, int):
+        return str(value), ATOM if value >= 0 else UNARY
+    if isinstance(value, str):
+        return name(value), ATOM
+    word, *parts = value
+    if word == "present":
+        (its,) = parts
+        return f"present({name(its)})", ATOM
+    if word == "if":
+        test, yes, no = parts
+        return f"{expression(test, CHOICE + 1)} ? {expression(yes)} : {expression(no)}", CHOICE
+    if word in ("neg", "not"):
+        (inner,) = parts
+        if word == "neg":
+            return f"-{expression(inner, ATOM)}", UNARY
+        if isinstance(inner, list) and inner[0] in NEGATED:
+            return _binary(NEGATED[inner[0]], inner[1:])
+        return f"!{expression(inner, UNARY)}", UNARY
+    return _binary(BINDS[word], parts)
+
+
+def _binary(operator: tuple[str, int], parts: Sequence[Value]) -> tuple[str, int]:
+    sign, binds = operator
+    left, right = parts
+    return f"{expression(left, binds)} {sign} {expression(right, binds + 1)}", binds
+
+
+def statements(body: Iterable[list], margin: str) -> list[str]:
+    return [line for it in body for line in _statement(it, margin)]
+
+
+def _statement(it: list, margin: str) -> list[str]:
+    word, *parts = it
+    if word in ("set", "put"):
+        target, value = parts
+        return [f"{margin}{name(target)} = {expression(value)};"]
+    if word == "schedule":
+        action, delay, value = parts
+        return [f"{margin}schedule({name(action)}, {number(delay)}, {expression(value)});"]
+    test, yes, no = parts
+    lines = [f"{margin}if ({expression(test)}) {{", *statements(yes, margin + "  ")]
+    while len(no) == 1 and no[0][0] == "if":
+        _, test, yes, no = no[0]
+        lines += [f"{margin}}} else if ({expression(test)}) {{", *statements(yes, margin + "  ")]
+    if no:
+        lines += [f"{margin}}} else {{", *statements(no, margin + "  ")]
+    return [*lines, f"{margin}}}"]
+
+
+def _reaction(it: Mapping) -> list[str]:
+    checked(it, REACTION)
+    on, reads, writes = (", ".join(map(name, it.get(part, ()))) for part in ("on", "reads", "writes"))
+    head = f"  reaction({on}){' ' * bool(reads)}{reads}{' -> ' * bool(writes)}{writes} {{="
+    body = statements(it.get("body", ()), "    ")
+    if len(body) == 1 and len(head) + len(body[0]) < 100:
+        return [f"{head} {body[0].strip()} =}}"]
+    return [head, *body, "  =}"] if body else [f"{head} =}}"]
+
+
+def _reactor(title: str, it: Mapping) -> list[str]:
+    lines = [f"reactor {title} {{"]
+    lines += [f"  state {name(each)}: int = {number(start)};" for each, start in it.get("vars", ())]
+    for kind in ("input", "output"):
+        if it.get(kind + "s"):
+            lines.append(f"  {kind} {', '.join(map(name, it[kind + 's']))}: int;")
+    lines += [f"  logical action {name(each)}({number(delay)}): int;" for each, delay in it.get("actions", ())]
+    for each, offset, period in it.get("timers", ()):
+        lines.append(f"  timer {name(each)}({number(offset)}, {number(period)});")
+    for reaction in it.get("reactions", ()):
+        lines += _reaction(reaction)
+    return [*lines, "}", ""]
+
+
+def _titled(reactors: Iterable[Mapping]) -> dict[str, tuple[str, Mapping]]:
+    """Each form of a reactor with its name in the text, made of that of its first instance, and this instance."""
+    titled: dict[str, tuple[str, Mapping]] = {}
+    for it in reactors:
+        if form_of(it) not in titled:
+            title, taken = it["name"][0].upper() + it["name"][1:], [each for each, _ in titled.values()]
+            while title in taken:
+                title += "_"
+            titled[form_of(it)] = title, it
+    return titled
+
+
+def form_of(reactor: Mapping) -> str:
+    """A reactor without its name; a list that is empty is as one that is not there."""
+    rest = {key: value for key, value in reactor.items() if key != "name" and value != []}
+    rest["reactions"] = [{key: value for key, value in it.items() if value != []} for it in rest.get("reactions", ())]
+    return json.dumps(rest, sort_keys=True)
+
+
+def text_of(program: Mapping) -> str:
+    """The text of a program file. What is none, a `KeyError`, `TypeError`, `AttributeError` or `ValueError` tells."""
+    checked(program, FILE)
+    reactors, inputs = [checked(it, REACTOR) for it in program["reactors"]], program.get("inputs", [])
+    target = [f"stop: {number(program['stop'])}"]
+    if program["origins"] != 1 + max((origin for origin, _ in inputs), default=0):
+        target.append(f"origins: {number(program['origins'])}")
+    if program["version"] != 2:
+        target.append(f"version: {number(program['version'])}")
+    lines = [f"target warpd {{ {', '.join(target)} }}", ""]
+    titled = _titled(reactors)
+    for title, it in titled.values():
+        lines += _reactor(name(title), it)
+    lines += ["main reactor {", *(f"  {name(it['name'])} = new {name(titled[form_of(it)][0])}();" for it in reactors)]
+    lines += [f"  @origin({number(origin)}) input {port(to)};" for origin, to in inputs]
+    lines += [f"  output {port(it)};" for it in program.get("outputs", ())]
+    lines += [_connection(*it) for it in program.get("links", ())]
+    return "\n".join([*lines, "}", ""])
+
+
+def _connection(source: str, target: str, delay: Optional[int] = None) -> str:
+    return f"  {port(source)} -> {port(target)}{'' if delay is None else ' after ' + number(delay)};"
