@@ -3,7 +3,7 @@
 A case is a list of steps. A step is lines for standard input, what they print, and what may be printed in the place of
 that where one request for memory of one of its calls was refused: `otherwise`, of which each must be seen in some run.
 What stands behind a refused step is printed as if nothing had been refused. All that must be printed comes from the
-definitions and the answers that FORMATS.md gives.
+definitions and the answers that the reference gives.
 
 A call that takes no memory (`is_quiet`) must make no request, and come to the same where each would be refused.
 """
