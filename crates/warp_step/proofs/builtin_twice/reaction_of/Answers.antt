@@ -6,7 +6,7 @@ use Rattle.warp_body.specs.declared.expr.Expr.{Expr, Variable}
 use Rattle.warp_body.specs.declared.stmt.Stmt.{Set, Put, fold-roll-Stmt}
 use Rattle.warp_body.specs.declared.stmt.Stmt.TheOpen.{Stmt-F}
 use Rattle.warp_body.specs.declared.stmt.Stmt.TheVariants.{rolls-Set, rolls-Put}
-use Rattle.warp_step.proofs.twice.reaction_of.Goals as goal
+use Rattle.warp_step.proofs.builtin_twice.reaction_of.Goals as goal
 
 of_set : (k : ℕ) (e : Expr) → statement_of (Set k e) ≡ SetVariable k (term_of e)
 of_set k e = ap statement_of (sym (rolls-Set k e)) ∙ fold-roll-Stmt Statement statement_step (Stmt-F.Set k e)

@@ -4,7 +4,7 @@ use Rattle.std.specs.List.{list_any}
 use Rattle.warp_step.specs.Program.{rule_of}
 use Rattle.warp_step.specs.Valid.{names}
 use Rattle.warp_body.specs.declared.place.Target.TheVariants as to
-use Rattle.warp_prog.proofs.due.begins.Given as goal
+use Rattle.warp_step.proofs.reaction.begins.Given as goal
 
 abbrev pub invariant-loop-reaction : goal.invariant-loop-reaction
 invariant-loop-reaction l =

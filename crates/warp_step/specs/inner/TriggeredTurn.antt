@@ -6,5 +6,5 @@ use Rattle.warp_step.specs.Step.{is_triggered}
 use Rattle.warp_step.specs.inner.Plan.{in_turn}
 
 -- the reaction whose turn this is, if there is one, is triggered
-abbrev pub IsSure : Program → Presence → ℕ → Type 0
-IsSure P present sure = (rule : Rule) → slice_get (in_turn P) sure ≡ Some rule → is_triggered rule present ≡ true
+abbrev pub IsTriggeredTurn : Program → Presence → ℕ → Type 0
+IsTriggeredTurn P present triggered_turn = (rule : Rule) → slice_get (in_turn P) triggered_turn ≡ Some rule → is_triggered rule present ≡ true

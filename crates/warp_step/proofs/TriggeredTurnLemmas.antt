@@ -14,7 +14,7 @@ use Rattle.warp_step.specs.inner.Plan.{first_heeding, heeds, in_turn, most_place
 use Rattle.warp_step.specs.Program.{Program, Rule}
 use Rattle.warp_step.specs.Step.{sources_of}
 use Rattle.warp_step.specs.Valid.{is_valid, program_places}
-use Rattle.warp_step.specs.inner.Sure.{IsSure}
+use Rattle.warp_step.specs.inner.TriggeredTurn.{IsTriggeredTurn}
 use Rattle.warp_step.proofs.PlaceLemmas.{place_with_own, place_within}
 use Rattle.warp_step.proofs.TurnLemmas.{few_turns}
 use Rattle.warp_step.proofs.ValidLemmas.{same_target}
@@ -90,18 +90,18 @@ heeding_present target v present (t ∷ ts) fits h =
     ]
 
 -- After a value, the first reaction that heeds its place is triggered.
-pub sure_after : (P : Program) (target : Target) (v : ℤ) (before after : Presence) (sure : ℕ) → before.sources ≡ sources_of P
-    → IsTrue (target_fits (places_of before) target) → after ≡ with_value target v before → sure ≡ first_heeding (sources_of P) target 0 (in_turn P) → IsSure P after sure
-sure_after P target v before after sure own fits arrives is = λ rule at.
-    let first : first_heeding (sources_of P) target 0 (in_turn P) ≡ 0 + sure = omega (arith, is) in
-    let heeded = first_heeds (sources_of P) target 0 (in_turn P) sure rule first at in
+pub sure_after : (P : Program) (target : Target) (v : ℤ) (before after : Presence) (triggered_turn : ℕ) → before.sources ≡ sources_of P
+    → IsTrue (target_fits (places_of before) target) → after ≡ with_value target v before → triggered_turn ≡ first_heeding (sources_of P) target 0 (in_turn P) → IsTriggeredTurn P after triggered_turn
+sure_after P target v before after triggered_turn own fits arrives is = λ rule at.
+    let first : first_heeding (sources_of P) target 0 (in_turn P) ≡ 0 + triggered_turn = omega (arith, is) in
+    let heeded = first_heeds (sources_of P) target 0 (in_turn P) triggered_turn rule first at in
     let here = heeding_present target v before rule.triggers fits (ap (λ (ss : List ℕ). heeds ss rule.triggers target) own ∙ heeded) in
     ap (λ (p : Presence). list_any (λ trigger. is_some (present_at p trigger)) rule.triggers) arrives ∙ here
 
 -- A turn that no reaction has is sure in vain.
-pub none_sure : (P : Program) (present : Presence) (sure : ℕ) → IsTrue (is_valid P) → most_reactions ≤ sure → IsSure P present sure
-none_sure P present sure valid beyond = λ rule at.
+pub none_sure : (P : Program) (present : Presence) (triggered_turn : ℕ) → IsTrue (is_valid P) → most_reactions ≤ triggered_turn → IsTriggeredTurn P present triggered_turn
+none_sure P present triggered_turn valid beyond = λ rule at.
     let few = few_turns P valid in
-    let none = slice_get_past (in_turn P) sure (omega (arith, few, beyond)) in
+    let none = slice_get_past (in_turn P) triggered_turn (omega (arith, few, beyond)) in
     let no : None ≡ Some rule = sym none ∙ at in
     cc
