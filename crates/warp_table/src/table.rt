@@ -28,8 +28,8 @@ ghost use Rattle.warp_table.specs.inner.Kept.{record_at, stands};
 
 use crate::announcer::Announcer;
 use crate::names::{Name, Names};
+use crate::noting::{note, note_last};
 use crate::rows::Known;
-use crate::ways::{note, note_last};
 use std::alloc::Global;
 use std::collections::BTreeMap;
 use std::marker::Model;
