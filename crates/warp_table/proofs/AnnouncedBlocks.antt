@@ -368,7 +368,7 @@ set_some (b ∷ blocks) (suc n) block g some = All-cons (λ x. 0 < length x) b (
 pub parts_length : (cut : ℕ) (block : List Tally) → (0 < cut) × (cut ≤ 64) → 64 < length block → (0 < length (take cut block)) × (0 < length (drop cut block))
 parts_length cut block some more =
     let within : cut < length block = omega (arith, some.1, more) in
-    (omega (arith, some.0, length-take-le cut block (omega arith)), omega (arith, within, length-drop cut block))
+    (omega (arith, some.0, within, length-take cut block), omega (arith, within, length-drop cut block))
 
 pub drop_whole : {X : Type 0} (n : ℕ) (xs : List X) → take (length xs - n) (drop n xs) ≡ drop n xs
 drop_whole {X = X} n xs = take_more (drop n xs) (length xs - n) (omega (arith, length-drop n xs))
