@@ -137,10 +137,10 @@ impl Block {
 
     /// Whether one of this tag goes in front of all of them.
     fn begins_beyond(&self, tag: Tag) -> bool {
-        match self.tallies.first() {
-            Some(first) => tag.is_before(first.tag),
-            None => false,
-        }
+        let Some(first) = self.tallies.first() else {
+            return false;
+        };
+        tag.is_before(first.tag)
     }
 
     /// Whether it is to take no further one of this tag. What comes newest first goes in front of all, and moves all of

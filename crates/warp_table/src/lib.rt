@@ -13,6 +13,7 @@ mod honest_law;
 mod law;
 mod names;
 mod noting;
+mod others;
 mod rows;
 mod table;
 mod tag_log;

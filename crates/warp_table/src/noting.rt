@@ -6,26 +6,27 @@
 //! then only writes; all others go by `note`. Where memory is wanting, nothing has changed.
 ghost use Rattle.std.specs.Prelude.{◌≡◌, ◌↔◌, ◌⊎◌, ℕ, ℤ, ◌+◌, ◌<◌, ◌≤◌, [], ◌∷◌, ◌++◌, None, Some, false};
 ghost use Rattle.std.specs.Prelude.{length, vec_len, Contains, IsTrue, IfOk, OnOk};
-ghost use Rattle.std.specs.Prelude.{OnErr};
+ghost use Rattle.std.specs.Prelude.{IfNone, IfSome, OnErr};
 ghost use Rattle.std.specs.Map.{lookup};
 ghost use Rattle.warp_tag.specs.Limits.{most_origins, most_records, widest};
 ghost use Rattle.warp_record.specs.declared.record.Record.{Record};
 ghost use Rattle.warp_table.specs.Log.{IsAt};
 ghost use Rattle.warp_table.specs.Names.{origin_of};
-ghost use Rattle.warp_table.specs.Records.{set_of};
+ghost use Rattle.warp_record.specs.Order.{kind_of};
+ghost use Rattle.warp_table.specs.Records.{same_record, set_of};
 ghost use Rattle.warp_table.specs.inner.Heard.{Announced, AreHeard, IsHeard, heard_at, with_tag};
 ghost use Rattle.warp_table.specs.inner.Kept.{HoldsEvent, IsAdded, Keeps, NotesEvent};
 ghost use Rattle.warp_table.specs.inner.Kept.{event_place, is_named, known_of, other_place};
 ghost use Rattle.warp_table.specs.inner.Kept.{put_known, put_other, with_event_at};
 ghost use Rattle.warp_table.specs.inner.Kept.{with_withdrawal_at, withdrawal_place};
+ghost use Rattle.warp_table.specs.inner.Others.{places};
 
 use crate::announcer::Announcer;
 use crate::names::{Name, Names};
+use crate::others::Others;
 use crate::rows::Known;
-use crate::table::{Added, event_place, part};
+use crate::table::{Added, Parted, part, stands};
 use crate::tally::EventOrWithdrawal;
-use std::collections::BTreeMap;
-use std::collections::btree_map::Entry as Place;
 use warp_record::Record;
 use warp_tag::{OutOfMemory, Tag};
 
@@ -36,24 +37,42 @@ struct Noted {
     event: u32,
 }
 
-/// Notes the place of a record that no name keeps. An `Err` changes nothing.
-fn note_other(
-    others: &mut BTreeMap<Record, u32>,
-    record: Record,
-    place: u32,
-) -> Result<(), OutOfMemory>
-    ensures ok { OnOk result (others.new.entries ≡ put_other others.old.entries «record» place) }
-    ensures err { OnErr result (others.new.entries ≡ others.old.entries) }
+/// Whether two records are one.
+fn is_same(one: &Record, other: &Record) -> bool
+    ensures { result ≡ same_record one.now other.now }
 {
-    others.insert(record, place)?;
-    Ok(())
+    *one == *other
+}
+
+/// The place of the new event of these two among the others, where it is there; or else notes the place of the one that
+/// its name does not keep. An `Err` changes nothing.
+fn note_parted(
+    others: &mut Others,
+    new: &Record,
+    parted: &Parted,
+) -> Result<Option<u32>, OutOfMemory>
+    requires { (kind_of new.now ≡ 0) × (kind_of parted.now.other ≡ 0) }
+    ensures known { IfOk result (λ found. IfSome found (λ at. (places others.new ≡ places others.old) ×
+        (other_place (places others.old) new.now ≡ Some at))) }
+    ensures new { IfOk result (λ found. IfNone found ((other_place (places others.old) new.now ≡ None) ×
+        (places others.new ≡ put_other (places others.old) parted.now.other parted.now.at))) }
+    ensures err { OnErr result (places others.new ≡ places others.old) }
+{
+    if is_same(&parted.other, new) {
+        return others.enter_event(parted.other, parted.at);
+    }
+    if let Some(place) = others.place(new) {
+        return Ok(Some(place));
+    }
+    others.put_event(parted.other, parted.at)?;
+    Ok(None)
 }
 
 /// Notes an event of a name that has one, at the place `kept`: known where it stands there or among the others, and
 /// else a second payload, which is told to its origin. An `Err` changes nothing.
 fn note_further_event(
     records: &[Record],
-    others: &mut BTreeMap<Record, u32>,
+    others: &mut Others,
     announcer: &mut Announcer,
     kept: u32,
     name: &Name,
@@ -63,14 +82,14 @@ fn note_further_event(
     requires kept { (before : ℕ × ℤ) ×
         IsAt records.now kept (Record.Event name.now.origin name.now.tag before.0 before.1) }
     ensures new { IfOk result (λ noted. IsTrue noted.added.is_new → (noted.added.place ≡ length records.now + 1) ×
-        NotesEvent records.now name.now payload kept noted.event others.old.entries others.new.entries
+        NotesEvent records.now name.now payload kept noted.event (places others.old) (places others.new)
         announcer.old announcer.new) }
     ensures known { IfOk result
-        (λ noted. noted.added.is_new ≡ false → (others.new.entries ≡ others.old.entries) ×
+        (λ noted. noted.added.is_new ≡ false → (places others.new ≡ places others.old) ×
         (announcer.new ≡ announcer.old) ×
-        (event_place records.now kept others.old.entries
+        (event_place records.now kept (places others.old)
         (Record.Event name.now.origin name.now.tag payload.0 payload.1) ≡ Some noted.added.place)) }
-    ensures err { OnErr result ((others.new.entries ≡ others.old.entries) × (announcer.new ≡ announcer.old)) }
+    ensures err { OnErr result ((places others.new ≡ places others.old) × (announcer.new ≡ announcer.old)) }
 {
     let record = Record::Event {
         origin: name.origin,
@@ -78,15 +97,14 @@ fn note_further_event(
         input: payload.0,
         value: payload.1,
     };
-    if let Some(place) = event_place(records, kept, others, &record) {
-        let added = Added {
-            place,
-            is_new: false,
-        };
-        return Ok(Noted { added, event: kept });
+    if stands(records, kept, &record) {
+        return Ok(noted_known(kept, kept));
     }
     let parted = part(records, kept, &record, payload);
-    note_other(others, parted.other, parted.at)?;
+    let found = note_parted(others, &record, &parted)?;
+    if let Some(place) = found {
+        return Ok(noted_known(place, kept));
+    }
     announcer.note_two_payloads(name.tag);
     let added = Added {
         place: records.len() as u32 + 1,
@@ -96,6 +114,17 @@ fn note_further_event(
         added,
         event: parted.event,
     })
+}
+
+/// What comes of an event that was known before.
+fn noted_known(place: u32, event: u32) -> Noted
+    ensures { (result.added.is_new ≡ false) × (result.added.place ≡ place) × (result.event ≡ event) }
+{
+    let added = Added {
+        place,
+        is_new: false,
+    };
+    Noted { added, event }
 }
 
 /// What comes of the first event of a name, which goes behind these records.
@@ -150,7 +179,7 @@ fn keep_event(names: &mut Names, name: Name, known: Known, event: u32)
 fn add_event(
     records: &[Record],
     names: &mut Names,
-    others: &mut BTreeMap<Record, u32>,
+    others: &mut Others,
     announcer: &mut Announcer,
     name: &Name,
     payload: (u32, i64),
@@ -161,13 +190,13 @@ fn add_event(
     ensures new { IfOk result (λ noted. IsTrue noted.added.is_new → (noted.added.place ≡ length records.now + 1) ×
         (names.new ≡ put_known names.old name.now (with_event_at noted.event (known_of name.now names.old))) ×
         NotesEvent records.now name.now payload (known_of name.now names.old).event noted.event
-        others.old.entries others.new.entries announcer.old announcer.new) }
+        (places others.old) (places others.new) announcer.old announcer.new) }
     ensures known { IfOk result (λ noted. noted.added.is_new ≡ false → (names.new ≡ names.old) ×
-        (others.new.entries ≡ others.old.entries) × (announcer.new ≡ announcer.old) ×
-        (event_place records.now (known_of name.now names.old).event others.old.entries
+        (places others.new ≡ places others.old) × (announcer.new ≡ announcer.old) ×
+        (event_place records.now (known_of name.now names.old).event (places others.old)
         (Record.Event name.now.origin name.now.tag payload.0 payload.1) ≡ Some noted.added.place)) }
     ensures err { OnErr result
-        ((names.new ≡ names.old) × (others.new.entries ≡ others.old.entries) × (announcer.new ≡ announcer.old)) }
+        ((names.new ≡ names.old) × (places others.new ≡ places others.old) × (announcer.new ≡ announcer.old)) }
 {
     match names.seek(*name) {
         Some(known) => {
@@ -190,7 +219,7 @@ fn add_event(
 #[inline(never)]
 fn note_event(
     records: &[Record],
-    others: &mut BTreeMap<Record, u32>,
+    others: &mut Others,
     announcer: &mut Announcer,
     kept: u32,
     name: &Name,
@@ -200,14 +229,14 @@ fn note_event(
     requires kept { HoldsEvent records.now name.now kept }
     requires fresh { kept ≡ 0 → ¬ Contains announcer.old.events name.now.tag }
     ensures new { IfOk result (λ noted. IsTrue noted.added.is_new → (noted.added.place ≡ length records.now + 1) ×
-        NotesEvent records.now name.now payload kept noted.event others.old.entries others.new.entries
+        NotesEvent records.now name.now payload kept noted.event (places others.old) (places others.new)
         announcer.old announcer.new) }
     ensures known { IfOk result
-        (λ noted. noted.added.is_new ≡ false → (others.new.entries ≡ others.old.entries) ×
+        (λ noted. noted.added.is_new ≡ false → (places others.new ≡ places others.old) ×
         (announcer.new ≡ announcer.old) ×
-        (event_place records.now kept others.old.entries
+        (event_place records.now kept (places others.old)
         (Record.Event name.now.origin name.now.tag payload.0 payload.1) ≡ Some noted.added.place)) }
-    ensures err { OnErr result ((others.new.entries ≡ others.old.entries) × (announcer.new ≡ announcer.old)) }
+    ensures err { OnErr result ((places others.new ≡ places others.old) × (announcer.new ≡ announcer.old)) }
 {
     if kept == 0 {
         return note_first_event(records, announcer, name.tag);
@@ -257,9 +286,8 @@ fn add_withdrawal(
 
 /// Adds an announcement, which goes to `next`: known where the others have it, and else noted and told to its origin.
 /// An `Err` changes nothing.
-#[inline(never)]
 fn add_announcement(
-    others: &mut BTreeMap<Record, u32>,
+    others: &mut Others,
     announcer: &mut Announcer,
     said: &Record,
     tag: Tag,
@@ -267,30 +295,27 @@ fn add_announcement(
     withdrawn: u32,
     next: u32,
 ) -> Result<Added, OutOfMemory>
+    requires { kind_of said.now ≡ 2 }
     ensures new { IfOk result (λ added. IsTrue added.is_new → (added.place ≡ next) ×
-        (other_place others.old.entries said.now ≡ None) ×
-        (others.new.entries ≡ put_other others.old.entries said.now next) ×
+        (other_place (places others.old) said.now ≡ None) ×
+        (places others.new ≡ put_other (places others.old) said.now next) ×
         (announcer.new ≡ record announcer.old { announced = announcer.new.announced }) ×
         ((a : Announced) → Contains announcer.new.announced a ↔
         Contains announcer.old.announced a ⊎ (a ≡ record { tag = tag; events = events; withdrawn = withdrawn }))) }
     ensures known { IfOk result
-        (λ added. added.is_new ≡ false → (others.new.entries ≡ others.old.entries) × (announcer.new ≡ announcer.old) ×
-        (other_place others.old.entries said.now ≡ Some added.place)) }
-    ensures err { OnErr result ((others.new.entries ≡ others.old.entries) × (announcer.new ≡ announcer.old)) }
+        (λ added. added.is_new ≡ false → (places others.new ≡ places others.old) × (announcer.new ≡ announcer.old) ×
+        (other_place (places others.old) said.now ≡ Some added.place)) }
+    ensures err { OnErr result ((places others.new ≡ places others.old) × (announcer.new ≡ announcer.old)) }
 {
-    match others.entry(*said)? {
-        Place::Occupied(place) => Ok(Added {
-            place: *place.get(),
+    match others.enter_announcement(announcer, said, tag, events, withdrawn, next)? {
+        Some(place) => Ok(Added {
+            place,
             is_new: false,
         }),
-        Place::Vacant(place) => {
-            announcer.note_announcement(tag, events, withdrawn)?;
-            place.insert(next);
-            Ok(Added {
-                place: next,
-                is_new: true,
-            })
-        }
+        None => Ok(Added {
+            place: next,
+            is_new: true,
+        }),
     }
 }
 
@@ -314,20 +339,20 @@ fn keep_up_to(announcers: &mut Vec<Announcer>, origin: u32) -> Result<(), OutOfM
 fn note_own(
     records: &[Record],
     names: &mut Names,
-    others: &mut BTreeMap<Record, u32>,
+    others: &mut Others,
     announcer: &mut Announcer,
     record: &Record,
 ) -> Result<Added, OutOfMemory>
     requires room { length records.now < most_records }
-    requires keeps { Keeps records.now names.old others.old.entries }
+    requires keeps { Keeps records.now names.old (places others.old) }
     requires heard { IsHeard (set_of records.now) (origin_of «record».now) announcer.old }
     ensures new { IfOk result
-        (λ added. IsTrue added.is_new → IsAdded records.now «record».now added.place names.new others.new.entries ×
+        (λ added. IsTrue added.is_new → IsAdded records.now «record».now added.place names.new (places others.new) ×
         IsHeard (set_of (records.now ++ «record».now ∷ [])) (origin_of «record».now) announcer.new) }
     ensures known { IfOk result (λ added. added.is_new ≡ false → IsAt records.now added.place «record».now ×
-        (names.new ≡ names.old) × (others.new.entries ≡ others.old.entries) × (announcer.new ≡ announcer.old)) }
+        (names.new ≡ names.old) × (places others.new ≡ places others.old) × (announcer.new ≡ announcer.old)) }
     ensures err { OnErr result
-        ((names.new ≡ names.old) × (others.new.entries ≡ others.old.entries) × (announcer.new ≡ announcer.old)) }
+        ((names.new ≡ names.old) × (places others.new ≡ places others.old) × (announcer.new ≡ announcer.old)) }
 {
     let next = records.len() as u32 + 1;
     match *record {
@@ -361,21 +386,21 @@ fn note_own(
 pub(crate) fn note(
     records: &[Record],
     names: &mut Names,
-    others: &mut BTreeMap<Record, u32>,
+    others: &mut Others,
     announcers: &mut Vec<Announcer>,
     record: &Record,
 ) -> Result<Added, OutOfMemory>
     requires origin { origin_of «record».now < most_origins widest }
     requires room { length records.now < most_records }
-    requires keeps { Keeps records.now names.old others.old.entries }
+    requires keeps { Keeps records.now names.old (places others.old) }
     requires heard { AreHeard records.now announcers.old.items }
     ensures new { IfOk result
-        (λ added. IsTrue added.is_new → IsAdded records.now «record».now added.place names.new others.new.entries ×
+        (λ added. IsTrue added.is_new → IsAdded records.now «record».now added.place names.new (places others.new) ×
         AreHeard (records.now ++ «record».now ∷ []) announcers.new.items) }
     ensures known { IfOk result (λ added. added.is_new ≡ false → IsAt records.now added.place «record».now ×
-        (names.new ≡ names.old) × (others.new.entries ≡ others.old.entries) ×
+        (names.new ≡ names.old) × (places others.new ≡ places others.old) ×
         AreHeard records.now announcers.new.items) }
-    ensures err { OnErr result ((names.new ≡ names.old) × (others.new.entries ≡ others.old.entries) ×
+    ensures err { OnErr result ((names.new ≡ names.old) × (places others.new ≡ places others.old) ×
         AreHeard records.now announcers.new.items) }
 {
     let origin = record.origin();
@@ -390,15 +415,15 @@ pub(crate) fn note(
 pub(crate) fn note_last(
     records: &[Record],
     names: &mut Names,
-    others: &BTreeMap<Record, u32>,
+    others: &Others,
     announcers: &mut Vec<Announcer>,
     record: &Record,
 ) -> bool
     requires room { length records.now < most_records }
-    requires keeps { Keeps records.now names.old others.now.entries }
+    requires keeps { Keeps records.now names.old (places others.now) }
     requires heard { AreHeard records.now announcers.old.items }
     ensures came { IsTrue result →
-        IsAdded records.now «record».now (length records.now + 1) names.new others.now.entries ×
+        IsAdded records.now «record».now (length records.now + 1) names.new (places others.now) ×
         AreHeard (records.now ++ «record».now ∷ []) announcers.new.items }
     ensures other { result ≡ false → (names.new ≡ names.old) × AreHeard records.now announcers.new.items }
 {

@@ -7,6 +7,7 @@ use Rattle.warp_table.specs.Records.{set_of}
 use Rattle.warp_table.specs.declared.names.Name.{Name}
 use Rattle.warp_table.specs.declared.rows.Known.{Known}
 use Rattle.warp_table.specs.inner.Heard.{AreHeard, Heard, IsHeard}
+use Rattle.warp_table.specs.inner.Others.{places}
 use Rattle.warp_table.specs.inner.Kept.{IsAdded, NotesEvent, known_of, nothing_known, put_known, with_event_at}
 use Rattle.warp_table.proofs.AddedRecords.{event_added, event_fresh}
 use Rattle.warp_table.proofs.EventPlaces.{first_event}
@@ -25,7 +26,7 @@ insert_last-requires c =
     let heard : IsHeard (set_of c.args.records.now) said.origin own =
     subst (λ (o : ℕ). IsHeard (set_of c.args.records.now) o own) (sym same) (own_heard c.args.records.now all all c.args.record.now own (λ o. refl) at c.requires.heard) in
     record {
-      fresh = λ none. event_fresh c.args.records.now c.args.names.now c.args.others.now.entries c.requires.keeps own name heard
+      fresh = λ none. event_fresh c.args.records.now c.args.names.now (places c.args.others.now) c.requires.keeps own name heard
           (ap (λ (o : Option Known). (unwrap_or o nothing_known).event) none);
     }
 
@@ -47,11 +48,11 @@ returns-clause-came c = λ came.
     let none : known_of name c.args.names.now ≡ nothing_known = ap (λ (o : Option Known). unwrap_or o nothing_known) (ok.new came) in
     let known : c.with_event-known.result ≡ with_event_at event (known_of name c.args.names.now) = c.with_event-known.ensures ∙ ap (with_event_at event) (c.nothing.ensures ∙ sym none) in
     let put : c.insert_last.new.self ≡ put_known c.args.names.now name (with_event_at event (known_of name c.args.names.now)) = ok.with came ∙ ap (put_known c.args.names.now name) known in
-    let notes : NotesEvent records name (said.input, said.value) (known_of name c.args.names.now).event event c.args.others.now.entries c.args.others.now.entries own own_now =
-    first_event records name (said.input, said.value) _ event c.args.others.now.entries own own_now (ap (λ (k : Known). k.event) none) c.noted_first-noted.ensures.1 (ok.heard came) in
-    let told = event_added records c.args.names.now c.args.others.now.entries c.requires.keeps own name heard (said.input, said.value) (length records + 1) event
-    c.insert_last.new.self c.args.others.now.entries own_now refl put notes in
-    let both = subst (λ (x : Record). IsAdded records x (length records + 1) c.insert_last.new.self c.args.others.now.entries
+    let notes : NotesEvent records name (said.input, said.value) (known_of name c.args.names.now).event event (places c.args.others.now) (places c.args.others.now) own own_now =
+    first_event records name (said.input, said.value) _ event (places c.args.others.now) own own_now (ap (λ (k : Known). k.event) none) c.noted_first-noted.ensures.1 (ok.heard came) in
+    let told = event_added records c.args.names.now (places c.args.others.now) c.requires.keeps own name heard (said.input, said.value) (length records + 1) event
+    c.insert_last.new.self (places c.args.others.now) own_now refl put notes in
+    let both = subst (λ (x : Record). IsAdded records x (length records + 1) c.insert_last.new.self (places c.args.others.now)
     × IsHeard (set_of (records ++ x ∷ [])) (origin_of x) own_now) (sym said.is) (told.added, told.heard) in (
       both.0,
       subst (λ (o : ℕ). AreHeard (records ++ c.args.record.now ∷ []) (set all o own_now)) (sym same)
