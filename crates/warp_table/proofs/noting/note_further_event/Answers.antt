@@ -1,5 +1,5 @@
 -- the one that counts less goes to the others
-use Rattle.std.proofs.Common.{◌≡◌, ℤ, None, Some, if◌then◌else◌, Option, ℕ, to_z, of_z, w64, refl, rules, ap, sym, subst, ◌∙◌}
+use Rattle.std.proofs.Common.{◌≡◌, ℤ, None, Some, if◌then◌else◌, to_z, of_z, w64, refl, rules, ap, sym, subst, ◌∙◌}
 use Rattle.warp_record.specs.declared.record.Record.{Record}
 use Rattle.warp_record.specs.declared.record.Record.TheVariants.{Event}
 use Rattle.warp_table.specs.inner.Others.{places}

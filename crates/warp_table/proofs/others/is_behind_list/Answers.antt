@@ -1,7 +1,6 @@
 -- the last one is before it, and all others are before that
-use Rattle.std.proofs.Common.{◌≡◌, ℕ, ◌-◌, true, length, get_or, sym, ap, ◌∙◌}
+use Rattle.std.proofs.Common.{◌≡◌, ◌-◌, length, get_or, sym, ap, ◌∙◌}
 use Rattle.std.specs.Ordering.{is_lt}
-use Rattle.warp_record.specs.Order.{record_cmp}
 use Rattle.warp_table.proofs.RisingRecords.{all_before}
 use Rattle.warp_table.proofs.others.is_behind_list.Goals as goal
 

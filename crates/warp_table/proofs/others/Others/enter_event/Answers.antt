@@ -1,5 +1,5 @@
 -- it is not in the list, so what the map says holds
-use Rattle.std.proofs.Common.{◌≡◌, ℕ, None, Option, ap, ◌∙◌}
+use Rattle.std.proofs.Common.{ℕ, Option, ap, ◌∙◌}
 use Rattle.std.specs.BTreeMap.{is_at}
 use Rattle.std.specs.Map.{lookup}
 use Rattle.std.specs.Option.{option_or}

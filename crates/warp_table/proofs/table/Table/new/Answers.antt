@@ -1,5 +1,5 @@
 -- of no records nothing is kept
-use Rattle.std.proofs.Common.{ℕ, ◌≤◌, List, [], length, sym, subst}
+use Rattle.std.proofs.Common.{◌≤◌, List, [], length, sym, subst}
 use Rattle.warp_tag.specs.Limits.{most_records}
 use Rattle.warp_record.specs.declared.record.Record.{Record}
 use Rattle.warp_table.specs.declared.names.Name.{Name}
