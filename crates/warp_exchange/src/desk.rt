@@ -2,14 +2,18 @@
 use warp_record::{Line, Reply};
 use warp_tag::Form;
 
-/// Answers lines, one at a time.
+/// How many lines a desk is asked at once, at most.
+pub const MOST_LINES: usize = 64;
+
+/// Answers lines, one at a time or several together.
 pub trait Desk {
-    ghost use Rattle.std.specs.Prelude.{◌≡◌};
+    ghost use Rattle.std.specs.Prelude.{◌≡◌, ◌≤◌, All, length};
     ghost use Rattle.warp_tag.specs.Limits.{widest};
     ghost use Rattle.warp_tag.specs.declared.form.Form.{Form};
     ghost use Rattle.warp_record.specs.declared.line.Line.{Line};
     ghost use Rattle.warp_record.specs.declared.reply.Reply.{Reply};
     ghost use Rattle.warp_record.specs.Reply.{IsReply};
+    ghost use Rattle.warp_exchange.specs.Batch.{GivesEach, most_lines};
 
     /// What the desk's replies depend on.
     ghost State: { Type 0 };
@@ -32,17 +36,18 @@ pub trait Desk {
         ensures gives { gives (state self.old) «line» result (state self.new) }
         ensures reply { IsReply widest result };
 
-    /// Answers a line as `ask` does, where more lines are at hand, perhaps: what no reply needs yet may wait for these,
-    /// or for `end_batch`.
-    fn ask_in_batch(&mut self, line: Line) -> Reply
-        ensures gives { gives (state self.old) «line» result (state self.new) }
-        ensures reply { IsReply widest result }
+    /// Answers these lines, at most 64, one after another, as `ask` answers each: the reply to a line is written at its
+    /// place. What no reply needed may be done at the end. A batch of fewer than 64 lines says that no more are at hand,
+    /// as far as its caller knows.
+    fn ask_all(&mut self, lines: &[Line], replies: &mut [Reply])
+        requires few { length lines.now ≤ most_lines }
+        requires places { length replies.old ≡ length lines.now }
+        ensures gives { GivesEach gives (state self.old) lines.now replies.new (state self.new) }
+        ensures replies { All (IsReply widest) replies.new }
+        ensures places { length replies.new ≡ length lines.now }
     {
-        self.ask(line)
+        for at in 0..lines.len() {
+            replies[at] = self.ask(lines[at]);
+        }
     }
-
-    /// Does what waits: no more lines are at hand.
-    fn end_batch(&mut self)
-        ensures { state self.new ≡ state self.old }
-    {}
 }
