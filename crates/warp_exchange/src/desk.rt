@@ -7,7 +7,7 @@ pub const MOST_LINES: usize = 64;
 
 /// Answers lines, one at a time or several together.
 pub trait Desk {
-    ghost use Rattle.std.specs.Prelude.{◌≡◌, ◌≤◌, All, length};
+    ghost use Rattle.std.specs.Prelude.{◌≡◌, ◌≤◌, All, Bool, length};
     ghost use Rattle.warp_tag.specs.Limits.{widest};
     ghost use Rattle.warp_tag.specs.declared.form.Form.{Form};
     ghost use Rattle.warp_record.specs.declared.line.Line.{Line};
@@ -27,6 +27,9 @@ pub trait Desk {
     /// The form of its program, in this state.
     ghost form_of: { State → Form };
 
+    /// Whether its lines are asked together where they come together.
+    ghost together: { Bool };
+
     /// The form of its program: of the lines that it takes.
     fn form(&self) -> Form
         ensures { result ≡ form_of (state self.now) };
@@ -36,9 +39,27 @@ pub trait Desk {
         ensures gives { gives (state self.old) «line» result (state self.new) }
         ensures reply { IsReply widest result };
 
-    /// Answers these lines, at most 64, one after another, as `ask` answers each: the reply to a line is written at its
-    /// place. What no reply needed may be done at the end. A batch of fewer than 64 lines says that no more are at hand,
-    /// as far as its caller knows.
+    /// Answers a line as `ask` does, where more lines are at hand, perhaps: what no reply needs yet may wait for these,
+    /// or for `end_batch`.
+    fn ask_in_batch(&mut self, line: Line) -> Reply
+        ensures gives { gives (state self.old) «line» result (state self.new) }
+        ensures reply { IsReply widest result }
+    {
+        self.ask(line)
+    }
+
+    /// Does what waits: no more lines are at hand.
+    fn end_batch(&mut self)
+        ensures { state self.new ≡ state self.old }
+    {}
+
+    /// Whether lines that come together are worth gathering, for `ask_all`: where each answer is waited for. Else they
+    /// are asked one by one, as they are read.
+    fn asks_together() -> bool
+        ensures { result ≡ together };
+
+    /// Answers these lines, at most 64, one after another: the reply to a line is written at its place. What no reply
+    /// needed is done at the end.
     fn ask_all(&mut self, lines: &[Line], replies: &mut [Reply])
         requires few { length lines.now ≤ most_lines }
         requires places { length replies.old ≡ length lines.now }
@@ -47,7 +68,8 @@ pub trait Desk {
         ensures places { length replies.new ≡ length lines.now }
     {
         for at in 0..lines.len() {
-            replies[at] = self.ask(lines[at]);
+            replies[at] = self.ask_in_batch(lines[at]);
         }
+        self.end_batch();
     }
 }
