@@ -120,7 +120,7 @@ fn fetch_down_to<X: Wait + Clock>(rt: &X, port: &mut Port, most: usize)
 /// Fetches answers until none is missing, and gives the replies of the last of them.
 fn fetch_last<X: Wait + Clock>(rt: &X, port: &mut Port, replies: &mut [Reply])
     requires { length port.old.fetched + length replies.old ≤ length port.old.sent }
-    ensures { FetchesLast port.old replies.new port.new }
+    ensures fetched { FetchesLast port.old replies.new port.new }
     ensures places { length replies.new ≡ length replies.old }
 {
     fetch_down_to(rt, port, replies.len());
