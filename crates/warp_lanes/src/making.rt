@@ -10,7 +10,7 @@ use std::alloc::Global;
 use warp_tag::OutOfMemory;
 
 /// How many commands, and how many answers, a lane has places for.
-const PLACES: usize = 64;
+pub(crate) const PLACES: usize = 64;
 
 /// A new lane: the end for a thread that sends lines, and the end for the one that answers them. `Err` only for want of
 /// memory.
