@@ -40,7 +40,7 @@ pub struct Engine<T: Timeline> {
     lanes: Vec<Lane>,
     writer: Writer,
     began: u32,
-    // So many of the board's rows are known to begin what is released, while it is not frozen.
+    // So many of the board's released rows are known to begin what is released now, while it is not frozen.
     known_rows: usize,
     // What a visit answered, until it is sent.
     unsent: Unsent,
@@ -218,7 +218,7 @@ impl<T: Timeline> Engine<T> {
 
     /// Appends to the board the released outputs that are missing, as many as it has room for, and tells how many rows
     /// there are; or freezes it for good, where its rows no longer begin what is released. The replica is settled.
-    /// Which rows it looks at no clause says: those that a record since may have changed, and all once a lane was
+    /// At which of them it looks no clause says: those that a record since may have changed, and all once a lane was
     /// drained.
     pub fn publish(&mut self, board: &Board) -> Published
         requires settled { IsTrue (T.settled self.old.replica.timeline) }

@@ -13,7 +13,7 @@ ghost use Rattle.warp_lanes.specs.declared.turn.Turn.{Turn};
 
 use crate::answer::{Answer, AnswerRule};
 use crate::executor_end::Lane;
-use crate::making::PLACES;
+use crate::making::LANE_PLACES;
 use crate::publish::{news, publish_settled, rows_before};
 use crate::turn::Turn;
 use arrayvec::ArrayVec;
@@ -26,7 +26,7 @@ use warp_replica::Replica;
 use warp_tag::Tag;
 
 /// The answers of a visit, before they are sent.
-pub(crate) type Unsent = ArrayVec<Answer, PLACES>;
+pub(crate) type Unsent = ArrayVec<Answer, LANE_PLACES>;
 
 /// Answers the commands that wait, at most as many as there are places for answers, settles, publishes where that
 /// leaves the replica settled, and sends the answers. Of the board's rows the first `known_rows` are known to begin
@@ -87,7 +87,7 @@ fn count_for(
     ensures free { result ≤ known_free answers.new }
     ensures most { result ≤ places }
 {
-    let waiting = commands.cached_slots().min(PLACES);
+    let waiting = commands.cached_slots().min(LANE_PLACES);
     let known = answers.cached_slots();
     if waiting <= known {
         return waiting;
