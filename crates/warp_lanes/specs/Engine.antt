@@ -104,13 +104,13 @@ PublishesIf false P log w w' = w' ≡ w
 -- stand behind those that the lane sent.
 pub record ServesAll {T : Type 0} (facts : TimelineFacts T) (r : ReplicaState T) (lane : LaneState) (w : WriterState)
     (lines : List Line) (made : List Answer) (between r' : ReplicaState T) (lane' : LaneState) (w' : WriterState) : Type 0
-    where
-  pub some : 0 < length lines
-  pub most : length lines ≤ places
-  pub answered : AreAnswered (AnswersLine facts) r lines made between
-  pub ends : EndsBatch facts between r'
-  pub sent : lane' ≡ record lane { commands = lane.commands ++ lines; answers = lane.answers ++ made; free = lane'.free }
-  pub published : PublishesIf (facts.settled r'.timeline) r'.program r'.records w w'
+  where
+    pub some : 0 < length lines
+    pub most : length lines ≤ places
+    pub answered : AreAnswered (AnswersLine facts) r lines made between
+    pub ends : EndsBatch facts between r'
+    pub sent : lane' ≡ record lane { commands = lane.commands ++ lines; answers = lane.answers ++ made; free = lane'.free }
+    pub published : PublishesIf (facts.settled r'.timeline) r'.program r'.records w w'
 
 -- What a visit of a lane does to the replica, the lane and the writer of the board. A place for an answer is looked for
 -- first, as in a turn.

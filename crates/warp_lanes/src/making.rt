@@ -20,7 +20,10 @@ pub fn lane(alloc: Global) -> Result<(Port, Lane), OutOfMemory>
         ≡ record { lane = ends.0.lane; commands = []; answers = []; free = places }) }
 {
     let (commands_in, commands_out) = RingBuffer::new(alloc, LANE_PLACES)?;
-    let (answers_in, answers_out) = RingBuffer::with_protocol::<Global, AnswerRule>(alloc, LANE_PLACES)?;
+    let (answers_in, answers_out) = RingBuffer::with_protocol::<Global, AnswerRule>(
+        alloc,
+        LANE_PLACES,
+    )?;
     let port = Port {
         commands: commands_in,
         answers: answers_out,

@@ -51,12 +51,7 @@ pub(crate) fn publish_settled<T: Timeline>(
 
 /// Appends the released outputs that are missing, as many as the board has room for; or freezes it, where its rows do
 /// not begin them. That the first `known_rows` do is known, and they are not looked at.
-fn publish(
-    released: &[Out],
-    known_rows: usize,
-    writer: &mut Writer,
-    board: &Board,
-) -> Published
+fn publish(released: &[Out], known_rows: usize, writer: &mut Writer, board: &Board) -> Published
     requires board { writer.old.board ≡ board.now }
     requires ports { All (λ out. out.port < most_outputs) released.now }
     requires within { known_rows ≤ length writer.old.rows }
