@@ -48,3 +48,12 @@ pub record Answered {T : Type 0} (facts : TimelineFacts T) (r : ReplicaState T) 
       IsTrue (facts.settled r.timeline) → IsTrue (facts.settled r'.timeline)
   pub collects : said ≡ Collect → reply ≢ Refused NoMemory →
       CollectsTo facts.slack r.program r.records (facts.floor r.timeline) (facts.floor r'.timeline)
+
+-- At the end of lines that were given together what waits is executed: the records stay, nothing is let go of, and the
+-- replica is settled, or settling lacked memory. A settled one stays as it is.
+pub record EndsBatch {T : Type 0} (facts : TimelineFacts T) (r r' : ReplicaState T) : Type 0 where
+  pub program : r'.program ≡ r.program
+  pub records : r'.records ≡ r.records
+  pub floor : facts.floor r'.timeline ≡ facts.floor r.timeline
+  pub settled : facts.settled r'.timeline ≡ false → facts.refused r'.timeline
+  pub idle : IsTrue (facts.settled r.timeline) → r' ≡ r
