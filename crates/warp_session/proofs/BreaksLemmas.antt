@@ -1,25 +1,27 @@
 -- Lemmas on where a failed write leaves a session.
-use Rattle.std.proofs.Common.{◌≡◌, ℕ, ◌+◌, ◌-◌, ◌<◌, ◌≤◌, List, [], ◌∷◌, ◌++◌, length, take, drop, take-append-drop, Option, Some, None, Result, Ok, Err, IsErrAnd, false, IsSome, IfSome, ◌↔◌, refl, sym, ap, subst, inl, inr, ◌⊎◌, ◌∙◌, append_assoc, append-nil, All}
+use Rattle.std.proofs.Common.{◌≡◌, ℕ, ◌+◌, ◌-◌, ◌<◌, ◌≤◌, List, [], ◌∷◌, ◌++◌, length, take, drop, take-append-drop, Option, Some, None, Result, Ok, Err, OnOk, OnErr, IsErrAnd, false, IsSome, IfSome, ◌↔◌, refl, sym, ap, subst, inl, inr, ◌⊎◌, ◌∙◌, append_assoc, append-nil, All}
 use Rattle.std.specs.Option.{option_map, option_to_list}
 use Rattle.std.specs.List.{before_first, flat_map}
-use Rattle.std.specs.Io.KnownBytes.{Consumes, IsAtEnd}
+use Rattle.std.specs.Io.KnownBytes.{Appends, Consumes, IsAtEnd}
 use Rattle.std.proofs.KnownBytes.{Consumes-trans}
 use Rattle.std.proofs.lemmas.List.{take_all, take_rest}
 use Rattle.std.proofs.lemmas.List.Elements.{All-append}
 use Rattle.warp_tag.specs.declared.form.Form.{Form}
 use Rattle.warp_record.specs.declared.line.Line.{Line}
+use Rattle.warp_record.specs.declared.reply.Refusal.{Refusal}
 use Rattle.warp_record.specs.declared.reply.Reply.{Reply}
+use Rattle.warp_record.specs.declared.reply.Reply.TheVariants.{Refused}
 use Rattle.warp_record.specs.declared.feed.Fed.{Fed}
 use Rattle.warp_record.specs.Line.{IsLine}
 use Rattle.warp_exchange.specs.Batch.{GivesEach}
-use Rattle.warp_record.specs.Lines.{Piece, Whole, is_end, IsOneLine, ended, unended, lines_of, first_end, kept_of, piece_of}
+use Rattle.warp_record.specs.Lines.{Piece, Whole, Torn, Long, is_end, IsOneLine, ended, unended, lines_of, first_end, kept_of, piece_of}
 use Rattle.warp_record.specs.Reply.{reply_line}
 use Rattle.warp_record.proofs.LineCuts.{lines_of-ended, lines_of-unended, one_line_before}
-use Rattle.warp_session.specs.Stream.{WritesFront}
+use Rattle.warp_session.specs.Stream.{CountsFailures, WritesFront}
 use Rattle.warp_session.specs.Session.{GivesPiece, GivesText, TranscribesFront}
-use Rattle.warp_session.specs.inner.Turns.{At, IsCut, at, Replied, Taken, TakesBytes, Broken, BreaksOff, BreaksBytes, BreaksAtEnd, Turn, pieces_fed, pieces_of}
+use Rattle.warp_session.specs.inner.Turns.{At, IsCut, IsRefusedFor, at, Replied, Taken, TakesBytes, Broken, BreaksOff, BreaksBytes, BreaksAtEnd, Turn, pieces_fed, pieces_of}
 use Rattle.warp_session.proofs.Fronts.{front_behind}
-use Rattle.warp_session.proofs.TurnsLemmas.{GivesEach-pieces, GivesText-append, Replied-append, Replied-from, up_to_end}
+use Rattle.warp_session.proofs.TurnsLemmas.{GivesEach-pieces, GivesText-append, Replied-append, Replied-from, Replied-gathered, Replied-waiting, up_to_end}
 
 -- a call that a failed write ended, whatever error it hands out
 pub broke_off : {S T E : Type 0} (Q : E → Type 0) (Does : T → At S → At S → Type 0) (Breaks : At S → At S → Type 0) (old new : At S) (r : Result T E)
@@ -83,6 +85,78 @@ module _ {S : Type 0} (f : Form) (gives : S → Line → Reply → S → Type 0)
   pub Broken-from : (ps : List Piece) (a b : At S) (kept : Option (List ℕ))
       → Broken f gives ps (record a { held = record { kept = kept; waits = a.held.waits; gathered = a.held.gathered } }) b → Broken f gives ps a b
   Broken-from ps a b kept was = record { text = was.text; given = was.given; out = was.out }
+
+  -- ---- calls
+
+  -- the lines that waited were answered
+  pub answered_turn : {T E : Type 0} (a b : At S) (r : Result T E) → All (IsLine f) a.held.waits → b.held.waits ≡ []
+      → OnOk r ((replies : List Reply) × (sent : List ℕ) × GivesEach gives a.state a.held.waits replies b.state
+      × Appends a.written b.written sent × (sent ++ b.held.gathered ≡ a.held.gathered ++ flat_map reply_line replies))
+      → OnErr r ((replies : List Reply) × GivesEach gives a.state a.held.waits replies b.state
+      × WritesFront a.written b.written (a.held.gathered ++ flat_map reply_line replies))
+      → CountsFailures a.failures b.failures r → Turn (λ _. Replied f gives []) (Broken f gives []) a b r
+  answered_turn a b (Ok v) good none ok err failed = record {
+    does = Replied-waiting f gives a b ok.0 ok.1 good none ok.2 ok.3 ok.4;
+    breaks = tt;
+    failures = failed;
+  }
+  answered_turn a b (Err e) good none ok err failed = record {
+    does = tt;
+    breaks = Broken-waiting a b err.0 good err.1 err.2;
+    failures = failed;
+  }
+
+  -- where no line waited, a piece got its reply
+  pub gathered_turn : {T E : Type 0} (piece : Piece) (said : Reply) (a b : At S) (r : Result T E) → a.held.waits ≡ [] → b.held.waits ≡ []
+      → GivesPiece f gives a.state piece said b.state
+      → OnOk r ((sent : List ℕ) × Appends a.written b.written sent × (sent ++ b.held.gathered ≡ a.held.gathered ++ reply_line said))
+      → OnErr r (WritesFront a.written b.written (a.held.gathered ++ reply_line said))
+      → CountsFailures a.failures b.failures r → Turn (λ _. Replied f gives (piece ∷ [])) (Broken f gives (piece ∷ [])) a b r
+  gathered_turn piece said a b (Ok v) before after given ok err failed = record {
+    does = Replied-gathered f gives piece said a b before after given ok;
+    breaks = tt;
+    failures = failed;
+  }
+  gathered_turn piece said a b (Err e) before after given ok err failed = record {
+    does = tt;
+    breaks = Broken-gathered piece said a b before given err;
+    failures = failed;
+  }
+
+  -- pieces were answered or wait, and then a call answered the lines that wait
+  pub turn_behind : {T E : Type 0} (ps : List Piece) (a m b : At S) (r : Result T E) → Replied f gives ps a m → m.failures ≡ a.failures
+      → Turn (λ _. Replied f gives []) (Broken f gives []) m b r → Turn (λ _. Replied f gives ps) (Broken f gives ps) a b r
+  turn_behind ps a m b (Ok v) first sound turn = record {
+    does = subst (λ (l : List Piece). Replied f gives l a b) (append-nil ps) (Replied-append f gives ps [] a m b first turn.does);
+    breaks = tt;
+    failures = turn.failures ∙ sound;
+  }
+  turn_behind ps a m b (Err e) first sound turn = record {
+    does = tt;
+    breaks = subst (λ (l : List Piece). Broken f gives l a b) (append-nil ps) (Broken-after ps [] a m b first turn.breaks);
+    failures = turn.failures ∙ ap (λ n. n + 1) sound;
+  }
+
+  -- the lines that waited were answered, and then a piece
+  pub refused_turn : {T E : Type 0} (piece : Piece) (a m b : At S) (r : Result T E) → Replied f gives [] a m → m.failures ≡ a.failures
+      → Turn (λ _. Replied f gives (piece ∷ [])) (Broken f gives (piece ∷ [])) m b r
+      → Turn (λ _. Replied f gives (piece ∷ [])) (λ x y. Broken f gives [] x y ⊎ Broken f gives (piece ∷ []) x y) a b r
+  refused_turn piece a m b (Ok v) first sound turn = record {
+    does = Replied-append f gives [] (piece ∷ []) a m b first turn.does;
+    breaks = tt;
+    failures = turn.failures ∙ sound;
+  }
+  refused_turn piece a m b (Err e) first sound turn = record {
+    does = tt;
+    breaks = inr (Broken-after [] (piece ∷ []) a m b first turn.breaks);
+    failures = turn.failures ∙ ap (λ n. n + 1) sound;
+  }
+
+  -- a piece's refusal is a reply that it may get
+  pub refusal_given : (s : S) (piece : Piece) (refusal : Refusal) → IsRefusedFor f piece refusal → GivesPiece f gives s piece (Refused refusal) s
+  refusal_given s (Whole bytes) refusal is = inr (is.0, ap Refused is.1, refl)
+  refusal_given s Torn refusal is = (ap Refused is, refl)
+  refusal_given s Long refusal is = (ap Refused is, refl)
 
   -- ---- bytes
 
