@@ -235,10 +235,12 @@ module _ {S : Type 0} (f : Form) (gives : S → Line → Reply → S → Type 0)
   -- a write failed at the answer to the last line
   pub BreaksAtEnd-last : (a b : At S) (kept : Option (List ℕ)) (fed : Option Fed)
       → ((line : List ℕ) → a.held.kept ≡ kept_of line → option_map piece_of fed ≡ unended line)
-      → Broken f gives (pieces_fed fed) (record a { held = record { kept = kept; waits = a.held.waits; gathered = a.held.gathered } }) b → BreaksAtEnd f gives a b
+      → ((line : List ℕ) → a.held.kept ≡ kept_of line
+      → Broken f gives (pieces_fed fed) (record a { held = record { kept = kept; waits = a.held.waits; gathered = a.held.gathered } }) b)
+      → BreaksAtEnd f gives a b
   BreaksAtEnd-last a b kept fed is_line broken start seen was =
       subst (λ (l : List Piece). Broken f gives l start b) (sym (all_pieces a start seen fed was is_line))
-      (Broken-after (lines_of was.lines) (pieces_fed fed) start a b was.answers (Broken-from (pieces_fed fed) a b kept broken))
+      (Broken-after (lines_of was.lines) (pieces_fed fed) start a b was.answers (Broken-from (pieces_fed fed) a b kept (broken was.line was.kept)))
 
   -- or as what was gathered was to go out behind it
   pub BreaksAtEnd-flush : (a b c : At S) (kept : Option (List ℕ)) (fed : Option Fed)

@@ -94,7 +94,8 @@ impl<'a, X: Wait + Clock> PortDesk<'a, X> {
 
 /// Waits for the next answer, where one is missing.
 fn next_answer<X: Wait + Clock>(rt: &X, port: &mut Port) -> Answer
-    ensures { IsAnswer result × (port.new ≡ record port.old { fetched = port.old.fetched ++ result ∷ [] }) }
+    ensures answer { IsAnswer result × (port.new ≡ record port.old { fetched = port.old.fetched ++ result ∷ [] }) }
+    ensures missing { length port.old.fetched < length port.old.sent }
 {
     let mut patience = Patience::new();
     for _ in rt.forever() {
@@ -108,9 +109,8 @@ fn next_answer<X: Wait + Clock>(rt: &X, port: &mut Port) -> Answer
 
 /// Fetches answers until no more are missing than this.
 fn fetch_down_to<X: Wait + Clock>(rt: &X, port: &mut Port, most: usize)
-    requires { length port.old.fetched + most ≤ length port.old.sent }
     ensures fetched { (front : List Answer) × (port.new ≡ record port.old { fetched = port.old.fetched ++ front }) }
-    ensures missing { length port.new.sent ≡ length port.new.fetched + most }
+    ensures missing { length port.new.sent ≤ length port.new.fetched + most }
 {
     while port.waiting() > most {
         next_answer(rt, port);
@@ -119,7 +119,7 @@ fn fetch_down_to<X: Wait + Clock>(rt: &X, port: &mut Port, most: usize)
 
 /// Fetches answers until none is missing, and gives the replies of the last of them.
 fn fetch_last<X: Wait + Clock>(rt: &X, port: &mut Port, replies: &mut [Reply])
-    requires { length port.old.fetched + length replies.old ≤ length port.old.sent }
+    requires some { 0 < length replies.old }
     ensures fetched { FetchesLast port.old replies.new port.new }
     ensures places { length replies.new ≡ length replies.old }
 {

@@ -1,0 +1,89 @@
+-- Lines that were sent together, and their answers.
+use Rattle.std.proofs.Common.{◌≡◌, ℕ, ◌+◌, ◌<◌, ◌≤◌, false, true, true≢false, List, [], ◌∷◌, ◌++◌, All, length, length-append, map, inl, ◌⊎◌, refl, sym, ap, subst, ◌∙◌, append_assoc, append-nil, arith}
+use Rattle.std.proofs.lemmas.List.Elements.{All-head, All-tail}
+use Rattle.warp_record.specs.declared.line.Line.{Line}
+use Rattle.warp_record.specs.declared.line.Line.TheVariants as line
+use Rattle.warp_record.specs.declared.reply.Reply.{Reply}
+use Rattle.warp_exchange.specs.Batch.{GivesEach}
+use Rattle.warp_lanes.specs.declared.answer.Answer.{Answer}
+use Rattle.warp_lanes.specs.Lanes.{PortState, IsAnswer}
+use Rattle.warp_session.specs.PortDesk.{Asks, GivesAt, IsBusy, PortDeskState}
+use Rattle.warp_session.specs.inner.Fetched.{FetchesLast, is_look}
+
+-- the replies of answers
+pub replies_of : List Answer → List Reply
+replies_of answers = map (λ answer. answer.reply) answers
+
+-- what a line gives that is no look at the board
+pub command_gives : (s s' : PortDeskState) (said : Line) (answer : Reply) → is_look said ≡ false → s'.reader ≡ s.reader → s'.form ≡ s.form
+    → Asks s.port said answer s'.port ⊎ IsBusy s.port answer s'.port → GivesAt s said answer s'
+command_gives s s' (line.Put r) answer is reader form asks = (reader, form, asks)
+command_gives s s' (line.Ask q) answer is reader form asks = (reader, form, asks)
+command_gives s s' line.Collect answer is reader form asks = (reader, form, asks)
+command_gives s s' (line.Look l) answer is reader form asks = absurd (true≢false is)
+
+-- the desk whose port sent these lines more, and fetched these answers, behind some older ones
+abbrev pub behind : PortDeskState → List Answer → List Line → List Answer → ℕ → PortDeskState
+behind s front lines last free = record s {
+  port = record s.port { sent = s.port.sent ++ lines; fetched = (s.port.fetched ++ front) ++ last; free = free };
+}
+
+-- the first line gets its answer
+one_answered : (s : PortDeskState) (front : List Answer) (said : Line) (answer : Answer) (free : ℕ)
+    → length (s.port.fetched ++ front) ≡ length s.port.sent → is_look said ≡ false → IsAnswer answer → s.port.free ≤ free + 1
+    → GivesAt s said answer.reply (behind s front (said ∷ []) (answer ∷ []) free)
+one_answered s front said answer free even is good few =
+    command_gives s (behind s front (said ∷ []) (answer ∷ []) free) said answer.reply is refl refl
+    (inl (answer, (front, refl, omega (arith, length-append (s.port.fetched ++ front) (answer ∷ []), length-append s.port.sent (said ∷ []), even), good), refl, few))
+
+same_desk : (s : PortDeskState) (sent : List Line) (fetched : List Answer) (free : ℕ) → sent ≡ s.port.sent → fetched ≡ s.port.fetched → free ≡ s.port.free
+    → record s { port = record s.port { sent = sent; fetched = fetched; free = free } } ≡ s
+same_desk s sent fetched free a b c =
+    ap (λ (x : List Line). record s { port = record s.port { sent = x; fetched = fetched; free = free } }) a
+    ∙ ap (λ (x : List Answer). record s { port = record s.port { sent = s.port.sent; fetched = x; free = free } }) b
+    ∙ ap (λ (x : ℕ). record s { port = record s.port { sent = s.port.sent; fetched = s.port.fetched; free = x } }) c
+
+behind_more : (s : PortDeskState) (front : List Answer) (said : Line) (answer : Answer) (lines : List Line) (last : List Answer) (n free : ℕ)
+    → behind (behind s front (said ∷ []) (answer ∷ []) n) [] lines last free ≡ behind s front (said ∷ lines) (answer ∷ last) free
+behind_more s front said answer lines last n free =
+    ap (λ (x : List Line). record s { port = record s.port { sent = x;
+      fetched = ((((s.port.fetched ++ front) ++ answer ∷ []) ++ []) ++ last); free = free } }) (append_assoc s.port.sent (said ∷ []) lines)
+    ∙ ap (λ (x : List Answer). record s { port = record s.port { sent = s.port.sent ++ said ∷ lines; fetched = x; free = free } })
+    (ap (λ (x : List Answer). x ++ last) (append-nil ((s.port.fetched ++ front) ++ answer ∷ []))
+    ∙ append_assoc (s.port.fetched ++ front) (answer ∷ []) last)
+
+-- the lines behind it get theirs
+rest_answered : (s : PortDeskState) (lines : List Line) (last : List Answer) (free : ℕ) → length last ≡ length lines
+    → length s.port.fetched ≡ length s.port.sent → s.port.free ≡ free + length lines
+    → All (λ line. is_look line ≡ false) lines → All IsAnswer last → GivesEach GivesAt s lines (replies_of last) (behind s [] lines last free)
+rest_answered s [] [] free same even few are good =
+    same_desk s (s.port.sent ++ []) ((s.port.fetched ++ []) ++ []) free (append-nil s.port.sent)
+    (append-nil (s.port.fetched ++ []) ∙ append-nil s.port.fetched) (omega (arith, few))
+rest_answered s [] (a ∷ last) free same even few are good = absurd (omega (arith, same))
+rest_answered s (l ∷ lines) [] free same even few are good = absurd (omega (arith, same))
+rest_answered s (l ∷ lines) (a ∷ last) free same even few are good =
+    let mid : PortDeskState = behind s [] (l ∷ []) (a ∷ []) (free + length lines) in
+    let none : length (s.port.fetched ++ []) ≡ length s.port.fetched = ap length (append-nil s.port.fetched) in (
+      mid,
+      one_answered s [] l a (free + length lines) (none ∙ even) (All-head (λ line. is_look line ≡ false) l lines are) (All-head IsAnswer a last good) (omega (arith, few)),
+      subst (GivesEach GivesAt mid lines (replies_of last)) (behind_more s [] l a lines last (free + length lines) free)
+          (rest_answered mid lines last free (omega (arith, same))
+          (omega (arith, length-append (s.port.fetched ++ []) (a ∷ []), length-append s.port.sent (l ∷ []), even, none)) refl
+          (All-tail (λ line. is_look line ≡ false) l lines are) (All-tail IsAnswer a last good)),
+    )
+
+-- lines that were sent together get the last answers that were fetched
+pub all_answered : (s : PortDeskState) (front : List Answer) (lines : List Line) (last : List Answer) (free : ℕ) → 0 < length lines → length last ≡ length lines
+    → length (s.port.fetched ++ front) ≡ length s.port.sent → s.port.free ≤ free + length lines
+    → All (λ line. is_look line ≡ false) lines → All IsAnswer last → GivesEach GivesAt s lines (replies_of last) (behind s front lines last free)
+all_answered s front [] last free some same even few are good = absurd (omega (arith, some))
+all_answered s front (l ∷ lines) [] free some same even few are good = absurd (omega (arith, same))
+all_answered s front (l ∷ lines) (a ∷ last) free some same even few are good =
+    let mid : PortDeskState = behind s front (l ∷ []) (a ∷ []) (free + length lines) in (
+      mid,
+      one_answered s front l a (free + length lines) even (All-head (λ line. is_look line ≡ false) l lines are) (All-head IsAnswer a last good) (omega (arith, few)),
+      subst (GivesEach GivesAt mid lines (replies_of last)) (behind_more s front l a lines last (free + length lines) free)
+          (rest_answered mid lines last free (omega (arith, same))
+          (omega (arith, length-append (s.port.fetched ++ front) (a ∷ []), length-append s.port.sent (l ∷ []), even)) refl
+          (All-tail (λ line. is_look line ≡ false) l lines are) (All-tail IsAnswer a last good)),
+    )
