@@ -11,7 +11,7 @@ use Rattle.warp_session.specs.PortDesk.{Asks, GivesAt, IsBusy, PortDeskState}
 use Rattle.warp_session.specs.inner.Fetched.{FetchesLast, is_look}
 
 -- the replies of answers
-pub replies_of : List Answer → List Reply
+abbrev pub replies_of : List Answer → List Reply
 replies_of answers = map (λ answer. answer.reply) answers
 
 -- what a line gives that is no look at the board

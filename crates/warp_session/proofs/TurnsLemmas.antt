@@ -1,5 +1,5 @@
 -- Lemmas on how far a session has come.
-use Rattle.std.proofs.Common.{◌≡◌, ℕ, ◌+◌, ◌-◌, ◌<◌, ◌≤◌, List, [], ◌∷◌, ◌++◌, length, take, drop, map, All, length-append, length-take, length-take-le, get_or, Option, Some, None, Bool, true, false, cond, leb, true≢false, not, min, IsSome, IfSome, IfNone, OnSome, ◌↔◌, inl, inr, refl, sym, ap, subst, ◌∙◌, append_assoc, append-nil, arith}
+use Rattle.std.proofs.Common.{◌≡◌, ℕ, ◌+◌, ◌-◌, ◌<◌, ◌≤◌, List, [], ◌∷◌, ◌++◌, length, take, drop, All, length-append, length-take, length-take-le, get_or, Option, Some, None, Bool, true, false, cond, leb, true≢false, not, min, IsSome, IfSome, IfNone, OnSome, ◌↔◌, inl, inr, refl, sym, ap, subst, ◌∙◌, append_assoc, append-nil, arith}
 use Rattle.std.specs.List.{flat_map, before_first}
 use Rattle.std.specs.Option.{option_map, option_to_list}
 use Rattle.std.specs.Io.KnownBytes.{Appends, Consumes, IsAtEnd}
@@ -21,9 +21,8 @@ use Rattle.warp_record.specs.Reply.{reply_line}
 use Rattle.warp_record.specs.Line.{IsLine, spelling}
 use Rattle.warp_exchange.specs.Batch.{GivesEach}
 use Rattle.warp_session.specs.Session.{GivesPiece, GivesAll, GivesText, SpellsLine, Transcribes}
-use Rattle.warp_session.specs.declared.desk_session.Found.{Found}
-use Rattle.warp_session.specs.declared.desk_session.Found.TheVariants.{Nothing, Asked, Bad}
-use Rattle.warp_session.specs.inner.Turns.{At, AreCutOff, Replied, Taken, TakesBytes, Ends, IsCut, IsFound, IsRefusedFor, at, pieces_fed, pieces_of}
+use Rattle.warp_session.specs.declared.desk_session.Found.TheVariants.{Asked}
+use Rattle.warp_session.specs.inner.Turns.{At, AreCutOff, Replied, Taken, TakesBytes, Ends, IsCut, IsFound, at, pieces_fed, pieces_of}
 
 -- ---- whole lines
 

@@ -1,5 +1,5 @@
 //! Lines that wait for their answers, and replies that wait to be written.
-ghost use Rattle.std.specs.Prelude.{◌≡◌, ℕ, ◌<◌, ◌++◌, ◌∷◌, [], List, IfOk, OnErr, OnOk, length, nat_le};
+ghost use Rattle.std.specs.Prelude.{◌≡◌, ℕ, ◌<◌, ◌++◌, ◌∷◌, [], List, IfOk, OnErr, OnOk, false, length};
 ghost use Rattle.std.specs.Io.KnownBytes.{Appends};
 ghost use Rattle.std.specs.List.{flat_map};
 ghost use Rattle.warp_exchange.specs.Batch.{GivesEach, most_lines};
@@ -70,6 +70,20 @@ impl Outbox {
         write_reply_line(&mut self.gathered, reply);
         Ok(())
     }
+
+    /// Gathers replies behind the others.
+    fn gather_all<W: Sink>(&mut self, sink: &mut W, replies: &[Reply]) -> Result<(), Failed>
+        ensures gathered { OnOk result ((sent : List ℕ) × Appends (W.written sink.old) (W.written sink.new) sent
+            × (sent ++ self.new ≡ self.old ++ flat_map reply_line replies.now)) }
+        ensures front { OnErr result (WritesFront (W.written sink.old) (W.written sink.new)
+            (self.old ++ flat_map reply_line replies.now)) }
+        ensures failures { CountsFailures (W.failures sink.old) (W.failures sink.new) result }
+    {
+        for at in 0..replies.len() {
+            self.gather(sink, &replies[at])?;
+        }
+        Ok(())
+    }
 }
 
 /// Lines that wait for their answers, at most 64, and places for their replies. Contracts see the lines.
@@ -107,7 +121,7 @@ impl Batch {
     /// Whether there is no room for one more.
     #[inline(always)]
     pub(crate) fn is_full(&self) -> bool
-        ensures { result ≡ nat_le most_lines (length self.now) }
+        ensures room { result ≡ false → length self.now < most_lines }
     {
         self.count == MOST_LINES
     }
@@ -143,9 +157,6 @@ impl Batch {
         let count = self.count;
         self.count = 0;
         desk.ask_all(&self.lines[..count], &mut self.replies[..count]);
-        for at in 0..count {
-            outbox.gather(sink, &self.replies[at])?;
-        }
-        Ok(())
+        outbox.gather_all(sink, &self.replies[..count])
     }
 }
