@@ -5,6 +5,7 @@ use Rattle.std.specs.List.{AllByRecursion}
 use Rattle.std.proofs.Math.ListN.{set}
 use Rattle.std.proofs.lemmas.List.{append_assoc, set-set}
 use Rattle.std.proofs.lemmas.List.Elements.{All-contains, Contains-append_left}
+use Rattle.warp_tag.specs.Limits.{most_records}
 use Rattle.warp_step.specs.Program.{Program}
 use Rattle.warp_record.specs.declared.record.Record.{Record}
 use Rattle.warp_record.specs.declared.line.Line.{Line}
@@ -21,7 +22,8 @@ use Rattle.warp_replica.proofs.Replies.{some_answer}
 use Rattle.warp_replica.proofs.SomeHorizon.{announces}
 use Rattle.warp_board.specs.Board.{WriterState}
 use Rattle.warp_lanes.specs.declared.answer.Answer.{Answer}
-use Rattle.warp_replica.specs.Answered.{TimelineFacts}
+use Rattle.warp_replica.specs.Answered.{Answered, TimelineFacts}
+use Rattle.warp_replica.specs.Length.{SaysLength}
 use Rattle.warp_lanes.specs.Engine.{AnswersAlone, AnswersLine, AreAnswered, ids_of}
 use Rattle.warp_lanes.specs.History.{AreGiven, IsHistory}
 use Rattle.warp_lanes.specs.Lanes.{LaneId, LaneState}
@@ -57,6 +59,16 @@ set_there : (lanes : List LaneState) (k : ℕ) (lane lane' : LaneState) → slic
 set_there [] k lane lane' e = absurd (grind (e, arith))
 set_there (l ∷ lanes) zero lane lane' e = refl
 set_there (l ∷ lanes) (suc k) lane lane' e = set_there lanes k lane lane' (grind (e, arith))
+
+-- a line was answered, where the answer has its reply and the length of the log that it left
+pub answers_line : {T : Type 0} (facts : TimelineFacts T) (r : ReplicaState T) (said : Line) (answer : Answer) (r' : ReplicaState T)
+    → Answered facts r said answer.reply r' → answer.len ≡ length r'.records → answer.len ≤ most_records
+    → AnswersLine facts r said answer r'
+answers_line facts r said answer r' given len few = record {
+  given = given;
+  len = len;
+  fits = (given.range, subst (λ n. SaysLength n answer.reply) (sym len) given.says, few);
+}
 
 -- a line that was given alone was answered
 pub alone : {T : Type 0} (facts : TimelineFacts T) (r : ReplicaState T) (said : Line) (answer : Answer) (r' : ReplicaState T)

@@ -117,6 +117,9 @@ fn answer_first<T: Timeline>(
     ensures kept { KeepsBoard replica.new.program replica.new.records writer.now known_rows.new }
 {
     while unsent.len() < count {
+        // A program has an origin, and each record is in its log once.
+        replica.program().valid();
+        replica.valid();
         let news = answer_next(commands, replica, alloc, unsent);
         *known_rows = rows_before(writer.rows(), *known_rows, news);
     }
@@ -162,7 +165,8 @@ fn show<T: Timeline>(
         writer.old writer.new }
     ensures kept { KeepsBoard replica.new.program replica.new.records writer.new known_rows.new }
 {
-    if replica.settle_uncounted(alloc).is_ok() {
-        publish_settled(replica, writer, known_rows, board);
-    }
+    let Ok(()) = replica.settle_uncounted(alloc) else {
+        return;
+    };
+    publish_settled(replica, writer, known_rows, board);
 }

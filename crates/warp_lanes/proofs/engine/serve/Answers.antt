@@ -3,6 +3,7 @@ use Rattle.std.proofs.lemmas.Bool.Decides.{nat_tests}
 use Rattle.std.proofs.lemmas.List.{nil_from_length}
 use Rattle.rtrb.specs.Ring.{known_free}
 use Rattle.warp_lanes.specs.declared.answer.Answer.{Answer}
+use Rattle.warp_lanes.proofs.DrainedLanes.{answers_line}
 use Rattle.warp_lanes.proofs.Publishing.{has_news}
 use Rattle.warp_lanes.proofs.Serving.{before_none}
 use Rattle.warp_lanes.proofs.engine.serve.Goals as goal
@@ -19,11 +20,7 @@ returns-clause-turns g c =
       answer,
       (
         record {
-          answers = record {
-            given = c.ask-reply.ensures.answered;
-            len = c.len-len.ensures.value;
-            fits = (c.ask-reply.ensures.answered.range, rw c.len-len.ensures.value c.ask-reply.ensures.answered.says, c.len-len.ensures.bound);
-          };
+          answers = answers_line _ _ _ answer _ c.ask-reply.ensures.answered c.len-len.ensures.value c.len-len.ensures.bound;
           settled = c.ask-reply.ensures.settled;
         },
         rw (← c.lane.view_is)
