@@ -21,6 +21,11 @@ pub on_err : {T E P : Type 0} (r : Result T E) → P → OnErr r P
 on_err (Ok v) h = tt
 on_err (Err e) h = h
 
+-- what holds at an error, and what follows from it
+pub err_so : {T E P Q : Type 0} (r : Result T E) → (P → Q) → OnErr r P → OnErr r Q
+err_so (Ok v) follows h = tt
+err_so (Err e) follows h = follows h
+
 -- some bytes went out, and then a front of the rest
 pub front_behind : (a b c : Option (List ℕ)) (sent rest all : List ℕ) → Appends a b sent → sent ++ rest ≡ all → WritesFront b c rest → WritesFront a c all
 front_behind a b c sent rest all out is w = (

@@ -26,10 +26,8 @@ impl<'a, T: Timeline> Executor<'a, T> {
         requires { lane < length self.old.engine.lanes }
         ensures serves { HasServed T.settled self.old.engine self.new.engine }
     {
-        match self.engine.visit(alloc, lane, self.board) {
-            Turn::Served => true,
-            Turn::Empty | Turn::Stalled => false,
-        }
+        let turn = self.engine.visit(alloc, lane, self.board);
+        matches!(turn, Turn::Served)
     }
 
     /// One visit of each lane; whether there was a line.
