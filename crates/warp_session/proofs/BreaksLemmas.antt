@@ -19,7 +19,8 @@ use Rattle.warp_record.specs.Reply.{reply_line}
 use Rattle.warp_record.proofs.LineCuts.{lines_of-ended, lines_of-unended, one_line_before}
 use Rattle.warp_session.specs.Stream.{CountsFailures, WritesFront}
 use Rattle.warp_session.specs.Session.{GivesPiece, GivesText, TranscribesFront}
-use Rattle.warp_session.specs.inner.Turns.{At, IsCut, IsRefusedFor, at, Replied, Taken, TakesBytes, Broken, BreaksOff, BreaksBytes, BreaksAtEnd, Turn, pieces_fed, pieces_of}
+use Rattle.warp_session.specs.declared.desk_session.Found.TheVariants.{Bad}
+use Rattle.warp_session.specs.inner.Turns.{At, Held, IsFound, IsCut, IsRefusedFor, at, Replied, Taken, TakesBytes, Broken, BreaksOff, BreaksBytes, BreaksAtEnd, Turn, pieces_fed, pieces_of}
 use Rattle.warp_session.proofs.Fronts.{front_behind}
 use Rattle.warp_session.proofs.TurnsLemmas.{GivesEach-pieces, GivesText-append, Replied-append, Replied-from, Replied-gathered, Replied-waiting, up_to_end}
 
@@ -157,6 +158,16 @@ module _ {S : Type 0} (f : Form) (gives : S → Line → Reply → S → Type 0)
   refusal_given s (Whole bytes) refusal is = inr (is.0, ap Refused is.1, refl)
   refusal_given s Torn refusal is = (ap Refused is, refl)
   refusal_given s Long refusal is = (ap Refused is, refl)
+
+  -- where no line waited, what was found bad got its refusal
+  pub bad_turn : {T E : Type 0} (state : S) (h h' : Held) (w w' : Option (List ℕ)) (n n' : ℕ) (pieces : List Piece) (refusal : Refusal) (r : Result T E)
+      → IsFound f pieces (Bad refusal) → h.waits ≡ [] → h'.waits ≡ []
+      → OnOk r ((sent : List ℕ) × Appends w w' sent × (sent ++ h'.gathered ≡ h.gathered ++ reply_line (Refused refusal)))
+      → OnErr r (WritesFront w w' (h.gathered ++ reply_line (Refused refusal))) → CountsFailures n n' r
+      → Turn (λ _. Replied f gives pieces) (Broken f gives pieces) (at state h w n) (at state h' w' n') r
+  bad_turn state h h' w w' n n' pieces refusal r found before after ok err failed =
+      subst (λ (ps : List Piece). Turn (λ _. Replied f gives ps) (Broken f gives ps) (at state h w n) (at state h' w' n') r) (sym found.1)
+      (gathered_turn found.0 (Refused refusal) (at state h w n) (at state h' w' n') r before after (refusal_given state found.0 refusal found.2) ok err failed)
 
   -- ---- bytes
 

@@ -7,7 +7,7 @@ use Rattle.warp_record.specs.declared.reply.Reply.{Reply}
 use Rattle.warp_exchange.specs.Batch.{GivesEach}
 use Rattle.warp_lanes.specs.declared.answer.Answer.{Answer}
 use Rattle.warp_lanes.specs.Lanes.{PortState, IsAnswer}
-use Rattle.warp_session.specs.PortDesk.{Asks, GivesAt, IsBusy, PortDeskState}
+use Rattle.warp_session.specs.PortDesk.{Asks, FetchesAll, GivesAt, IsBusy, PortDeskState}
 use Rattle.warp_session.specs.inner.Fetched.{FetchesLast, is_look}
 
 -- the replies of answers
@@ -21,6 +21,21 @@ command_gives s s' (line.Put r) answer is reader form asks = (reader, form, asks
 command_gives s s' (line.Ask q) answer is reader form asks = (reader, form, asks)
 command_gives s s' line.Collect answer is reader form asks = (reader, form, asks)
 command_gives s s' (line.Look l) answer is reader form asks = absurd (true≢false is)
+
+-- some answers were fetched until one at most was missing, and then that one
+pub fetched_all : (p q r : PortState) (last : Answer) → ((front : List Answer) × (q ≡ record p { fetched = p.fetched ++ front }))
+    → length q.sent ≤ length q.fetched + 1 → IsAnswer last × (r ≡ record q { fetched = q.fetched ++ last ∷ [] })
+    → length q.fetched < length q.sent → FetchesAll p last r
+fetched_all p q r last down few is missing =
+    let whole : r ≡ record p { fetched = (p.fetched ++ down.0) ++ last ∷ [] } =
+    is.1 ∙ ap (λ (x : PortState). record x { fetched = x.fetched ++ last ∷ [] }) down.1 in (
+      down.0,
+      whole,
+      ap (λ (x : PortState). length x.fetched) is.1
+          ∙ omega (arith, length-append q.fetched (last ∷ []), few, missing)
+          ∙ ap (λ (x : PortState). length x.sent) (sym is.1),
+      is.0,
+    )
 
 -- the desk whose port sent these lines more, and fetched these answers, behind some older ones
 abbrev pub behind : PortDeskState → List Answer → List Line → List Answer → ℕ → PortDeskState

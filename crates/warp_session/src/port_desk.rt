@@ -5,7 +5,7 @@ ghost use Rattle.warp_record.specs.Reply.{IsReply};
 ghost use Rattle.warp_exchange.specs.Batch.{GivesEach};
 ghost use Rattle.warp_lanes.specs.Lanes.{IsAnswer, end_of_port};
 ghost use Rattle.warp_lanes.specs.declared.answer.Answer.{Answer};
-ghost use Rattle.warp_session.specs.PortDesk.{GivesAt, Learns, PortDeskState, look_reply};
+ghost use Rattle.warp_session.specs.PortDesk.{FetchesAll, GivesAt, Learns, PortDeskState, look_reply};
 ghost use Rattle.warp_session.specs.inner.Fetched.{FetchesLast, is_look};
 
 use crate::patience::Patience;
@@ -117,6 +117,14 @@ fn fetch_down_to<X: Wait + Clock>(rt: &X, port: &mut Port, most: usize)
     }
 }
 
+/// Fetches answers until none is missing, and gives the reply of the last of them.
+fn last_reply<X: Wait + Clock>(rt: &X, port: &mut Port) -> Reply
+    ensures { (last : Answer) × FetchesAll port.old last port.new × (result ≡ last.reply) }
+{
+    fetch_down_to(rt, port, 1);
+    next_answer(rt, port).reply
+}
+
 /// Fetches answers until none is missing, and gives the replies of the last of them.
 fn fetch_last<X: Wait + Clock>(rt: &X, port: &mut Port, replies: &mut [Reply])
     requires some { 0 < length replies.old }
@@ -204,8 +212,7 @@ impl<'a, X: Wait + Clock> Desk for PortDesk<'a, X> {
         if self.port.send(line).is_err() {
             return Reply::Refused(Refusal::Busy);
         }
-        fetch_down_to(self.rt, &mut self.port, 1);
-        next_answer(self.rt, &mut self.port).reply
+        last_reply(self.rt, &mut self.port)
     }
 
     fn asks_together() -> bool {

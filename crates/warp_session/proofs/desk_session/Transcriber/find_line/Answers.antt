@@ -6,7 +6,7 @@ use Rattle.warp_session.proofs.desk_session.Transcriber.find_line.Goals as goal
 
 -- the line stands whole among the bytes, and nothing of it came before
 pub returns-in-Some-clause-finds : goal.returns-in-Some-clause-finds
-returns-in-Some-clause-finds g c =
+returns-in-Some-clause-finds c =
     let found = c.in-Some.ensures.found in
     let view : c.self.inside.feed ≡ c.args.self.now.kept = ap (λ (h : Held). h.kept) c.self.view_is in (
       Whole c.in-Some.text.now ∷ [],
@@ -15,7 +15,7 @@ returns-in-Some-clause-finds g c =
     )
 
 pub returns-clause-finds : goal.returns-clause-finds
-returns-clause-finds g c =
+returns-clause-finds c =
     let view : c.self.inside.feed ≡ c.args.self.now.kept = ap (λ (h : Held). h.kept) c.self.view_is in
     let pushed = c.push-count.ensures in (
       pieces_fed c.push-count.result.1,
