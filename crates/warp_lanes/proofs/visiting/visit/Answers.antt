@@ -6,7 +6,7 @@ use Rattle.warp_replica.specs.Answered.{facts_of}
 use Rattle.warp_lanes.specs.Engine.{AnswersLine}
 use Rattle.warp_lanes.proofs.DrainedLanes.{among, lines_count}
 use Rattle.warp_lanes.proofs.Serving.{before_none}
-use Rattle.warp_lanes.proofs.Visiting.{each_fits, on_ok}
+use Rattle.warp_lanes.proofs.VisitedLanes.{each_fits, on_ok}
 use Rattle.warp_lanes.proofs.visiting.visit.Goals as goal
 
 pub push_entire_slice-_sent-requires : goal.push_entire_slice-_sent-requires
