@@ -82,8 +82,7 @@ among facts r said answer r' a = a
 
 -- lines that were answered one after another, each as a relation says by which it was answered
 module _ {T : Type 0} (facts : TimelineFacts T) (One : ReplicaState T → Line → Answer → ReplicaState T → Type 0)
-    (told : (r : ReplicaState T) (said : Line) (answer : Answer) (r' : ReplicaState T) → One r said answer r' → AnswersLine facts r said answer r')
-where
+    (told : (r : ReplicaState T) (said : Line) (answer : Answer) (r' : ReplicaState T) → One r said answer r' → AnswersLine facts r said answer r') where
   -- one line more
   pub line_more : (r r' r'' : ReplicaState T) (lines : List Line) (made : List Answer) (said : Line) (answer : Answer)
       → AreAnswered One r lines made r' → One r' said answer r'' → AreAnswered One r (lines ++ said ∷ []) (made ++ answer ∷ []) r''

@@ -3,4 +3,4 @@ pub mod Serving
 pub mod Publishing
 pub mod SentEngines
 pub mod DrainedLanes
-pub mod Visiting
+pub mod VisitedLanes

@@ -28,7 +28,7 @@ loop-alloc-preserved g c =
       subst (λ made. AreAnswered (AnswersLine facts) c.args.replica.now (s.0 ++ one.0 ∷ []) made c.answer_next-news.new.replica) (sym one.5)
           (line_more facts (AnswersLine facts) (among facts) _ _ _ s.0 c.loop-alloc.unsent.items one.0 one.1 s.4 one.4),
       subst (λ Q. KeepsBoard Q c.answer_next-news.new.replica.records c.args.writer.now c.rows_before.result) (sym one.4.given.program)
-          (board_kept P _ _ _ _ _ some c.valid-2.ensures.once c.valid-2.ensures.allowed s.5 before.within c.answer_next-news.result
+          (board_kept P _ _ _ _ _ some c.valid-in-loop-alloc.ensures.once c.valid-in-loop-alloc.ensures.allowed s.5 before.within c.answer_next-news.result
           c.answer_next-news.ensures.news before.none (rw (← c.rows.ensures.rows) before.before)),
       omega (arith, c.loop-alloc-test.true, ap length one.5, length-append c.loop-alloc.unsent.items (one.1 ∷ [])),
       omega (arith, s.7, ap length one.3, ap length one.5, length-append c.loop-alloc.unsent.items (one.1 ∷ [])),

@@ -22,4 +22,4 @@ returns-clause-published g c =
     let shown = c.publish_settled.ensures.published in
     let replica = c.settle_uncounted.new.self in
     subst (λ (b : Bool). PublishesIf b replica.program replica.records c.args.writer.now c.publish_settled.new.writer) (sym c.in-Ok.ensures.settled)
-    (shown.0, shown.1, c.publish_settled.result, shown.2)
+    (shown.0, shown.1, (c.publish_settled.result, shown.2))

@@ -41,7 +41,7 @@ published_board released w w' (Rows count) p = ap (λ (v : WriterState). v.board
 published_board released w w' Frozen p = ap (λ (v : WriterState). v.board) p.1
 
 board_stays : (settled : Bool) (P : Program) (log : List Record) (w w' : WriterState) → PublishesIf settled P log w w' → w'.board ≡ w.board
-board_stays true P log w w' p = published_board p.0 w w' p.2 p.3
+board_stays true P log w w' p = published_board p.0 w w' p.2.0 p.2.1
 board_stays false P log w w' p = ap (λ (v : WriterState). v.board) p
 
 module _ {T : Type 0} (facts : TimelineFacts T) (r r' : ReplicaState T) (lane lane' : LaneState) (w w' : WriterState) where
