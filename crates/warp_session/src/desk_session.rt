@@ -1,9 +1,10 @@
 //! A session: lines come in as bytes, in any pieces, and their replies go out as bytes.
 //!
 //! It knows neither who answers them, a `Desk`, nor where bytes come from and go to, a `Source` and a `Sink`.
-ghost use Rattle.std.specs.Prelude.{◌≡◌, ◌≢◌, ◌⊎◌, ℕ, ◌+◌, ◌<◌, ◌≤◌, List, [], ◌∷◌, All, Option, IfOk, OnErr, OnOk, IfSome};
+ghost use Rattle.std.specs.Prelude.{◌≡◌, ◌≢◌, ◌⊎◌, ℕ, ◌+◌, ◌<◌, ◌≤◌, List, [], ◌∷◌, ◌++◌, All, Option, IfOk, OnErr, OnOk, IfSome};
 ghost use Rattle.std.specs.Prelude.{OnSome, false, length, take, true, vec_len};
 ghost use Rattle.std.specs.List.{before_first};
+ghost use Rattle.std.specs.Io.KnownBytes.{Appends};
 ghost use Rattle.std.specs.Option.{option_map};
 ghost use Rattle.warp_tag.specs.Limits.{longest_line, most_reads};
 ghost use Rattle.warp_tag.specs.declared.form.Form.{Form};
@@ -12,10 +13,11 @@ ghost use Rattle.warp_record.specs.declared.line.Line.{Line};
 ghost use Rattle.warp_record.specs.Line.{IsLine, spelling};
 ghost use Rattle.warp_record.specs.Lines.{Piece, first_end, is_end, kept_of, piece_of, unended};
 ghost use Rattle.warp_record.specs.Lines.Piece.{Whole};
+ghost use Rattle.warp_record.specs.Reply.{reply_line};
 ghost use Rattle.warp_exchange.specs.Batch.{most_lines};
 ghost use Rattle.warp_session.specs.Session.{FailsSo, ReadsSo, Transcribes, TranscribesFront};
 ghost use Rattle.warp_session.specs.Session.{SpellsLine, TranscribesLines};
-ghost use Rattle.warp_session.specs.Stream.{CountsFailures};
+ghost use Rattle.warp_session.specs.Stream.{CountsFailures, WritesFront};
 ghost use Rattle.warp_session.specs.inner.Turns.{Replied, BreaksAtEnd, BreaksBytes, Broken, Ends, TakesBytes, Turn};
 ghost use Rattle.warp_session.specs.inner.Turns.{Finds, IsFound, IsRefusedFor, MayWait, at, nothing_held, pieces_fed};
 
@@ -113,6 +115,32 @@ impl Transcriber {
         })
     }
 
+    /// Writes what was gathered.
+    fn flush<W: Sink>(&mut self, sink: &mut W) -> Result<(), Failed>
+        ensures written { OnOk result (Appends (W.written sink.old) (W.written sink.new) self.old.gathered) }
+        ensures empty { OnOk result (self.new.gathered ≡ []) }
+        ensures front { OnErr result (WritesFront (W.written sink.old) (W.written sink.new) self.old.gathered) }
+        ensures kept { self.new.kept ≡ self.old.kept }
+        ensures waits { self.new.waits ≡ self.old.waits }
+        ensures failures { CountsFailures (W.failures sink.old) (W.failures sink.new) result }
+    {
+        self.outbox.flush(sink)
+    }
+
+    /// Gathers a reply behind the others.
+    #[inline(always)]
+    fn gather<W: Sink>(&mut self, sink: &mut W, reply: &Reply) -> Result<(), Failed>
+        ensures gathered { OnOk result ((sent : List ℕ) × Appends (W.written sink.old) (W.written sink.new) sent
+            × (sent ++ self.new.gathered ≡ self.old.gathered ++ reply_line «reply».now)) }
+        ensures front { OnErr result (WritesFront (W.written sink.old) (W.written sink.new)
+            (self.old.gathered ++ reply_line «reply».now)) }
+        ensures kept { self.new.kept ≡ self.old.kept }
+        ensures waits { self.new.waits ≡ self.old.waits }
+        ensures failures { CountsFailures (W.failures sink.old) (W.failures sink.new) result }
+    {
+        self.outbox.gather(sink, reply)
+    }
+
     /// Answers the lines that wait, and gathers the replies. At a desk that is not asked together none waits.
     #[inline(never)]
     fn answer_waiting<D: Desk, W: Sink>(
@@ -148,7 +176,7 @@ impl Transcriber {
         ensures kept { self.new.kept ≡ self.old.kept }
     {
         let reply = desk.ask_in_batch(Line::Collect);
-        self.outbox.gather(sink, &reply)
+        self.gather(sink, &reply)
     }
 
     /// Asks a line alone, and gathers the reply.
@@ -171,7 +199,7 @@ impl Transcriber {
             return self.answer_collect(desk, sink);
         }
         let reply = desk.ask_in_batch(line);
-        self.outbox.gather(sink, &reply)
+        self.gather(sink, &reply)
     }
 
     /// Puts a line behind those that wait; where that makes as many as a desk is asked at once, they are answered.
@@ -239,7 +267,7 @@ impl Transcriber {
         ensures kept { self.new.kept ≡ self.old.kept }
     {
         self.answer_waiting(desk, sink)?;
-        self.outbox.gather(sink, &Reply::Refused(refusal))
+        self.gather(sink, &Reply::Refused(refusal))
     }
 
     /// The line of those that come most that these bytes begin with, and how many bytes it has with its line feed,
@@ -359,7 +387,7 @@ impl Transcriber {
             at += self.take_line(form, desk, sink, &bytes[at..], &mut found)?;
         }
         self.answer_waiting(desk, sink)?;
-        self.outbox.flush(sink)?;
+        self.flush(sink)?;
         Ok(())
     }
 
@@ -378,7 +406,7 @@ impl Transcriber {
         ensures failures { CountsFailures (W.failures sink.old) (W.failures sink.new) result }
     {
         match read_fed(form, fed) {
-            Found::Bad(refusal) => self.outbox.gather(sink, &Reply::Refused(refusal)),
+            Found::Bad(refusal) => self.gather(sink, &Reply::Refused(refusal)),
             // It has no line feed, and so spells none.
             Found::Asked(_) | Found::Nothing => Ok(()),
         }
@@ -393,7 +421,7 @@ impl Transcriber {
     {
         let last = mem::replace(&mut self.feed, Feed::new()).end();
         self.refuse_last::<D, W>(form, sink, last)?;
-        self.outbox.flush(sink)?;
+        self.flush(sink)?;
         Ok(())
     }
 

@@ -1,4 +1,4 @@
-use Rattle.std.proofs.Common.{[], ◌++◌, ◌∙◌, take, refl, arith}
+use Rattle.std.proofs.Common.{[], ◌+◌, ◌++◌, ◌∙◌, ap, take, refl, arith}
 use Rattle.std.proofs.KnownBytes.{Consumes-nil, Consumes-trans}
 use Rattle.warp_session.specs.declared.desk_session.SessionEnd.TheVariants.{End, ReadFault, WriteFault}
 use Rattle.warp_session.proofs.BreaksLemmas.{front_of_all, front_of_bytes}
@@ -68,3 +68,17 @@ returns-then-has_ended-clause-reads g c =
 pub returns-in_default-take-clause-reads : goal.returns-in_default-take-clause-reads
 returns-in_default-take-clause-reads g c =
     read_last WriteFault c.reads._read _ _ _ c.reads.invariant.counted c.read.ensures.reads (omega arith, omega (arith, c.reads-test.true))
+
+pub returns-in_default-finish-clause-failures : goal.returns-in_default-finish-clause-failures
+returns-in_default-finish-clause-failures g c =
+    let was = c.reads.invariant in (
+      c.in-Ok.ensures.failures ∙ was.reads_sound,
+      (c.in_default-finish.ensures (g.D.Desk.state c.reads.desk)).failures ∙ ap (λ n. n + 1) was.writes_sound,
+    )
+
+pub returns-then-has_ended-clause-failures : goal.returns-then-has_ended-clause-failures
+returns-then-has_ended-clause-failures g c =
+    let was = c.reads.invariant in (
+      c.in-Ok.ensures.failures ∙ was.reads_sound,
+      (c.in-Ok-finish.ensures (g.D.Desk.state c.reads.desk)).failures ∙ was.writes_sound,
+    )

@@ -7,6 +7,6 @@ use Rattle.warp_session.proofs.desk_session.Transcriber.answer_collect.Goals as 
 
 pub returns-clause-turn : goal.returns-clause-turn
 returns-clause-turn g c = λ f.
-    gathered_turn f g.D.Desk.gives (Whole (spelling Collect)) c.ask_in_batch-reply.result _ _ c.gather.result c.requires c.requires
-    (inl (Collect, (tt, refl), c.ask_in_batch-reply.ensures.gives))
+    gathered_turn f g.D.Desk.gives (Whole (spelling Collect)) c.ask_in_batch-reply.result _ _ c.gather.result c.requires
+    (c.gather.ensures.waits ∙ c.requires) (inl (Collect, (tt, refl), c.ask_in_batch-reply.ensures.gives))
     c.gather.ensures.gathered c.gather.ensures.front c.gather.ensures.failures

@@ -22,8 +22,8 @@ returns-clause-turn g c =
     let turn = c.in_ok-answer_waiting.ensures.turn c.args.form was.lines in
     record {
       does = TakesBytes-flushed c.args.form g.D.Desk.gives c.args.bytes.now c.loop-at.at _ _ _ (omega arith) was.takes
-          (Replied-flushed c.args.form g.D.Desk.gives [] _ _ _ turn.does refl refl c.in_ok-flush.ensures.empty c.in_ok-flush.ensures.written)
-          c.answer_waiting.ensures.kept;
+          (Replied-flushed c.args.form g.D.Desk.gives [] _ _ _ turn.does refl c.flush.ensures.waits c.in_ok-flush.ensures.empty c.in_ok-flush.ensures.written)
+          (c.flush.ensures.kept ∙ c.answer_waiting.ensures.kept);
       breaks = tt;
       failures = c.in_ok-flush.ensures.failures ∙ turn.failures ∙ was.sound;
     }

@@ -12,7 +12,8 @@ returns g c = λ state.
           (Ends-last c.args.form g.D.Desk.gives _ _ _ c.replace.new.dest c.end-last.result
           (λ line kept. c.end-last.ensures line (c.replace.ensures.value ∙ kept))
           (λ line kept. (c.in_ok-refuse_last.ensures.turn state line (c.end-last.ensures line (c.replace.ensures.value ∙ kept)) idle).does)
-          refl refl c.in_ok-flush.ensures.empty (c.refuse_last.ensures.waits ∙ idle) c.in_ok-flush.ensures.written);
+          refl c.flush.ensures.waits c.in_ok-flush.ensures.empty
+          (c.flush.ensures.waits ∙ c.refuse_last.ensures.waits ∙ idle) c.in_ok-flush.ensures.written);
       breaks = tt;
       failures = c.in_ok-flush.ensures.failures ∙ c.in_ok-refuse_last.ensures.failures;
     }
