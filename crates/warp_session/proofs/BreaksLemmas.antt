@@ -22,7 +22,7 @@ use Rattle.warp_session.specs.Session.{GivesPiece, GivesText, TranscribesFront}
 use Rattle.warp_session.specs.declared.desk_session.Found.TheVariants.{Bad}
 use Rattle.warp_session.specs.inner.Turns.{At, Held, IsFound, IsCut, IsRefusedFor, at, Replied, Taken, TakesBytes, Broken, BreaksOff, BreaksBytes, BreaksAtEnd, Turn, pieces_fed, pieces_of}
 use Rattle.warp_session.proofs.Fronts.{front_behind}
-use Rattle.warp_session.proofs.TurnsLemmas.{GivesEach-pieces, GivesText-append, Replied-append, Replied-from, Replied-gathered, Replied-waiting, up_to_end}
+use Rattle.warp_session.proofs.TurnsLemmas.{GivesEach-pieces, GivesText-append, Replied-append, Replied-from, Replied-gathered, Replied-waiting, found_held, up_to_end}
 
 -- a call that a failed write ended, whatever error it hands out
 pub broke_off : {S T E : Type 0} (Q : E → Type 0) (Does : T → At S → At S → Type 0) (Breaks : At S → At S → Type 0) (old new : At S) (r : Result T E)
@@ -86,6 +86,17 @@ module _ {S : Type 0} (f : Form) (gives : S → Line → Reply → S → Type 0)
   pub Broken-from : (ps : List Piece) (a b : At S) (kept : Option (List ℕ))
       → Broken f gives ps (record a { held = record { kept = kept; waits = a.held.waits; gathered = a.held.gathered } }) b → Broken f gives ps a b
   Broken-from ps a b kept was = record { text = was.text; given = was.given; out = was.out }
+
+  -- nor on looking for a line
+  pub Broken-found : (ps : List Piece) (s : S) (h h' : Held) (w : Option (List ℕ)) (n : ℕ) (b : At S) → h'.waits ≡ h.waits → h'.gathered ≡ h.gathered
+      → Broken f gives ps (at s h' w n) b → Broken f gives ps (at s h w n) b
+  Broken-found ps s h h' w n b waits gathered broken =
+      Broken-from ps (at s h w n) b h'.kept (subst (λ (x : Held). Broken f gives ps (at s x w n) b) (found_held h h' waits gathered) broken)
+
+  pub either_found : (ps : List Piece) (s : S) (h h' : Held) (w : Option (List ℕ)) (n : ℕ) (b : At S) → h'.waits ≡ h.waits → h'.gathered ≡ h.gathered
+      → Broken f gives [] (at s h' w n) b ⊎ Broken f gives ps (at s h' w n) b → Broken f gives [] (at s h w n) b ⊎ Broken f gives ps (at s h w n) b
+  either_found ps s h h' w n b waits gathered (inl broken) = inl (Broken-found [] s h h' w n b waits gathered broken)
+  either_found ps s h h' w n b waits gathered (inr broken) = inr (Broken-found ps s h h' w n b waits gathered broken)
 
   -- ---- calls
 

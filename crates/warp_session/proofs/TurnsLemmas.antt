@@ -22,7 +22,7 @@ use Rattle.warp_record.specs.Line.{IsLine, spelling}
 use Rattle.warp_exchange.specs.Batch.{GivesEach}
 use Rattle.warp_session.specs.Session.{GivesPiece, GivesAll, GivesText, SpellsLine, Transcribes}
 use Rattle.warp_session.specs.declared.desk_session.Found.TheVariants.{Asked}
-use Rattle.warp_session.specs.inner.Turns.{At, AreCutOff, Replied, Taken, TakesBytes, Ends, IsCut, IsFound, at, pieces_fed, pieces_of}
+use Rattle.warp_session.specs.inner.Turns.{At, AreCutOff, Finds, Held, Replied, Taken, TakesBytes, Ends, IsCut, IsFound, at, pieces_fed, pieces_of}
 
 -- ---- whole lines
 
@@ -113,6 +113,30 @@ last_is_bad f fed line asked is found =
 pieces_more : (lines : List Line) (line : Line) → pieces_of (lines ++ line ∷ []) ≡ pieces_of lines ++ Whole (spelling line) ∷ []
 pieces_more [] line = refl
 pieces_more (l ∷ lines) line = ap (λ (ps : List Piece). Whole (spelling l) ∷ ps) (pieces_more lines line)
+
+-- looking for a line changes only what is kept
+pub found_held : (h h' : Held) → h'.waits ≡ h.waits → h'.gathered ≡ h.gathered → h' ≡ record { kept = h'.kept; waits = h.waits; gathered = h.gathered }
+found_held h h' waits gathered =
+    ap (λ (l : List Line). record { kept = h'.kept; waits = l; gathered = h'.gathered }) waits
+    ∙ ap (λ (t : List ℕ). record { kept = h'.kept; waits = h.waits; gathered = t }) gathered
+
+-- so many of these bytes were taken, which end this line, and it was not asked yet
+pub IsReady : Form → Held → List ℕ → ℕ → Line → Held → Type 0
+IsReady f h bytes count line h' =
+    IsLine f line × IsCut h.kept bytes count (Whole (spelling line) ∷ []) h'.kept × (h'.waits ≡ h.waits) × (h'.gathered ≡ h.gathered)
+
+-- it stands in front
+pub ready_front : (f : Form) (h : Held) (bytes : List ℕ) (count : ℕ) (line : Line)
+    → SpellsLine f (before_first is_end bytes) line × (count ≡ first_end bytes + 1) × (first_end bytes < length bytes) × (first_end bytes ≤ longest_line)
+    → h.kept ≡ kept_of [] → IsReady f h bytes count line h
+ready_front f h bytes count line front fresh =
+    (front.0.0, cut_in_front h.kept bytes count line front.0.1 front.1 front.2 front.3 fresh, refl, refl)
+
+-- or was found by its end
+pub ready_found : (f : Form) (h h' : Held) (bytes : List ℕ) (count : ℕ) (line : Line) → Finds f h.kept bytes count (Asked line) h'.kept
+    → h'.waits ≡ h.waits → h'.gathered ≡ h.gathered → IsReady f h bytes count line h'
+ready_found f h h' bytes count line found waits gathered =
+    (found.1.0, subst (λ (ps : List Piece). IsCut h.kept bytes count ps h'.kept) found.1.1 found.2, waits, gathered)
 
 -- a session is over any desk, and reads lines of one form
 module _ {S : Type 0} (f : Form) (gives : S → Line → Reply → S → Type 0) where
@@ -332,6 +356,12 @@ module _ {S : Type 0} (f : Form) (gives : S → Line → Reply → S → Type 0)
     answers = subst (λ (l : List Piece). Replied f gives l start b) (append-nil (lines_of was.lines))
         (Replied-append (lines_of was.lines) [] start a b was.answers answers);
   }
+
+  -- where a session is before the answers is where it was before looking for a line
+  pub Replied-found : (ps : List Piece) (s : S) (h h' : Held) (w : Option (List ℕ)) (n : ℕ) (b : At S) → h'.waits ≡ h.waits → h'.gathered ≡ h.gathered
+      → Replied f gives ps (at s h' w n) b → Replied f gives ps (at s h w n) b
+  Replied-found ps s h h' w n b waits gathered answers =
+      Replied-from ps (at s h w n) b h'.kept (subst (λ (x : Held). Replied f gives ps (at s x w n) b) (found_held h h' waits gathered) answers)
 
   -- bytes were cut, and what they end was answered or waits
   pub TakesBytes-cut : (a b : At S) (bytes : List ℕ) (count : ℕ) (pieces : List Piece) → IsCut a.held.kept bytes count pieces b.held.kept

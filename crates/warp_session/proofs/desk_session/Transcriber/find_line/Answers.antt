@@ -11,7 +11,7 @@ returns-in-Some-clause-finds c =
     let view : c.self.inside.feed ≡ c.args.self.now.kept = ap (λ (h : Held). h.kept) c.self.view_is in (
       Whole c.in-Some.text.now ∷ [],
       c.read_text.ensures,
-      (ap (λ n. n + 1) found.1, found.2, λ line is. c.in-Some.ensures.line line (view ∙ is), c.in-Some.ensures.fresh),
+      (ap (λ n. n + 1) found.1, found.2, λ line is. c.in-Some.ensures.line line (view ∙ is), sym view ∙ c.in-Some.ensures.fresh),
     )
 
 pub returns-clause-finds : goal.returns-clause-finds

@@ -13,7 +13,7 @@ returns-in-Bad-clause-turn g c = λ state line is idle.
 -- it has no line feed, and so spells none
 pub returns-in-Asked : goal.returns-in-Asked
 returns-in-Asked g c = record {
-  turn = λ state line is idle. absurd (last_is_bad c.args.form c.args.fed line c.in-Asked.field-0 is
+  turn = λ state line is idle. absurd (last_is_bad c.args.form c.args.fed line _ is
       (subst (IsFound c.args.form (pieces_fed c.args.fed)) c.in-Asked.is c.read_fed.ensures));
   waits = refl;
   failures = refl;
