@@ -1,6 +1,8 @@
 -- Lines that were sent together, and their answers.
-use Rattle.std.proofs.Common.{◌≡◌, ℕ, ◌+◌, ◌<◌, ◌≤◌, false, true, true≢false, List, [], ◌∷◌, ◌++◌, All, length, length-append, map, inl, ◌⊎◌, refl, sym, ap, subst, ◌∙◌, append_assoc, append-nil, arith}
+use Rattle.std.proofs.Common.{◌≡◌, ℕ, ◌+◌, ◌-◌, ◌<◌, take, drop, length-take-le, ◌≤◌, false, true, true≢false, List, [], ◌∷◌, ◌++◌, All, length, length-append, map, inl, ◌⊎◌, refl, sym, ap, subst, ◌∙◌, append_assoc, append-nil, arith}
+use Rattle.std.proofs.lemmas.List.{length-map, take-append-le, take_all, take_rest}
 use Rattle.std.proofs.lemmas.List.Elements.{All-head, All-tail}
+use Rattle.std.proofs.Math.Seq.{take-add, take-append-add}
 use Rattle.warp_record.specs.declared.line.Line.{Line}
 use Rattle.warp_record.specs.declared.line.Line.TheVariants as line
 use Rattle.warp_record.specs.declared.reply.Reply.{Reply}
@@ -102,3 +104,36 @@ all_answered s front (l ∷ lines) (a ∷ last) free some same even few are good
           (omega (arith, length-append (s.port.fetched ++ front) (a ∷ []), length-append s.port.sent (l ∷ []), even)) refl
           (All-tail (λ line. is_look line ≡ false) l lines are) (All-tail IsAnswer a last good)),
     )
+
+-- lines that were sent together, and whose answers were fetched, got their replies
+pub asked_together : (s : PortDeskState) (p q : PortState) (n : ℕ) (lines : List Line) (said rest : List Reply)
+    → 0 < n → n ≤ length lines → p ≡ record s.port { sent = s.port.sent ++ take n lines; free = p.free } → s.port.free ≤ p.free + n
+    → All (λ line. is_look line ≡ false) (take n lines) → FetchesLast p said q → length said ≡ n
+    → GivesEach GivesAt s (take n lines) (take n (said ++ rest)) (record s { port = q })
+asked_together s p q n lines said rest some within sent free commands fetched many =
+    let front : List Answer = fetched.0 in
+    let last : List Answer = fetched.1 in
+    let few : length (take n lines) ≡ n = length-take-le n lines within in
+    let whole : q ≡ record s.port { sent = s.port.sent ++ take n lines; fetched = (s.port.fetched ++ front) ++ last; free = p.free } =
+    fetched.2 ∙ ap (λ (x : PortState). record x { fetched = (x.fetched ++ front) ++ last }) sent in
+    let as_many : length last ≡ n = sym (length-map (λ (a : Answer). a.reply) last) ∙ ap length (sym fetched.4) ∙ many in
+    let all : length ((s.port.fetched ++ front) ++ last) ≡ length (s.port.sent ++ take n lines) =
+    sym (ap (λ (x : PortState). length x.fetched) whole) ∙ fetched.3 ∙ ap (λ (x : PortState). length x.sent) whole in
+    let even : length (s.port.fetched ++ front) ≡ length s.port.sent =
+    omega (arith, all, as_many, few, length-append (s.port.fetched ++ front) last, length-append s.port.sent (take n lines)) in
+    let replies : replies_of last ≡ take n (said ++ rest) =
+    sym (take-append-le n said rest (omega (arith, many)) ∙ take_all n said (omega (arith, many)) ∙ fetched.4) in
+    subst (λ (rs : List Reply). GivesEach GivesAt s (take n lines) rs (record s { port = q })) replies
+    (subst (λ (x : PortState). GivesEach GivesAt s (take n lines) (replies_of last) (record s { port = x })) (sym whole)
+    (all_answered s front (take n lines) last p.free (omega (arith, few, some)) (as_many ∙ sym few) even (omega (arith, free, few)) commands fetched.5))
+
+-- a front of a list, and then some of what is behind it
+pub front_more : {A : Type 0} (xs : List A) (front n : ℕ) → take front xs ++ take n (take (length xs - front) (drop front xs)) ≡ take (front + n) xs
+front_more xs front n =
+    ap (λ (l : List _). take front xs ++ take n l) (take_rest xs front)
+    ∙ sym (take-add front n xs)
+
+-- and of a list whose rest was exchanged
+pub front_with : {A : Type 0} (xs ys : List A) (front n : ℕ) → front ≤ length xs → take front xs ++ take n ys ≡ take (front + n) (take front xs ++ ys)
+front_with xs ys front n within =
+    sym (ap (λ (k : ℕ). take (k + n) (take front xs ++ ys)) (sym (length-take-le front xs within)) ∙ take-append-add (take front xs) ys n)

@@ -74,7 +74,8 @@ impl<'a, X: Wait + Clock> PortDesk<'a, X> {
         ensures places { length replies.new ≡ length lines.now }
     {
         let count = send_first(&mut self.port, lines);
-        if count == 0 {
+        let none_sent = count == 0;
+        if none_sent {
             replies[0] = self.ask(lines[0]);
             return 1;
         }
@@ -150,6 +151,7 @@ fn send_first(port: &mut Port, lines: &[Line]) -> usize
     ensures sent { port.new ≡ record port.old { sent = port.old.sent ++ take result lines.now; free = port.new.free } }
     ensures free { port.old.free ≤ port.new.free + result }
     ensures commands { All (λ line. is_look line ≡ false) (take result lines.now) }
+    ensures none { result ≡ 0 → port.new ≡ port.old }
 {
     let mut count = 0;
     while count < lines.len() {

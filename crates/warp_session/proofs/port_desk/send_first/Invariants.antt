@@ -8,6 +8,7 @@ invariant-loop-count g l = record {
   within : l.count ≤ length l.lines;
   sent : l.port ≡ record l.initial.port { sent = l.initial.port.sent ++ take l.count l.lines; free = l.port.free };
   free : l.initial.port.free ≤ l.port.free + l.count;
+  none : l.count ≡ 0 → l.port ≡ l.initial.port;
   commands : All (λ line. is_look line ≡ false) (take l.count l.lines);
 }
 
