@@ -5,5 +5,5 @@ pub returns-then-is_settled-clause-stands : goal.returns-then-is_settled-clause-
 returns-then-is_settled-clause-stands g c =
     rw (← c.self.view_is)
     (λ done stands.
-        let run = c.is_settled.ensures.whole c.if-is_settled.true _ stands in
-        (0, done, all_done g.T.Timeline.stands_for c.self.inside.timeline _ stands run, run))
+    let run = c.is_settled.ensures.whole c.if-is_settled.true _ stands in
+    (0, done, all_done g.T.Timeline.stands_for c.self.inside.timeline _ stands run, run))
