@@ -116,7 +116,7 @@ asked_together s p q n lines said rest some within sent free commands fetched ma
     let few : length (take n lines) ≡ n = length-take-le n lines within in
     let whole : q ≡ record s.port { sent = s.port.sent ++ take n lines; fetched = (s.port.fetched ++ front) ++ last; free = p.free } =
     fetched.2 ∙ ap (λ (x : PortState). record x { fetched = (x.fetched ++ front) ++ last }) sent in
-    let as_many : length last ≡ n = sym (length-map (λ (a : Answer). a.reply) last) ∙ ap length (sym fetched.4) ∙ many in
+    let as_many : length last ≡ n = sym (length-map last (λ (a : Answer). a.reply)) ∙ ap length (sym fetched.4) ∙ many in
     let all : length ((s.port.fetched ++ front) ++ last) ≡ length (s.port.sent ++ take n lines) =
     sym (ap (λ (x : PortState). length x.fetched) whole) ∙ fetched.3 ∙ ap (λ (x : PortState). length x.sent) whole in
     let even : length (s.port.fetched ++ front) ≡ length s.port.sent =

@@ -121,7 +121,7 @@ found_held h h' waits gathered =
     ∙ ap (λ (t : List ℕ). record { kept = h'.kept; waits = h.waits; gathered = t }) gathered
 
 -- so many of these bytes were taken, which end this line, and it was not asked yet
-pub IsReady : Form → Held → List ℕ → ℕ → Line → Held → Type 0
+abbrev pub IsReady : Form → Held → List ℕ → ℕ → Line → Held → Type 0
 IsReady f h bytes count line h' =
     IsLine f line × IsCut h.kept bytes count (Whole (spelling line) ∷ []) h'.kept × (h'.waits ≡ h.waits) × (h'.gathered ≡ h.gathered)
 
@@ -289,6 +289,9 @@ module _ {S : Type 0} (f : Form) (gives : S → Line → Reply → S → Type 0)
     out = Appends-nil a.written;
     rest = sym (append-nil a.held.gathered);
   }
+
+  pub Replied-nothing : (pieces : List Piece) (a : At S) → pieces ≡ [] → Replied f gives pieces a a
+  Replied-nothing pieces a none = subst (λ (ps : List Piece). Replied f gives ps a a) (sym none) (Replied-nil a)
 
   -- ---- bytes that were taken
 

@@ -4,7 +4,7 @@ use Rattle.warp_session.specs.inner.Fetched.{is_look}
 use Rattle.warp_session.proofs.port_desk.send_first.Given as goal
 
 abbrev pub invariant-loop-count : goal.invariant-loop-count
-invariant-loop-count g l = record {
+invariant-loop-count l = record {
   within : l.count ≤ length l.lines;
   sent : l.port ≡ record l.initial.port { sent = l.initial.port.sent ++ take l.count l.lines; free = l.port.free };
   free : l.initial.port.free ≤ l.port.free + l.count;
@@ -13,4 +13,4 @@ invariant-loop-count g l = record {
 }
 
 abbrev pub decreases-loop-count : goal.decreases-loop-count
-decreases-loop-count g l = length l.lines - l.count
+decreases-loop-count l = length l.lines - l.count
