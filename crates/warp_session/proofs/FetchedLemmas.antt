@@ -1,10 +1,13 @@
 -- Lines that were sent together, and their answers.
-use Rattle.std.proofs.Common.{◌≡◌, ℕ, ◌+◌, ◌-◌, ◌<◌, take, drop, length-take-le, ◌≤◌, false, true, true≢false, List, [], ◌∷◌, ◌++◌, All, length, length-append, map, inl, ◌⊎◌, refl, sym, ap, subst, ◌∙◌, append_assoc, append-nil, arith}
-use Rattle.std.proofs.lemmas.List.{length-map, take-append-le, take_all, take_rest}
-use Rattle.std.proofs.lemmas.List.Elements.{All-head, All-tail}
+use borrow.Rule.Slice.PartMut.{put_mid, post_of, same_len_mid}
+use Rattle.std.proofs.Common.{slice_index_or, slice_set, map-append, ◌≡◌, ℕ, ◌+◌, ◌-◌, ◌<◌, take, drop, length-take-le, ◌≤◌, false, true, true≢false, List, [], ◌∷◌, ◌++◌, All, length, length-append, map, inl, ◌⊎◌, refl, sym, ap, subst, ◌∙◌, append_assoc, append-nil, arith}
+use Rattle.std.proofs.lemmas.List.{length-map, take-append-le, take_all, take_more, take_more_set, take_rest}
+use Rattle.std.proofs.lemmas.List.Elements.{All-head, All-map, All-nil, All-push, All-tail, All-weaker}
 use Rattle.std.proofs.Math.Seq.{take-add, take-append-add}
 use Rattle.warp_record.specs.declared.line.Line.{Line}
 use Rattle.warp_record.specs.declared.line.Line.TheVariants as line
+use Rattle.warp_tag.specs.Limits.{widest}
+use Rattle.warp_record.specs.Reply.{IsReply}
 use Rattle.warp_record.specs.declared.reply.Reply.{Reply}
 use Rattle.warp_exchange.specs.Batch.{GivesEach}
 use Rattle.warp_lanes.specs.declared.answer.Answer.{Answer}
@@ -38,6 +41,62 @@ fetched_all p q r last down few is missing =
           ∙ ap (λ (x : PortState). length x.sent) (sym is.1),
       is.0,
     )
+
+-- behind an earlier state the port fetched so many answers, whose replies stand in front
+abbrev pub HasFetched : PortState → ℕ → List Reply → PortState → Type 0
+HasFetched p at replies r =
+    (last : List Answer) × (r ≡ record p { fetched = p.fetched ++ last }) × (length last ≡ at) × (take at replies ≡ replies_of last) × All IsAnswer last
+
+-- none yet
+pub fetched_none : (p : PortState) (replies : List Reply) → HasFetched p 0 replies p
+fetched_none p replies =
+    ([], ap (λ (x : List Answer). record p { fetched = x }) (sym (append-nil p.fetched)), refl, refl, All-nil IsAnswer)
+
+-- one more
+pub fetched_next : (p q r : PortState) (at : ℕ) (replies : List Reply) (answer : Answer) → at < length replies → HasFetched p at replies q
+    → IsAnswer answer × (r ≡ record q { fetched = q.fetched ++ answer ∷ [] }) → HasFetched p (at + 1) (slice_set replies at answer.reply) r
+fetched_next p q r at replies answer within was is = (
+  was.0 ++ answer ∷ [],
+  is.1 ∙ ap (λ (x : PortState). record x { fetched = x.fetched ++ answer ∷ [] }) was.1
+      ∙ ap (λ (x : List Answer). record p { fetched = x }) (append_assoc p.fetched was.0 (answer ∷ [])),
+  length-append was.0 (answer ∷ []) ∙ ap (λ (n : ℕ). n + 1) was.2,
+  take_more_set replies at answer.reply within ∙ ap (λ (rs : List Reply). rs ++ answer.reply ∷ []) was.3
+      ∙ sym (map-append (λ (a : Answer). a.reply) was.0 (answer ∷ [])),
+  All-push IsAnswer was.0 answer was.4 is.0,
+)
+
+-- no more than were missing
+pub level_next : (q r : PortState) (answer : Answer) → IsAnswer answer × (r ≡ record q { fetched = q.fetched ++ answer ∷ [] })
+    → length q.fetched < length q.sent → length r.fetched ≤ length r.sent
+level_next q r answer is missing =
+    subst (λ (x : PortState). length x.fetched ≤ length x.sent) (sym is.1) (omega (arith, length-append q.fetched (answer ∷ []), missing))
+
+-- and in the end none is missing
+pub fetches_last : (p q r : PortState) (replies : List Reply) (at n : ℕ) → 0 < n → at ≡ n → length replies ≡ n
+    → ((front : List Answer) × (q ≡ record p { fetched = p.fetched ++ front })) → length q.sent ≤ length q.fetched + n
+    → HasFetched q at replies r → (0 < at → length r.fetched ≤ length r.sent) → FetchesLast p replies r
+fetches_last p q r replies at n some all places down few was level =
+    let fetched : length r.fetched ≡ length q.fetched + length was.0 = ap (λ (x : PortState). length x.fetched) was.1 ∙ length-append q.fetched was.0 in
+    let sent : length r.sent ≡ length q.sent = ap (λ (x : PortState). length x.sent) was.1 in
+    let most : length r.fetched ≤ length r.sent = level (omega (arith, some, all)) in (
+      down.0,
+      was.0,
+      was.1 ∙ ap (λ (x : PortState). record x { fetched = x.fetched ++ was.0 }) down.1,
+      omega (arith, fetched, sent, most, few, was.2, all),
+      sym (take_all at replies (omega (arith, places, all))) ∙ was.3,
+      was.4,
+    )
+
+-- a line more was sent
+pub sent_next : (p q r : PortState) (lines : List Line) (count : ℕ) (said : Line) → count < length lines → said ≡ slice_index_or lines count said
+    → q ≡ record p { sent = p.sent ++ take count lines; free = q.free } → r ≡ record q { sent = q.sent ++ said ∷ []; free = r.free }
+    → r ≡ record p { sent = p.sent ++ take (count + 1) lines; free = r.free }
+sent_next p q r lines count said within is first last =
+    last ∙ ap (λ (x : PortState). record x { sent = x.sent ++ said ∷ []; free = r.free }) first
+    ∙ ap (λ (x : List Line). record p { sent = x; free = r.free })
+    (append_assoc p.sent (take count lines) (said ∷ [])
+    ∙ ap (λ (x : List Line). p.sent ++ x)
+    (ap (λ (l : Line). take count lines ++ l ∷ []) is ∙ sym (take_more lines count said within)))
 
 -- the desk whose port sent these lines more, and fetched these answers, behind some older ones
 abbrev pub behind : PortDeskState → List Answer → List Line → List Answer → ℕ → PortDeskState
@@ -137,3 +196,22 @@ front_more xs front n =
 pub front_with : {A : Type 0} (xs ys : List A) (front n : ℕ) → front ≤ length xs → take front xs ++ take n ys ≡ take (front + n) (take front xs ++ ys)
 front_with xs ys front n within =
     sym (ap (λ (k : ℕ). take (k + n) (take front xs ++ ys)) (sym (length-take-le front xs within)) ∙ take-append-add (take front xs) ys n)
+
+-- a front of a list of which a part was exchanged
+pub front_put : {A : Type 0} (xs ys : List A) (a k n : ℕ) → a ≤ length xs → n ≤ length ys → take (a + n) (put_mid a k xs ys) ≡ take a xs ++ take n ys
+front_put xs ys a k n within few =
+    sym (front_with xs (ys ++ post_of a k xs) a n within)
+    ∙ ap (λ (l : List _). take a xs ++ l) (take-append-le n ys (post_of a k xs) few)
+
+-- its rest was exchanged for as many
+pub length_put : {A : Type 0} (xs ys : List A) (a : ℕ) → a ≤ length xs → length ys ≡ length xs - a → length (put_mid a (length xs - a) xs ys) ≡ length xs
+length_put xs ys a within many = same_len_mid a (length xs - a) xs ys (omega (arith, within)) many
+
+-- the replies of answers are in range
+pub replies_in_range : (p q : PortState) (n : ℕ) (said rest : List Reply) → FetchesLast p said q → length said ≡ n → All (IsReply widest) (take n (said ++ rest))
+replies_in_range p q n said rest fetched many =
+    let all : All (IsReply widest) (replies_of fetched.1) =
+    All-map (IsReply widest) (λ (a : Answer). a.reply) fetched.1
+    (All-weaker IsAnswer (λ (a : Answer). IsReply widest a.reply) (λ a h. h.0) fetched.1 fetched.5) in
+    subst (All (IsReply widest))
+    (sym (take-append-le n said rest (omega (arith, many)) ∙ take_all n said (omega (arith, many)) ∙ fetched.4)) all

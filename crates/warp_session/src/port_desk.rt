@@ -155,9 +155,13 @@ fn send_first(port: &mut Port, lines: &[Line]) -> usize
 {
     let mut count = 0;
     while count < lines.len() {
-        if is_look(&lines[count]) || port.send(lines[count]).is_err() {
+        let line = lines[count];
+        if is_look(&line) {
             return count;
         }
+        let Ok(()) = port.send(line) else {
+            return count;
+        };
         count += 1;
     }
     count
