@@ -1,7 +1,7 @@
 -- Lines that were sent together, and their answers.
 use borrow.Rule.Slice.PartMut.{put_mid, post_of, same_len_mid}
-use Rattle.std.proofs.Common.{slice_index_or, slice_set, map-append, ◌≡◌, ℕ, ◌+◌, ◌-◌, ◌<◌, take, drop, length-take-le, ◌≤◌, false, true, true≢false, List, [], ◌∷◌, ◌++◌, All, length, length-append, map, inl, ◌⊎◌, refl, sym, ap, subst, ◌∙◌, append_assoc, append-nil, arith}
-use Rattle.std.proofs.lemmas.List.{length-map, take-append-le, take_all, take_more, take_more_set, take_rest}
+use Rattle.std.proofs.Common.{slice_index_or, slice_set, ◌≡◌, ℕ, ◌+◌, ◌-◌, ◌<◌, take, drop, length-drop, length-take-le, ◌≤◌, false, true, true≢false, List, [], ◌∷◌, ◌++◌, All, length, length-append, map, inl, ◌⊎◌, refl, sym, ap, subst, ◌∙◌, append_assoc, append-nil, arith}
+use Rattle.std.proofs.lemmas.List.{length-map, map-append, take-append-le, take_all, take_more, take_more_set, take_rest}
 use Rattle.std.proofs.lemmas.List.Elements.{All-head, All-map, All-nil, All-push, All-tail, All-weaker}
 use Rattle.std.proofs.Math.Seq.{take-add, take-append-add}
 use Rattle.warp_record.specs.declared.line.Line.{Line}
@@ -205,7 +205,7 @@ front_put xs ys a k n within few =
 
 -- its rest was exchanged for as many
 pub length_put : {A : Type 0} (xs ys : List A) (a : ℕ) → a ≤ length xs → length ys ≡ length xs - a → length (put_mid a (length xs - a) xs ys) ≡ length xs
-length_put xs ys a within many = same_len_mid a (length xs - a) xs ys (omega (arith, within)) many
+length_put xs ys a within many = same_len_mid a (length xs - a) xs ys (many ∙ sym (ap length (take_rest xs a) ∙ length-drop a xs))
 
 -- the replies of answers are in range
 pub replies_in_range : (p q : PortState) (n : ℕ) (said rest : List Reply) → FetchesLast p said q → length said ≡ n → All (IsReply widest) (take n (said ++ rest))

@@ -7,8 +7,8 @@ use Rattle.warp_session.proofs.port_desk.send_first.Goals as goal
 pub loop-count-preserved : goal.loop-count-preserved
 loop-count-preserved c =
     let was = c.loop-count.invariant in
-    let line = c.index-line.result in
-    let is = c.index-line.is in
+    let line = c.index-lines-count.result in
+    let is = c.index-lines-count.is in
     record {
       within = omega arith;
       sent = sent_next _ _ _ c.args.lines.now c.loop-count.count line (omega arith) is was.sent c.in-Ok.ensures.ok;
