@@ -1,5 +1,5 @@
 -- Lemmas on what serving makes of an engine.
-use Rattle.std.proofs.Common.{◌≡◌, ℕ, ◌⊎◌, inl, inr, Bool, IsTrue, List, [], false, length, min, take, true}
+use Rattle.std.proofs.Common.{◌≡◌, ℕ, ◌⊎◌, inl, inr, Bool, IsTrue, List, [], false, length, min, take, true, true≢false}
 use Rattle.std.proofs.Common.{ap, refl, subst, sym, ◌∙◌}
 use Rattle.warp_tag.specs.declared.out.Out.{Out}
 use Rattle.warp_table.specs.Records.{set_of}
@@ -37,7 +37,7 @@ module _ {T : Type 0} where
   publishes_shows : (a b : EngineState T) (settled : Bool) → PublishesIf settled b.replica.program b.replica.records a.writer b.writer
       → IsTrue settled → Shows b
   publishes_shows a b true p is = (p.0, p.1, shown p.0 a.writer b.writer p.2.0 p.2.1)
-  publishes_shows a b false p is = absurd is
+  publishes_shows a b false p is = absurd (true≢false (sym is))
 
   same_shows : (b c : EngineState T) → c.replica ≡ b.replica → c.writer ≡ b.writer → Shows b → Shows c
   same_shows b c replica writer h =

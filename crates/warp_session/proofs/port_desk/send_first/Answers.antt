@@ -11,7 +11,7 @@ loop-count-preserved c =
     let is = c.index-lines-count.is in
     record {
       within = omega arith;
-      sent = sent_next _ _ _ c.args.lines.now c.loop-count.count line (omega arith) is was.sent c.in-Ok.ensures.ok;
+      sent = sent_next c.args.port.now c.loop-count.port c.send.new.self c.args.lines.now c.loop-count.count line (omega arith) is was.sent c.in-Ok.ensures.ok;
       free = omega (arith, was.free, c.in-Ok.ensures.free);
       none = λ zero. absurd (omega (arith, zero));
       commands = All-more (λ l. is_look l ≡ false) c.args.lines.now c.loop-count.count line (omega arith) was.commands
