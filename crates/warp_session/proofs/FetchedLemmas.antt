@@ -122,8 +122,13 @@ same_desk s sent fetched free a b c =
 behind_more : (s : PortDeskState) (front : List Answer) (said : Line) (answer : Answer) (lines : List Line) (last : List Answer) (n free : ℕ)
     → behind (behind s front (said ∷ []) (answer ∷ []) n) [] lines last free ≡ behind s front (said ∷ lines) (answer ∷ last) free
 behind_more s front said answer lines last n free =
-    ap (λ (x : List Line). record s { port = record s.port { sent = x;
-      fetched = ((((s.port.fetched ++ front) ++ answer ∷ []) ++ []) ++ last); free = free } }) (append_assoc s.port.sent (said ∷ []) lines)
+    ap (λ (x : List Line). record s {
+      port = record s.port {
+        sent = x;
+        fetched = ((((s.port.fetched ++ front) ++ answer ∷ []) ++ []) ++ last);
+        free = free;
+      };
+    }) (append_assoc s.port.sent (said ∷ []) lines)
     ∙ ap (λ (x : List Answer). record s { port = record s.port { sent = s.port.sent ++ said ∷ lines; fetched = x; free = free } })
     (ap (λ (x : List Answer). x ++ last) (append-nil ((s.port.fetched ++ front) ++ answer ∷ []))
     ∙ append_assoc (s.port.fetched ++ front) (answer ∷ []) last)

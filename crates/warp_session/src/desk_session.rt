@@ -143,11 +143,7 @@ impl Transcriber {
 
     /// Answers the lines that wait, and gathers the replies. At a desk that is not asked together none waits.
     #[inline(never)]
-    fn answer_waiting<D: Desk, W: Sink>(
-        &mut self,
-        desk: &mut D,
-        sink: &mut W,
-    ) -> Result<(), Failed>
+    fn answer_waiting<D: Desk, W: Sink>(&mut self, desk: &mut D, sink: &mut W) -> Result<(), Failed>
         requires alone { D.together ≡ false → self.old.waits ≡ [] }
         ensures turn { (f : Form) → All (IsLine f) self.old.waits →
             Turn (λ _. Replied f D.gives []) (Broken f D.gives [])

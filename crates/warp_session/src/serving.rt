@@ -168,8 +168,10 @@ where
     let Ok((source, sink)) = door.next() else {
         return Err(ServeFault::Accept);
     };
-    let running = small_stack()
-        .spawn_scoped(scope, move || attend(alloc, desk, source, sink, gate, number));
+    let running = small_stack().spawn_scoped(
+        scope,
+        move || attend(alloc, desk, source, sink, gate, number),
+    );
     started(running)?;
     Ok(())
 }

@@ -21,5 +21,5 @@ returns-clause-finds c =
       pieces_fed c.push-count.result.1,
       c.read_fed.ensures,
       rw (← view) (cut_by_push c.self.inside.feed c.push-count.new.self c.args.bytes.now c.push-count.result.0 c.push-count.result.1
-      pushed.taken pushed.given pushed.line pushed.fresh pushed.kept),
+          pushed.taken pushed.given pushed.line pushed.fresh pushed.kept),
     )
