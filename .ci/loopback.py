@@ -64,14 +64,17 @@ def free_port():
 class Server:
     """A process `warpd serve`. As a context it ends with its last session, and must end well: with this status, on standard output
     the line `ready P` alone, on standard error what `errors` says, one text or any of several. A peer may name the server's own
-    port by `{port}`. It may have no more than so many `files` open, where that is given, and has these standard streams `closed`."""
+    port by `{port}`. It may have no more than so many `files` open, and so many bytes of address `space`, where these are given, and has
+    these standard streams `closed`."""
 
-    def __init__(self, program, served, sessions, *peers, errors="", status=0, port=None, files=None, closed=()):
+    def __init__(self, program, served, sessions, *peers, errors="", status=0, port=None, files=None, space=None, closed=()):
         self.talks, self.errors, self.status = [], (errors,) if isinstance(errors, str) else errors, status
 
         def prepare():
             if files:
                 resource.setrlimit(resource.RLIMIT_NOFILE, (files, files))
+            if space:
+                resource.setrlimit(resource.RLIMIT_AS, (space, space))
             for descriptor in closed:
                 os.close(descriptor)
 

@@ -1,6 +1,6 @@
 //! Pulls of a peer's log into a replica, each new, over the same replies, whose reads and writes come in pieces, end or
 //! fail: what each came to, how many records the replica has, and how many bytes of questions were written.
-ghost use Rattle.std.specs.Prelude.{None};
+ghost use Rattle.std.specs.Prelude.{None, false};
 ghost use Rattle.warp_step.specs.Counter.{IsUnused};
 ghost use Rattle.warp_record.specs.Reply.{IsReply};
 
@@ -162,8 +162,14 @@ impl Desk for WithoutMemory {
 
     ghost form_of = { λ _. One };
 
+    ghost together = { false };
+
     fn ask(&mut self, _line: Line) -> Reply {
         Reply::Refused(Refusal::NoMemory)
+    }
+
+    fn asks_together() -> bool {
+        false
     }
 
     fn form(&self) -> Form {

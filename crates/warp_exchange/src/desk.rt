@@ -2,14 +2,18 @@
 use warp_record::{Line, Reply};
 use warp_tag::Form;
 
-/// Answers lines, one at a time.
+/// How many lines a desk is asked at once, at most.
+pub const MOST_LINES: usize = 64;
+
+/// Answers lines, one at a time or several together.
 pub trait Desk {
-    ghost use Rattle.std.specs.Prelude.{◌≡◌};
+    ghost use Rattle.std.specs.Prelude.{◌≡◌, ◌≤◌, All, Bool, length};
     ghost use Rattle.warp_tag.specs.Limits.{widest};
     ghost use Rattle.warp_tag.specs.declared.form.Form.{Form};
     ghost use Rattle.warp_record.specs.declared.line.Line.{Line};
     ghost use Rattle.warp_record.specs.declared.reply.Reply.{Reply};
     ghost use Rattle.warp_record.specs.Reply.{IsReply};
+    ghost use Rattle.warp_exchange.specs.Batch.{GivesEach, most_lines};
 
     /// What the desk's replies depend on.
     ghost State: { Type 0 };
@@ -22,6 +26,9 @@ pub trait Desk {
 
     /// The form of its program, in this state.
     ghost form_of: { State → Form };
+
+    /// Whether its lines are asked together where they come together.
+    ghost together: { Bool };
 
     /// The form of its program: of the lines that it takes.
     fn form(&self) -> Form
@@ -45,4 +52,24 @@ pub trait Desk {
     fn end_batch(&mut self)
         ensures { state self.new ≡ state self.old }
     {}
+
+    /// Whether lines that come together are worth gathering, for `ask_all`: where each answer is waited for. Else they
+    /// are asked one by one, as they are read.
+    fn asks_together() -> bool
+        ensures { result ≡ together };
+
+    /// Answers these lines, at most 64, one after another: the reply to a line is written at its place. What no reply
+    /// needed is done at the end.
+    fn ask_all(&mut self, lines: &[Line], replies: &mut [Reply])
+        requires few { length lines.now ≤ most_lines }
+        requires places { length replies.old ≡ length lines.now }
+        ensures gives { GivesEach gives (state self.old) lines.now replies.new (state self.new) }
+        ensures replies { All (IsReply widest) replies.new }
+        ensures places { length replies.new ≡ length lines.now }
+    {
+        for at in 0..lines.len() {
+            replies[at] = self.ask_in_batch(lines[at]);
+        }
+        self.end_batch();
+    }
 }

@@ -3,3 +3,4 @@ pub mod Serving
 pub mod Publishing
 pub mod SentEngines
 pub mod DrainedLanes
+pub mod VisitedLanes

@@ -174,9 +174,9 @@ module _ (P : Program) (records : List Record) (said : Record) where
   -- each list that begins what is released over a set is parted by a tag
   module _ (some : 0 < P.origins) (once : EachOnce records) where
     pub rows_parted : (rows : List Out) (tag : Moment) → BeginReleased P (set_of records) rows → IsParted (λ out. is_before out.tag tag) rows
-    rows_parted rows tag sure =
+    rows_parted rows tag begun =
         let a = some_answer P records once (announces P records some) in
-        let s = sure a.0 a.1 in
+        let s = begun a.0 a.1 in
         let outs = outputs_of a.1.trace in
         let whole = whole_begins P a.1.events a.1.trace a.0.horizon a.1.run in
         let first : a.0.released ≡ outputs_until a.0.horizon outs = a.1.released ∙ ap (outputs_until a.0.horizon) a.1.outputs in
@@ -184,11 +184,11 @@ module _ (P : Program) (records : List Record) (said : Record) where
         front_parted (λ out. is_before out.tag tag) outs rows (outputs_parted tag P a.1.events a.1.trace a.1.run)
         (front_of_front outs a.0.released rows released s)
 
-    pub still_sure : (rows : List Out) → BeginReleased P (set_of records) rows
+    pub rows_still_begin : (rows : List Out) → BeginReleased P (set_of records) rows
         → BeginReleased P (set_of (records ++ said ∷ [])) (outputs_until (tag_of said) rows)
-    still_sure rows sure =
+    rows_still_begin rows begun =
         let a = some_answer P records once (announces P records some) in
-        λ b k. still_begins a.0 b a.1 k rows (sure a.0 a.1)
+        λ b k. still_begins a.0 b a.1 k rows (begun a.0 a.1)
 
     -- while no origin broke an announcement, all of them do
     pub still_released : (w : WriterState) → AreAllowed P (records ++ said ∷ []) → AreReleased P records w → AreReleased P (records ++ said ∷ []) w
@@ -223,26 +223,26 @@ take-take (suc m) (suc n) [] le = refl
 take-take (suc m) (suc n) (x ∷ xs) le = ap (λ l. x ∷ l) (take-take m n xs (omega arith))
 
 -- what an engine keeps of its board it keeps through a turn
-module _ (P : Program) (records records' : List Record) (w : WriterState) (sure sure' : ℕ) (some : 0 < P.origins) (once : EachOnce records)
-    (allowed : AreAllowed P records) (kept : KeepsBoard P records w sure) (fewer : sure' ≤ sure) where
-  pub board_kept : (news : Option Moment) → HasNews P records news records' → IfNone news (sure' ≡ sure)
-      → IfSome news (λ tag. IsPartitionedBy (λ (row : Out). is_before row.tag tag) (take sure w.rows) →
-      IsPartitionPoint (λ (row : Out). is_before row.tag tag ≡ true) (λ (row : Out). is_before row.tag tag ≡ false) (take sure w.rows) sure')
-      → KeepsBoard P records' w sure'
+module _ (P : Program) (records records' : List Record) (w : WriterState) (count count' : ℕ) (some : 0 < P.origins) (once : EachOnce records)
+    (allowed : AreAllowed P records) (kept : KeepsBoard P records w count) (fewer : count' ≤ count) where
+  pub board_kept : (news : Option Moment) → HasNews P records news records' → IfNone news (count' ≡ count)
+      → IfSome news (λ tag. IsPartitionedBy (λ (row : Out). is_before row.tag tag) (take count w.rows) →
+      IsPartitionPoint (λ (row : Out). is_before row.tag tag ≡ true) (λ (row : Out). is_before row.tag tag ≡ false) (take count w.rows) count')
+      → KeepsBoard P records' w count'
   board_kept None same still point =
-      subst (λ (l : List Record). KeepsBoard P l w sure') (sym same) (subst (λ (n : ℕ). KeepsBoard P records w n) (sym still) kept)
-  board_kept (Some tag) (said, at, fits, more) still point = subst (λ (l : List Record). KeepsBoard P l w sure') (sym more) (record {
+      subst (λ (l : List Record). KeepsBoard P l w count') (sym same) (subst (λ (n : ℕ). KeepsBoard P records w n) (sym still) kept)
+  board_kept (Some tag) (said, at, fits, more) still point = subst (λ (l : List Record). KeepsBoard P l w count') (sym more) (record {
     within = omega (arith, kept.within, fewer);
     begun = λ live.
-        let known = take sure w.rows in
+        let known = take count w.rows in
         let test : Out → Bool = λ row. is_before row.tag tag in
         let parted = rows_parted P records said some once known tag (kept.begun live) in
-        let long : length known ≡ sure = length-take-le sure w.rows kept.within in
-        let early : take sure' known ≡ outputs_until tag known =
-        take_point test known sure' parted (omega (arith, long, fewer)) (point (is_partitioned test known parted)) in
-        let cut : take sure' known ≡ take sure' w.rows = take-take sure' sure w.rows fewer in
+        let long : length known ≡ count = length-take-le count w.rows kept.within in
+        let early : take count' known ≡ outputs_until tag known =
+        take_point test known count' parted (omega (arith, long, fewer)) (point (is_partitioned test known parted)) in
+        let cut : take count' known ≡ take count' w.rows = take-take count' count w.rows fewer in
         subst (BeginReleased P (set_of (records ++ said ∷ []))) (ap (λ (t : Moment). outputs_until t known) (sym at) ∙ sym early ∙ cut)
-        (still_sure P records said some once known (kept.begun live));
+        (rows_still_begin P records said some once known (kept.begun live));
     honest = still_released P records said some once w (All-push (λ r. refusal_of P r ≡ None) records said allowed fits) kept.honest;
   })
 
@@ -255,7 +255,7 @@ board_new P records w none live = record {
 }
 
 -- what an engine keeps of its board it keeps where it is published
-module _ (P : Program) (records : List Record) (w : WriterState) (sure : ℕ) (released : List Out) (kept : KeepsBoard P records w sure)
+module _ (P : Program) (records : List Record) (w : WriterState) (front : ℕ) (released : List Out) (kept : KeepsBoard P records w front)
     (rel : IsReleased P (set_of records) released) where
   first_begin : (count : ℕ) → BeginReleased P (set_of records) (take count released)
   first_begin count b k =

@@ -28,4 +28,4 @@ module _ (T : RattleType) (g : timeline.Ghosts T.Denot) (s : IsSend T) where
   pub engine_send : IsSend (engine.the_row T g)
   engine_send =
       view_send _ _ _ _ _ (declared_send (engine_inside.the_type T g)
-      (replica_send, (Vec-send lane.the_row lane_crosses.the_send, (writer.the_send, (search sendable, (search sendable, tt))))))
+      (replica_send, (Vec-send lane.the_row lane_crosses.the_send, (writer.the_send, (search sendable, (search sendable, (search (crosses, sendable) depth 60 fits 20000, tt)))))))

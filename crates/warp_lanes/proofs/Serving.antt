@@ -16,7 +16,8 @@ use Rattle.warp_lanes.specs.declared.answer.Answer.{Answer}
 use Rattle.warp_replica.specs.Replica.{ReplicaState}
 use Rattle.warp_lanes.specs.declared.turn.Turn.{Turn}
 use Rattle.warp_lanes.specs.declared.turn.Turn.TheVariants.{Served, Empty, Stalled}
-use Rattle.warp_lanes.specs.Engine.{TurnsLane, TimelineFacts, AreFresh, HasPlace, ids_of}
+use Rattle.warp_replica.specs.Answered.{TimelineFacts}
+use Rattle.warp_lanes.specs.Engine.{TurnsLane, AreFresh, HasPlace, ids_of}
 use Rattle.warp_lanes.specs.Lanes.{LaneState, places}
 use Rattle.warp_lanes.proofs.Growing.{Grows, grown, same, grows, begins}
 use Rattle.warp_lanes.specs.History.{IsGiven, AreGiven, AreRising, told_at, times_told, times_taken, IsServed, IsHistory}
@@ -201,9 +202,9 @@ module _ {T : Type 0} (facts : TimelineFacts T) (r r' : ReplicaState T) (began :
   pub turn_keeps : (turn : Turn) → IsHistory r.program r.records began lanes → slice_get lanes k ≡ Some lane → TurnsLane facts r lane turn r' lane'
       → IsHistory r'.program r'.records began (set lanes k lane')
   turn_keeps Served s at (said, answer, t) =
-      rw (t.0.1, t.1)
+      rw (t.0.answers.given.program, t.1)
       (any_free r.program r'.records began lanes k _ lane'.free
-      (one_more r.program r.records began lanes k lane said answer r'.records s at t.0.0 t.0.2))
+      (one_more r.program r.records began lanes k lane said answer r'.records s at t.0.answers.given.gives t.0.answers.len))
   turn_keeps Empty s at t = rw (t.0, t.1) (any_free r.program r.records began lanes k lane lane'.free (rw (set_same lanes k lane at) s))
   turn_keeps Stalled s at t = still s at t.0 t.1
 
@@ -228,7 +229,7 @@ fresh_served P log began lanes e f =
 
 pub turns_program : {T : Type 0} (facts : TimelineFacts T) (r r' : ReplicaState T) (lane lane' : LaneState) (turn : Turn) → TurnsLane facts r lane turn r' lane'
     → r'.program ≡ r.program
-turns_program {T} facts r r' lane lane' Served (said, answer, t) = t.0.1
+turns_program {T} facts r r' lane lane' Served (said, answer, t) = t.0.answers.given.program
 turns_program {T} facts r r' lane lane' Empty t = ap (λ (x : ReplicaState T). x.program) t.0
 turns_program {T} facts r r' lane lane' Stalled t = ap (λ (x : ReplicaState T). x.program) t.0
 
@@ -240,10 +241,10 @@ same_ids (l ∷ lanes) zero lane lane' e id =
     λ i. (id ∙ sym (ap (λ (x : LaneState). x.lane) here)) i ∷ ids_of lanes
 same_ids (l ∷ lanes) (suc k) lane lane' e id = ap (λ ids. l.lane ∷ ids) (same_ids lanes k lane lane' (grind (e, arith)) id)
 
--- one more in front of what is empty
-pub before_none : {X : Type 0} (new old last : List X) (x : X) → last ≡ [] → new ≡ old ++ x ∷ [] → new ++ last ≡ (old ++ last) ++ x ∷ []
-before_none new old last x none e =
-    ap (λ l. new ++ l) none ∙ append-nil new ∙ e ∙ ap (λ l. l ++ x ∷ []) (sym (ap (λ l. old ++ l) none ∙ append-nil old))
+-- more in front of what is empty
+pub before_none : {X : Type 0} (new old last more : List X) → last ≡ [] → new ≡ old ++ more → new ++ last ≡ (old ++ last) ++ more
+before_none new old last more none e =
+    ap (λ l. new ++ l) none ∙ append-nil new ∙ e ∙ ap (λ l. l ++ more) (sym (ap (λ l. old ++ l) none ∙ append-nil old))
 
 pub turns_id : {T : Type 0} (facts : TimelineFacts T) (r r' : ReplicaState T) (lane lane' : LaneState) (turn : Turn) → TurnsLane facts r lane turn r' lane'
     → lane'.lane ≡ lane.lane

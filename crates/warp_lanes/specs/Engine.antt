@@ -1,26 +1,23 @@
--- An engine, and what a turn and draining a lane do.
-use Rattle.std.specs.Prelude.{◌≡◌, ◌≢◌, ℕ, ◌<◌, ◌≤◌, Bool, false, IsTrue, List, [], ◌∷◌, ◌++◌, length, map, slice_get}
-use Rattle.std.specs.Prelude.{Option, Some}
+-- An engine, and what a turn, a visit and draining a lane do.
+use Rattle.std.specs.Prelude.{◌≡◌, ◌≢◌, ℕ, ◌<◌, ◌≤◌, Bool, true, false, List, [], ◌∷◌, ◌++◌, length, map, slice_get, Some}
 use Rattle.std.specs.List.{AllByRecursion}
 use Rattle.std.proofs.Math.ListN.{set}
-use Rattle.warp_tag.specs.Moment.{Moment}
-use Rattle.warp_tag.specs.Table.{live}
+use Rattle.warp_tag.specs.declared.out.Out.{Out}
+use Rattle.warp_step.specs.Program.{Program}
 use Rattle.warp_record.specs.declared.line.Line.{Line}
-use Rattle.warp_record.specs.declared.line.Line.TheVariants.{Collect}
-use Rattle.warp_record.specs.declared.reply.Refusal.TheVariants.{NoMemory}
-use Rattle.warp_record.specs.declared.reply.Reply.{Reply}
-use Rattle.warp_record.specs.declared.reply.Reply.TheVariants.{Refused}
-use Rattle.warp_table.specs.LogNames.{table_of}
-use Rattle.warp_replica.specs.Answered.{floor_answered}
+use Rattle.warp_record.specs.declared.record.Record.{Record}
+use Rattle.warp_table.specs.Records.{set_of}
+use Rattle.warp_replica.specs.Answered.{Answered, EndsBatch, TimelineFacts}
+use Rattle.warp_replica.specs.Answers.{IsReleased}
 use Rattle.warp_replica.specs.Replica.{ReplicaState}
-use Rattle.warp_replica.specs.Floor.{CollectsTo, brings_behind}
-use Rattle.warp_replica.specs.Gives.{Gives}
-use Rattle.warp_replica.specs.Settling.{SettlesFor, SettlesUnless}
+use Rattle.warp_replica.specs.Settling.{SettlesNew}
 use Rattle.warp_board.specs.Board.{WriterState}
 use Rattle.warp_lanes.specs.declared.answer.Answer.{Answer}
+use Rattle.warp_lanes.specs.declared.publish.Published.{Published}
 use Rattle.warp_lanes.specs.declared.turn.Turn.{Turn}
 use Rattle.warp_lanes.specs.declared.turn.Turn.TheVariants.{Served, Empty, Stalled}
 use Rattle.warp_lanes.specs.Lanes.{LaneId, LaneState, PortEndState, IsAnswer, places}
+use Rattle.warp_lanes.specs.Publish.{Publishes}
 
 -- how many lanes an engine may serve
 abbrev pub most_lanes : ℕ
@@ -50,47 +47,25 @@ abbrev pub HasPlace : List LaneState → ℕ → Type 0
 HasPlace lanes number =
     (lane : LaneState) × (slice_get lanes number ≡ Some lane) × (length lane.answers < places)
 
--- what a timeline tells of itself: whether it is settled, that settling it lacked memory, its floor, and how many rows
--- before the horizon collecting may keep
-pub record TimelineFacts (T : Type 0) : Type 1 where
-  pub settled : T → Bool
-  pub refused : T → Type 0
-  pub floor : T → Option Moment
-  pub slack : ℕ
-
-abbrev pub facts_of : {T : Type 0} → (T → Bool) → (T → Type 0) → (T → Option Moment) → ℕ → TimelineFacts T
-facts_of settled refused floor slack = record { settled = settled; refused = refused; floor = floor; slack = slack }
-
--- What a line and its reply leave of a replica's timeline. It is settled by that reply, or settling it lacked memory. A
--- line other than `collect`, or one refused for want of memory, lets go of nothing; where a new record comes behind
--- what was let go of, nothing is behind any more. Where no live event changed, and no record came behind what was let
--- go of, it stays settled if it was. After a `collect` not refused for want of memory it has let go of the rows before
--- the horizon, but for at most `slack`.
-pub record LeavesTimeline {T : Type 0} (facts : TimelineFacts T) (r : ReplicaState T) (said : Line) (reply : Reply)
+-- The replica was given a line, alone or among others: it has answered it, and the answer says the length of the log that
+-- the line left.
+pub record AnswersLine {T : Type 0} (facts : TimelineFacts T) (r : ReplicaState T) (said : Line) (answer : Answer)
     (r' : ReplicaState T) : Type 0 where
-  pub settles : (had : Bool) × SettlesFor said reply had (facts.settled r.timeline) (facts.settled r'.timeline)
-  pub lacked : SettlesUnless said reply (facts.settled r'.timeline) (facts.refused r'.timeline)
-  pub floor : said ≢ Collect → facts.floor r'.timeline ≡ floor_answered (facts.floor r.timeline) said reply
-  pub spared : reply ≡ Refused NoMemory → facts.floor r'.timeline ≡ facts.floor r.timeline
-  pub calm : brings_behind (facts.floor r.timeline) said ≡ false →
-      live (table_of r'.records) ≡ live (table_of r.records) →
-      IsTrue (facts.settled r.timeline) → IsTrue (facts.settled r'.timeline)
-  pub collects : said ≡ Collect → reply ≢ Refused NoMemory →
-      CollectsTo facts.slack r.program r.records (facts.floor r.timeline) (facts.floor r'.timeline)
+  pub given : Answered facts r said answer.reply r'
+  pub len : answer.len ≡ length r'.records
+  pub fits : IsAnswer answer
 
--- The replica was given a line: the reply is what the line gives on its log, with the length of the log that it left;
--- and by the line and that reply it is settled, and has let go of what it may.
-abbrev pub Answered : {T : Type 0} → TimelineFacts T → ReplicaState T → Line → Answer → ReplicaState T → Type 0
-Answered facts r said answer r' =
-    Gives r.program r.records said answer.reply r'.records
-    × (r'.program ≡ r.program) × (answer.len ≡ length r'.records) × IsAnswer answer
-    × LeavesTimeline facts r said answer.reply r'
+-- the same of a line alone: nothing waits behind a new record
+pub record AnswersAlone {T : Type 0} (facts : TimelineFacts T) (r : ReplicaState T) (said : Line) (answer : Answer)
+    (r' : ReplicaState T) : Type 0 where
+  pub answers : AnswersLine facts r said answer r'
+  pub settled : SettlesNew said answer.reply (facts.settled r'.timeline) (facts.refused r'.timeline)
 
 -- a lane received a command and sent its answer
 abbrev pub Serves : {T : Type 0} → TimelineFacts T → ReplicaState T → LaneState → Line → Answer
     → ReplicaState T → LaneState → Type 0
 Serves facts r lane said answer r' lane' =
-    Answered facts r said answer r'
+    AnswersAlone facts r said answer r'
     × (lane' ≡ record lane { commands = lane.commands ++ said ∷ []; answers = lane.answers ++ answer ∷ []; free = lane'.free })
 
 -- What a turn at a lane does to the replica and the lane. A place for an answer is looked for first: where none is found it is
@@ -109,13 +84,50 @@ Turns facts e number turn e' =
     × TurnsLane facts e.replica lane turn e'.replica lane'
     × (e'.lanes ≡ set e.lanes number lane') × (e'.writer ≡ e.writer) × (e'.began ≡ e.began)
 
--- the replica was given these lines, one after another
-abbrev pub AreAnswered : {T : Type 0} → TimelineFacts T → ReplicaState T → List Line → List Answer → ReplicaState T
-    → Type 0
-AreAnswered facts r [] [] r' = r' ≡ r
-AreAnswered {T} facts r (said ∷ lines) (answer ∷ answers) r' =
-    (next : ReplicaState T) × Answered facts r said answer next × AreAnswered facts next lines answers r'
-AreAnswered facts r lines answers r' = ⊥
+-- the replica was given these lines, one after another, each as this relation says
+abbrev pub AreAnswered : {T : Type 0} → (ReplicaState T → Line → Answer → ReplicaState T → Type 0) → ReplicaState T
+    → List Line → List Answer → ReplicaState T → Type 0
+AreAnswered one r [] [] r' = r' ≡ r
+AreAnswered {T} one r (said ∷ lines) (answer ∷ answers) r' =
+    (next : ReplicaState T) × one r said answer next × AreAnswered one next lines answers r'
+AreAnswered one r lines answers r' = ⊥
+
+-- What the writer of the board leaves, by whether the replica is settled: what publishing leaves, or all as it was.
+abbrev pub PublishesIf : Bool → Program → List Record → WriterState → WriterState → Type 0
+PublishesIf true P log w w' =
+    (released : List Out) × IsReleased P (set_of log) released
+    × ((published : Published) × Publishes released w published w')
+PublishesIf false P log w w' = w' ≡ w
+
+-- A visit served lines of a lane, at least one and at most as many as it has places. The replica was given them one
+-- after another, and what waited then was executed; where that left it settled, its board was published; and the answers
+-- stand behind those that the lane sent.
+pub record ServesAll {T : Type 0} (facts : TimelineFacts T) (r : ReplicaState T) (lane : LaneState) (w : WriterState)
+    (lines : List Line) (made : List Answer) (between r' : ReplicaState T) (lane' : LaneState) (w' : WriterState) : Type 0
+  where
+    pub some : 0 < length lines
+    pub most : length lines ≤ places
+    pub answered : AreAnswered (AnswersLine facts) r lines made between
+    pub ends : EndsBatch facts between r'
+    pub sent : lane' ≡ record lane { commands = lane.commands ++ lines; answers = lane.answers ++ made; free = lane'.free }
+    pub published : PublishesIf (facts.settled r'.timeline) r'.program r'.records w w'
+
+-- What a visit of a lane does to the replica, the lane and the writer of the board. A place for an answer is looked for
+-- first, as in a turn.
+abbrev pub VisitsLane : {T : Type 0} → TimelineFacts T → ReplicaState T → LaneState → WriterState → Turn
+    → ReplicaState T → LaneState → WriterState → Type 0
+VisitsLane {T} facts r lane w Served r' lane' w' =
+    (lines : List Line) × (made : List Answer) × (between : ReplicaState T)
+    × ServesAll facts r lane w lines made between r' lane' w'
+VisitsLane facts r lane w Empty r' lane' w' = TurnsLane facts r lane Empty r' lane' × (w' ≡ w)
+VisitsLane facts r lane w Stalled r' lane' w' = TurnsLane facts r lane Stalled r' lane' × (w' ≡ w)
+
+-- what a visit of the lane of this number, from 0, does to the engine
+abbrev pub Visits : {T : Type 0} → TimelineFacts T → EngineState T → ℕ → Turn → EngineState T → Type 0
+Visits facts e number turn e' =
+    (lane lane' : LaneState) × (slice_get e.lanes number ≡ Some lane)
+    × VisitsLane facts e.replica lane e.writer turn e'.replica lane' e'.writer
+    × (e'.lanes ≡ set e.lanes number lane') × (e'.began ≡ e.began)
 
 -- What draining a lane with its port's end does. The replica was given the lines that were not received, and their
 -- answers stand behind those that the lane sent. So the lane received all that its port sent, and what the port
@@ -124,7 +136,7 @@ AreAnswered facts r lines answers r' = ⊥
 abbrev pub DrainsLane : {T : Type 0} → TimelineFacts T → ReplicaState T → LaneState → PortEndState → List Answer
     → ReplicaState T → LaneState → Type 0
 DrainsLane facts r lane end handed r' lane' =
-    (lines : List Line) × (made : List Answer) × AreAnswered facts r lines made r'
+    (lines : List Line) × (made : List Answer) × AreAnswered (AnswersAlone facts) r lines made r'
     × (lane' ≡ record lane { commands = lane.commands ++ lines; answers = lane.answers ++ made; free = lane'.free })
     × (lane'.commands ≡ end.sent) × (lane'.answers ≡ end.fetched ++ handed)
     × AllByRecursion (λ (answer : Answer). length r.records ≤ answer.len) made

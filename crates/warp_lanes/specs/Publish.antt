@@ -1,4 +1,4 @@
--- What publishing does to the rows of a board, and what is always known of them.
+-- What publishing does to the released rows of a board, and what is always known of them.
 use Rattle.std.specs.Prelude.{◌≡◌, ◌⊎◌, ℕ, ◌≤◌, false, true, List, [], ◌∷◌, ◌++◌, length, min, take, Option, Some, None}
 use Rattle.warp_tag.specs.Lists.{StartsWith}
 use Rattle.warp_tag.specs.Moment.{Moment}
@@ -36,10 +36,10 @@ BeginReleased P S rows = (a : Answers) → AreAnswers P S a → StartsWith a.rel
 abbrev pub AreReleased : Program → List Record → WriterState → Type 0
 AreReleased P log w = IsHonest (set_of log) → (w.frozen ≡ false) × BeginReleased P (set_of log) w.rows
 
--- What an engine keeps of its board: the first so many rows are known to begin what is released, while the board is not frozen.
-pub record KeepsBoard (P : Program) (log : List Record) (w : WriterState) (sure : ℕ) : Type 0 where
-  pub within : sure ≤ length w.rows
-  pub begun : w.frozen ≡ false → BeginReleased P (set_of log) (take sure w.rows)
+-- What an engine keeps of its board: so many of its rows are known to begin what is released, while it is not frozen.
+pub record KeepsBoard (P : Program) (log : List Record) (w : WriterState) (known : ℕ) : Type 0 where
+  pub within : known ≤ length w.rows
+  pub begun : w.frozen ≡ false → BeginReleased P (set_of log) (take known w.rows)
   pub honest : AreReleased P log w
 
 -- A record with this tag came in, which the program takes; or none did.

@@ -11,6 +11,16 @@ pub struct Answer {
     pub reply: Reply,
 }
 
+/// What stands at a place that no answer was put into: `none` of an empty log.
+impl Default for Answer {
+    fn default() -> Answer {
+        Answer {
+            len: 0,
+            reply: Reply::Nothing { log: 0 },
+        }
+    }
+}
+
 /// The rule of the ring of answers: each reply is in its range, and the length of a log that it says is its answer's
 /// `len`.
 #[derive(Clone, Copy)]

@@ -4,7 +4,8 @@ ghost use Rattle.std.specs.Prelude.{length, vec_capacity, vec_len};
 ghost use Rattle.rtrb.specs.Ring.{SameConsumer, known_items, received};
 ghost use Rattle.warp_record.specs.declared.line.Line.{Line};
 ghost use Rattle.warp_lanes.specs.declared.answer.Answer.{Answer};
-ghost use Rattle.warp_lanes.specs.Engine.{Answered, AreAnswered, DrainsLane, facts_of};
+ghost use Rattle.warp_replica.specs.Answered.{facts_of};
+ghost use Rattle.warp_lanes.specs.Engine.{AnswersAlone, AreAnswered, DrainsLane};
 
 use crate::answer::{Answer, AnswerRule};
 use crate::executor_end::Lane;
@@ -58,8 +59,8 @@ fn answer_all<T: Timeline>(
     ensures ring { SameConsumer commands.old commands.new }
     ensures commands { received commands.new ≡ received commands.old ++ known_items commands.old }
     ensures made { (made : List Answer)
-        × AreAnswered (facts_of T.settled T.refused T.floor T.SLACK) replica.old (known_items commands.old) made
-        replica.new
+        × AreAnswered (AnswersAlone (facts_of T.settled T.refused T.floor T.SLACK))
+        replica.old (known_items commands.old) made replica.new
         × (last.new.items ≡ last.old.items ++ made) }
 {
     while commands.cached_slots() > 0 {
@@ -80,7 +81,7 @@ fn answer_one<T: Timeline>(
     ensures made { (said : Line) × (answer : Answer)
         × (received commands.new ≡ received commands.old ++ said ∷ [])
         × (known_items commands.old ≡ said ∷ known_items commands.new)
-        × Answered (facts_of T.settled T.refused T.floor T.SLACK) replica.old said answer replica.new
+        × AnswersAlone (facts_of T.settled T.refused T.floor T.SLACK) replica.old said answer replica.new
         × (last.new.items ≡ last.old.items ++ answer ∷ []) }
     ensures room { vec_capacity last.new ≡ vec_capacity last.old }
 {

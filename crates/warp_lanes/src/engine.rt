@@ -9,8 +9,9 @@ ghost use Rattle.warp_step.specs.Run.{Row};
 ghost use Rattle.warp_line.specs.Timeline.{IsDone, Settles};
 ghost use Rattle.warp_replica.specs.Answers.{IsReleased};
 ghost use Rattle.warp_replica.specs.Replica.{Stands, standing_of};
-ghost use Rattle.warp_lanes.specs.Engine.{AreFresh, Drains, HasPlace, Turns, TurnsLane};
-ghost use Rattle.warp_lanes.specs.Engine.{facts_of, ids_of, most_lanes};
+ghost use Rattle.warp_replica.specs.Answered.{facts_of};
+ghost use Rattle.warp_lanes.specs.Engine.{AreFresh, Drains, HasPlace, Turns, TurnsLane, Visits};
+ghost use Rattle.warp_lanes.specs.Engine.{ids_of, most_lanes};
 ghost use Rattle.warp_lanes.specs.History.{IsHistory};
 ghost use Rattle.warp_lanes.specs.Lanes.{places};
 ghost use Rattle.warp_lanes.specs.Publish.{AreReleased, HasNews, Publishes};
@@ -20,8 +21,10 @@ use crate::answer::Answer;
 use crate::draining::drain;
 use crate::executor_end::Lane;
 use crate::port::PortEnd;
-use crate::publish::{Published, news, publish, rows_before};
+use crate::publish::{Published, news, publish_settled, rows_before};
 use crate::turn::Turn;
+use crate::visiting::{Unsent, visit};
+use arrayvec::ArrayVec;
 use std::alloc::Global;
 use std::marker::Model;
 use warp_board::{Board, Writer};
@@ -37,8 +40,10 @@ pub struct Engine<T: Timeline> {
     lanes: Vec<Lane>,
     writer: Writer,
     began: u32,
-    // So many of the board's rows are known to begin what is released, while it is not frozen.
-    sure: usize,
+    // So many of the board's released rows are known to begin what is released now, while it is not frozen.
+    known_rows: usize,
+    // What a visit answered, until it is sent.
+    unsent: Unsent,
 }
 
 impl<T: Timeline> Model for Engine<T> {
@@ -56,7 +61,7 @@ impl<T: Timeline> Model for Engine<T> {
 
     ghost invariant = { λ e.
         IsHistory e.replica.program e.replica.records e.began e.lanes.items
-        × KeepsBoard e.replica.program e.replica.records e.writer e.sure };
+        × KeepsBoard e.replica.program e.replica.records e.writer e.known_rows };
 }
 
 impl<T: Timeline> Engine<T> {
@@ -76,7 +81,8 @@ impl<T: Timeline> Engine<T> {
             lanes,
             writer,
             began,
-            sure: 0,
+            known_rows: 0,
+            unsent: ArrayVec::new(),
         }
     }
 
@@ -130,8 +136,35 @@ impl<T: Timeline> Engine<T> {
         self.replica.program().valid();
         self.replica.valid();
         let (turn, news) = serve(&mut self.lanes[lane], &mut self.replica, alloc);
-        self.sure = rows_before(self.writer.rows(), self.sure, news);
+        self.known_rows = rows_before(self.writer.rows(), self.known_rows, news);
         turn
+    }
+
+    /// Serves the commands of a lane, by its number from 0, that wait: up to 64, and at most as many as their answers
+    /// have places. Each is asked as a turn asks it, but that what records have executed waits for a query, for
+    /// `collect`, or for the end of the visit. Then it settles, publishes on the board where that leaves it settled, as
+    /// `publish` does, and sends the answers last: who fetched one finds on the board what was released by then. Where
+    /// there was no memory to settle, `settle` and `publish` may be called later. `alloc` is the replica's.
+    pub fn visit(&mut self, alloc: Global, lane: usize, board: &Board) -> Turn
+        requires lane { lane < length self.old.lanes }
+        requires board { self.old.writer.board ≡ board.now }
+        ensures visits { Visits (facts_of T.settled T.refused T.floor T.SLACK) self.old lane result self.new }
+        ensures first { HasPlace self.old.lanes lane → result ≢ Turn.Stalled }
+        ensures program { self.new.replica.program ≡ self.old.replica.program }
+        ensures board { self.new.writer.board ≡ self.old.writer.board }
+        ensures began { self.new.began ≡ self.old.began }
+        ensures lanes { length self.new.lanes ≡ length self.old.lanes }
+        ensures ids { ids_of self.new.lanes ≡ ids_of self.old.lanes }
+    {
+        visit(
+            &mut self.lanes[lane],
+            &mut self.replica,
+            alloc,
+            &mut self.writer,
+            &mut self.known_rows,
+            board,
+            &mut self.unsent,
+        )
     }
 
     /// Executes what is not done of its replica, as `Replica::settle_uncounted` does: `Err` leaves it done through some
@@ -178,14 +211,14 @@ impl<T: Timeline> Engine<T> {
         self.replica.valid();
         let handed = drain(&mut self.lanes[lane], &mut self.replica, alloc, end)?;
         // Records of any tag may have come in.
-        self.sure = 0;
+        self.known_rows = 0;
         self.replica.valid();
         Ok(handed)
     }
 
     /// Appends to the board the released outputs that are missing, as many as it has room for, and tells how many rows
     /// there are; or freezes it for good, where its rows no longer begin what is released. The replica is settled.
-    /// Which rows it looks at no clause says: those that a record since may have changed, and all once a lane was
+    /// At which of them it looks no clause says: those that a record since may have changed, and all once a lane was
     /// drained.
     pub fn publish(&mut self, board: &Board) -> Published
         requires settled { IsTrue (T.settled self.old.replica.timeline) }
@@ -195,10 +228,7 @@ impl<T: Timeline> Engine<T> {
             × Publishes released self.old.writer result self.new.writer }
         ensures others { self.new ≡ record self.old { writer = self.new.writer } }
     {
-        let released = self.replica.released();
-        let published = publish(released, self.sure, &mut self.writer, board);
-        self.sure = self.writer.rows().len();
-        published
+        publish_settled(&self.replica, &mut self.writer, &mut self.known_rows, board)
     }
 }
 

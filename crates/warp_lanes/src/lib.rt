@@ -19,6 +19,7 @@ mod sending;
 #[cfg(test)]
 mod tests;
 mod turn;
+mod visiting;
 
 pub use answer::{Answer, AnswerRule};
 pub use engine::Engine;

@@ -10,7 +10,7 @@ use std::alloc::Global;
 use warp_tag::OutOfMemory;
 
 /// How many commands, and how many answers, a lane has places for.
-const PLACES: usize = 64;
+pub(crate) const LANE_PLACES: usize = 64;
 
 /// A new lane: the end for a thread that sends lines, and the end for the one that answers them. `Err` only for want of
 /// memory.
@@ -19,8 +19,11 @@ pub fn lane(alloc: Global) -> Result<(Port, Lane), OutOfMemory>
     ensures lane { IfOk result (λ ends. ends.1
         ≡ record { lane = ends.0.lane; commands = []; answers = []; free = places }) }
 {
-    let (commands_in, commands_out) = RingBuffer::new(alloc, PLACES)?;
-    let (answers_in, answers_out) = RingBuffer::with_protocol::<Global, AnswerRule>(alloc, PLACES)?;
+    let (commands_in, commands_out) = RingBuffer::new(alloc, LANE_PLACES)?;
+    let (answers_in, answers_out) = RingBuffer::with_protocol::<Global, AnswerRule>(
+        alloc,
+        LANE_PLACES,
+    )?;
     let port = Port {
         commands: commands_in,
         answers: answers_out,

@@ -1,16 +1,21 @@
 //! Publishing released outputs on a board.
 ghost use Rattle.std.specs.Prelude.{◌≡◌, ◌↔◌, ◌<◌, ◌≤◌};
-ghost use Rattle.std.specs.Prelude.{All, IfNone, IfSome, IsTrue, drop, false, length, min, take, true};
+ghost use Rattle.std.specs.Prelude.{All, IfNone, IfSome, IsTrue, List, drop, false, length, min, take, true};
 ghost use Rattle.std.specs.List.Sorted.{IsPartitionPoint, IsPartitionedBy};
 ghost use Rattle.warp_tag.specs.Limits.{most_outputs};
 ghost use Rattle.warp_tag.specs.Moment.{is_before};
 ghost use Rattle.warp_tag.specs.Lists.{StartsWith};
+ghost use Rattle.warp_tag.specs.declared.out.Out.{Out};
+ghost use Rattle.warp_table.specs.Records.{set_of};
 ghost use Rattle.warp_board.specs.Board.{room_of};
+ghost use Rattle.warp_replica.specs.Answers.{IsReleased};
 ghost use Rattle.warp_replica.specs.Gives.{tag_of};
-ghost use Rattle.warp_lanes.specs.Publish.{Publishes, news_of};
+ghost use Rattle.warp_lanes.specs.Publish.{KeepsBoard, Publishes, news_of};
 
 use warp_board::{Board, Writer};
+use warp_line::Timeline;
 use warp_record::{Line, Record, Reply};
+use warp_replica::Replica;
 use warp_tag::{Out, Tag};
 
 /// What publishing came to.
@@ -22,24 +27,41 @@ pub enum Published {
     Frozen,
 }
 
-/// Appends the released outputs that are missing, as many as the board has room for; or freezes it, where its rows do
-/// not begin them. That the first `sure` of the rows do is known, and they are not looked at.
-pub(crate) fn publish(
-    released: &[Out],
-    sure: usize,
+/// Publishes what a settled replica releases. Of the board's rows the first `known_rows` are known to begin that, while
+/// it is not frozen; then all are.
+pub(crate) fn publish_settled<T: Timeline>(
+    replica: &Replica<T>,
     writer: &mut Writer,
+    known_rows: &mut usize,
     board: &Board,
 ) -> Published
+    requires settled { IsTrue (T.settled replica.now.timeline) }
+    requires board { writer.old.board ≡ board.now }
+    requires kept { KeepsBoard replica.now.program replica.now.records writer.old known_rows.old }
+    ensures published { (released : List Out)
+        × IsReleased replica.now.program (set_of replica.now.records) released
+        × Publishes released writer.old result writer.new }
+    ensures kept { KeepsBoard replica.now.program replica.now.records writer.new known_rows.new }
+{
+    let released = replica.released();
+    let published = publish(released, *known_rows, writer, board);
+    *known_rows = writer.rows().len();
+    published
+}
+
+/// Appends the released outputs that are missing, as many as the board has room for; or freezes it, where its rows do
+/// not begin them. That the first `known_rows` do is known, and they are not looked at.
+fn publish(released: &[Out], known_rows: usize, writer: &mut Writer, board: &Board) -> Published
     requires board { writer.old.board ≡ board.now }
     requires ports { All (λ out. out.port < most_outputs) released.now }
-    requires within { sure ≤ length writer.old.rows }
-    requires sure { writer.old.frozen ≡ false → StartsWith released.now (take sure writer.old.rows) }
+    requires within { known_rows ≤ length writer.old.rows }
+    requires known { writer.old.frozen ≡ false → StartsWith released.now (take known_rows writer.old.rows) }
     ensures { Publishes released.now writer.old result writer.new }
 {
     if writer.is_frozen() {
         return Published::Frozen;
     }
-    if !begins(released, writer.rows(), sure) {
+    if !begins(released, writer.rows(), known_rows) {
         writer.freeze(board);
         return Published::Frozen;
     }
@@ -47,15 +69,15 @@ pub(crate) fn publish(
     Published::Rows(writer.rows().len())
 }
 
-/// Whether the rows begin the list, as the first `sure` of them do.
-fn begins(released: &[Out], rows: &[Out], sure: usize) -> bool
-    requires within { sure ≤ length rows.now }
-    requires sure { StartsWith released.now (take sure rows.now) }
+/// Whether the rows begin the list, as the first `known_rows` of them do.
+fn begins(released: &[Out], rows: &[Out], known_rows: usize) -> bool
+    requires within { known_rows ≤ length rows.now }
+    requires known { StartsWith released.now (take known_rows rows.now) }
     ensures { IsTrue result ↔ StartsWith released.now rows.now }
 {
-    let missing = behind(released, sure);
-    let unsure = behind(rows, sure);
-    missing.starts_with(unsure)
+    let missing = behind(released, known_rows);
+    let unknown = behind(rows, known_rows);
+    missing.starts_with(unknown)
 }
 
 /// What stands behind so many of the list.
@@ -83,20 +105,20 @@ fn append_missing(released: &[Out], writer: &mut Writer, board: &Board)
     }
 }
 
-/// How many of the first `sure` rows stand before the tag of a record that came in, if one did.
-pub(crate) fn rows_before(rows: &[Out], sure: usize, news: Option<Tag>) -> usize
-    requires { sure ≤ length rows.now }
-    ensures within { result ≤ sure }
-    ensures none { IfNone news (result ≡ sure) }
+/// How many of the first `known_rows` stand before the tag of a record that came in, if one did.
+pub(crate) fn rows_before(rows: &[Out], known_rows: usize, news: Option<Tag>) -> usize
+    requires { known_rows ≤ length rows.now }
+    ensures within { result ≤ known_rows }
+    ensures none { IfNone news (result ≡ known_rows) }
     ensures before { IfSome news
-        (λ tag. IsPartitionedBy (λ row. is_before row.tag tag) (take sure rows.now) →
+        (λ tag. IsPartitionedBy (λ row. is_before row.tag tag) (take known_rows rows.now) →
         IsPartitionPoint (λ row. is_before row.tag tag ≡ true) (λ row. is_before row.tag tag ≡ false)
-        (take sure rows.now) result) }
+        (take known_rows rows.now) result) }
 {
     let Some(tag) = news else {
-        return sure;
+        return known_rows;
     };
-    let known = first_of(rows, sure);
+    let known = first_of(rows, known_rows);
     known.partition_point(|row| row.tag.is_before(tag))
 }
 

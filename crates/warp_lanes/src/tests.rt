@@ -7,3 +7,4 @@ mod judge;
 mod rings;
 mod steps;
 mod threads;
+mod visits;

@@ -15,3 +15,4 @@ pub mod RebuiltNames
 pub mod SortedNames
 pub mod Raised
 pub mod RaisedRecords
+pub mod Asked

@@ -1,13 +1,59 @@
--- The floor of a replica that answered a line.
-use Rattle.std.specs.Prelude.{◌≡◌, Option, None, if◌then◌else◌}
+-- What a replica that was given a line leaves.
+use Rattle.std.specs.Prelude.{◌≡◌, ◌≢◌, ℕ, Bool, false, IsTrue, length, Option}
+use Rattle.warp_tag.specs.Limits.{widest}
 use Rattle.warp_tag.specs.Moment.{Moment}
+use Rattle.warp_tag.specs.Table.{live}
+use Rattle.warp_record.specs.Reply.{IsReply}
 use Rattle.warp_record.specs.declared.line.Line.{Line}
-use Rattle.warp_record.specs.declared.line.Line.TheVariants.{Put}
+use Rattle.warp_record.specs.declared.line.Line.TheVariants.{Collect}
+use Rattle.warp_record.specs.declared.reply.Refusal.TheVariants.{NoMemory}
 use Rattle.warp_record.specs.declared.reply.Reply.{Reply}
-use Rattle.warp_record.specs.declared.reply.Reply.TheVariants.{Taken}
-use Rattle.warp_replica.specs.Floor.{comes_behind}
+use Rattle.warp_record.specs.declared.reply.Reply.TheVariants.{Refused}
+use Rattle.warp_table.specs.LogNames.{table_of}
+use Rattle.warp_replica.specs.Floor.{CollectsTo, brings_behind, floor_answered}
+use Rattle.warp_replica.specs.Gives.{Gives}
+use Rattle.warp_replica.specs.Length.{SaysLength}
+use Rattle.warp_replica.specs.Replica.{ReplicaState}
+use Rattle.warp_replica.specs.Settling.{LeavesSettled}
 
--- the floor once a line other than `collect` was answered: where a new record came behind it, nothing is behind any more
-abbrev pub floor_answered : Option Moment → Line → Reply → Option Moment
-floor_answered floor (Put said) (Taken place) = if comes_behind floor said then None else floor
-floor_answered floor other reply = floor
+-- what a timeline tells of itself: whether it is settled, that settling it lacked memory, its floor, and how many rows
+-- before the horizon collecting may keep
+pub record TimelineFacts (T : Type 0) : Type 1 where
+  pub settled : T → Bool
+  pub refused : T → Type 0
+  pub floor : T → Option Moment
+  pub slack : ℕ
+
+abbrev pub facts_of : {T : Type 0} → (T → Bool) → (T → Type 0) → (T → Option Moment) → ℕ → TimelineFacts T
+facts_of settled refused floor slack = record { settled = settled; refused = refused; floor = floor; slack = slack }
+
+-- A replica was given a line, alone or among others. The reply is in its range, is one that the line may give on the
+-- log, and says the length of the log that it leaves; the program stays. A query and `collect` leave it settled, or
+-- settling lacked memory. A line other than `collect`, or one refused for want of memory, lets go of nothing; where a
+-- new record comes behind what was let go of, nothing is behind any more. Where no live event changed, and no record
+-- came behind what was let go of, it stays settled if it was. After a `collect` not refused for want of memory it has
+-- let go of the rows before the horizon, but for at most `slack`.
+pub record Answered {T : Type 0} (facts : TimelineFacts T) (r : ReplicaState T) (said : Line) (reply : Reply)
+    (r' : ReplicaState T) : Type 0 where
+  pub gives : Gives r.program r.records said reply r'.records
+  pub program : r'.program ≡ r.program
+  pub range : IsReply widest reply
+  pub says : SaysLength (length r'.records) reply
+  pub settles :
+      LeavesSettled said reply (facts.settled r.timeline) (facts.settled r'.timeline) (facts.refused r'.timeline)
+  pub floor : said ≢ Collect → facts.floor r'.timeline ≡ floor_answered (facts.floor r.timeline) said reply
+  pub spared : reply ≡ Refused NoMemory → facts.floor r'.timeline ≡ facts.floor r.timeline
+  pub calm : brings_behind (facts.floor r.timeline) said ≡ false →
+      live (table_of r'.records) ≡ live (table_of r.records) →
+      IsTrue (facts.settled r.timeline) → IsTrue (facts.settled r'.timeline)
+  pub collects : said ≡ Collect → reply ≢ Refused NoMemory →
+      CollectsTo facts.slack r.program r.records (facts.floor r.timeline) (facts.floor r'.timeline)
+
+-- At the end of lines that were given together what waits is executed: the records stay, nothing is let go of, and the
+-- replica is settled, or settling lacked memory. A settled one stays as it is.
+pub record EndsBatch {T : Type 0} (facts : TimelineFacts T) (r r' : ReplicaState T) : Type 0 where
+  pub program : r'.program ≡ r.program
+  pub records : r'.records ≡ r.records
+  pub floor : facts.floor r'.timeline ≡ facts.floor r.timeline
+  pub settled : facts.settled r'.timeline ≡ false → facts.refused r'.timeline
+  pub idle : IsTrue (facts.settled r.timeline) → r' ≡ r

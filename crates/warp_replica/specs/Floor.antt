@@ -9,6 +9,8 @@ use Rattle.warp_record.specs.declared.line.Line.TheVariants.{Put}
 use Rattle.warp_record.specs.declared.record.Record.{Record}
 use Rattle.warp_record.specs.declared.record.Record.TheVariants.{Event, Withdraw, Announce}
 use Rattle.warp_record.specs.declared.reply.Refusal.{Refusal}
+use Rattle.warp_record.specs.declared.reply.Reply.{Reply}
+use Rattle.warp_record.specs.declared.reply.Reply.TheVariants.{Taken}
 use Rattle.warp_line.specs.Timeline.{MovesFloor, is_behind, rows_before, rows_behind}
 use Rattle.warp_table.specs.Announced.{IsHorizon}
 use Rattle.warp_table.specs.Records.{set_of}
@@ -30,6 +32,11 @@ brings_behind floor other = false
 -- the floor once a record was taken: where it came in and came behind, nothing is behind any more
 abbrev pub floor_after : Option Moment → Record → Result Took Refusal → Option Moment
 floor_after floor said result = if came_in result && comes_behind floor said then None else floor
+
+-- the floor once a line other than `collect` was answered: where a new record came behind it, nothing is behind any more
+abbrev pub floor_answered : Option Moment → Line → Reply → Option Moment
+floor_answered floor (Put said) (Taken place) = if comes_behind floor said then None else floor
+floor_answered floor other reply = floor
 
 -- Collecting brought a floor up to the horizon of a program and its records: no tag came behind that is not before the
 -- horizon, and all rows of the run before the horizon are behind, but for at most so many.

@@ -6,43 +6,35 @@ use Rattle.warp_record.specs.declared.reply.Refusal.TheVariants.{NoMemory}
 use Rattle.warp_record.specs.declared.reply.Reply.{Reply}
 use Rattle.warp_record.specs.declared.reply.Reply.TheVariants.{Taken, Refused}
 
--- After settling all rows are done exactly where there was memory for it, which there is where they were done before;
--- and the reply is refusal 8 exactly where there was none.
-abbrev pub SettlesOrRefuses : Reply → Bool → Bool → Bool → Type 0
-SettlesOrRefuses reply had before after =
-    (after ≡ had) × (IsTrue before → IsTrue had) × ((reply ≡ Refused NoMemory) ↔ (had ≡ false))
+-- After settling all rows are done, or it lacked memory; it does not where they were done before; and the reply is
+-- refusal 8 exactly where it did.
+abbrev pub SettlesOrRefuses : Reply → Bool → Bool → Type 0 → Type 0
+SettlesOrRefuses reply before after lacked =
+    (IsTrue before → IsTrue after) × ((reply ≡ Refused NoMemory) ↔ (after ≡ false)) × (after ≡ false → lacked)
 
--- Whether a replica that answered a line is settled after it, by the line, the reply, whether there was memory to
--- settle, and whether it was settled before. A new record is settled, and all is before a query and before collecting.
--- Where nothing comes in it stays as it was, and needs no memory to settle.
-abbrev pub SettlesFor : Line → Reply → Bool → Bool → Bool → Type 0
-SettlesFor (Put said) (Taken place) had before after = after ≡ had
-SettlesFor (Put said) other had before after = (had ≡ true) × (after ≡ before)
-SettlesFor (Ask asked) reply had before after = SettlesOrRefuses reply had before after
-SettlesFor Collect reply had before after = SettlesOrRefuses reply had before after
-SettlesFor (Look look) reply had before after = (had ≡ true) × (after ≡ before)
+-- Whether a replica that answered a line is settled after it, by the line, the reply, whether it was before, and what
+-- holds where settling lacked memory. All is settled before a query and before collecting, and where nothing comes in
+-- it stays as it was. Of a new record this says nothing: what it has executed may wait for the lines behind it.
+abbrev pub LeavesSettled : Line → Reply → Bool → Bool → Type 0 → Type 0
+LeavesSettled (Put said) (Taken place) before after lacked = Unit {0}
+LeavesSettled (Put said) other before after lacked = after ≡ before
+LeavesSettled (Ask asked) reply before after lacked = SettlesOrRefuses reply before after lacked
+LeavesSettled Collect reply before after lacked = SettlesOrRefuses reply before after lacked
+LeavesSettled (Look look) reply before after lacked = after ≡ before
 
--- A replica that answered a line is settled, where it settles for the line and the reply, unless this is so: for a new
--- record, a query, and collecting.
-abbrev pub SettlesUnless : Line → Reply → Bool → Type 0 → Type 0
-SettlesUnless (Put said) (Taken place) after why = after ≡ false → why
-SettlesUnless (Put said) other after why = Unit {0}
-SettlesUnless (Ask asked) reply after why = after ≡ false → why
-SettlesUnless Collect reply after why = after ≡ false → why
-SettlesUnless (Look look) reply after why = Unit {0}
+-- Nothing waits behind a new record: it is settled, or settling lacked memory.
+abbrev pub SettlesNew : Line → Reply → Bool → Type 0 → Type 0
+SettlesNew (Put said) (Taken place) after lacked = after ≡ false → lacked
+SettlesNew (Put said) other after lacked = Unit {0}
+SettlesNew (Ask asked) reply after lacked = Unit {0}
+SettlesNew Collect reply after lacked = Unit {0}
+SettlesNew (Look look) reply after lacked = Unit {0}
 
--- Whether a replica is settled after it answered a line in a batch, by the line, the reply, and whether it was before:
--- a new record need not be settled, all is before a query and before collecting, and else it stays as it was.
-abbrev pub SettlesInBatch : Line → Reply → Bool → Bool → Type 0
-SettlesInBatch (Put said) (Taken place) before after = Unit {0}
-SettlesInBatch (Put said) other before after = after ≡ before
-SettlesInBatch (Ask asked) reply before after = SettlesOrRefuses reply after before after
-SettlesInBatch Collect reply before after = SettlesOrRefuses reply after before after
-SettlesInBatch (Look look) reply before after = after ≡ before
-
--- A replica that answered a query or collected in a batch is settled, unless this is so.
-abbrev pub SettlesInBatchUnless : Line → Bool → Type 0 → Type 0
-SettlesInBatchUnless (Put said) after why = Unit {0}
-SettlesInBatchUnless (Ask asked) after why = after ≡ false → why
-SettlesInBatchUnless Collect after why = after ≡ false → why
-SettlesInBatchUnless (Look look) after why = Unit {0}
+-- Whether there was memory to settle for a line: where a new record, a query or collecting leaves it settled. Where
+-- nothing has to be settled there was.
+abbrev pub HadMemory : Line → Reply → Bool → Bool → Type 0
+HadMemory (Put said) (Taken place) after had = had ≡ after
+HadMemory (Put said) other after had = had ≡ true
+HadMemory (Ask asked) reply after had = had ≡ after
+HadMemory Collect reply after had = had ≡ after
+HadMemory (Look look) reply after had = had ≡ true

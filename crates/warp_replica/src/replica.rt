@@ -7,6 +7,7 @@ ghost use Rattle.warp_record.specs.declared.record.Record.{Record};
 ghost use Rattle.warp_record.specs.declared.reply.Reply.{Reply};
 ghost use Rattle.warp_record.specs.Record.{IsRecord};
 ghost use Rattle.warp_record.specs.Reply.{IsOut, IsReply};
+ghost use Rattle.warp_step.specs.Counter.{IsUnused};
 ghost use Rattle.warp_step.specs.Run.{Row};
 ghost use Rattle.warp_tag.specs.Table.{live};
 ghost use Rattle.warp_line.specs.Timeline.{IsDone, KeepsDone, Settles};
@@ -23,10 +24,12 @@ ghost use Rattle.warp_replica.specs.Replica.{AreAllowed, standing_of, Stands};
 ghost use Rattle.warp_replica.specs.Gives.{GivesQuery, Takes, came_in, tag_of, told};
 
 use crate::entering::{comes_behind, enter_record};
+use crate::idle::Idle;
 use crate::rebuilding::rebuilt;
 use crate::taking::Took;
 use std::alloc::Global;
-use std::marker::Model;
+use std::marker::{Brand, Model};
+use std::sync::ledger::{Blank, Ledger};
 use warp_line::Timeline;
 use warp_record::{Query, Record, Refusal, Reply};
 use warp_step::{Meter, Out, Program};
@@ -249,6 +252,49 @@ impl<T: Timeline> Replica<T> {
             (M.ticks meter.new ≡ M.ticks meter.old) }
     {
         self.timeline.settle(alloc, &self.program, meter)
+    }
+
+    /// Executes what is not done, as `settle` does, for whoever counts no ticks. An `Err` leaves it done through some
+    /// tag, whole, and it may be settled later; of a settled replica it changes nothing, and cannot fail.
+    #[inline(always)]
+    pub fn settle_uncounted(&mut self, alloc: Global) -> Result<(), OutOfMemory>
+        ensures stands { (done : List Row) → Stands T.stands_for self.old done →
+            (ticks : ℕ) × (after : List Row)
+            × Settles T.stands_for self.new.timeline (standing_of self.old done) ticks after
+            × OnOk result (IsDone (standing_of self.new after)) }
+        ensures program { self.new.program ≡ self.old.program }
+        ensures records { self.new.records ≡ self.old.records }
+        ensures floor { T.floor self.new.timeline ≡ T.floor self.old.timeline }
+        ensures settled { OnOk result (IsTrue (T.settled self.new.timeline)) }
+        ensures unsettled { OnErr result (T.settled self.new.timeline ≡ false) }
+        ensures refused { OnErr result (T.refused self.new.timeline) }
+        ensures idle { IsTrue (T.settled self.old.timeline) → IsOk result × (self.new ≡ self.old) }
+    {
+        // Seldom is anything left to do.
+        if self.timeline.is_settled() {
+            return Ok(());
+        }
+        self.settle_untold::<Brand>(alloc, Blank::new(1))
+    }
+
+    /// Settles. `blank` is the ledger that the ticks are counted in, which nobody asks for.
+    #[inline(never)]
+    fn settle_untold<L: Ledger>(&mut self, alloc: Global, blank: Blank) -> Result<(), OutOfMemory>
+        requires { IsUnused blank L.name L.parts }
+        ensures stands { (done : List Row) → Stands T.stands_for self.old done →
+            (ticks : ℕ) × (after : List Row)
+            × Settles T.stands_for self.new.timeline (standing_of self.old done) ticks after
+            × OnOk result (IsDone (standing_of self.new after)) }
+        ensures program { self.new.program ≡ self.old.program }
+        ensures records { self.new.records ≡ self.old.records }
+        ensures floor { T.floor self.new.timeline ≡ T.floor self.old.timeline }
+        ensures settled { OnOk result (IsTrue (T.settled self.new.timeline)) }
+        ensures unsettled { OnErr result (T.settled self.new.timeline ≡ false) }
+        ensures refused { OnErr result (T.refused self.new.timeline) }
+        ensures idle { IsTrue (T.settled self.old.timeline) → IsOk result × (self.new ≡ self.old) }
+    {
+        let mut idle = Idle::<L>::new(blank);
+        self.timeline.settle(alloc, &self.program, &mut idle)
     }
 
     /// Whether all rows are done, so that queries can be answered.

@@ -7,3 +7,4 @@ pub mod PullsLemmas
 pub mod WentLemmas
 pub mod SentExecutors
 pub mod ServedEngines
+pub mod FetchedLemmas

@@ -1,14 +1,17 @@
 -- Lemmas on what serving makes of an engine.
-use Rattle.std.proofs.Common.{◌≡◌, ℕ, ◌⊎◌, inl, inr, Bool, IsTrue, List, [], length, min, take, true}
+use Rattle.std.proofs.Common.{◌≡◌, ℕ, ◌⊎◌, inl, inr, Bool, IsTrue, List, [], false, length, min, take, true, true≢false}
 use Rattle.std.proofs.Common.{ap, refl, subst, sym, ◌∙◌}
 use Rattle.warp_tag.specs.declared.out.Out.{Out}
 use Rattle.warp_table.specs.Records.{set_of}
+use Rattle.warp_replica.specs.Answered.{TimelineFacts}
 use Rattle.warp_replica.specs.Answers.{IsReleased}
 use Rattle.warp_replica.specs.Replica.{ReplicaState}
 use Rattle.warp_board.specs.Board.{WriterState, room_of}
 use Rattle.warp_lanes.specs.declared.publish.Published.{Published}
 use Rattle.warp_lanes.specs.declared.publish.Published.TheVariants.{Rows, Frozen}
-use Rattle.warp_lanes.specs.Engine.{EngineState}
+use Rattle.warp_lanes.specs.declared.turn.Turn.{Turn}
+use Rattle.warp_lanes.specs.declared.turn.Turn.TheVariants.{Served, Empty, Stalled}
+use Rattle.warp_lanes.specs.Engine.{EngineState, PublishesIf, Visits}
 use Rattle.warp_lanes.specs.Publish.{Publishes}
 use Rattle.warp_session.specs.Serve.{HasServed, IsPublished, Shows}
 
@@ -30,17 +33,23 @@ module _ {T : Type 0} where
   abbrev is_released : List Out → ReplicaState T → Type 0
   is_released released r = IsReleased r.program (set_of r.records) released
 
-  -- what was published is shown
-  pub published_shows : (e e' : EngineState T) (result : Published)
-      → ((released : List Out) × IsReleased e.replica.program (set_of e.replica.records) released
-      × Publishes released e.writer result e'.writer)
-      → e'.replica ≡ e.replica → Shows e'
-  published_shows e e' result p same =
-      (p.0, subst (is_released p.0) (sym same) p.1, shown p.0 e.writer e'.writer result p.2)
+  -- what a visit published is shown
+  publishes_shows : (a b : EngineState T) (settled : Bool) → PublishesIf settled b.replica.program b.replica.records a.writer b.writer
+      → IsTrue settled → Shows b
+  publishes_shows a b true p is = (p.0, p.1, shown p.0 a.writer b.writer p.2.0 p.2.1)
+  publishes_shows a b false p is = absurd (true≢false (sym is))
 
   same_shows : (b c : EngineState T) → c.replica ≡ b.replica → c.writer ≡ b.writer → Shows b → Shows c
   same_shows b c replica writer h =
       (h.0, subst (is_released h.0) (sym replica) h.1, subst (is_shown h.0) (sym writer) h.2)
+
+  -- a visit published what its lines released, or changed nothing
+  pub visit_publishes : (facts : TimelineFacts T) (a b : EngineState T) (lane : ℕ) (turn : Turn) → Visits facts a lane turn b
+      → IsPublished facts.settled a b
+  visit_publishes facts a b lane Served v =
+      inr (publishes_shows a b (facts.settled b.replica.timeline) v.3.3.published)
+  visit_publishes facts a b lane Empty v = inl (v.3.0.0, v.3.1)
+  visit_publishes facts a b lane Stalled v = inl (v.3.0.0, v.3.1)
 
 module _ {T : Type 0} (settled : T → Bool) where
   published_later : (a b c : EngineState T) → IsPublished settled a b → IsPublished settled b c

@@ -1,30 +1,33 @@
 //! A session: lines come in as bytes, in any pieces, and their replies go out as bytes.
 //!
 //! It knows neither who answers them, a `Desk`, nor where bytes come from and go to, a `Source` and a `Sink`.
-ghost use Rattle.std.specs.Prelude.{◌≡◌, ◌≢◌, ℕ, ◌+◌, ◌<◌, ◌≤◌, List, [], ◌∷◌, ◌++◌, Option, IfOk, OnErr, OnOk, IfSome};
-ghost use Rattle.std.specs.Prelude.{OnSome, length, take, vec_len};
+ghost use Rattle.std.specs.Prelude.{◌≡◌, ◌≢◌, ◌⊎◌, ℕ, ◌+◌, ◌<◌, ◌≤◌, List, [], ◌∷◌, ◌++◌, All, Option, IfOk, OnErr, OnOk, IfSome};
+ghost use Rattle.std.specs.Prelude.{OnSome, false, length, take, true, vec_len};
 ghost use Rattle.std.specs.List.{before_first};
 ghost use Rattle.std.specs.Io.KnownBytes.{Appends};
+ghost use Rattle.std.specs.Option.{option_map};
 ghost use Rattle.warp_tag.specs.Limits.{longest_line, most_reads};
 ghost use Rattle.warp_tag.specs.declared.form.Form.{Form};
 ghost use Rattle.warp_step.specs.Counter.{IsUnused};
-ghost use Rattle.warp_record.specs.Lines.{first_end, is_end, kept_of, piece_of};
+ghost use Rattle.warp_record.specs.declared.line.Line.{Line};
+ghost use Rattle.warp_record.specs.Line.{IsLine, spelling};
+ghost use Rattle.warp_record.specs.Lines.{Piece, first_end, is_end, kept_of, piece_of, unended};
 ghost use Rattle.warp_record.specs.Lines.Piece.{Whole};
 ghost use Rattle.warp_record.specs.Reply.{reply_line};
-ghost use Rattle.warp_session.specs.Session.{FailsSo, GivesPiece, ReadsSo, Transcribes, TranscribesFront};
+ghost use Rattle.warp_exchange.specs.Batch.{most_lines};
+ghost use Rattle.warp_session.specs.Session.{FailsSo, ReadsSo, Transcribes, TranscribesFront};
 ghost use Rattle.warp_session.specs.Session.{SpellsLine, TranscribesLines};
 ghost use Rattle.warp_session.specs.Stream.{CountsFailures, WritesFront};
 ghost use Rattle.warp_session.specs.inner.Turns.{Replied, BreaksAtEnd, BreaksBytes, Broken, Ends, TakesBytes, Turn};
-ghost use Rattle.warp_session.specs.inner.Turns.{Finds, Sought, at, nothing_held, pieces_fed};
+ghost use Rattle.warp_session.specs.inner.Turns.{Finds, IsFound, IsRefusedFor, MayWait, at, nothing_held, pieces_fed};
 
-use crate::stream::{Failed, Sink, Source, write_all};
+use crate::batch::{Batch, Outbox};
+use crate::stream::{Failed, Sink, Source};
 use std::alloc::{AllocError, Global};
 use std::marker::Model;
 use std::mem;
 use warp_exchange::Desk;
-use warp_record::{
-    Fed, Feed, Line, REPLY_ROOM, Refusal, Reply, read_front, read_line, write_reply_line,
-};
+use warp_record::{Fed, Feed, Line, Refusal, Reply, read_front, read_line};
 use warp_tag::Form;
 
 /// The most reads of a session.
@@ -32,9 +35,6 @@ const MAX_READS: u32 = 1_000_000_000;
 
 /// How many bytes a read asks for.
 const PIECE: usize = 65_536;
-
-/// The room for replies that wait to be written, in bytes.
-const ROOM: usize = 65_536;
 
 /// How a session ended.
 #[derive(Clone, Copy, Debug, PartialEq, Eq)]
@@ -52,23 +52,54 @@ pub enum SessionEnd {
     NoMemory,
 }
 
-/// Cuts what comes in into lines, and gathers the replies that wait to be written.
+/// What some bytes end, where that is to be answered.
+#[derive(Clone, Copy, Debug, PartialEq, Eq)]
+enum Found {
+    /// They end no line.
+    Nothing,
+    /// They end this line.
+    Asked(Line),
+    /// They end one that spells none, or is too long.
+    Bad(Refusal),
+}
+
+/// Cuts what comes in into lines, which wait for their answers, and gathers the replies that wait to be written.
 #[derive(Drop)]
 struct Transcriber {
     feed: Feed,
-    gathered: Vec<u8>,
+    batch: Batch,
+    outbox: Outbox,
 }
 
 impl Model for Transcriber {
-    ghost use Rattle.std.specs.Prelude.{◌≤◌, vec_capacity};
-    ghost use Rattle.warp_session.specs.declared.desk_session.TheConstants.{ROOM};
     ghost use Rattle.warp_session.specs.inner.Turns.{Held};
 
     ghost Value = { Held };
 
-    ghost view = { λ t. record { kept = t.feed; gathered = t.gathered.items } };
+    ghost view = { λ t. record { kept = t.feed; waits = t.batch; gathered = t.outbox } };
+}
 
-    ghost invariant = { λ t. ROOM ≤ vec_capacity t.gathered };
+/// The line of this form that a whole line spells, without its line feed, or its refusal.
+#[inline(never)]
+fn read_text(form: Form, text: &[u8]) -> Found
+    ensures { IsFound form (Whole text.now ∷ []) result }
+{
+    match read_line(form, text) {
+        Some(line) => Found::Asked(line),
+        None => Found::Bad(Refusal::Syntax),
+    }
+}
+
+/// The line that was cut from the stream, or its refusal, if there is one.
+fn read_fed(form: Form, fed: Option<Fed>) -> Found
+    ensures { IsFound form (pieces_fed fed) result }
+{
+    match fed {
+        None => Found::Nothing,
+        Some(Fed::Text(bytes)) => read_text(form, &bytes),
+        Some(Fed::TooLong) => Found::Bad(Refusal::TooLong),
+        Some(Fed::Torn) => Found::Bad(Refusal::Syntax),
+    }
 }
 
 impl Transcriber {
@@ -76,10 +107,11 @@ impl Transcriber {
     fn new(alloc: Global) -> Result<Transcriber, AllocError>
         ensures { IfOk result (λ made. made ≡ nothing_held) }
     {
-        let gathered = Vec::with_capacity(alloc, ROOM)?;
+        let outbox = Outbox::new(alloc)?;
         Ok(Transcriber {
             feed: Feed::new(),
-            gathered,
+            batch: Batch::new(),
+            outbox,
         })
     }
 
@@ -89,14 +121,13 @@ impl Transcriber {
         ensures empty { OnOk result (self.new.gathered ≡ []) }
         ensures front { OnErr result (WritesFront (W.written sink.old) (W.written sink.new) self.old.gathered) }
         ensures kept { self.new.kept ≡ self.old.kept }
+        ensures waits { self.new.waits ≡ self.old.waits }
         ensures failures { CountsFailures (W.failures sink.old) (W.failures sink.new) result }
     {
-        write_all(sink, &self.gathered)?;
-        self.gathered.clear();
-        Ok(())
+        self.outbox.flush(sink)
     }
 
-    /// Gathers a reply behind the others, which are written where it has no room.
+    /// Gathers a reply behind the others.
     #[inline(always)]
     fn gather<W: Sink>(&mut self, sink: &mut W, reply: &Reply) -> Result<(), Failed>
         ensures gathered { OnOk result ((sent : List ℕ) × Appends (W.written sink.old) (W.written sink.new) sent
@@ -104,38 +135,47 @@ impl Transcriber {
         ensures front { OnErr result (WritesFront (W.written sink.old) (W.written sink.new)
             (self.old.gathered ++ reply_line «reply».now)) }
         ensures kept { self.new.kept ≡ self.old.kept }
+        ensures waits { self.new.waits ≡ self.old.waits }
         ensures failures { CountsFailures (W.failures sink.old) (W.failures sink.new) result }
     {
-        let is_full = self.gathered.len() + REPLY_ROOM > ROOM;
-        if is_full {
-            self.flush(sink)?;
-        }
-        write_reply_line(&mut self.gathered, reply);
-        Ok(())
+        self.outbox.gather(sink, reply)
     }
 
-    /// Answers `collect`, and gathers the reply.
+    /// Answers the lines that wait, and gathers the replies. At a desk that is not asked together none waits.
+    #[inline(never)]
+    fn answer_waiting<D: Desk, W: Sink>(&mut self, desk: &mut D, sink: &mut W) -> Result<(), Failed>
+        requires alone { D.together ≡ false → self.old.waits ≡ [] }
+        ensures turn { (f : Form) → All (IsLine f) self.old.waits →
+            Turn (λ _. Replied f D.gives []) (Broken f D.gives [])
+            (at (D.state desk.old) self.old (W.written sink.old) (W.failures sink.old))
+            (at (D.state desk.new) self.new (W.written sink.new) (W.failures sink.new)) result }
+        ensures none { self.new.waits ≡ [] }
+        ensures kept { self.new.kept ≡ self.old.kept }
+    {
+        if !D::asks_together() {
+            return Ok(());
+        }
+        self.batch.answer(desk, sink, &mut self.outbox)
+    }
+
+    /// Asks `collect` alone, and gathers the reply.
     // (Apart from the other lines: its reply comes from a function kept out of line, by memory that would be cleared
     // for each of them.)
     #[inline(never)]
     fn answer_collect<D: Desk, W: Sink>(&mut self, desk: &mut D, sink: &mut W) -> Result<(), Failed>
-        ensures answered { (f : Form) (text : List ℕ) → SpellsLine f text Line.Collect →
-            OnOk result (Replied f D.gives (Whole text ∷ [])
+        requires { self.old.waits ≡ [] }
+        ensures turn { (f : Form) →
+            Turn (λ _. Replied f D.gives (Whole (spelling Line.Collect) ∷ [])) (Broken f D.gives (Whole (spelling Line.Collect) ∷ []))
             (at (D.state desk.old) self.old (W.written sink.old) (W.failures sink.old))
-            (at (D.state desk.new) self.new (W.written sink.new) (W.failures sink.new))) }
-        ensures broken { (f : Form) (text : List ℕ) → SpellsLine f text Line.Collect →
-            OnErr result (Broken f D.gives (Whole text ∷ [])
-            (at (D.state desk.old) self.old (W.written sink.old) (W.failures sink.old))
-            (at (D.state desk.new) self.new (W.written sink.new) (W.failures sink.new))) }
+            (at (D.state desk.new) self.new (W.written sink.new) (W.failures sink.new)) result }
+        ensures waits { self.new.waits ≡ [] }
         ensures kept { self.new.kept ≡ self.old.kept }
-        ensures failures { CountsFailures (W.failures sink.old) (W.failures sink.new) result }
     {
         let reply = desk.ask_in_batch(Line::Collect);
-        self.gather(sink, &reply)?;
-        Ok(())
+        self.gather(sink, &reply)
     }
 
-    /// Answers a line, and gathers the reply.
+    /// Asks a line alone, and gathers the reply.
     #[inline(always)]
     fn answer_line<D: Desk, W: Sink>(
         &mut self,
@@ -143,72 +183,87 @@ impl Transcriber {
         sink: &mut W,
         line: Line,
     ) -> Result<(), Failed>
-        ensures answered { (f : Form) (text : List ℕ) → SpellsLine f text «line» →
-            OnOk result (Replied f D.gives (Whole text ∷ [])
+        requires { self.old.waits ≡ [] }
+        ensures turn { (f : Form) → IsLine f «line» →
+            Turn (λ _. Replied f D.gives (Whole (spelling «line») ∷ [])) (Broken f D.gives (Whole (spelling «line») ∷ []))
             (at (D.state desk.old) self.old (W.written sink.old) (W.failures sink.old))
-            (at (D.state desk.new) self.new (W.written sink.new) (W.failures sink.new))) }
-        ensures broken { (f : Form) (text : List ℕ) → SpellsLine f text «line» →
-            OnErr result (Broken f D.gives (Whole text ∷ [])
-            (at (D.state desk.old) self.old (W.written sink.old) (W.failures sink.old))
-            (at (D.state desk.new) self.new (W.written sink.new) (W.failures sink.new))) }
+            (at (D.state desk.new) self.new (W.written sink.new) (W.failures sink.new)) result }
+        ensures waits { self.new.waits ≡ [] }
         ensures kept { self.new.kept ≡ self.old.kept }
-        ensures failures { CountsFailures (W.failures sink.old) (W.failures sink.new) result }
     {
         if let Line::Collect = line {
             return self.answer_collect(desk, sink);
         }
         let reply = desk.ask_in_batch(line);
-        self.gather(sink, &reply)?;
+        self.gather(sink, &reply)
+    }
+
+    /// Puts a line behind those that wait; where that makes as many as a desk is asked at once, they are answered.
+    #[inline(always)]
+    fn add_waiting<D: Desk, W: Sink>(
+        &mut self,
+        desk: &mut D,
+        sink: &mut W,
+        line: Line,
+    ) -> Result<(), Failed>
+        requires room { length self.old.waits < most_lines }
+        requires together { D.together ≡ true }
+        ensures turn { (f : Form) → All (IsLine f) self.old.waits → IsLine f «line» →
+            Turn (λ _. Replied f D.gives (Whole (spelling «line») ∷ [])) (Broken f D.gives (Whole (spelling «line») ∷ []))
+            (at (D.state desk.old) self.old (W.written sink.old) (W.failures sink.old))
+            (at (D.state desk.new) self.new (W.written sink.new) (W.failures sink.new)) result }
+        ensures room { length self.new.waits < most_lines }
+        ensures lines { (f : Form) → All (IsLine f) self.old.waits → IsLine f «line» → All (IsLine f) self.new.waits }
+        ensures kept { self.new.kept ≡ self.old.kept }
+    {
+        self.batch.push(line);
+        if self.batch.is_full() {
+            return self.answer_waiting(desk, sink);
+        }
         Ok(())
     }
 
-    /// The line of this form that a whole line spells, without its line feed; where it spells none, its refusal is
-    /// gathered.
-    #[inline(never)]
-    fn read_text<D: Desk, W: Sink>(
+    /// Has a line answered: alone, or with those that wait.
+    #[inline(always)]
+    fn add<D: Desk, W: Sink>(
         &mut self,
-        form: Form,
+        desk: &mut D,
         sink: &mut W,
-        text: &[u8],
-    ) -> Result<Option<Line>, Failed>
-        ensures turn { (state : D.State) →
-            Turn (Sought form D.gives (Whole text.now ∷ [])) (Broken form D.gives (Whole text.now ∷ []))
-            (at state self.old (W.written sink.old) (W.failures sink.old))
-            (at state self.new (W.written sink.new) (W.failures sink.new)) result }
+        line: Line,
+    ) -> Result<(), Failed>
+        requires { MayWait D.together self.old.waits }
+        ensures turn { (f : Form) → All (IsLine f) self.old.waits → IsLine f «line» →
+            Turn (λ _. Replied f D.gives (Whole (spelling «line») ∷ [])) (Broken f D.gives (Whole (spelling «line») ∷ []))
+            (at (D.state desk.old) self.old (W.written sink.old) (W.failures sink.old))
+            (at (D.state desk.new) self.new (W.written sink.new) (W.failures sink.new)) result }
+        ensures room { MayWait D.together self.new.waits }
+        ensures lines { (f : Form) → All (IsLine f) self.old.waits → IsLine f «line» → All (IsLine f) self.new.waits }
         ensures kept { self.new.kept ≡ self.old.kept }
     {
-        let Some(line) = read_line(form, text) else {
-            self.gather(sink, &Reply::Refused(Refusal::Syntax))?;
-            return Ok(None);
-        };
-        Ok(Some(line))
+        if D::asks_together() {
+            return self.add_waiting(desk, sink, line);
+        }
+        self.answer_line(desk, sink, line)
     }
 
-    /// The line that was cut from the stream, if there is one; where it spells none, its refusal is gathered.
-    fn read_fed<D: Desk, W: Sink>(
+    /// Gathers a refusal behind the replies to the lines that wait.
+    #[inline(never)]
+    fn refuse<D: Desk, W: Sink>(
         &mut self,
-        form: Form,
+        desk: &mut D,
         sink: &mut W,
-        fed: Option<Fed>,
-    ) -> Result<Option<Line>, Failed>
-        ensures turn { (state : D.State) →
-            Turn (Sought form D.gives (pieces_fed fed)) (Broken form D.gives (pieces_fed fed))
-            (at state self.old (W.written sink.old) (W.failures sink.old))
-            (at state self.new (W.written sink.new) (W.failures sink.new)) result }
+        refusal: Refusal,
+    ) -> Result<(), Failed>
+        requires alone { D.together ≡ false → self.old.waits ≡ [] }
+        ensures turn { (f : Form) → (piece : Piece) → All (IsLine f) self.old.waits → IsRefusedFor f piece refusal →
+            Turn (λ _. Replied f D.gives (piece ∷ [])) (λ a b. Broken f D.gives [] a b ⊎ Broken f D.gives (piece ∷ []) a b)
+            (at (D.state desk.old) self.old (W.written sink.old) (W.failures sink.old))
+            (at (D.state desk.new) self.new (W.written sink.new) (W.failures sink.new)) result }
+        ensures none { self.new.waits ≡ [] }
         ensures kept { self.new.kept ≡ self.old.kept }
     {
-        match fed {
-            None => Ok(None),
-            Some(Fed::Text(bytes)) => self.read_text::<D, W>(form, sink, &bytes),
-            Some(Fed::TooLong) => {
-                self.gather(sink, &Reply::Refused(Refusal::TooLong))?;
-                Ok(None)
-            }
-            Some(Fed::Torn) => {
-                self.gather(sink, &Reply::Refused(Refusal::Syntax))?;
-                Ok(None)
-            }
-        }
+        self.answer_waiting(desk, sink)?;
+        self.gather(sink, &Reply::Refused(refusal))
     }
 
     /// The line of those that come most that these bytes begin with, and how many bytes it has with its line feed,
@@ -226,37 +281,29 @@ impl Transcriber {
         read_front(form, bytes)
     }
 
-    /// Takes bytes up to and with the first line feed, or all where there is none, and gives how many it took. The line
-    /// that they end comes into `found`, and waits for its answer; where they end one that spells none, its refusal is
-    /// gathered.
+    /// Takes bytes up to and with the first line feed, or all where there is none, and gives how many it took. What they
+    /// end comes into `found`.
     // (A result that holds the line would lie in memory that is cleared for each line of the frequent kind too.)
     #[inline(never)]
-    fn find_line<D: Desk, W: Sink>(
-        &mut self,
-        form: Form,
-        sink: &mut W,
-        bytes: &[u8],
-        found: &mut Option<Line>,
-    ) -> Result<usize, Failed>
+    fn find_line(&mut self, form: Form, bytes: &[u8], found: &mut Found) -> usize
         requires { 0 < length bytes.now }
-        ensures count { IfOk result (λ n. (0 < n) × (n ≤ length bytes.now)) }
-        ensures turn { (state : D.State) →
-            Turn (λ n. Finds form D.gives bytes.now n found.new) (BreaksBytes form D.gives bytes.now)
-            (at state self.old (W.written sink.old) (W.failures sink.old))
-            (at state self.new (W.written sink.new) (W.failures sink.new)) result }
+        ensures count { (0 < result) × (result ≤ length bytes.now) }
+        ensures finds { Finds form self.old.kept bytes.now result found.new self.new.kept }
+        ensures waits { self.new.waits ≡ self.old.waits }
+        ensures gathered { self.new.gathered ≡ self.old.gathered }
     {
         // A line of which nothing came before is read where it stands.
         if let Some(text) = self.feed.whole(bytes) {
-            *found = self.read_text::<D, W>(form, sink, text)?;
-            return Ok(text.len() + 1);
+            *found = read_text(form, text);
+            return text.len() + 1;
         }
         let (count, fed) = self.feed.push(bytes);
-        *found = self.read_fed::<D, W>(form, sink, fed)?;
-        Ok(count)
+        *found = read_fed(form, fed);
+        count
     }
 
-    /// Takes bytes up to and with the first line feed, or all where there is none, and answers the line that it ends.
-    /// Gives how many bytes it took.
+    /// Takes bytes up to and with the first line feed, or all where there is none. The line that it ends waits for its
+    /// answer, or is refused. Gives how many bytes it took.
     #[inline(always)]
     fn take_line<D: Desk, W: Sink>(
         &mut self,
@@ -264,25 +311,33 @@ impl Transcriber {
         desk: &mut D,
         sink: &mut W,
         bytes: &[u8],
-        found: &mut Option<Line>,
+        found: &mut Found,
     ) -> Result<usize, Failed>
-        requires { 0 < length bytes.now }
+        requires some { 0 < length bytes.now }
+        requires room { MayWait D.together self.old.waits }
+        requires lines { All (IsLine form) self.old.waits }
         ensures count { IfOk result (λ n. (0 < n) × (n ≤ length bytes.now)) }
         ensures turn { Turn (λ n. TakesBytes form D.gives (take n bytes.now)) (BreaksBytes form D.gives bytes.now)
             (at (D.state desk.old) self.old (W.written sink.old) (W.failures sink.old))
             (at (D.state desk.new) self.new (W.written sink.new) (W.failures sink.new)) result }
+        ensures room { OnOk result (MayWait D.together self.new.waits) }
+        ensures lines { OnOk result (All (IsLine form) self.new.waits) }
     {
         let (line, count) = match self.read_fresh(form, bytes) {
             Some(front) => front,
             None => {
-                let count = self.find_line::<D, W>(form, sink, bytes, found)?;
-                let Some(line) = *found else {
-                    return Ok(count);
-                };
-                (line, count)
+                let count = self.find_line(form, bytes, found);
+                match *found {
+                    Found::Asked(line) => (line, count),
+                    Found::Bad(refusal) => {
+                        self.refuse(desk, sink, refusal)?;
+                        return Ok(count);
+                    }
+                    Found::Nothing => return Ok(count),
+                }
             }
         };
-        self.answer_line(desk, sink, line)?;
+        self.add(desk, sink, line)?;
         Ok(count)
     }
 
@@ -295,9 +350,11 @@ impl Transcriber {
         sink: &mut W,
         bytes: &[u8],
     ) -> Result<(), Failed>
+        requires { self.old.waits ≡ [] }
         ensures turn { Turn (λ _. TakesBytes form D.gives bytes.now) (BreaksBytes form D.gives bytes.now)
             (at (D.state desk.old) self.old (W.written sink.old) (W.failures sink.old))
             (at (D.state desk.new) self.new (W.written sink.new) (W.failures sink.new)) result }
+        ensures none { OnOk result (self.new.waits ≡ []) }
         ensures empty { OnOk result (self.new.gathered ≡ []) }
     {
         let answered = self.answer_piece(form, desk, sink, bytes);
@@ -313,34 +370,53 @@ impl Transcriber {
         sink: &mut W,
         bytes: &[u8],
     ) -> Result<(), Failed>
+        requires { self.old.waits ≡ [] }
         ensures turn { Turn (λ _. TakesBytes form D.gives bytes.now) (BreaksBytes form D.gives bytes.now)
             (at (D.state desk.old) self.old (W.written sink.old) (W.failures sink.old))
             (at (D.state desk.new) self.new (W.written sink.new) (W.failures sink.new)) result }
+        ensures none { OnOk result (self.new.waits ≡ []) }
         ensures empty { OnOk result (self.new.gathered ≡ []) }
     {
         let mut at = 0;
-        let mut found = None;
+        let mut found = Found::Nothing;
         while at < bytes.len() {
             at += self.take_line(form, desk, sink, &bytes[at..], &mut found)?;
         }
+        self.answer_waiting(desk, sink)?;
         self.flush(sink)?;
         Ok(())
     }
 
-    /// Refuses the last line, which has no line feed, if there is one, and writes all that was gathered.
-    fn finish<D: Desk, W: Sink>(
+    /// Refuses the last line of a stream, if there is one.
+    fn refuse_last<D: Desk, W: Sink>(
         &mut self,
         form: Form,
-        desk: &mut D,
         sink: &mut W,
+        fed: Option<Fed>,
     ) -> Result<(), Failed>
-        ensures { Turn (λ _. Ends form D.gives) (BreaksAtEnd form D.gives)
-            (at (D.state desk.old) self.old (W.written sink.old) (W.failures sink.old))
-            (at (D.state desk.new) self.new (W.written sink.new) (W.failures sink.new)) result }
+        ensures turn { (state : D.State) → (line : List ℕ) → option_map piece_of fed ≡ unended line → self.old.waits ≡ [] →
+            Turn (λ _. Replied form D.gives (pieces_fed fed)) (Broken form D.gives (pieces_fed fed))
+            (at state self.old (W.written sink.old) (W.failures sink.old))
+            (at state self.new (W.written sink.new) (W.failures sink.new)) result }
+        ensures waits { self.new.waits ≡ self.old.waits }
+        ensures failures { CountsFailures (W.failures sink.old) (W.failures sink.new) result }
+    {
+        match read_fed(form, fed) {
+            Found::Bad(refusal) => self.gather(sink, &Reply::Refused(refusal)),
+            // It has no line feed, and so spells none.
+            Found::Asked(_) | Found::Nothing => Ok(()),
+        }
+    }
+
+    /// Refuses the last line, which has no line feed, if there is one, and writes all that was gathered.
+    fn finish<D: Desk, W: Sink>(&mut self, form: Form, sink: &mut W) -> Result<(), Failed>
+        requires { self.old.waits ≡ [] }
+        ensures { (state : D.State) → Turn (λ _. Ends form D.gives) (BreaksAtEnd form D.gives)
+            (at state self.old (W.written sink.old) (W.failures sink.old))
+            (at state self.new (W.written sink.new) (W.failures sink.new)) result }
     {
         let last = mem::replace(&mut self.feed, Feed::new()).end();
-        // A last line spells none: it has no line feed.
-        self.read_fed::<D, W>(form, sink, last)?;
+        self.refuse_last::<D, W>(form, sink, last)?;
         self.flush(sink)?;
         Ok(())
     }
@@ -382,7 +458,7 @@ impl Transcriber {
             };
             let has_ended = count == 0;
             if has_ended {
-                let Ok(()) = self.finish(form, desk, sink) else {
+                let Ok(()) = self.finish::<D, W>(form, sink) else {
                     return SessionEnd::WriteFault;
                 };
                 return SessionEnd::End;

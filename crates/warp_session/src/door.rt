@@ -44,6 +44,11 @@ pub trait Gate {
 
     /// The desk has replied.
     fn after_reply(&self, session: u32, n: u64);
+
+    /// Whether both do nothing. Then they need not be called, and lines that come together are asked together.
+    fn is_open(&self) -> bool {
+        false
+    }
 }
 
 /// A gate that does nothing.
@@ -54,6 +59,10 @@ impl Gate for Open {
     fn before_ask(&self, _session: u32, _n: u64) {}
 
     fn after_reply(&self, _session: u32, _n: u64) {}
+
+    fn is_open(&self) -> bool {
+        true
+    }
 }
 
 /// A connection to another server, whose log is pulled.

@@ -1,6 +1,6 @@
 //! The thread that holds the replica: it serves the lanes of all desks, and publishes what is released.
-ghost use Rattle.std.specs.Prelude.{◌≡◌, ◌<◌, IsTrue, length};
-ghost use Rattle.warp_session.specs.Serve.{HasServed, KeepsEngine, Shows};
+ghost use Rattle.std.specs.Prelude.{◌≡◌, ◌<◌, length};
+ghost use Rattle.warp_session.specs.Serve.{HasServed};
 
 use crate::patience::Patience;
 use std::alloc::Global;
@@ -20,30 +20,17 @@ pub(crate) struct Executor<'a, T: Timeline> {
 }
 
 impl<'a, T: Timeline> Executor<'a, T> {
-    /// Publishes what is released, where the replica is settled.
-    fn publish(&mut self)
-        ensures keeps { KeepsEngine self.old.engine self.new.engine }
-        ensures shows { IsTrue (T.settled self.new.engine.replica.timeline) → Shows self.new.engine }
-    {
-        if !self.engine.replica().is_settled() {
-            return;
-        }
-        self.engine.publish(self.board);
-    }
-
-    /// Serves a lane, and publishes what that releases; whether a command was found.
+    /// Serves the lines of a lane that wait, and publishes what they release before their answers go out; whether there
+    /// was one.
     fn serve(&mut self, alloc: Global, lane: usize) -> bool
         requires { lane < length self.old.engine.lanes }
         ensures serves { HasServed T.settled self.old.engine self.new.engine }
     {
-        let Turn::Served = self.engine.turn(alloc, lane) else {
-            return false;
-        };
-        self.publish();
-        true
+        let turn = self.engine.visit(alloc, lane, self.board);
+        matches!(turn, Turn::Served)
     }
 
-    /// One turn at each lane; whether a command was found.
+    /// One visit of each lane; whether there was a line.
     fn serve_all(&mut self, alloc: Global) -> bool
         ensures serves { HasServed T.settled self.old.engine self.new.engine }
     {
@@ -54,7 +41,7 @@ impl<'a, T: Timeline> Executor<'a, T> {
         found
     }
 
-    /// Serves the lanes until `ended` is set and no command is left, and gives the engine back.
+    /// Serves the lanes until `ended` is set and no line is left, and gives the engine back.
     pub(crate) fn run<X: Wait + Clock>(
         mut self,
         rt: &X,
@@ -65,7 +52,7 @@ impl<'a, T: Timeline> Executor<'a, T> {
     {
         let mut patience = Patience::new();
         for _ in rt.forever() {
-            // What was sent before it was set is found by the turns behind this look.
+            // What was sent before it was set is found by the visits behind this look.
             let last = ended.load(Ordering::SeqCst);
             if self.serve_all(alloc) {
                 patience = Patience::new();

@@ -5,7 +5,7 @@ use warp_exchange::Desk;
 use warp_record::{Line, Reply};
 use warp_tag::Form;
 
-/// A desk, and the gate that is called round each line that a session asks it.
+/// A desk, and the gate that is called round each line that a session asks it, unless it does nothing.
 #[derive(Drop)]
 pub(crate) struct GatedDesk<'a, D: Desk, G: Gate> {
     desk: D,
@@ -35,6 +35,8 @@ impl<'a, D: Desk, G: Gate> Desk for GatedDesk<'a, D, G> {
 
     ghost form_of = { D.form_of };
 
+    ghost together = { D.together };
+
     fn form(&self) -> Form {
         self.desk.form()
     }
@@ -47,15 +49,18 @@ impl<'a, D: Desk, G: Gate> Desk for GatedDesk<'a, D, G> {
         reply
     }
 
-    fn ask_in_batch(&mut self, line: Line) -> Reply {
-        self.gate.before_ask(self.session, self.asked);
-        let reply = self.desk.ask_in_batch(line);
-        self.gate.after_reply(self.session, self.asked);
-        self.asked = self.asked.saturating_add(1);
-        reply
+    fn asks_together() -> bool {
+        D::asks_together()
     }
 
-    fn end_batch(&mut self) {
-        self.desk.end_batch();
+    /// With a gate that does nothing the lines are passed on together.
+    fn ask_all(&mut self, lines: &[Line], replies: &mut [Reply]) {
+        if self.gate.is_open() {
+            self.desk.ask_all(lines, replies);
+            return;
+        }
+        for at in 0..lines.len() {
+            replies[at] = self.ask(lines[at]);
+        }
     }
 }

@@ -5,6 +5,7 @@
 //! line.
 #![tactic(auto)]
 
+mod batch;
 mod desk_session;
 mod door;
 mod executor;

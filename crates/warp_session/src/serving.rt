@@ -24,7 +24,7 @@ use std::snapshot::Snapshot;
 use std::sync::Wait;
 use std::sync::atomic::{AtomicBool, Ordering};
 use std::thread;
-use std::thread::{JoinHandle, Promise, PromisedHandle, Scope, SpawnError, Threads};
+use std::thread::{Builder, JoinHandle, Promise, PromisedHandle, Scope, Threads};
 use std::time::Clock;
 use warp_board::{Board, MAX_ROWS, Reader, Writer, board, split_reader};
 use warp_exchange::Desk;
@@ -33,6 +33,9 @@ use warp_line::Timeline;
 use warp_replica::Replica;
 use warp_step::Program;
 use warp_tag::Form;
+
+/// The stack of a session's thread, and of a pull's, in bytes.
+const STACK: usize = 1 << 20;
 
 /// What the executor hands back: the engine that it was given, after some turns.
 #[derive(Drop)]
@@ -133,7 +136,7 @@ pub(crate) fn attend<K: Desk + Drop, R: Source + Drop, W: Sink + Drop, G: Gate>(
 }
 
 /// The handle of a thread, if it could be started.
-fn started<H, F: Drop>(running: Result<H, SpawnError<F>>) -> Result<H, ServeFault>
+fn started<H, E: Drop>(running: Result<H, E>) -> Result<H, ServeFault>
     ensures ok { IfOk result (λ handle. running ≡ Ok handle) }
     ensures err { IfErr result (λ fault. fault ≡ ServeFault.Accept) }
 {
@@ -141,6 +144,11 @@ fn started<H, F: Drop>(running: Result<H, SpawnError<F>>) -> Result<H, ServeFaul
         Ok(handle) => Ok(handle),
         Err(_) => Err(ServeFault::Accept),
     }
+}
+
+/// A thread for a session or a pull, whose stack is as large as theirs need be.
+fn small_stack() -> Builder {
+    Builder::new().stack_size(STACK)
 }
 
 /// Starts the next session that comes.
@@ -160,7 +168,10 @@ where
     let Ok((source, sink)) = door.next() else {
         return Err(ServeFault::Accept);
     };
-    let running = scope.spawn(move || attend(alloc, desk, source, sink, gate, number));
+    let running = small_stack().spawn_scoped(
+        scope,
+        move || attend(alloc, desk, source, sink, gate, number),
+    );
     started(running)?;
     Ok(())
 }
@@ -234,7 +245,8 @@ where
     ensures err { IfErr result (λ fault. fault ≡ ServeFault.Accept) }
 {
     let number = peer.number;
-    let thread = started(scope.spawn(move || pull_peer(rt, alloc, desk, peer)))?;
+    let running = small_stack().spawn_scoped(scope, move || pull_peer(rt, alloc, desk, peer));
+    let thread = started(running)?;
     Ok(RunningPull {
         peer: number,
         thread,

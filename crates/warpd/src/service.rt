@@ -11,7 +11,7 @@ use std::fs::Files;
 use std::io::{self, Eprint, Print};
 use std::net::{Ipv4Addr, Net, TcpListener, TcpStream};
 use std::sync::Wait;
-use std::thread::Threads;
+use std::thread::{self, Threads};
 use std::time::{Clock, Duration};
 use warp_lanes::Engine;
 use warp_line::Timeline;
@@ -54,24 +54,34 @@ impl<'a> Service<'a> {
     }
 }
 
+/// So often a connection is asked for that cannot be had.
+const MOST_TRIES: u32 = 100;
+
+/// The time between two of these, in milliseconds.
+const BETWEEN_TRIES: u64 = 10;
+
 /// The sessions that come to a listener.
 #[derive(Drop)]
-struct Entrance<'a, X: Eprint> {
+struct Entrance<'a, X: Eprint + Clock> {
     rt: &'a X,
     listener: TcpListener,
     tells_pulls: bool,
 }
 
-impl<'a, X: Eprint> Door for Entrance<'a, X> {
+impl<'a, X: Eprint + Clock> Door for Entrance<'a, X> {
     type R = Channel;
 
     type W = Channel;
 
+    /// A connection that cannot be had, for want of files or memory, is tried again for a second.
     fn next(&mut self) -> Result<(Channel, Channel), DoorFault> {
-        match next_connection(&self.listener) {
-            Ok(both) => Ok(both),
-            Err(_) => Err(DoorFault),
+        for _ in 0..MOST_TRIES {
+            if let Ok(both) = next_connection(&self.listener) {
+                return Ok(both);
+            }
+            thread::sleep(self.rt, Duration::from_millis(BETWEEN_TRIES));
         }
+        Err(DoorFault)
     }
 
     fn pull_ended(&mut self, peer: u32, end: PullEnd) {

@@ -55,7 +55,13 @@ fn has_row(rt: &impl Abort, board: &Board, reader: &mut Reader, place: u64, row:
 }
 
 /// The board has so many rows, and is frozen or not.
-fn has_size(rt: &impl Abort, board: &Board, reader: &mut Reader, count: u64, is_frozen: bool)
+pub(crate) fn has_size(
+    rt: &impl Abort,
+    board: &Board,
+    reader: &mut Reader,
+    count: u64,
+    is_frozen: bool,
+)
     requires { reader.old.board ≡ board.now }
     ensures { reader.new.board ≡ board.now }
 {

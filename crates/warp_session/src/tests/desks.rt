@@ -18,14 +18,14 @@ use warp_tag::Form;
 
 const LINE: Line = Line::Ask(Query::Outputs);
 
-/// How many lines a lane holds.
-const PLACES: usize = 64;
+/// How many lines a lane has places for.
+const LANE_PLACES: usize = 64;
 
 /// So many lines are sent as the lane holds.
 fn fill(rt: &impl Abort, port: &mut Port)
     ensures { port.new.lane ≡ port.old.lane }
 {
-    for _ in 0..PLACES {
+    for _ in 0..LANE_PLACES {
         assert_eq!(rt; port.send(LINE), Ok(()));
     }
 }
@@ -65,5 +65,5 @@ fn a_full_lane_is_busy(rt: HostRuntime) {
     let (mut port, lane) = lane(rt.alloc()).expect(&rt, "memory");
     fill(&rt, &mut port);
     let end = is_busy(&rt, &board, port, reader);
-    assert_eq!(&rt; answers(&rt, rt.alloc(), lane, end), PLACES);
+    assert_eq!(&rt; answers(&rt, rt.alloc(), lane, end), LANE_PLACES);
 }

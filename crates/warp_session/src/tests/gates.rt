@@ -1,4 +1,5 @@
 //! A gate is called before each line of a session comes to the desk, and behind its reply, with the line's number.
+ghost use Rattle.std.specs.Prelude.{true};
 ghost use Rattle.warp_tag.specs.declared.form.Form.{Form};
 
 use crate::door::Gate;
@@ -72,8 +73,14 @@ impl<'a, X: Wait + Abort> Desk for NotingDesk<'a, X> {
 
     ghost form_of = { λ _. Form.One };
 
+    ghost together = { true };
+
     fn form(&self) -> Form {
         Form::One
+    }
+
+    fn asks_together() -> bool {
+        true
     }
 
     fn ask(&mut self, _line: Line) -> Reply {

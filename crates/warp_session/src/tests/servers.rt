@@ -68,7 +68,7 @@ const ALL: Reply = Reply::Var {
 };
 
 /// What clients are told, in some order; the first of these goes to the last of them, for which the others wait.
-const PLACES: [&str; 16] = [
+const TOLD: [&str; 16] = [
     "taken 1\n",
     "taken 2\n",
     "taken 3\n",
@@ -108,7 +108,7 @@ fn is_told(rt: &impl Wait, talks: &[Talk<'_>], text: &str) -> bool {
 
 /// As many places were told as there are clients, the first of them to the last client.
 fn are_told<X: Wait + Abort>(rt: &X, talks: &[Talk<'_>]) {
-    for text in PLACES.iter().take(talks.len()) {
+    for text in TOLD.iter().take(talks.len()) {
         assert!(rt; is_told(rt, talks, *text));
     }
     assert!(rt; talks.last().is_some_and(|talk| talk.holds(rt, "taken 1\n")));

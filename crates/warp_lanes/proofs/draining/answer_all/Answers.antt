@@ -1,8 +1,9 @@
 use Rattle.std.proofs.Common.{◌++◌, ◌∷◌, [], ◌∙◌, ap, sym, arith, length, length-append}
 use Rattle.std.proofs.lemmas.List.{append_assoc}
 use Rattle.rtrb.specs.Ring.{known_items, received}
-use Rattle.warp_lanes.specs.Engine.{facts_of}
-use Rattle.warp_lanes.proofs.DrainedLanes.{line_more}
+use Rattle.warp_replica.specs.Answered.{facts_of}
+use Rattle.warp_lanes.specs.Engine.{AnswersAlone}
+use Rattle.warp_lanes.proofs.DrainedLanes.{alone, line_more}
 use Rattle.warp_lanes.proofs.draining.answer_all.Goals as goal
 
 pub loop-alloc-preserved : goal.loop-alloc-preserved
@@ -19,7 +20,7 @@ loop-alloc-preserved g c =
         (ring.0.0 ∙ s.4.0.0, ring.0.1 ∙ s.4.0.1, ring.0.2 ∙ s.4.0.2, ring.0.3 ∙ s.4.0.3),
         ring.1 ∙ s.4.1,
       ),
-      line_more facts _ _ _ s.0 s.1 one.0 one.1 s.5 one.4,
+      line_more facts (AnswersAlone facts) (alone facts) _ _ _ s.0 s.1 one.0 one.1 s.5 one.4,
       one.5 ∙ ap (λ l. l ++ one.1 ∷ []) s.6 ∙ append_assoc c.args.last.now.items s.1 (one.1 ∷ []),
       omega (
         arith,

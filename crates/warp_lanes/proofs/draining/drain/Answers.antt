@@ -1,8 +1,9 @@
 use Rattle.std.proofs.Common.{◌≡◌, ◌+◌, ◌++◌, ◌∙◌, ap, sym, arith, length, length-append}
 use Rattle.std.proofs.lemmas.List.{append_assoc}
 use Rattle.rtrb.specs.Ring.{all_sent, known_free, known_items, received, sent}
-use Rattle.warp_lanes.specs.Engine.{facts_of}
-use Rattle.warp_lanes.proofs.DrainedLanes.{lines_count, lines_long}
+use Rattle.warp_replica.specs.Answered.{facts_of}
+use Rattle.warp_lanes.specs.Engine.{AnswersAlone}
+use Rattle.warp_lanes.proofs.DrainedLanes.{alone, lines_count, lines_long}
 use Rattle.warp_lanes.proofs.draining.drain.Goals as goal
 
 pub copy_all-requires : goal.copy_all-requires
@@ -13,7 +14,7 @@ copy_all-requires g c =
     ap length (c.fetch_all.ensures.items ∙ ap (λ l. l ++ known_items c.slots_beside.new.self) c.in_ok-handed.ensures.items) in
     let last : length c.deref.result.now ≡ length c.lane.inside.last.items + length made.0 =
     ap length (c.deref.ensures.value ∙ made.2 ∙ ap (λ l. l ++ made.0) c.reserve.ensures.items) ∙ length-append c.lane.inside.last.items made.0 in
-    let count : length made.0 ≡ length (known_items c.slots_after-left.new.self) = lines_count facts _ _ _ made.0 made.1 in
+    let count : length made.0 ≡ length (known_items c.slots_after-left.new.self) = lines_count facts (AnswersAlone facts) (alone facts) _ _ _ made.0 made.1 in
     let all : length (received c.lane.inside.commands) + length (known_items c.slots_after-left.new.self) ≡ length (all_sent c.end.inside.commands) =
     sym (length-append (received c.lane.inside.commands) (known_items c.slots_after-left.new.self))
     ∙ ap length (ap (λ l. l ++ known_items c.slots_after-left.new.self) (sym c.slots_after-left.ensures.looked.1) ∙ c.slots_after-left.ensures.fifo) in
@@ -73,5 +74,5 @@ returns-clause-drains g c =
       c.answer_all.ensures.commands ∙ after.fifo,
       ap (λ l. l ++ last) (sym beside.fifo) ∙ append_assoc (received c.slots_beside.new.self) left last
           ∙ ap (λ l. l ++ (left ++ last)) beside.looked.1 ∙ ap (λ l. received c.end.inside.answers ++ l) (sym handed),
-      lines_long facts _ _ _ lines made.0 (omega arith) made.1,
+      lines_long facts (AnswersAlone facts) (alone facts) _ _ _ lines made.0 (omega arith) made.1,
     )

@@ -3,6 +3,7 @@ use Rattle.std.proofs.lemmas.Bool.Decides.{nat_tests}
 use Rattle.std.proofs.lemmas.List.{nil_from_length}
 use Rattle.rtrb.specs.Ring.{known_free}
 use Rattle.warp_lanes.specs.declared.answer.Answer.{Answer}
+use Rattle.warp_lanes.proofs.DrainedLanes.{answers_line}
 use Rattle.warp_lanes.proofs.Publishing.{has_news}
 use Rattle.warp_lanes.proofs.Serving.{before_none}
 use Rattle.warp_lanes.proofs.engine.serve.Goals as goal
@@ -18,20 +19,10 @@ returns-clause-turns g c =
       c.in-Ok.line,
       answer,
       (
-        (
-          c.ask-reply.ensures.gives,
-          c.ask-reply.ensures.program,
-          c.len-len.ensures.value,
-          (c.ask-reply.ensures.reply, rw c.len-len.ensures.value c.ask-reply.ensures.length, c.len-len.ensures.bound),
-          record {
-            settles = c.ask-reply.ensures.settled;
-            lacked = c.ask-reply.ensures.refused;
-            floor = c.ask-reply.ensures.floor;
-            spared = c.ask-reply.ensures.spared;
-            calm = c.ask-reply.ensures.calm;
-            collects = c.ask-reply.ensures.collects;
-          },
-        ),
+        record {
+          answers = answers_line _ _ _ answer _ c.ask-reply.ensures.answered c.len-len.ensures.value c.len-len.ensures.bound;
+          settled = c.ask-reply.ensures.settled;
+        },
         rw (← c.lane.view_is)
             (λ i. record {
               lane = (
@@ -39,11 +30,11 @@ returns-clause-turns g c =
                 record { words = (q.ring.0.0 ∙ f.0.0.0) i; slots = (q.ring.0.1 ∙ f.0.0.1) i; names = (q.ring.0.2 ∙ f.0.0.2) i },
               );
               commands = p.ok.0 i;
-              answers = before_none _ _ _ answer none (q.sent.0 ∙ ap (λ l. l ++ answer ∷ []) f.1) i;
+              answers = before_none _ _ _ (answer ∷ []) none (q.sent.0 ∙ ap (λ l. l ++ answer ∷ []) f.1) i;
               free = known_free c.push_reserved.new.self;
             }),
       ),
     )
 
 pub returns-clause-news : goal.returns-clause-news
-returns-clause-news g c = rw c.news.ensures (has_news _ _ _ _ _ c.ask-reply.ensures.gives)
+returns-clause-news g c = rw c.news.ensures (has_news _ _ _ _ _ c.ask-reply.ensures.answered.gives)

@@ -25,18 +25,18 @@ same_out a b =
 
 pub behind-missing-requires : goal.behind-missing-requires
 behind-missing-requires c =
-    let s = c.requires.sure in
-    let first_of : length (take c.args.sure c.args.rows.now) ≡ c.args.sure = length-take-le c.args.sure c.args.rows.now c.requires.within in
-    omega (arith, first_of, ap length s.1, length-append (take c.args.sure c.args.rows.now) s.0)
+    let s = c.requires.known in
+    let first_of : length (take c.args.known_rows c.args.rows.now) ≡ c.args.known_rows = length-take-le c.args.known_rows c.args.rows.now c.requires.within in
+    omega (arith, first_of, ap length s.1, length-append (take c.args.known_rows c.args.rows.now) s.0)
 
 pub returns : goal.returns
 returns c =
     let xs = c.args.released.now in
     let ys = c.args.rows.now in
-    let n = c.args.sure in
+    let n = c.args.known_rows in
     let xe : c.behind-missing.result.now ≡ drop n xs = c.behind-missing.ensures in
-    let ye : c.behind-unsure.result.now ≡ drop n ys = c.behind-unsure.ensures in
-    let s = starts_is same_out c.behind-missing.result.now c.behind-unsure.result.now c.starts_with.result c.starts_with.ensures.value in (
-      λ t. joined xs ys n c.requires.sure (subst (λ l. StartsWith l (drop n ys)) xe (subst (λ l. StartsWith c.behind-missing.result.now l) ye (drop (length c.behind-unsure.result.now) c.behind-missing.result.now, s.0 t))),
+    let ye : c.behind-unknown.result.now ≡ drop n ys = c.behind-unknown.ensures in
+    let s = starts_is same_out c.behind-missing.result.now c.behind-unknown.result.now c.starts_with.result c.starts_with.ensures.value in (
+      λ t. joined xs ys n c.requires.known (subst (λ l. StartsWith l (drop n ys)) xe (subst (λ l. StartsWith c.behind-missing.result.now l) ye (drop (length c.behind-unknown.result.now) c.behind-missing.result.now, s.0 t))),
       λ p. let q = subst (λ l. StartsWith c.behind-missing.result.now l) (sym ye) (subst (λ l. StartsWith l (drop n ys)) (sym xe) (behind xs ys n p)) in s.1 q.0 q.1,
     )

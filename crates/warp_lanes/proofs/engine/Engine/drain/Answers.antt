@@ -5,10 +5,11 @@ use Rattle.std.proofs.lemmas.Option.{slice_get-get_or}
 use Rattle.std.proofs.Math.ListN.{set}
 use Rattle.warp_step.proofs.ValidLemmas.{validity}
 use Rattle.warp_table.proofs.NamesInOrder.{on_err}
-use Rattle.warp_lanes.specs.Engine.{EngineState, facts_of, ids_of}
+use Rattle.warp_replica.specs.Answered.{facts_of}
+use Rattle.warp_lanes.specs.Engine.{AnswersAlone, EngineState, ids_of}
 use Rattle.warp_lanes.specs.History.{IsHistory, IsServed}
 use Rattle.warp_lanes.specs.Lanes.{LaneState}
-use Rattle.warp_lanes.proofs.DrainedLanes.{counted, id_there, ids_within, lines_board, lines_history, lines_program}
+use Rattle.warp_lanes.proofs.DrainedLanes.{alone, counted, id_there, ids_within, lines_board, lines_history, lines_program}
 use Rattle.warp_lanes.proofs.Serving.{any_free, at_place, same_ids}
 use Rattle.warp_lanes.proofs.engine.Engine.drain.Goals as goal
 
@@ -68,7 +69,7 @@ invariant_of-self-2 g c =
       subst (λ (l : LaneState). IsHistory c.drain.new.replica.program c.drain.new.replica.records c.self.inside.began (set c.self.inside.lanes.items c.args.lane l))
           (sym d.3)
           (any_free c.drain.new.replica.program c.drain.new.replica.records c.self.inside.began _ _ _ c.drain.new.lane.free
-          (lines_history facts _ _ _ _ _ _ d.0 d.1 c.self.invariant.0 at d.2)),
+          (lines_history facts (AnswersAlone facts) (alone facts) _ _ _ _ _ _ d.0 d.1 c.self.invariant.0 at d.2)),
       lines_board facts _ _ d.0 d.1 _ _ some c.valid-2.ensures.once c.valid-3.ensures.allowed d.2 c.self.invariant.1,
     )
 
@@ -83,7 +84,7 @@ pub returns-clause-program : goal.returns-clause-program
 returns-clause-program g c =
     let facts = facts_of g.T.Timeline.settled g.T.Timeline.refused g.T.Timeline.floor g.T.Timeline.SLACK in
     let d = c.in_ok-handed.ensures.drains in
-    rw (← c.self.view_is) (lines_program facts _ _ d.0 d.1 d.2)
+    rw (← c.self.view_is) (lines_program facts (AnswersAlone facts) (alone facts) _ _ d.0 d.1 d.2)
 
 pub returns-clause-ids : goal.returns-clause-ids
 returns-clause-ids g c =

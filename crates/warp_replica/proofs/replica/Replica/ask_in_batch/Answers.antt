@@ -1,7 +1,14 @@
-use Rattle.warp_record.specs.declared.line.Line.TheVariants.{Ask}
-use Rattle.warp_replica.proofs.Lengths.{says_length}
+use Rattle.warp_replica.specs.Answered.{facts_of}
+use Rattle.warp_replica.proofs.Asked.{query_answered}
 use Rattle.warp_replica.proofs.replica.Replica.ask_in_batch.Goals as goal
 
-pub returns-in-Ask-clause-length : goal.returns-in-Ask-clause-length
-returns-in-Ask-clause-length g c = says_length c.args.self.now.program c.args.self.now.records (Ask c.in-Ask.query) _ _
-    c.valid.ensures.once c.settle_and_answer.ensures.gives
+pub returns-in-Ask : goal.returns-in-Ask
+returns-in-Ask g c =
+    let facts = facts_of g.T.Timeline.settled g.T.Timeline.refused g.T.Timeline.floor g.T.Timeline.SLACK in
+    let asked = c.settle_and_answer.ensures in
+    record {
+      answered =
+          rw c.in-Ask.is
+          (query_answered facts c.args.self.now c.settle_and_answer.new.self c.valid.ensures.once asked.program c.in-Ask.query
+          c.settle_and_answer.result.0 asked.gives asked.reply asked.settles asked.floor);
+    }

@@ -14,6 +14,7 @@ invariant-reads g l = record {
       (at (g.D.Desk.state l.desk) l.self (g.W.Sink.written l.sink) (g.W.Sink.failures l.sink));
   reads : l._read ≤ length seen;
   counted : g.R.Source.reads l.source ≡ reads_more l._read (g.R.Source.reads l.initial.source);
+  waits : l.self.waits ≡ [];
   empty : l.self.gathered ≡ [];
   reads_sound : g.R.Source.failures l.source ≡ g.R.Source.failures l.initial.source;
   writes_sound : g.W.Sink.failures l.sink ≡ g.W.Sink.failures l.initial.sink;

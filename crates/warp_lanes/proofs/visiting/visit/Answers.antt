@@ -1,0 +1,66 @@
+use Rattle.std.proofs.Common.{◌≡◌, ◌<◌, ◌≤◌, ◌++◌, [], ◌∙◌, ap, sym, arith, length}
+use Rattle.std.proofs.lemmas.Bool.Decides.{nat_tests}
+use Rattle.std.proofs.lemmas.List.{nil_from_length}
+use Rattle.rtrb.specs.Ring.{known_free, sent}
+use Rattle.warp_replica.specs.Answered.{facts_of}
+use Rattle.warp_lanes.specs.Engine.{AnswersLine}
+use Rattle.warp_lanes.proofs.DrainedLanes.{among, lines_count}
+use Rattle.warp_lanes.proofs.Serving.{before_none}
+use Rattle.warp_lanes.proofs.VisitedLanes.{each_fits, on_ok}
+use Rattle.warp_lanes.proofs.visiting.visit.Goals as goal
+
+pub push_entire_slice-sent-requires : goal.push_entire_slice-sent-requires
+push_entire_slice-sent-requires g c =
+    let facts = facts_of g.T.Timeline.settled g.T.Timeline.refused g.T.Timeline.floor g.T.Timeline.SLACK in
+    let m = c.answer_first.ensures.made in
+    rw c.as_slice.ensures.value (λ i default short. each_fits facts _ _ m.0 c.answer_first.new.unsent.items m.3 i default short)
+
+pub returns-clause-visits : goal.returns-clause-visits
+returns-clause-visits g c =
+    let facts = facts_of g.T.Timeline.settled g.T.Timeline.refused g.T.Timeline.floor g.T.Timeline.SLACK in
+    let m = c.answer_first.ensures.made in
+    let made = c.answer_first.new.unsent.items in
+    let full = c.is_full.ensures.looked in
+    let empty = c.is_empty-2.ensures.looked in
+    let count = c.count_for-count.ensures in
+    let push = c.push_entire_slice-sent.ensures in
+    let ring = c.answer_first.ensures.ring in
+    let few : length made ≡ c.count_for-count.result = lines_count facts (AnswersLine facts) (among facts) _ _ m.0 made m.3 ∙ m.1 in
+    let room : length c.as_slice.result.now ≤ known_free c.count_for-count.new.answers =
+    omega (arith, few, ap length c.as_slice.ensures.value, count.free) in
+    let pushed = on_ok c.push_entire_slice-sent.result (push.succeeds room) push.ok in
+    let none : c.lane.inside.last.items ≡ [] =
+    nil_from_length _ (grind (c.if-not-is_empty.false, c.is_empty.ensures, c.lane.inside.last.ok.0, nat_tests, arith)) in (
+      m.0,
+      made,
+      c.answer_first.new.replica,
+      record {
+        some = omega (arith, m.1, count.some);
+        most = omega (arith, m.1, count.most);
+        answered = m.3;
+        ends = c.show.ensures.ends;
+        sent =
+            rw (← c.lane.view_is)
+            (λ i. record {
+              lane = (
+                record {
+                  words = (ring.0.0 ∙ empty.0.0.0) i;
+                  slots = (ring.0.1 ∙ empty.0.0.1) i;
+                  names = (ring.0.2 ∙ empty.0.0.2) i;
+                },
+                record {
+                  words = (push.ring.0.0 ∙ count.looked.0.0.0 ∙ full.0.0.0) i;
+                  slots = (push.ring.0.1 ∙ count.looked.0.0.1 ∙ full.0.0.1) i;
+                  names = (push.ring.0.2 ∙ count.looked.0.0.2 ∙ full.0.0.2) i;
+                },
+              );
+              commands = (m.2 ∙ ap (λ l. l ++ m.0) empty.1) i;
+              answers =
+                  before_none _ _ _ made none
+                  (pushed.0 ∙ ap (λ l. sent c.count_for-count.new.answers ++ l) c.as_slice.ensures.value
+                  ∙ ap (λ l. l ++ made) (count.looked.1 ∙ full.1)) i;
+              free = known_free c.push_entire_slice-sent.new.self;
+            });
+        published = c.show.ensures.published;
+      },
+    )

@@ -1,0 +1,172 @@
+//! Visiting a lane: as many of its commands as wait are answered one after another, and the answers are sent when the
+//! board shows what they released.
+ghost use Rattle.std.specs.Prelude.{◌≡◌, ◌≢◌, ◌<◌, ◌≤◌, ◌++◌, ◌∷◌, [], List, length};
+ghost use Rattle.arrayvec.specs.ArrayVec.{array_vec_len};
+ghost use Rattle.rtrb.specs.Ring.{ProducerLooked, SameConsumer, known_free, known_items, received};
+ghost use Rattle.warp_record.specs.declared.line.Line.{Line};
+ghost use Rattle.warp_replica.specs.Answered.{EndsBatch, facts_of};
+ghost use Rattle.warp_lanes.specs.Engine.{AnswersLine, AreAnswered, PublishesIf, VisitsLane};
+ghost use Rattle.warp_lanes.specs.Lanes.{places};
+ghost use Rattle.warp_lanes.specs.Publish.{HasNews, KeepsBoard};
+ghost use Rattle.warp_lanes.specs.declared.answer.Answer.{Answer};
+ghost use Rattle.warp_lanes.specs.declared.turn.Turn.{Turn};
+
+use crate::answer::{Answer, AnswerRule};
+use crate::executor_end::Lane;
+use crate::making::LANE_PLACES;
+use crate::publish::{news, publish_settled, rows_before};
+use crate::turn::Turn;
+use arrayvec::ArrayVec;
+use rtrb::{Consumer, Producer};
+use std::alloc::Global;
+use warp_board::{Board, Writer};
+use warp_line::Timeline;
+use warp_record::Line;
+use warp_replica::Replica;
+use warp_tag::Tag;
+
+/// The answers of a visit, before they are sent.
+pub(crate) type Unsent = ArrayVec<Answer, LANE_PLACES>;
+
+/// Answers the commands that wait, at most as many as there are places for answers, settles, publishes where that
+/// leaves the replica settled, and sends the answers. Of the board's rows the first `known_rows` are known to begin
+/// what is released, while it is not frozen.
+pub(crate) fn visit<T: Timeline>(
+    lane: &mut Lane,
+    replica: &mut Replica<T>,
+    alloc: Global,
+    writer: &mut Writer,
+    known_rows: &mut usize,
+    board: &Board,
+    unsent: &mut Unsent,
+) -> Turn
+    requires board { writer.old.board ≡ board.now }
+    requires kept { KeepsBoard replica.old.program replica.old.records writer.old known_rows.old }
+    ensures visits { VisitsLane (facts_of T.settled T.refused T.floor T.SLACK)
+        replica.old lane.old writer.old result replica.new lane.new writer.new }
+    ensures first { length lane.old.answers < places → result ≢ Turn.Stalled }
+    ensures kept { KeepsBoard replica.new.program replica.new.records writer.new known_rows.new }
+{
+    if lane.answers.is_full() {
+        return Turn::Stalled;
+    }
+    if !lane.last.is_empty() {
+        // It was drained: its port has ended.
+        return Turn::Empty;
+    }
+    if lane.commands.is_empty() {
+        return Turn::Empty;
+    }
+    let count = count_for(&lane.commands, &mut lane.answers);
+    unsent.clear();
+    answer_first(
+        &mut lane.commands,
+        count,
+        replica,
+        alloc,
+        writer,
+        known_rows,
+        unsent,
+    );
+    show(replica, alloc, writer, known_rows, board);
+    let _sent = lane.answers.push_entire_slice(unsent.as_slice());
+    Turn::Served
+}
+
+/// How many of the commands that are known to be there can be answered: the other end is asked for more places only
+/// where too few are known.
+fn count_for(
+    commands: &Consumer<Line, Global>,
+    answers: &mut Producer<Answer, Global, AnswerRule>,
+) -> usize
+    requires there { 0 < length (known_items commands.now) }
+    requires free { 0 < known_free answers.old }
+    ensures looked { ProducerLooked answers.old answers.new }
+    ensures some { 0 < result }
+    ensures there { result ≤ length (known_items commands.now) }
+    ensures free { result ≤ known_free answers.new }
+    ensures most { result ≤ places }
+{
+    let waiting = commands.cached_slots().min(LANE_PLACES);
+    let known = answers.cached_slots();
+    if waiting <= known {
+        return waiting;
+    }
+    waiting.min(answers.slots())
+}
+
+/// Gives the replica so many of the commands that are known to be there, and keeps their answers.
+fn answer_first<T: Timeline>(
+    commands: &mut Consumer<Line, Global>,
+    count: usize,
+    replica: &mut Replica<T>,
+    alloc: Global,
+    writer: &Writer,
+    known_rows: &mut usize,
+    unsent: &mut Unsent,
+)
+    requires there { count ≤ length (known_items commands.old) }
+    requires most { count ≤ places }
+    requires empty { unsent.old.items ≡ [] }
+    requires kept { KeepsBoard replica.old.program replica.old.records writer.now known_rows.old }
+    ensures ring { SameConsumer commands.old commands.new }
+    ensures made { (lines : List Line) × (length lines ≡ count)
+        × (received commands.new ≡ received commands.old ++ lines)
+        × AreAnswered (AnswersLine (facts_of T.settled T.refused T.floor T.SLACK))
+        replica.old lines unsent.new.items replica.new }
+    ensures kept { KeepsBoard replica.new.program replica.new.records writer.now known_rows.new }
+{
+    while unsent.len() < count {
+        // A program has an origin, and each record is in its log once.
+        replica.program().valid();
+        replica.valid();
+        let news = answer_next(commands, replica, alloc, unsent);
+        *known_rows = rows_before(writer.rows(), *known_rows, news);
+    }
+}
+
+/// Gives the replica the next command, among others, and keeps its answer. The tag is that of the record that came in,
+/// if one did.
+fn answer_next<T: Timeline>(
+    commands: &mut Consumer<Line, Global>,
+    replica: &mut Replica<T>,
+    alloc: Global,
+    unsent: &mut Unsent,
+) -> Option<Tag>
+    requires there { 0 < length (known_items commands.old) }
+    requires room { array_vec_len unsent.old < places }
+    ensures ring { SameConsumer commands.old commands.new }
+    ensures made { (said : Line) × (answer : Answer)
+        × (received commands.new ≡ received commands.old ++ said ∷ [])
+        × (known_items commands.old ≡ said ∷ known_items commands.new)
+        × AnswersLine (facts_of T.settled T.refused T.floor T.SLACK) replica.old said answer replica.new
+        × (unsent.new.items ≡ unsent.old.items ++ answer ∷ []) }
+    ensures news { HasNews replica.old.program replica.old.records result replica.new.records }
+{
+    let line = commands.pop_known();
+    let reply = replica.ask_in_batch(alloc, line);
+    let len = replica.len();
+    unsent.push(Answer { len, reply });
+    news(&line, &reply)
+}
+
+/// Settles, and publishes where that leaves the replica settled.
+fn show<T: Timeline>(
+    replica: &mut Replica<T>,
+    alloc: Global,
+    writer: &mut Writer,
+    known_rows: &mut usize,
+    board: &Board,
+)
+    requires board { writer.old.board ≡ board.now }
+    requires kept { KeepsBoard replica.old.program replica.old.records writer.old known_rows.old }
+    ensures ends { EndsBatch (facts_of T.settled T.refused T.floor T.SLACK) replica.old replica.new }
+    ensures published { PublishesIf (T.settled replica.new.timeline) replica.new.program replica.new.records
+        writer.old writer.new }
+    ensures kept { KeepsBoard replica.new.program replica.new.records writer.new known_rows.new }
+{
+    let Ok(()) = replica.settle_uncounted(alloc) else {
+        return;
+    };
+    publish_settled(replica, writer, known_rows, board);
+}
