@@ -5,5 +5,5 @@ pub mod Read
 pub mod Placing
 pub mod Cause
 pub mod Circle
-pub mod Fingerprint
+pub mod Hash
 pub mod Others

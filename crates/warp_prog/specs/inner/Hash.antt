@@ -11,5 +11,5 @@ with_bytes n [] = n
 with_bytes n (b ∷ bs) = with_bytes (with_byte n b) bs
 
 -- the number of a text
-abbrev pub fingerprint_of : List ℕ → ℕ
-fingerprint_of text = with_bytes 0 text
+abbrev pub hash_of : List ℕ → ℕ
+hash_of text = with_bytes 0 text
