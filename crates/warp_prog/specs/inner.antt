@@ -1,4 +1,4 @@
-pub mod Kind
+pub mod Things
 pub mod Rule
 pub mod Room
 pub mod Read
