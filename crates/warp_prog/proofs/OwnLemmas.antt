@@ -1,5 +1,5 @@
 -- A program puts few enough outputs by itself to be counted in 64 bits.
-use Rattle.std.proofs.Common.{◌≡◌, ℕ, zero, suc, ◌+◌, ◌*◌, ◌<◌, ◌≤◌, ◌^◌, Bool, true, false, length, if◌then◌else◌}
+use Rattle.std.proofs.Common.{ℕ, zero, suc, ◌+◌, ◌*◌, ◌<◌, ◌≤◌, ◌^◌, Bool, true, false, arith, length, if◌then◌else◌}
 use Rattle.std.specs.Prelude.{IsTrue}
 use Rattle.std.proofs.lemmas.Nat.{mul-le}
 use Rattle.warp_tag.specs.Limits.{longest_stop, most_outputs, widest}
@@ -10,11 +10,11 @@ use Rattle.warp_prog.specs.OwnRows.{is_own, own_before, own_outputs, own_rows}
 
 -- at no more times than there are
 one_at_most : (b : Bool) → (if b then 1 else 0) ≤ 1
-one_at_most true = cc
-one_at_most false = cc
+one_at_most true = omega (arith)
+one_at_most false = omega (arith)
 
 before_at_most : (P : Program) (n : ℕ) → own_before P n ≤ n
-before_at_most P zero = cc
+before_at_most P zero = omega (arith)
 before_at_most P (suc n) =
     let here = one_at_most (is_own P n) in
     let before = before_at_most P n in

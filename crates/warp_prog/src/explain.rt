@@ -63,14 +63,7 @@ pub fn explanation(alloc: Global, bytes: &[u8], error: LoadError) -> Result<Stri
         return String::from_str(alloc, "the file has more than 1,048,576 bytes\n");
     }
     match Value::from_slice(alloc, bytes) {
-        Ok(value) => of_value(
-            alloc,
-            Source {
-                bytes,
-                value: &value,
-            },
-            error,
-        ),
+        Ok(value) => of_value(alloc, Source::new(bytes, &value), error),
         Err(fault) => of_text(alloc, bytes, &fault),
     }
 }
@@ -80,6 +73,12 @@ pub fn explanation(alloc: Global, bytes: &[u8], error: LoadError) -> Result<Stri
 pub(crate) struct Source<'v> {
     bytes: &'v [u8],
     value: &'v Value,
+}
+
+impl<'v> Source<'v> {
+    fn new(bytes: &'v [u8], value: &'v Value) -> Source<'v> {
+        Source { bytes, value }
+    }
 }
 
 /// Where and why bytes are no JSON text.

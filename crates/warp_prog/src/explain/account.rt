@@ -103,7 +103,8 @@ fn add_fingerprint(alloc: Global, text: &mut String, canonical: &str) -> Result<
     let digits = fingerprint(alloc, canonical)?;
     text.push_str("fingerprint ")?;
     text.push_str(&digits)?;
-    end_line(text)
+    end_line(text)?;
+    Ok(())
 }
 
 /// Adds the line of names where it is wanted.

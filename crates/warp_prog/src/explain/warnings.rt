@@ -21,13 +21,7 @@ use std::alloc::{AllocError, Global};
 /// Only where a growth was refused.
 pub fn program_warnings(alloc: Global, bytes: &[u8]) -> Result<String, AllocError> {
     match Value::from_slice(alloc, bytes) {
-        Ok(value) => of_value(
-            alloc,
-            Source {
-                bytes,
-                value: &value,
-            },
-        ),
+        Ok(value) => of_value(alloc, Source::new(bytes, &value)),
         Err(fault) => if fault.is_memory() {
             Err(AllocError)
         } else {
