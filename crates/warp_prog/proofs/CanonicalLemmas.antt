@@ -38,10 +38,21 @@ pub parts_all : {X : Type 0} (F : ℕ → List X → List ℕ) → ((n : ℕ) �
 parts_all F end text xs i past =
     ap (λ ys. text ++ F i ys) (drop_all i xs past) ∙ ap (λ ys. text ++ ys) (end i) ∙ append-nil text
 
--- one text behind another
-pub joined : {t a b t1 t2 : List ℕ} → t1 ≡ t ++ a → t2 ≡ t1 ++ b → t2 ≡ t ++ (a ++ b)
-joined {t = t} {a = a} {b = b} p q = q ∙ ap (λ x. x ++ b) p ∙ append_assoc t a b
+-- one text behind another, up to six of them
+pub joined : (t a b : List ℕ) {t1 t2 : List ℕ} → t1 ≡ t ++ a → t2 ≡ t1 ++ b → t2 ≡ t ++ (a ++ b)
+joined t a b p q = q ∙ ap (λ x. x ++ b) p ∙ append_assoc t a b
+
+pub joined3 : (t a b c : List ℕ) {t1 t2 t3 : List ℕ} → t1 ≡ t ++ a → t2 ≡ t1 ++ b → t3 ≡ t2 ++ c → t3 ≡ t ++ ((a ++ b) ++ c)
+joined3 t a b c p q r = joined t (a ++ b) c (joined t a b p q) r
+
+pub joined4 : (t a b c d : List ℕ) {t1 t2 t3 t4 : List ℕ} → t1 ≡ t ++ a → t2 ≡ t1 ++ b → t3 ≡ t2 ++ c → t4 ≡ t3 ++ d
+    → t4 ≡ t ++ (((a ++ b) ++ c) ++ d)
+joined4 t a b c d p q r u = joined t ((a ++ b) ++ c) d (joined3 t a b c p q r) u
+
+pub joined5 : (t a b c d e : List ℕ) {t1 t2 t3 t4 t5 : List ℕ} → t1 ≡ t ++ a → t2 ≡ t1 ++ b → t3 ≡ t2 ++ c → t4 ≡ t3 ++ d → t5 ≡ t4 ++ e
+    → t5 ≡ t ++ ((((a ++ b) ++ c) ++ d) ++ e)
+joined5 t a b c d e p q r u v = joined t (((a ++ b) ++ c) ++ d) e (joined4 t a b c d p q r u) v
 
 -- a list of other texts, which are the same
-pub relisted : {t new key : List ℕ} {ts us : List (List ℕ)} → ts ≡ us → new ≡ t ++ (key ++ listed ts) → new ≡ t ++ (key ++ listed us)
-relisted {t = t} {key = key} e p = p ∙ ap (λ ts. t ++ (key ++ listed ts)) e
+pub relisted : (t key : List ℕ) {new : List ℕ} {ts us : List (List ℕ)} → ts ≡ us → new ≡ t ++ (key ++ listed ts) → new ≡ t ++ (key ++ listed us)
+relisted t key e p = p ∙ ap (λ ts. t ++ (key ++ listed ts)) e

@@ -21,10 +21,17 @@ fingerprint_line canonical = codes "fingerprint " ++ fingerprint_of canonical ++
 abbrev pub names_line : Program → Names → List ℕ
 names_line P names = names_text P names ++ 10 ∷ []
 
--- what is told of a program with these labels and this text: what is in it, and what the options ask for
-abbrev pub account_text : Program → Names → List ℕ → AccountOptions → List ℕ
-account_text P names canonical options =
+-- how much is in a program with these labels, with its numbers and its rows where they are asked for
+abbrev pub measures_text : Program → Names → AccountOptions → List ℕ
+measures_text P names options =
     summary_line (length names.reactors) P ++ (if options.numbers then numbers_text P names else [])
     ++ (if options.rows then rows_line P else [])
-    ++ (if options.fingerprint then fingerprint_line canonical else [])
-    ++ (if options.names then names_line P names else [])
+
+-- which program it is, by its text and its labels, where that is asked for
+abbrev pub identity_text : Program → Names → List ℕ → AccountOptions → List ℕ
+identity_text P names canonical options =
+    (if options.fingerprint then fingerprint_line canonical else []) ++ (if options.names then names_line P names else [])
+
+-- what is told of a program with these labels and this text
+abbrev pub account_text : Program → Names → List ℕ → AccountOptions → List ℕ
+account_text P names canonical options = measures_text P names options ++ identity_text P names canonical options

@@ -1,7 +1,8 @@
 //! What is in a program: one line, the numbers by which lines and replies speak of it, its rows, and what it is.
 ghost use Rattle.std.specs.Prelude.{◌≡◌, ◌++◌, ◌∷◌, [], IfOk, OnOk, codes, length, map, string_bytes};
 ghost use Rattle.std.specs.Prelude.{if◌then◌else◌};
-ghost use Rattle.warp_prog.specs.Account.{account_text, fingerprint_line, names_line, rows_line};
+ghost use Rattle.warp_prog.specs.Account.{account_text, fingerprint_line, identity_text, measures_text, names_line};
+ghost use Rattle.warp_prog.specs.Account.{rows_line};
 ghost use Rattle.warp_prog.specs.Explain.{counted, input_lines, number_lines, numbers_text, origin_at, summary_line};
 
 use crate::canonical::fingerprint;
@@ -42,12 +43,40 @@ pub fn program_account(
         ≡ account_text named.now.program named.now.labels (string_bytes named.now.canonical) options) }
 {
     let mut text = String::new(alloc);
-    add_summary(&mut text, &named.program, named.labels.reactors.len())?;
-    add_wanted_numbers(&mut text, &named.program, &named.labels, options.numbers)?;
-    add_wanted_rows(&mut text, &named.program, options.rows)?;
-    add_wanted_fingerprint(alloc, &mut text, &named.canonical, options.fingerprint)?;
-    add_wanted_names(alloc, &mut text, named, options.names)?;
+    add_measures(&mut text, &named.program, &named.labels, options)?;
+    add_identity(alloc, &mut text, named, options)?;
     Ok(text)
+}
+
+/// Adds how much is in a program, with its numbers and its rows where they are asked for.
+fn add_measures(
+    text: &mut String,
+    program: &Program,
+    labels: &Labels,
+    options: AccountOptions,
+) -> Result<(), AllocError>
+    ensures { OnOk result (string_bytes text.new
+        ≡ string_bytes text.old ++ measures_text program.now labels.now options) }
+{
+    add_summary(text, program, labels.reactors.len())?;
+    add_wanted_numbers(text, program, labels, options.numbers)?;
+    add_wanted_rows(text, program, options.rows)?;
+    Ok(())
+}
+
+/// Adds which program it is, where that is asked for.
+fn add_identity(
+    alloc: Global,
+    text: &mut String,
+    named: &NamedProgram,
+    options: AccountOptions,
+) -> Result<(), AllocError>
+    ensures { OnOk result (string_bytes text.new ≡ string_bytes text.old
+        ++ identity_text named.now.program named.now.labels (string_bytes named.now.canonical) options) }
+{
+    add_wanted_fingerprint(alloc, text, &named.canonical, options.fingerprint)?;
+    add_wanted_names(alloc, text, named, options.names)?;
+    Ok(())
 }
 
 /// Adds the numbers where they are wanted.

@@ -1,4 +1,4 @@
-use Rattle.std.proofs.Common.{string_bytes, sym, ◌∙◌, refl}
+use Rattle.std.proofs.Common.{◌++◌, codes, string_bytes, sym, ◌∙◌, refl}
 use Rattle.warp_prog.specs.Canonical.{statement_text, statements_text}
 use Rattle.warp_prog.specs.View.{statement_tree}
 use Rattle.warp_prog.specs.inner.Rule.{statements_tree}
@@ -19,4 +19,6 @@ spell_statements-returns t c =
     ∙ l.invariant
 
 pub close_choice-returns : goal.close_choice-returns
-close_choice-returns t c = joined c.in_ok-spell_behind.ensures c.in_ok-push_str.ensures.bytes
+close_choice-returns t c =
+    joined (string_bytes c.args.text.now) (codes "],[" ++ statements_text 0 (statements_tree c.args.second.now)) (codes "]]")
+    c.in_ok-spell_behind.ensures c.in_ok-push_str.ensures.bytes
