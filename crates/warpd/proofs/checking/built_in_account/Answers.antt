@@ -11,6 +11,6 @@ returns-in-Ok-program_account-clause-ok c =
       labels,
       canonical,
       c.in-Ok-program_account.ensures
-      ∙ ap (λ P. account_text P labels canonical c.account_options.result) c.in-Ok.ensures
-      ∙ ap (account_text twice labels canonical) c.account_options.ensures,
+          ∙ ap (λ P. account_text P labels canonical c.account_options.result) c.in-Ok.ensures
+          ∙ ap (account_text twice labels canonical) c.account_options.ensures,
     )
