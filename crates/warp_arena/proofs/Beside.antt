@@ -1,7 +1,6 @@
 -- The nodes of an origin on both sides of a name.
 use Rattle.std.proofs.Common.{◌≡◌, ◌≢◌, ℕ, ◌<◌, true, eqb, length, refl, sym, ap, ◌∙◌, subst, IsSome, IsSomeAnd}
 use Rattle.std.specs.List.{AllByRecursion}
-use Rattle.std.specs.Vec.{vec_capacity}
 use Rattle.warp_tag.specs.Moment.{Moment}
 use Rattle.warp_tag.specs.Table.{name_before}
 use Rattle.warp_tag.specs.declared.entry.Entry.{Entry}
@@ -14,13 +13,13 @@ use Rattle.warp_arena.specs.Shape.{IsWhole, IsAfter, Spells, contents_of, last_n
 use Rattle.warp_arena.proofs.Rings.{IsChain-split, first_holds}
 use Rattle.warp_arena.proofs.Tables.{places_of-members, last_of_places}
 use Rattle.warp_arena.proofs.Shapes.{members_own}
-use Rattle.warp_arena.proofs.Walks.{threads, used, owned, Listed-origin}
+use Rattle.warp_arena.proofs.Walks.{room_of, threads, used, owned, Listed-origin}
 use Rattle.warp_arena.proofs.Reading.{places, all_named, entry_found}
 use Rattle.warp_arena.proofs.Finding.{own_front, own_back, own_parts, node_of-at}
 
 module _ (a : Inside) (w : IsWhole (threads a) a.used) (o : ℕ) (g : Moment) where
   -- where a walk along the origin's list stopped, as the last of the origin's nodes up to the name
-  pub last_is : (v : Contents) (at : ℕ) → contents_of (threads a) a.used (vec_capacity a.nodes) ≡ v → at ≡ last_not_after o g (places_of o v.places) → at ≡ last_or NO_NODE (own_front a w o g)
+  pub last_is : (v : Contents) (at : ℕ) → contents_of (threads a) a.used (room_of a) ≡ v → at ≡ last_not_after o g (places_of o v.places) → at ≡ last_or NO_NODE (own_front a w o g)
   last_is v at is s =
       s ∙ sym (last_of_places o g (threads a).entry (owned a o)
       ∙ ap (λ ps. last_not_after o g ps) (sym (places_of-members (threads a).entry o (used a)))

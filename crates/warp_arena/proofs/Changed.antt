@@ -1,6 +1,5 @@
 -- The arena after a change of one entry that keeps its name.
 use Rattle.std.proofs.Common.{◌≡◌, ◌≢◌, ℕ, ◌-◌, ◌<◌, ◌≤◌, Bool, cond, eqb, ltb, ◌&&◌, ◌||◌, List, [], ◌∷◌, length, refl, sym, ap, ◌∙◌, subst, inl, inr, arith, map, get_or, set, IsSome}
-use Rattle.std.specs.Vec.{vec_capacity}
 use Rattle.std.proofs.lemmas.Bool.{cases_eq, eq-eqb, ne_eqb}
 use Rattle.std.proofs.lemmas.List.{length-set, get_or-set_same, get_or-set_other}
 use Rattle.warp_tag.specs.Moment.{Moment, is_before, is_same}
@@ -16,7 +15,7 @@ use Rattle.warp_arena.specs.Places.{Place, entry_of, with_change}
 use Rattle.warp_arena.specs.Shape.{IsArena, IsWhole, threads_of, contents_of, unused_of, node_at, entry_at, by_tag, of_origin, place_at, members, no_node, no_origin, IsOneOf, next_in, prev_in, free_ends, IsChain, IsPath}
 use Rattle.warp_arena.proofs.Rings.{length-walk}
 use Rattle.warp_arena.proofs.Tables.{Precedes, All-map, All-unmap}
-use Rattle.warp_arena.proofs.Walks.{threads, used, node_read}
+use Rattle.warp_arena.proofs.Walks.{room_of, threads, used, node_read}
 use Rattle.warp_arena.proofs.Reading.{places, used_found_below}
 use Rattle.warp_arena.proofs.Wholes.{IsWhole-from, used_is}
 use Rattle.warp_arena.proofs.Inserted.{same_contents}
@@ -142,8 +141,8 @@ module _ (a : Inside) (w : IsWhole (threads a) a.used) (i : ℕ) (found : IsSome
         IsWhole-from (threads_of (set a.nodes.items i changed_node) a.by_origin.items a.ends a.free) (used a) (unused_of (threads a) ((threads a).size - a.used)) a.used shape' used_len
         (omega (arith, w.fits, length-set a.nodes.items i changed_node, length-walk (next_in (free_ends a.free) (threads a).links) ((threads a).size - a.used) NO_NODE))
 
-    pub contents_changed : contents_of (threads_of (set a.nodes.items i (record { entry = change m.entry; by_tag = m.by_tag; of_origin = m.of_origin })) a.by_origin.items a.ends a.free) a.used (vec_capacity a.nodes)
-        ≡ record { origins = length a.by_origin.items; places = with_change change i (places a); free = length a.nodes.items - a.used; room = vec_capacity a.nodes }
+    pub contents_changed : contents_of (threads_of (set a.nodes.items i (record { entry = change m.entry; by_tag = m.by_tag; of_origin = m.of_origin })) a.by_origin.items a.ends a.free) a.used (room_of a)
+        ≡ record { origins = length a.by_origin.items; places = with_change change i (places a); free = length a.nodes.items - a.used; room = room_of a }
     unfolding changed_node
     contents_changed =
         let new : List Node = set a.nodes.items i changed_node in
@@ -159,8 +158,8 @@ module _ (a : Inside) (w : IsWhole (threads a) a.used) (i : ℕ) (found : IsSome
 -- the arena after a call that wrote this entry at the node of a handle
 pub record Changing (a : Inside) (i : ℕ) (change : Entry → Entry) (nodes : List Node) : Type 0 where
   pub whole : IsWhole (threads_of nodes a.by_origin.items a.ends a.free) a.used
-  pub contents : contents_of (threads_of nodes a.by_origin.items a.ends a.free) a.used (vec_capacity a.nodes)
-      ≡ record { origins = length a.by_origin.items; places = with_change change i (places a); free = length a.nodes.items - a.used; room = vec_capacity a.nodes }
+  pub contents : contents_of (threads_of nodes a.by_origin.items a.ends a.free) a.used (room_of a)
+      ≡ record { origins = length a.by_origin.items; places = with_change change i (places a); free = length a.nodes.items - a.used; room = room_of a }
   pub size : length a.nodes.items ≤ length nodes
   pub others : (j : ℕ) → j ≢ i → entry_at nodes j ≡ entry_at a.nodes.items j
 

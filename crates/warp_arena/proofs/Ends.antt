@@ -1,7 +1,6 @@
 -- A name that comes behind the last entry of all, and so behind the last one of its origin.
 use Rattle.std.proofs.Common.{◌≡◌, ◌≢◌, ℕ, ◌<◌, true, cond, not, eqb, List, [], ◌∷◌, length, map, refl, sym, ap, ◌∙◌, subst, inl, inr, Some, None, IsSome}
 use Rattle.std.specs.List.{AllByRecursion}
-use Rattle.std.specs.Vec.{vec_capacity}
 use Rattle.std.proofs.lemmas.Bool.{cases_eq}
 use Rattle.std.proofs.lemmas.List.{map-append}
 use Rattle.warp_tag.specs.Moment.{Moment}
@@ -16,7 +15,7 @@ use Rattle.warp_arena.specs.Places.{Contents, IsBehindAll, entry_of, node_of, pl
 use Rattle.warp_arena.specs.Shape.{IsWhole, contents_of, entry_at, last_or, last_not_after}
 use Rattle.warp_arena.proofs.Rings.{IsOff, by_last, last_holds, last_or-push}
 use Rattle.warp_arena.proofs.Tables.{Precedes, IsTable-before, All-unmap, places_of-members, last_of_places}
-use Rattle.warp_arena.proofs.Walks.{Stands, threads, used, owned, Listed-last, Listed-tags, Listed-origin, walk_start, walk_below, stops}
+use Rattle.warp_arena.proofs.Walks.{room_of, Stands, threads, used, owned, Listed-last, Listed-tags, Listed-origin, walk_start, walk_below, stops}
 use Rattle.warp_arena.proofs.Reading.{places, found, entry_found, used_found_no_end}
 use Rattle.warp_arena.proofs.Finding.{node_of-none, node_of-at}
 use Rattle.warp_arena.proofs.Beside.{last_is}
@@ -54,7 +53,7 @@ module _ (a : Inside) (w : IsWhole (threads a) a.used) (o : ℕ) (g : Moment) wh
         ]
 
     -- so the name is behind each entry
-    pub behind_all : (v : Contents) → contents_of (threads a) a.used (vec_capacity a.nodes) ≡ v → IsBehindAll o g v.places
+    pub behind_all : (v : Contents) → contents_of (threads a) a.used (room_of a) ≡ v → IsBehindAll o g v.places
     behind_all v is i e h =
         let P : ℕ → Type 0 = IsPassed o g a.nodes.items in
         let here : entry_of i (places a) ≡ Some e = ap (λ u. entry_of i u.places) is ∙ h in
@@ -71,7 +70,7 @@ module _ (a : Inside) (w : IsWhole (threads a) a.used) (o : ℕ) (g : Moment) wh
         subst P (sym (e ∙ Listed-last (length a.nodes.items) ((threads a).own_ends o) (threads a).own_links (owned a o) (Listed-origin a w o declared)))
         (last_holds P NO_NODE (owned a o) (λ n. absurd (n refl)) (All-filter P (λ i. eqb (entry i).origin o) (used a) all_passed))
 
-  module _ (v : Contents) (is : contents_of (threads a) a.used (vec_capacity a.nodes) ≡ v) where
+  module _ (v : Contents) (is : contents_of (threads a) a.used (room_of a) ≡ v) where
     pub end_last : IsPassed o g a.nodes.items a.ends.prev → a.ends.prev ≡ last_not_after o g v.places
     end_last p =
         stops a.nodes.items (λ n. n.by_tag) a.ends (used a) (Listed-tags a w) (name_before o g) a.ends.prev at_end
@@ -83,7 +82,7 @@ module _ (a : Inside) (w : IsWhole (threads a) a.used) (o : ℕ) (g : Moment) wh
     at_own_end : Stands (λ i. name_before o g (entry_at a.nodes.items i)) (owned a o) at
     at_own_end = walk_start a.nodes.items (λ n. n.of_origin) ((threads a).own_ends o) (owned a o) (Listed-origin a w o declared) (name_before o g) at at_is
 
-    module _ (v : Contents) (is : contents_of (threads a) a.used (vec_capacity a.nodes) ≡ v) (p : IsPassed o g a.nodes.items at) where
+    module _ (v : Contents) (is : contents_of (threads a) a.used (room_of a) ≡ v) (p : IsPassed o g a.nodes.items at) where
       pub own_end_last : at ≡ last_not_after o g (places_of o v.places)
       own_end_last =
           stops a.nodes.items (λ n. n.of_origin) ((threads a).own_ends o) (owned a o) (Listed-origin a w o declared) (name_before o g) at at_own_end

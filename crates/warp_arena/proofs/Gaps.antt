@@ -1,6 +1,5 @@
 -- The places between which a name belongs.
 use Rattle.std.proofs.Common.{◌≡◌, ℕ, ◌<◌, not, List, length, refl, sym, ap, ◌∙◌, subst, map, filter}
-use Rattle.std.specs.Vec.{vec_capacity}
 use Rattle.warp_tag.specs.Moment.{Moment}
 use Rattle.warp_tag.specs.Table.{name_before, IsTable}
 use Rattle.warp_tag.specs.declared.entry.Entry.{Entry}
@@ -14,7 +13,7 @@ use Rattle.warp_arena.specs.Shape.{IsWhole, Spells, contents_of, place_at, last_
 use Rattle.warp_arena.proofs.Rings.{IsChain-split, last_holds}
 use Rattle.warp_arena.proofs.Tables.{IsTable-members, places_of-members, sorted_parts, last_of_places, first_of_places}
 use Rattle.warp_arena.proofs.Listing.{Listed}
-use Rattle.warp_arena.proofs.Walks.{threads, used, owned, Listed-tags, Listed-origin}
+use Rattle.warp_arena.proofs.Walks.{room_of, threads, used, owned, Listed-tags, Listed-origin}
 
 module _ (size : ℕ) (ends : Links) (links : ℕ → Links) (entry : ℕ → Entry) (is : List ℕ) (l : Listed size ends links is) (sorted : IsTable (map entry is)) (o : ℕ) (g : Moment)
     (before : ℕ) (last : before ≡ last_not_after o g (map (place_at entry) is))
@@ -41,7 +40,7 @@ module _ (size : ℕ) (ends : Links) (links : ℕ → Links) (entry : ℕ → En
         (subst (Spells ends links) (sorted_parts o g entry is sorted) l.chain)).0
         ∙ first_of_places o g entry is
 
-module _ (a : Inside) (w : IsWhole (threads a) a.used) (o : ℕ) (g : Moment) (v : Contents) (is : contents_of (threads a) a.used (vec_capacity a.nodes) ≡ v) where
+module _ (a : Inside) (w : IsWhole (threads a) a.used) (o : ℕ) (g : Moment) (v : Contents) (is : contents_of (threads a) a.used (room_of a) ≡ v) where
   module _ (before : ℕ) (last : before ≡ last_not_after o g v.places) where
     tag_last : before ≡ last_not_after o g (map (place_at (threads a).entry) (used a))
     tag_last = last ∙ ap (λ u. last_not_after o g u.places) (sym is)

@@ -13,7 +13,7 @@ use Rattle.warp_arena.specs.declared.node.Links.{Links}
 use Rattle.warp_arena.specs.declared.node.Origin.{Origin}
 use Rattle.warp_arena.specs.declared.node.Node.{Node}
 use Rattle.warp_arena.specs.declared.node.TheConstants.{NO_NODE}
-use Rattle.warp_arena.specs.Places.{Place}
+use Rattle.warp_arena.specs.Places.{Place, Room}
 use Rattle.warp_arena.specs.Shape.{Threads, IsArena, IsWhole, threads_of, contents_of, unused_of, count_of, node_at, entry_at, by_tag, of_origin, place_at, members, no_node, no_links, no_origin, IsOneOf, next_in, free_ends, walk, Spells}
 use Rattle.warp_arena.proofs.Rings.{length-walk}
 use Rattle.warp_arena.proofs.Tables.{map_agree}
@@ -157,7 +157,7 @@ module _ (a : Inside) (w : IsWhole (threads a) a.used) (full : a.used ≡ length
   pub whole_grown : IsWhole (threads_of (a.nodes.items ++ no_node ∷ []) a.by_origin.items a.ends (length a.nodes.items)) a.used
   whole_grown = IsWhole-from t' (used a) (length a.nodes.items ∷ []) a.used shape' used_len (omega (arith, new_len, full))
 
-  pub contents_grown : (room' : ℕ) → contents_of (threads_of (a.nodes.items ++ no_node ∷ []) a.by_origin.items a.ends (length a.nodes.items)) a.used room'
+  pub contents_grown : (room' : Room) → contents_of (threads_of (a.nodes.items ++ no_node ∷ []) a.by_origin.items a.ends (length a.nodes.items)) a.used room'
       ≡ record { origins = length a.by_origin.items; places = places a; free = 1; room = room' }
   contents_grown room' =
       same_contents refl

@@ -1,7 +1,6 @@
 -- The arena after `insert`.
 use Rattle.std.proofs.Common.{◌≡◌, ◌≢◌, ℕ, suc, ◌+◌, ◌-◌, ◌<◌, true, false, cond, List, [], ◌∷◌, ◌++◌, length, refl, sym, ap, ◌∙◌, subst, arith, map, get_or, set, None, Option, ℤ}
 use Rattle.std.specs.List.{AllByRecursion}
-use Rattle.std.specs.Vec.{vec_capacity}
 use Rattle.std.proofs.lemmas.List.{map-append, length-set, length-append}
 use Rattle.warp_tag.specs.Moment.{Moment}
 use Rattle.warp_tag.specs.Table.{name_before}
@@ -12,12 +11,12 @@ use Rattle.warp_arena.specs.declared.node.Links.{Links}
 use Rattle.warp_arena.specs.declared.node.Node.{Node}
 use Rattle.warp_arena.specs.declared.node.TheConstants.{NO_NODE}
 use Rattle.warp_arena.specs.Changes.{Threaded}
-use Rattle.warp_arena.specs.Places.{named, Place, Contents, entry_of, with_place}
+use Rattle.warp_arena.specs.Places.{named, Place, Contents, entry_of, with_place, Room}
 use Rattle.warp_arena.specs.Shape.{IsArena, IsWhole, threads_of, contents_of, used_of, entry_at, by_tag, place_at, last_or, no_origin}
 use Rattle.warp_arena.proofs.Rings.{IsOff, count_of-here}
 use Rattle.warp_arena.proofs.Tables.{All-map, map_agree}
 use Rattle.warp_arena.proofs.Shapes.{unused_off}
-use Rattle.warp_arena.proofs.Walks.{threads}
+use Rattle.warp_arena.proofs.Walks.{room_of, threads}
 use Rattle.warp_arena.proofs.Reading.{places, entry_of-other}
 use Rattle.warp_arena.proofs.Inserting.{IsArena-insert}
 use Rattle.warp_arena.proofs.Wholes.{Ready, IsWhole-from, used_is}
@@ -43,7 +42,7 @@ entry_of-off entry i [] off = refl
 entry_of-off entry i (j ∷ is) off = entry_of-other (place_at entry j) (map (place_at entry) is) i off.0 ∙ entry_of-off entry i is off.1
 
 -- two contents that agree in each part
-pub same_contents : {o o' : ℕ} {ps ps' : List Place} {f f' r r' : ℕ} → o ≡ o' → ps ≡ ps' → f ≡ f' → r ≡ r' → ◌≡◌ {A = Contents} (record { origins = o; places = ps; free = f; room = r }) (record { origins = o'; places = ps'; free = f'; room = r' })
+pub same_contents : {o o' : ℕ} {ps ps' : List Place} {f f' : ℕ} {r r' : Room} → o ≡ o' → ps ≡ ps' → f ≡ f' → r ≡ r' → ◌≡◌ {A = Contents} (record { origins = o; places = ps; free = f; room = r }) (record { origins = o'; places = ps'; free = f'; room = r' })
 same_contents o ps f r = λ i. record { origins = o i; places = ps i; free = f i; room = r i }
 
 module _ (a : Inside) (o : ℕ) (g : Moment) (before own_before : ℕ) (r : Ready a o g before own_before) (declared : o < length a.by_origin.items) where
@@ -74,8 +73,8 @@ module _ (a : Inside) (o : ℕ) (g : Moment) (before own_before : ℕ) (r : Read
           IsWhole-from (threads_of new (set a.by_origin.items o (record { ends = e'; touched = a.free })) ends' free') (r.xs ++ a.free ∷ r.ys) r.fs (a.used + 1) shape' len'
           (omega (arith, r.len, change.len))
 
-      pub contents_inserted : contents_of (threads_of new (set a.by_origin.items o (record { ends = e'; touched = a.free })) ends' free') (a.used + 1) (vec_capacity a.nodes)
-          ≡ record { origins = length a.by_origin.items; places = with_place (record { node = a.free; entry = named o g v }) (places a); free = length a.nodes.items - a.used - 1; room = vec_capacity a.nodes }
+      pub contents_inserted : contents_of (threads_of new (set a.by_origin.items o (record { ends = e'; touched = a.free })) ends' free') (a.used + 1) (room_of a)
+          ≡ record { origins = length a.by_origin.items; places = with_place (record { node = a.free; entry = named o g v }) (places a); free = length a.nodes.items - a.used - 1; room = room_of a }
       contents_inserted =
           let t' = threads_of new (set a.by_origin.items o (record { ends = e'; touched = a.free })) ends' free' in
           let place : ℕ → Place = place_at (threads a).entry in

@@ -1,7 +1,6 @@
 -- The arena after its first node is freed.
 use Rattle.std.proofs.Common.{◌≡◌, ◌≢◌, ℕ, zero, suc, ◌+◌, ◌-◌, ◌<◌, cond, eqb, List, [], ◌∷◌, length, refl, sym, ap, ◌∙◌, subst, arith, map, get_or, set, drop}
 use Rattle.std.specs.List.{AllByRecursion}
-use Rattle.std.specs.Vec.{vec_capacity}
 use Rattle.std.proofs.lemmas.List.{length-set, length-map}
 use Rattle.warp_tag.specs.declared.entry.Entry.{Entry}
 use Rattle.warp_tag.proofs.Lists.{All-weaker, All-filter}
@@ -16,7 +15,7 @@ use Rattle.warp_arena.specs.Shape.{IsArena, IsWhole, threads_of, contents_of, un
 use Rattle.warp_arena.proofs.Rings.{first_holds, IsChain-split, length-walk}
 use Rattle.warp_arena.proofs.Tables.{map_agree}
 use Rattle.warp_arena.proofs.Shapes.{all_used_below, none_used, members_here}
-use Rattle.warp_arena.proofs.Walks.{threads, used, Listed-used, node_read, origin_read}
+use Rattle.warp_arena.proofs.Walks.{room_of, threads, used, Listed-used, node_read, origin_read}
 use Rattle.warp_arena.proofs.Reading.{places}
 use Rattle.warp_arena.proofs.Removing.{IsArena-remove}
 use Rattle.warp_arena.proofs.Wholes.{IsWhole-from, used_is}
@@ -51,7 +50,7 @@ leaving a w h =
 pub length-places : (a : Inside) → length (places a) ≡ a.used
 length-places a = length-map (used a) (place_at (threads a).entry) ∙ length-walk (next_in a.ends (threads a).links) a.used NO_NODE
 
-pub leaving_of : (a : Inside) (v : Contents) → contents_of (threads a) a.used (vec_capacity a.nodes) ≡ v → IsWhole (threads a) a.used → 0 < length v.places → Leaving a
+pub leaving_of : (a : Inside) (v : Contents) → contents_of (threads a) a.used (room_of a) ≡ v → IsWhole (threads a) a.used → 0 < length v.places → Leaving a
 leaving_of a v is w h = leaving a w (omega (arith, length-places a, ap (λ u. length u.places) is))
 
 -- what taking the node out asks for
@@ -132,8 +131,8 @@ module _ (a : Inside) (l : Leaving a) (new : List Node) (own : Origin) (ends' e'
         IsWhole-from (threads_of new (set a.by_origin.items o (record { ends = e'; touched = k })) ends' a.ends.next) l.rest (a.ends.next ∷ l.fs) (a.used - 1) shape'
         (omega (arith, l.len)) (omega (arith, l.len, l.free_len, change.len))
 
-    pub contents_removed : contents_of (threads_of new (set a.by_origin.items o (record { ends = e'; touched = k })) ends' a.ends.next) (a.used - 1) (vec_capacity a.nodes)
-        ≡ record { origins = length a.by_origin.items; places = drop 1 (places a); free = length a.nodes.items - a.used + 1; room = vec_capacity a.nodes }
+    pub contents_removed : contents_of (threads_of new (set a.by_origin.items o (record { ends = e'; touched = k })) ends' a.ends.next) (a.used - 1) (room_of a)
+        ≡ record { origins = length a.by_origin.items; places = drop 1 (places a); free = length a.nodes.items - a.used + 1; room = room_of a }
     contents_removed =
         let t' = threads_of new (set a.by_origin.items o (record { ends = e'; touched = k })) ends' a.ends.next in
         let place : ℕ → Place = place_at (threads a).entry in

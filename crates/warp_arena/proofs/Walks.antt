@@ -4,6 +4,8 @@ use Rattle.std.specs.List.{AllByRecursion}
 use Rattle.std.proofs.lemmas.Bool.{eq-eqb, ne_eqb}
 use Rattle.std.proofs.lemmas.List.{append-nil, get_or_read, length-append}
 use Rattle.warp_tag.proofs.Lists.{All-weaker, All-left, All-right, All-filter}
+use Rattle.std.specs.Vec.{vec_capacity}
+use Rattle.warp_arena.specs.Places.{Room}
 use Rattle.warp_tag.specs.declared.entry.Entry.{Entry}
 use Rattle.warp_arena.specs.declared.arena.Arena.TheInside.{Inside}
 use Rattle.warp_arena.specs.declared.node.Links.{Links}
@@ -158,6 +160,10 @@ module _ (nodes : List Node) (links : Node → Links) (ends : Links) (is : List 
 -- what the fields say
 abbrev pub threads : Inside → Threads
 threads a = threads_of a.nodes.items a.by_origin.items a.ends a.free
+
+-- the room of its lists
+abbrev pub room_of : Inside → Room
+room_of a = record { nodes = vec_capacity a.nodes; hints = vec_capacity a.hints; own_hints = vec_capacity a.own_hints }
 
 -- the used nodes
 abbrev pub used : Inside → List ℕ

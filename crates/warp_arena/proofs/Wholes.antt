@@ -9,7 +9,7 @@ use Rattle.warp_tag.specs.declared.entry.Entry.{Entry}
 use Rattle.warp_tag.proofs.Lists.{All-weaker, All-left, All-right, All-filter, All-kept, some_not_none, find_none}
 use Rattle.warp_arena.specs.declared.arena.Arena.TheInside.{Inside}
 use Rattle.warp_arena.specs.declared.node.TheConstants.{NO_NODE}
-use Rattle.warp_arena.specs.Places.{Place, places_of, node_of, entries_of, IsOrdered}
+use Rattle.warp_arena.specs.Places.{Place, places_of, node_of, entries_of, IsOrdered, Room}
 use Rattle.warp_arena.specs.Shape.{Threads, IsArena, IsWhole, last_not_after, contents_of, used_of, unused_of, members, place_at, IsChain, last_or, first_or, next_in, prev_in, free_ends, walk, no_origin}
 use Rattle.warp_arena.specs.Changes.{IsPlace, CanThread}
 use Rattle.warp_arena.proofs.Rings.{IsOff, IsApart, first_holds, last_holds, IsChain-split, walk_path, length-walk, IsPath-chain, count_of-here}
@@ -164,7 +164,7 @@ IsDistinct-apart [] a = tt
 IsDistinct-apart (i ∷ is) a =
     (All-weaker (λ j. j ≢ i) (λ j. eqb i j ≡ false) (λ j n. ne_eqb i j (λ e. n (sym e))) is a.0, IsDistinct-apart is a.1)
 
-pub ordered : (a : Inside) → IsWhole (threads a) a.used → (room : ℕ) → IsOrdered (contents_of (threads a) a.used room)
+pub ordered : (a : Inside) → IsWhole (threads a) a.used → (room : Room) → IsOrdered (contents_of (threads a) a.used room)
 ordered a w room =
     record {
       table = subst IsTable (sym (entries_of-places (threads a).entry (used a))) w.shape.sorted;

@@ -1,5 +1,5 @@
 -- What an arena holds, as contracts see it: the entries in order, each with the handle that names it.
-use Rattle.std.specs.Prelude.{◌≡◌, ℕ, ℤ, false, ◌+◌, ◌<◌, max, length, nat_eq, unwrap_or, ◌==◌, not, Option, Some, None, List, [], ◌∷◌, if◌then◌else◌, find, filter, map, drop, IsSome, IfSome, IsTrue}
+use Rattle.std.specs.Prelude.{◌≡◌, ℕ, ℤ, false, ◌+◌, ◌<◌, ◌≤◌, max, length, nat_eq, unwrap_or, ◌==◌, not, Option, Some, None, List, [], ◌∷◌, if◌then◌else◌, find, filter, map, drop, IsSome, IfSome, IsTrue}
 use Rattle.std.specs.Option.{option_map}
 use Rattle.std.specs.List.{AllByRecursion, IsDistinct}
 use Rattle.warp_tag.specs.Moment.{Moment, is_before}
@@ -11,25 +11,41 @@ pub record Place : Type 0 where
   pub node : ℕ
   pub entry : Entry
 
+-- for how many elements memory was taken: for nodes in all, for hints, and for hints of one origin
+pub record Room : Type 0 where
+  pub nodes : ℕ
+  pub hints : ℕ
+  pub own_hints : ℕ
+
+-- the room of an arena that has taken no memory for a node
+abbrev pub no_room : Room
+no_room = record { nodes = 0; hints = 0; own_hints = 0 }
+
 -- what an arena holds: how many origins it has, its places in order of tag, then of origin, how many nodes are
--- free, and for how many nodes in all it has taken memory
+-- free, and its room
 pub record Contents : Type 0 where
   pub origins : ℕ
   pub places : List Place
   pub free : ℕ
-  pub room : ℕ
+  pub room : Room
 
 -- the room where one more of so many nodes is to have a place: where none is left twice as much, four more at least
 abbrev pub room_after : ℕ → ℕ → ℕ
 room_after nodes room = if nodes == room then room + max 4 room else room
 
--- with a node free: where none was, one more is
-abbrev pub with_free : Contents → Contents
-with_free a =
+-- with a node free, and this room for hints: where none was, one more is
+abbrev pub with_free : Room → Contents → Contents
+with_free room a =
     record a {
       free = max 1 a.free;
-      room = if a.free == 0 then room_after (length a.places) a.room else a.room;
+      room = record room { nodes = if a.free == 0 then room_after (length a.places) a.room.nodes else a.room.nodes };
     }
+
+-- the room for hints does not shrink, and stays where there is room for a node more
+pub record GrowsForHints (old new : Contents) : Type 0 where
+  pub hints : old.room.hints ≤ new.room.hints
+  pub own_hints : old.room.own_hints ≤ new.room.own_hints
+  pub kept : length old.places < old.room.nodes → new.room ≡ record old.room { nodes = new.room.nodes }
 
 -- the entry of a name of which this event is known, if there is one, and nothing else
 abbrev pub named : ℕ → Moment → Option (ℕ × ℤ) → Entry

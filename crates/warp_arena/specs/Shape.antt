@@ -10,7 +10,7 @@ use Rattle.warp_arena.specs.declared.node.Links.{Links}
 use Rattle.warp_arena.specs.declared.node.Node.{Node}
 use Rattle.warp_arena.specs.declared.node.Origin.{Origin}
 use Rattle.warp_arena.specs.declared.node.TheConstants.{NO_NODE}
-use Rattle.warp_arena.specs.Places.{Place, Contents, entry_of, places_of}
+use Rattle.warp_arena.specs.Places.{Place, Contents, Room, entry_of, places_of}
 
 -- the links of a list without a node
 abbrev pub no_links : Links
@@ -150,7 +150,7 @@ abbrev pub place_at : (ℕ → Entry) → ℕ → Place
 place_at entry i = record { node = i; entry = entry i }
 
 -- what an arena with these nodes, so many used ones and this room holds
-abbrev pub contents_of : Threads → ℕ → ℕ → Contents
+abbrev pub contents_of : Threads → ℕ → Room → Contents
 contents_of t count room =
     record {
       origins = t.origins;

@@ -14,7 +14,7 @@ use warp_tag::{Entry, OutOfMemory, Tag};
 
 /// Entries of names, in order of tag, then of origin, each at a handle. Contracts see it as its `Contents`: the
 /// number of its origins, its places (a handle and its entry) in order, the number of its free nodes, and its room: for
-/// how many nodes in all memory was taken.
+/// how many nodes in all, and for how many hints of either kind, memory was taken.
 ///
 /// `reserve_one` alone changes the room.
 ///
@@ -53,7 +53,11 @@ impl Model for Arena {
     ghost use Rattle.warp_arena.specs.Shape.{threads_of, contents_of, IsHinted};
 
     ghost view = { λ a.
-        contents_of (threads_of a.nodes.items a.by_origin.items a.ends a.free) a.used (vec_capacity a.nodes) };
+        contents_of (threads_of a.nodes.items a.by_origin.items a.ends a.free) a.used (record {
+          nodes = vec_capacity a.nodes;
+          hints = vec_capacity a.hints;
+          own_hints = vec_capacity a.own_hints;
+        }) };
 
     ghost invariant = { λ a.
         IsHinted (threads_of a.nodes.items a.by_origin.items a.ends a.free) a.used a.hints.items a.own_hints.items };
@@ -70,13 +74,13 @@ impl Arena {
     ghost use Rattle.warp_tag.specs.declared.entry.Entry.{Entry};
     ghost use Rattle.warp_arena.specs.Places.{places_of, named, node_of, entry_of, first_node, last_node, Reaches};
     ghost use Rattle.warp_arena.specs.Places.{places_from, places_after, places_before, with_place, with_change};
-    ghost use Rattle.warp_arena.specs.Places.{with_free, places_past, places_through, IsBehindAll, IsOrdered};
-    ghost use Rattle.warp_arena.specs.Places.{origin_of};
+    ghost use Rattle.warp_arena.specs.Places.{GrowsForHints, no_room, with_free, places_past, places_through};
+    ghost use Rattle.warp_arena.specs.Places.{origin_of, IsBehindAll, IsOrdered};
     ghost use Rattle.warp_arena.specs.Shape.{IsGap, last_not_after, IsAfter, IsBehind};
 
     /// An arena without entries, for origins below this number. The only error is want of memory.
     pub fn start(alloc: Global, origins: u32) -> Result<Arena, OutOfMemory>
-        ensures { IfOk result (λ a. a ≡ record { origins = origins; places = []; free = 0; room = 0 }) }
+        ensures { IfOk result (λ a. a ≡ record { origins = origins; places = []; free = 0; room = no_room }) }
     {
         let mut by_origin = Vec::with_capacity(alloc, origins as usize)?;
         for _ in 0..origins {
@@ -94,15 +98,19 @@ impl Arena {
     }
 
     /// Makes sure that a node is free, so that one `insert` can follow. Where one is, nothing changes. Else it makes
-    /// one, and takes memory only where no room is left: for twice as many nodes as before, and four more at least.
-    /// The only error is want of memory, where no node is free and no room is left; then all is as before.
+    /// one, and takes memory only where no room is left: for twice as many nodes as before, and four more at least, and
+    /// for more hints. The only error is want of memory, where no node is free and no room is left; then all is as
+    /// before, but that there may be more room for hints.
     #[inline(always)]
     pub fn reserve_one(&mut self, _alloc: Global) -> Result<(), OutOfMemory>
         requires { length self.old.places < most_names }
-        ensures ok { OnOk result (self.new ≡ with_free self.old) }
-        ensures err { OnErr result (self.new ≡ self.old) }
+        ensures ok { OnOk result (self.new ≡ with_free self.new.room self.old) }
+        ensures err { OnErr result (self.new ≡ record self.old {
+          room = record self.new.room { nodes = self.old.room.nodes };
+        }) }
+        ensures hints { GrowsForHints self.old self.new }
         ensures spare { 0 < self.old.free → IsOk result }
-        ensures room { length self.old.places < self.old.room → IsOk result }
+        ensures room { length self.old.places < self.old.room.nodes → IsOk result }
     {
         if self.free == NO_NODE {
             reserve_hints(&mut self.hints, &mut self.own_hints, &self.nodes)?;
@@ -407,7 +415,7 @@ impl Arena {
     /// of its own, and there is room for all nodes.
     pub fn ordered(&self)
         ensures order { IsOrdered self.now }
-        ensures room { length self.now.places + self.now.free ≤ self.now.room }
+        ensures room { length self.now.places + self.now.free ≤ self.now.room.nodes }
     {
         let _ = &self.used;
     }

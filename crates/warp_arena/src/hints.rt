@@ -23,6 +23,10 @@ pub(crate) fn reserve_hints(
     ensures own_room { OnOk result (vec_capacity nodes.now ≤ length nodes.now.items →
         vec_len own_hints.new + (length nodes.now.items / 16 + 4) ≤ vec_capacity own_hints.new) }
     ensures spare { length nodes.now.items < vec_capacity nodes.now → IsOk result }
+    ensures grown { vec_capacity hints.old ≤ vec_capacity hints.new }
+    ensures own_grown { vec_capacity own_hints.old ≤ vec_capacity own_hints.new }
+    ensures kept { length nodes.now.items < vec_capacity nodes.now →
+        (vec_capacity hints.new ≡ vec_capacity hints.old) × (vec_capacity own_hints.new ≡ vec_capacity own_hints.old) }
 {
     if nodes.len() < nodes.capacity() {
         return Ok(());
@@ -184,8 +188,9 @@ pub(crate) fn near_hint(
 
 /// Takes the node, the first of all, out of the hints, which stand in order.
 pub(crate) fn forget_hint(hints: &mut Vec<u32>, at: u32)
-    ensures { (bound : ℕ) → AllByRecursion (λ h. h < bound) hints.old.items
+    ensures below { (bound : ℕ) → AllByRecursion (λ h. h < bound) hints.old.items
         → AllByRecursion (λ h. h < bound) hints.new.items }
+    ensures room { vec_capacity hints.new ≡ vec_capacity hints.old }
 {
     if hints.first() == Some(&at) {
         hints.retain(move |hint| *hint != at);
@@ -195,8 +200,9 @@ pub(crate) fn forget_hint(hints: &mut Vec<u32>, at: u32)
 /// Takes the node out of the hints of its origin, which stand in order of origin, then of tag.
 pub(crate) fn forget_own_hint(hints: &mut Vec<u32>, nodes: &[Node], at: u32)
     requires { All (λ h. h < length nodes.now) hints.old.items }
-    ensures { (bound : ℕ) → AllByRecursion (λ h. h < bound) hints.old.items
+    ensures below { (bound : ℕ) → AllByRecursion (λ h. h < bound) hints.old.items
         → AllByRecursion (λ h. h < bound) hints.new.items }
+    ensures room { vec_capacity hints.new ≡ vec_capacity hints.old }
 {
     if !hints.is_empty() && is_own_hint(hints, nodes, at) {
         hints.retain(move |hint| *hint != at);

@@ -14,7 +14,7 @@ use Rattle.warp_step.specs.Valid.{is_distinct}
 use Rattle.warp_step.specs.Snapshot.{Snapshot, IsStateOf}
 use Rattle.warp_step.specs.Step.{CanStep}
 use Rattle.warp_step.specs.Run.{given_of}
-use Rattle.warp_step.specs.declared.given.Given.{Given}
+use Rattle.warp_step.specs.declared.given_input.Given.{Given}
 use Rattle.warp_step.specs.Events.{event_fits, is_in_time}
 use Rattle.warp_line.specs.inner.Replay.{HasOtherHead, Passes, is_waiting, none_before}
 use Rattle.warp_line.proofs.NextLemmas.{pending_in_time}

@@ -1,18 +1,12 @@
 //! The rows that a program makes by itself: those of startup and of its timers, where nothing else comes.
-ghost use Rattle.std.specs.Prelude.{◌≡◌, ◌+◌, ◌≤◌, map};
+ghost use Rattle.std.specs.Prelude.{◌≡◌, ◌+◌, ◌≤◌};
 ghost use Rattle.std.specs.List.{list_any};
-ghost use Rattle.warp_step.specs.Program.{rule_of};
-ghost use Rattle.warp_step.specs.Snapshot.{begins};
-ghost use Rattle.warp_step.specs.Valid.{names};
-ghost use Rattle.warp_body.specs.declared.place.Target.TheVariants as to;
 ghost use Rattle.warp_prog.specs.OwnRows.{is_due, is_own, own_before, own_rows};
 
-use crate::numbered::reaction::names;
-use warp_body::Target;
-use warp_step::{Program, Reaction, Timer};
+use warp_step::{Program, Timer};
 
-/// How many rows a program makes by itself up to its stop: one for each time at which startup or one of its timers is due,
-/// 0 to 10,000,001.
+/// How many rows a program makes by itself up to its stop: one for each time at which startup or one of its timers is
+/// due, 0 to 10,000,001.
 pub fn own_rows(program: &Program) -> u64
     ensures { result ≡ own_rows program.now }
 {
@@ -44,19 +38,7 @@ fn own_before(program: &Program, end: u64) -> u64
 fn is_own(program: &Program, time: u64) -> bool
     ensures { result ≡ is_own program.now time }
 {
-    (time == 0 && begins(program.reactions())) || any_is_due(program.timers(), time)
-}
-
-/// Whether one of these reactions is triggered by startup.
-fn begins(reactions: &[Reaction]) -> bool
-    ensures { result ≡ list_any (λ r. names r.triggers to.Startup) (map rule_of reactions.now) }
-{
-    for reaction in reactions {
-        if names(&reaction.triggers, Target::Startup) {
-            return true;
-        }
-    }
-    false
+    (time == 0 && program.begins()) || any_is_due(program.timers(), time)
 }
 
 /// Whether one of these timers is due at a time.

@@ -11,7 +11,7 @@ ghost use Rattle.std.specs.Str.Parse.{AllDigits, digits_value};
 ghost use Rattle.warp_record.specs.Number.{is_space};
 ghost use Rattle.warp_record.specs.inner.Behind.{words_behind};
 
-use crate::eight::{EIGHT, count_digits, value_of_first};
+use crate::digits_at_once::{EIGHT, count_digits, value_of_first};
 use crate::number::{FEW_DIGITS, digit, is_padded, read_int};
 
 /// Whether these four bytes stand at the place: one comparison of numbers.

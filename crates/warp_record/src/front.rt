@@ -17,7 +17,7 @@ ghost use Rattle.warp_record.specs.inner.Front.{kind_word};
 
 use crate::count::Count;
 use crate::cut::{are_four, digits_up_to};
-use crate::eight::{EIGHT, count_digits, value_of_first};
+use crate::digits_at_once::{EIGHT, count_digits, value_of_first};
 use crate::line::{Line, Query};
 use crate::number::{FEW_DIGITS, digit, is_padded, with_sign};
 use crate::record::Record;
@@ -218,7 +218,7 @@ fn count_fields(bytes: &[u8], place: usize) -> Option<(Count, Count, usize)>
 
 /// What a record is, as its first word tells.
 #[derive(Clone, Copy)]
-enum Kind {
+enum RecordKind {
     /// `event`.
     Event,
     /// `withdraw`.
@@ -229,16 +229,16 @@ enum Kind {
 
 /// The kind of the record whose first word is in front, and the place behind the word.
 #[inline(always)]
-fn first_word(bytes: &[u8]) -> Option<(Kind, usize)>
+fn first_word(bytes: &[u8]) -> Option<(RecordKind, usize)>
     requires { 8 ≤ length bytes.now }
     ensures { IfSome result (λ first. (first.1 ≤ 8) × (bytes.now ≡ kind_word first.0 ++ drop first.1 bytes.now)) }
 {
     if is_event(bytes) {
-        Some((Kind::Event, 5))
+        Some((RecordKind::Event, 5))
     } else if is_withdrawal(bytes) {
-        Some((Kind::Withdraw, 8))
+        Some((RecordKind::Withdraw, 8))
     } else if is_announcement(bytes) {
-        Some((Kind::Announce, 8))
+        Some((RecordKind::Announce, 8))
     } else {
         None
     }
@@ -254,7 +254,7 @@ fn front_record(form: Form, bytes: &[u8]) -> Option<(Record, usize)>
     let (kind, place) = first_word(bytes)?;
     let (origin, tag, place) = name_field(form, bytes, place)?;
     match kind {
-        Kind::Event => {
+        RecordKind::Event => {
             let (input, value, behind) = event_fields(bytes, place)?;
             Some((
                 Record::Event {
@@ -266,13 +266,13 @@ fn front_record(form: Form, bytes: &[u8]) -> Option<(Record, usize)>
                 behind,
             ))
         }
-        Kind::Withdraw => {
+        RecordKind::Withdraw => {
             if bytes[place] != b'\n' {
                 return None;
             }
             Some((Record::Withdraw { origin, tag }, place + 1))
         }
-        Kind::Announce => {
+        RecordKind::Announce => {
             let (events, withdrawn, behind) = count_fields(bytes, place)?;
             Some((
                 Record::Announce {

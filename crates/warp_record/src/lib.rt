@@ -6,7 +6,7 @@
 
 mod count;
 mod cut;
-mod eight;
+mod digits_at_once;
 mod feed;
 mod front;
 mod law;

@@ -38,7 +38,7 @@ const NONE: &[u8] = b"none";
 const COLLECTED: &[u8] = b"collected";
 
 /// The last program output that a reply can name.
-const LAST_PORT: u32 = 63;
+const LAST_OUTPUT: u32 = 63;
 
 /// The most rows of a board.
 const MAX_ROWS: u32 = 4096;
@@ -234,7 +234,7 @@ fn read_output(form: Form, words: &[&[u8]]) -> Option<Out>
         return None;
     };
     let tag = read_tag(form, time, micro)?;
-    let port = read_u32(port, LAST_PORT)?;
+    let port = read_u32(port, LAST_OUTPUT)?;
     let value = read_int(value)?;
     Some(Out { tag, port, value })
 }

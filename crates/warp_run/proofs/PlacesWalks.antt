@@ -10,7 +10,7 @@ use Rattle.warp_tag.specs.declared.entry.Entry.{Entry}
 use Rattle.warp_tag.proofs.Lists.{All-weaker}
 use Rattle.warp_tag.proofs.Names.{before_tag}
 use Rattle.warp_step.specs.Run.{is_after}
-use Rattle.warp_step.specs.declared.given.Given.{Given}
+use Rattle.warp_step.specs.declared.given_input.Given.{Given}
 use Rattle.warp_arena.specs.Places.{Place, Reaches, entries_of, left_at, places_from, places_after}
 use Rattle.warp_arena.proofs.Tables.{Precedes, All-unmap, filter_front, filter_back}
 use Rattle.warp_line.proofs.ReplayLemmas.{live_name}

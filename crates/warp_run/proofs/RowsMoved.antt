@@ -12,7 +12,7 @@ use Rattle.warp_step.specs.Program.{Program}
 use Rattle.warp_step.specs.Snapshot.{Snapshot, start_state}
 use Rattle.warp_step.specs.Step.{Step}
 use Rattle.warp_step.specs.Run.{Row, IsNext, waits, is_after, given_of, given_at, events_until}
-use Rattle.warp_step.specs.declared.given.Given.{Given}
+use Rattle.warp_step.specs.declared.given_input.Given.{Given}
 use Rattle.warp_tag.specs.declared.out.Out.{Out}
 use Rattle.warp_step.proofs.TagsOfRun.{after_trans, waits_after}
 use Rattle.warp_line.specs.Begin.{BeginFrom, last_after}

@@ -11,7 +11,7 @@ use Rattle.warp_step.specs.Program.{Program}
 use Rattle.warp_step.specs.Snapshot.{Snapshot, start_state}
 use Rattle.warp_step.specs.Step.{CanStep, Step}
 use Rattle.warp_step.specs.Run.{Row, IsNext, given_of, given_at, state_at_end}
-use Rattle.warp_step.specs.declared.given.Given.{Given}
+use Rattle.warp_step.specs.declared.given_input.Given.{Given}
 use Rattle.warp_tag.specs.declared.out.Out.{Out}
 use Rattle.warp_step.proofs.TagsOfRun.{none_before}
 use Rattle.warp_line.specs.Begin.{BeginFrom, last_after}

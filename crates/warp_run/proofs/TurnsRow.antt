@@ -6,7 +6,7 @@ use Rattle.warp_tag.specs.Table.{Event, live}
 use Rattle.warp_step.specs.Program.{Program}
 use Rattle.warp_step.specs.Run.{Row, IsNext, given_at}
 use Rattle.warp_step.specs.Snapshot.{Snapshot}
-use Rattle.warp_step.specs.declared.given.Given.{Given}
+use Rattle.warp_step.specs.declared.given_input.Given.{Given}
 use Rattle.warp_arena.specs.Places.{IsOrdered, Reaches, places_after}
 use Rattle.warp_line.specs.Timeline.{Standing}
 use Rattle.warp_run.specs.Tip.{CanGive, HasExecuted, IsSame}

@@ -16,7 +16,7 @@ use Rattle.warp_step.specs.Snapshot.{Snapshot, start_state}
 use Rattle.warp_step.specs.Step.{CanStep}
 use Rattle.warp_tag.proofs.Tags.{same_is}
 use Rattle.warp_step.specs.Run.{Row, IsNext, given_at, given_of, is_after, state_at_end, waits}
-use Rattle.warp_step.specs.declared.given.Given.{Given}
+use Rattle.warp_step.specs.declared.given_input.Given.{Given}
 use Rattle.warp_step.proofs.TagsOfRun.{none_before, waits_after}
 use Rattle.warp_line.specs.Timeline.{Standing, IsDone}
 use Rattle.warp_line.specs.Begin.{last_after}

@@ -10,7 +10,7 @@ use Rattle.warp_step.specs.Snapshot.{start_state}
 use Rattle.warp_step.specs.Step.{AreInputs}
 use Rattle.warp_step.specs.Scratch.{IsRoomOf}
 use Rattle.warp_step.specs.Run.{Row, Run, is_after, state_at_end, outputs_of}
-use Rattle.warp_step.specs.declared.given.Given.{Given}
+use Rattle.warp_step.specs.declared.given_input.Given.{Given}
 use Rattle.warp_line.specs.Timeline.{rows_before}
 use Rattle.warp_line.specs.Begin.{Begin, last_after}
 use Rattle.warp_run.specs.Aside.{AreAside, IsFrom, IsSameAside}

@@ -5,7 +5,7 @@ use Rattle.warp_tag.specs.Moment.{Moment, is_before}
 use Rattle.warp_tag.specs.Table.{Event, live, live_event}
 use Rattle.warp_tag.specs.declared.entry.Entry.{Entry}
 use Rattle.warp_step.specs.Run.{is_after, given_of}
-use Rattle.warp_step.specs.declared.given.Given.{Given}
+use Rattle.warp_step.specs.declared.given_input.Given.{Given}
 use Rattle.warp_arena.specs.Places.{Place, entries_of, entry_of, places_from, places_after}
 use Rattle.warp_run.specs.declared.walk.Live.{Live}
 use Rattle.warp_run.specs.declared.walk.Next.{Next}

@@ -69,11 +69,11 @@ pub record ChangedFrom (was : Entry) (change : Entry → Entry) (old new : Warp)
 abbrev pub latest_with : Moment → Option Moment → Option Moment
 latest_with tag latest = if is_after latest tag then Some tag else latest
 
--- the room of some lists: the arena's nodes, those of what is executed and of what is aside, and what is given to a
--- step; not that of the arena's origins and hints, of a state's variables, or of the scratch
+-- the room of some lists: the arena's nodes and hints, those of what is executed and of what is aside, and what is given
+-- to a step; not that of the arena's origins, of a state's variables, or of the scratch
 abbrev pub room_in : Warp → List ℕ
 room_in w =
-    w.arena.room
+    w.arena.room.nodes ∷ w.arena.room.hints ∷ w.arena.room.own_hints
     ∷ w.tip.history.room.marks ∷ w.tip.history.room.values ∷ w.tip.history.room.entries
     ∷ vec_capacity w.tip.outputs
     ∷ w.tip.aside.history.room.marks ∷ w.tip.aside.history.room.values ∷ w.tip.aside.history.room.entries

@@ -27,7 +27,7 @@ pub mod Sameness
 pub mod SkipLemmas
 pub mod SourceLemmas
 pub mod StepLemmas
-pub mod SureLemmas
+pub mod TriggeredTurnLemmas
 pub mod TagsOfBox
 pub mod TagsOfRun
 pub mod TagsOfStep

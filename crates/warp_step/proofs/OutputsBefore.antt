@@ -15,7 +15,7 @@ use Rattle.warp_step.specs.Program.{Program}
 use Rattle.warp_step.specs.Snapshot.{Snapshot, start_state}
 use Rattle.warp_step.specs.Step.{Step, with_output, outputs_from, reacted}
 use Rattle.warp_step.specs.Run.{Row, Run, RunFrom, outputs_of, rows_until, outputs_until, given_at}
-use Rattle.warp_step.specs.declared.given.Given.{Given}
+use Rattle.warp_step.specs.declared.given_input.Given.{Given}
 use Rattle.warp_tag.specs.declared.out.Out.{Out}
 use Rattle.warp_step.proofs.PartedLists.{IsParted, filter_all, filter_none, all_behind, more_in_front, begins_kept, begins_wider, is_partitioned, point_is_kept, take_kept, take_point}
 use Rattle.warp_step.proofs.RowsBefore.{none_early}

@@ -20,7 +20,7 @@ use Rattle.warp_step.specs.Program.{Program, delay_of, raised, top_of}
 use Rattle.warp_step.specs.Run.{Row, Run, RunFrom, given_at, state_at_end}
 use Rattle.warp_step.specs.Snapshot.{Snapshot, entered_where, has_key, landed, start_state, with_entry, with_loss}
 use Rattle.warp_step.specs.Step.{Reacting, Step, absent, after_reactions, arrived, arrived_entries, delivered, no_wishes, outputs_after, outputs_from, port_of, present_first, react, reacted, repeats, state_after, with_all_wishes, with_links, with_repeats, with_wish, with_wishes, without_entries}
-use Rattle.warp_step.specs.declared.given.Given.{Given}
+use Rattle.warp_step.specs.declared.given_input.Given.{Given}
 use Rattle.warp_step.specs.declared.parts.Link.{Link}
 use Rattle.warp_step.specs.declared.parts.Timer.{Timer}
 use Rattle.warp_step.specs.declared.pending.Waiting.{Waiting}

@@ -10,7 +10,7 @@ use Rattle.warp_step.specs.Program.{Program}
 use Rattle.warp_step.specs.Valid.{program_places}
 use Rattle.warp_step.specs.Snapshot.{Snapshot, landed}
 use Rattle.warp_step.specs.Step.{absent, arrived, repeats, sources_of, with_repeats}
-use Rattle.warp_step.specs.declared.given.Given.{Given}
+use Rattle.warp_step.specs.declared.given_input.Given.{Given}
 use Rattle.warp_step.specs.declared.parts.Timer.{Timer}
 use Rattle.warp_step.specs.inner.Due.{AreDue}
 use Rattle.warp_step.proofs.DueLemmas.{none_at, none_due}

@@ -14,7 +14,7 @@ use Rattle.warp_step.specs.Run.{Row, Run, RunFrom, given_at}
 use Rattle.warp_step.specs.Snapshot.{Snapshot, landed, start_state}
 use Rattle.warp_step.specs.Step.{Reacting, Step, absent, after_reactions, arrived, arrived_entries, delivered, no_wishes, outputs_after, outputs_from, port_of, present_first, react, reacted, repeats, sources_of, state_after, with_all_wishes, with_links, with_repeats, with_wish, with_wishes, without_entries}
 use Rattle.warp_step.specs.Valid.{is_valid}
-use Rattle.warp_step.specs.declared.given.Given.{Given}
+use Rattle.warp_step.specs.declared.given_input.Given.{Given}
 use Rattle.warp_step.specs.declared.parts.Link.{Link}
 use Rattle.warp_step.specs.declared.parts.Timer.{Timer}
 use Rattle.warp_step.specs.declared.pending.Waiting.{Waiting}

@@ -14,7 +14,7 @@ use Rattle.warp_step.specs.Program.{Program}
 use Rattle.warp_step.specs.Valid.{is_valid, program_places, program_sizes}
 use Rattle.warp_step.specs.Snapshot.{Snapshot, IsStateOf, landed}
 use Rattle.warp_step.specs.Step.{CanStep, Reacting, absent, sources_of, present_first, without_entries, repeats, with_repeats, after_reactions, no_wishes, reacted, with_all_wishes, with_links, with_wishes, state_after}
-use Rattle.warp_step.specs.declared.given.Given.{Given}
+use Rattle.warp_step.specs.declared.given_input.Given.{Given}
 use Rattle.warp_step.specs.declared.parts.Timer.{Timer}
 use Rattle.warp_step.proofs.VariablesOfRun.{landed_vars, same_vars}
 use Rattle.warp_step.proofs.TagsOfStep.{later}

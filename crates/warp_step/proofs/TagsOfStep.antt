@@ -14,7 +14,7 @@ use Rattle.warp_step.specs.Program.{Program, delay_of, starts_of, top_of}
 use Rattle.warp_step.specs.Snapshot.{Snapshot, key_before, has_key, with_entry, entered, landed, first_tag, begins, with_timers, with_startup, start_state}
 use Rattle.warp_step.specs.Events.{is_in_time}
 use Rattle.warp_step.specs.Step.{present_first, without_entries, repeats, with_repeats, reacted, with_wish, with_wishes, with_all_wishes, delivered, with_links, state_after}
-use Rattle.warp_step.specs.declared.given.Given.{Given}
+use Rattle.warp_step.specs.declared.given_input.Given.{Given}
 use Rattle.warp_step.specs.declared.parts.Link.{Link}
 use Rattle.warp_step.specs.declared.parts.Timer.{Timer}
 use Rattle.warp_step.specs.declared.pending.Waiting.{Waiting}

@@ -1,11 +1,10 @@
 -- The first entries at a tag taken together: timers of one period that land behind all entries.
-use Rattle.std.proofs.Common.{◌≡◌, inl, inr, ℕ, ℤ, zero, suc, ◌+◌, ◌-◌, ◌<◌, ◌≤◌, Bool, true, false, not, ◌==◌, nat_lt, IsTrue, List, [], ◌∷◌, ◌++◌, length, map, take, drop, get_or, set, refl, sym, ap, ◌∙◌, subst, arith, append_assoc, append-nil}
-use Rattle.std.specs.Prelude.{pos, slice_range, if◌then◌else◌}
-use Rattle.std.specs.List.{list_all, list_any, insert, AllByRecursion}
+use Rattle.std.proofs.Common.{◌≡◌, inl, inr, ℕ, ℤ, zero, suc, ◌+◌, ◌<◌, ◌≤◌, Bool, true, false, not, ◌==◌, nat_lt, IsTrue, List, [], ◌∷◌, ◌++◌, length, map, take, drop, get_or, refl, sym, ap, ◌∙◌, subst, arith, append_assoc, append-nil}
+use Rattle.std.specs.Prelude.{pos, if◌then◌else◌}
+use Rattle.std.specs.List.{list_all, list_any, AllByRecursion}
 use Rattle.std.proofs.lemmas.Bool.{and_from, and_parts, cases_Bool, eqb-true, lt-ltb}
 use Rattle.std.proofs.lemmas.Bool.Decides.{nat_tests}
-use Rattle.std.proofs.lemmas.List.{drop_all, get_or_append_left, length-append, map-append, take-append-drop, take_all}
-use Rattle.std.proofs.lemmas.List.Edits.{get_or-between, length-between}
+use Rattle.std.proofs.lemmas.List.{get_or-drop, get_or_append_left, length-append, length-drop, map-append, take-append-drop}
 use Rattle.warp_tag.specs.Limits.{most_pending}
 use Rattle.warp_tag.specs.Moment.{Moment, is_before, is_same}
 use Rattle.warp_tag.specs.Landing.{landing}
@@ -21,7 +20,6 @@ use Rattle.warp_step.specs.inner.Again.{again, again_each, is_alike, later_entry
 use Rattle.warp_step.specs.inner.Taken.{SoFar, here, targets, with_front}
 use Rattle.warp_step.specs.declared.pending.Waiting.{Waiting}
 use Rattle.warp_step.proofs.AgainLemmas.{Rising, rising}
-use Rattle.warp_step.proofs.EntryMoves.{came_last}
 use Rattle.warp_step.proofs.PendingLemmas.{ahead, ahead_not_at, ahead_not_before, entry}
 use Rattle.warp_step.proofs.TagsOfStep.{kept_at}
 use Rattle.warp_step.proofs.TakenLemmas.{again_later, all_left, others, parted}
@@ -243,16 +241,13 @@ module _ (P : Program) (t u : Moment) (p : ℕ) where
       rw more (ap (λ (ys : List Waiting). x ∷ ys) (take_one_more xs n d (omega arith)))
 
   pub more_shifted : (all : List Waiting) (count : ℕ) (now next : List Waiting) (before after then_after : Presence) (w : Waiting) → Shifted all count now before after
-      → count < length all → w ≡ get_or all count w → is_alike P t p w ≡ true → next ≡ insert now (length now) (later_entry u w)
+      → count < length all → w ≡ get_or all count w → is_alike P t p w ≡ true → next ≡ now ++ later_entry u w ∷ []
       → then_after ≡ with_value w.target w.value after → Shifted all (count + 1) next before then_after
   more_shifted all count now next before after then_after w so lt is alike put arrives =
-      let n = length now in
-      let last : insert now n (later_entry u w) ≡ now ++ later_entry u w ∷ [] =
-      ap (λ (xs : List Waiting). xs ++ later_entry u w ∷ drop n now) (take_all n now (omega arith)) ∙ ap (λ (xs : List Waiting). now ++ later_entry u w ∷ xs) (drop_all n now (omega arith)) in
       let more : take (count + 1) all ≡ take count all ++ w ∷ [] = take_one_more all count w lt ∙ ap (λ (x : Waiting). take count all ++ x ∷ []) (sym is) in
       record {
         few = omega (arith, lt);
-        entries = put ∙ last ∙ ap (λ (xs : List Waiting). xs ++ later_entry u w ∷ []) so.entries
+        entries = put ∙ ap (λ (xs : List Waiting). xs ++ later_entry u w ∷ []) so.entries
             ∙ append_assoc all (map (later_entry u) (take count all)) (later_entry u w ∷ [])
             ∙ ap (λ (xs : List Waiting). all ++ xs) (sym (map-append (later_entry u) (take count all) (w ∷ [])) ∙ ap (map (later_entry u)) (sym more));
         alike = subst (λ (xs : List Waiting). IsTrue (list_all (is_alike P t p) xs)) (sym more) (all_and_last (is_alike P t p) (take count all) w so.alike alike);
@@ -260,23 +255,13 @@ module _ (P : Program) (t u : Moment) (p : ℕ) where
             ∙ ap (λ (x : Waiting). with_value x.target x.value (arrived_entries (take count all) before)) is ∙ sym (arrived_more all count w before lt);
       }
 
-  -- what is read at the place of the next one, and what stands there when it is put behind
-  pub read_next : (xs ys : List Waiting) (s e count : ℕ) (before after : Presence) (w : Waiting)
-      → Shifted (slice_range xs s e) count (slice_range ys s (e + count)) before after → e + (e - s) ≤ length xs → length ys ≡ length xs → s + count < e
-      → w ≡ get_or ys (s + count) w → (count < length (slice_range xs s e)) × (w ≡ get_or (slice_range xs s e) count w)
-  read_next xs ys s e count before after w so room len lt is =
-      let long : length (slice_range xs s e) ≡ e - s = length-between xs s e (omega (arith, room)) in
-      let within : count < length (slice_range xs s e) = omega (arith, long, lt) in
-      let there : get_or (slice_range ys s (e + count)) count w ≡ get_or ys (s + count) w = get_or-between ys s (e + count) count w (omega (arith, lt)) in
-      (within, next_is (slice_range xs s e) count (slice_range ys s (e + count)) before after w so within (is ∙ sym there))
-
-  pub put_next : (ys : List Waiting) (s e count : ℕ) (x : Waiting) → s ≤ e → e + count < length ys
-      → slice_range (set ys (e + count) x) s (e + (count + 1)) ≡ insert (slice_range ys s (e + count)) (length (slice_range ys s (e + count))) x
-  put_next ys s e count x order room =
-      let long : length (slice_range ys s (e + count)) ≡ e + count - s = length-between ys s (e + count) (omega (arith, room)) in
-      let next : e + (count + 1) ≡ e + count + 1 = omega arith in
-      ap (λ (k : ℕ). slice_range (set ys (e + count) x) s k) next ∙ came_last ys s (e + count) x (omega (arith, order)) room
-      ∙ ap (λ (k : ℕ). insert (slice_range ys s (e + count)) k x) (sym long)
+  -- what is read at the place of the next one
+  pub read_next : (xs ys : List Waiting) (s count : ℕ) (before after : Presence) (w : Waiting)
+      → Shifted (drop s xs) count (drop s ys) before after → s + count < length xs
+      → w ≡ get_or ys (s + count) w → (count < length (drop s xs)) × (w ≡ get_or (drop s xs) count w)
+  read_next xs ys s count before after w so lt is =
+      let within : count < length (drop s xs) = omega (arith, length-drop s xs, lt) in
+      (within, next_is (drop s xs) count (drop s ys) before after w so within (is ∙ sym (get_or-drop s ys count w)))
 
 pub drop_front_of : (n : ℕ) (xs ys : List Waiting) → n ≤ length xs → drop n (xs ++ ys) ≡ drop n xs ++ ys
 drop_front_of zero xs ys le = refl

@@ -21,7 +21,7 @@ use Rattle.warp_step.specs.Program.{Program, Rule, delay_of, starts_of, top_of}
 use Rattle.warp_step.specs.Snapshot.{Snapshot, entered, entered_where, landed, with_timers, with_startup, start_state, has_key, begins, first_tag}
 use Rattle.warp_step.specs.Step.{Reacting, is_triggered, react, after_reactions, present_first, no_wishes, reacted, without_entries, with_repeats, with_wish, with_wishes, with_all_wishes, delivered, with_links, state_after}
 use Rattle.warp_step.specs.Run.{Row, Run, RunFrom, state_at_end, given_at}
-use Rattle.warp_step.specs.declared.given.Given.{Given}
+use Rattle.warp_step.specs.declared.given_input.Given.{Given}
 use Rattle.warp_step.specs.declared.parts.Link.{Link}
 use Rattle.warp_step.specs.declared.parts.Timer.{Timer}
 

@@ -12,7 +12,7 @@ use Rattle.warp_step.specs.Valid.{is_distinct, program_places}
 use Rattle.warp_step.specs.Snapshot.{Snapshot, IsStateOf, landed}
 use Rattle.warp_step.specs.declared.parts.Link.{Link}
 use Rattle.warp_step.specs.declared.parts.Timer.{Timer}
-use Rattle.warp_step.specs.declared.given.Given.{Given}
+use Rattle.warp_step.specs.declared.given_input.Given.{Given}
 use Rattle.warp_tag.specs.declared.out.Out.{Out}
 use Rattle.warp_step.specs.declared.pending.Waiting.{Waiting}
 

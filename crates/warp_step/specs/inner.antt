@@ -6,6 +6,6 @@ pub mod Marks
 pub mod Plan
 pub mod Room
 pub mod Due
-pub mod Sure
+pub mod TriggeredTurn
 pub mod World
 pub mod Taken

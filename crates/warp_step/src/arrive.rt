@@ -19,10 +19,10 @@ ghost use Rattle.warp_tag.specs.Landing.{landing};
 ghost use Rattle.warp_tag.specs.declared.tag.Landing.TheVariants.{At};
 ghost use Rattle.warp_tag.specs.Limits.{most_pending};
 ghost use Rattle.warp_step.specs.declared.pending.Waiting.{Waiting};
-ghost use Rattle.warp_step.specs.inner.Sure.{IsSure};
+ghost use Rattle.warp_step.specs.inner.TriggeredTurn.{IsTriggeredTurn};
 
 use crate::entries::MOST_PENDING;
-use crate::given::Given;
+use crate::given_input::Given;
 use crate::marks::Marks;
 use crate::pending::Waiting;
 use crate::plan::{Concerned, NO_REACTION, Plan};
@@ -55,7 +55,7 @@ impl State {
         ensures places { places_of present.new ≡ places_of present.old }
         ensures sources { present.new.sources ≡ present.old.sources }
         ensures due { AreDue program.now present.new result.marks.word }
-        ensures sure { IsSure program.now present.new result.first }
+        ensures triggered_turn { IsTriggeredTurn program.now present.new result.first }
     {
         program.valid();
         if !is_at(self.pending.as_slice(), 0, tag) {
@@ -89,15 +89,15 @@ impl State {
         ensures places { places_of present.new ≡ places_of present.old }
         ensures sources { present.new.sources ≡ present.old.sources }
         ensures due { AreDue program.now present.new result.marks.word }
-        ensures sure { IsSure program.now present.new result.first }
+        ensures triggered_turn { IsTriggeredTurn program.now present.new result.first }
     {
         program.valid();
         let mut due = Marks::none();
-        let mut sure = NO_REACTION;
-        self.take_first(program, plan, &mut due, &mut sure, tag, present);
+        let mut triggered_turn = NO_REACTION;
+        self.take_first(program, plan, &mut due, &mut triggered_turn, tag, present);
         Concerned {
             marks: due,
-            first: sure,
+            first: triggered_turn,
         }
     }
 
@@ -125,28 +125,28 @@ impl State {
         ensures places { places_of present.new ≡ places_of present.old }
         ensures sources { present.new.sources ≡ present.old.sources }
         ensures due { AreDue program.now present.new result.marks.word }
-        ensures sure { IsSure program.now present.new result.first }
+        ensures triggered_turn { IsTriggeredTurn program.now present.new result.first }
     {
         program.valid();
         let mut due = Marks::none();
-        let mut sure = NO_REACTION;
-        self.take_each(program, plan, &mut due, &mut sure, tag, present);
+        let mut triggered_turn = NO_REACTION;
+        self.take_each(program, plan, &mut due, &mut triggered_turn, tag, present);
         Concerned {
             marks: due,
-            first: sure,
+            first: triggered_turn,
         }
     }
 
     /// Makes the targets of the entries at the tag present, one after another, takes these entries out, and makes the
     /// timers among them that have a period pending again. Whom they concern is due, and the first reaction that the
-    /// last one triggers is sure.
+    /// last one triggers is noted.
     #[inline(always)]
     fn take_each(
         &mut self,
         program: &Program,
         plan: &Plan,
         due: &mut Marks,
-        sure: &mut usize,
+        triggered_turn: &mut usize,
         tag: Tag,
         present: &mut Present,
     )
@@ -165,29 +165,30 @@ impl State {
         ensures places { places_of present.new ≡ places_of present.old }
         ensures sources { present.new.sources ≡ present.old.sources }
         ensures due { AreDue program.now present.old due.old.word → AreDue program.now present.new due.new.word }
-        ensures sure { IsSure program.now present.old sure.old → IsSure program.now present.new sure.new }
+        ensures triggered_turn { IsTriggeredTurn program.now present.old triggered_turn.old →
+            IsTriggeredTurn program.now present.new triggered_turn.new }
     {
         // A look at the entries shows how many there are at most.
         let _most = self.pending.len();
-        let count = self.take_alike(program, plan, due, sure, tag, present);
+        let count = self.take_alike(program, plan, due, triggered_turn, tag, present);
         for _ in 0..MOST_PENDING {
             if !is_at(self.pending.as_slice(), 0, tag) {
                 return;
             }
-            self.take_first(program, plan, due, sure, tag, present);
+            self.take_first(program, plan, due, triggered_turn, tag, present);
         }
     }
 
     /// Takes the first entries out that are timers, if all timers share a period and these land behind all entries:
     /// makes them present and pending again. Answers how many they are. Whom they concern is due, and the first
-    /// reaction that the last one triggers is sure.
+    /// reaction that the last one triggers is noted.
     #[inline(always)]
     fn take_alike(
         &mut self,
         program: &Program,
         plan: &Plan,
         due: &mut Marks,
-        sure: &mut usize,
+        triggered_turn: &mut usize,
         tag: Tag,
         present: &mut Present,
     ) -> usize
@@ -203,7 +204,8 @@ impl State {
         ensures places { places_of present.new ≡ places_of present.old }
         ensures sources { present.new.sources ≡ present.old.sources }
         ensures due { AreDue program.now present.old due.old.word → AreDue program.now present.new due.new.word }
-        ensures sure { IsSure program.now present.old sure.old → IsSure program.now present.new sure.new }
+        ensures triggered_turn { IsTriggeredTurn program.now present.old triggered_turn.old →
+            IsTriggeredTurn program.now present.new triggered_turn.new }
     {
         program.valid();
         // A look at the entries shows that they are in order.
@@ -214,7 +216,16 @@ impl State {
         }
         match tag.after(period, program.stop(), program.top()) {
             Landing::At(later) => {
-                self.take_until(program, plan, due, sure, tag, period, later, present)
+                self.take_until(
+                    program,
+                    plan,
+                    due,
+                    triggered_turn,
+                    tag,
+                    period,
+                    later,
+                    present,
+                )
             }
             _ => 0,
         }
@@ -222,14 +233,14 @@ impl State {
 
     /// Takes the first entries out that have this period, if all entries are before where they land: makes them present
     /// and pending again. Answers how many they are. Whom they concern is due, and the first reaction that the last one
-    /// triggers is sure.
+    /// triggers is noted.
     #[inline(always)]
     fn take_until(
         &mut self,
         program: &Program,
         plan: &Plan,
         due: &mut Marks,
-        sure: &mut usize,
+        triggered_turn: &mut usize,
         tag: Tag,
         period: u64,
         later: Tag,
@@ -248,24 +259,33 @@ impl State {
         ensures places { places_of present.new ≡ places_of present.old }
         ensures sources { present.new.sources ≡ present.old.sources }
         ensures due { AreDue program.now present.old due.old.word → AreDue program.now present.new due.new.word }
-        ensures sure { IsSure program.now present.old sure.old → IsSure program.now present.new sure.new }
+        ensures triggered_turn { IsTriggeredTurn program.now present.old triggered_turn.old →
+            IsTriggeredTurn program.now present.new triggered_turn.new }
     {
         if !self.pending.last().tag.is_before(later) {
             return 0;
         }
-        self.pending
-            .take_alike(program, plan, due, sure, tag, period, later, present)
+        self.pending.take_alike(
+            program,
+            plan,
+            due,
+            triggered_turn,
+            tag,
+            period,
+            later,
+            present,
+        )
     }
 
     /// Makes the target of the first entry present, takes the entry out, and makes its target pending again if it is a
-    /// timer with a period. Whom it concerns is due, and the first reaction that it triggers is sure.
+    /// timer with a period. Whom it concerns is due, and the first reaction that it triggers is noted.
     #[inline(always)]
     fn take_first(
         &mut self,
         program: &Program,
         plan: &Plan,
         due: &mut Marks,
-        sure: &mut usize,
+        triggered_turn: &mut usize,
         tag: Tag,
         present: &mut Present,
     )
@@ -284,22 +304,22 @@ impl State {
         ensures places { places_of present.new ≡ places_of present.old }
         ensures sources { present.new.sources ≡ present.old.sources }
         ensures due { AreDue program.now present.old due.old.word → AreDue program.now present.new due.new.word }
-        ensures sure { IsSure program.now present.new sure.new }
+        ensures triggered_turn { IsTriggeredTurn program.now present.new triggered_turn.new }
     {
         let first = self.pending.as_slice()[0];
         self.pending.drop_front(1);
-        self.arrive_next(program, plan, due, sure, tag, present, first);
+        self.arrive_next(program, plan, due, triggered_turn, tag, present, first);
     }
 
     /// Makes the target of an entry present, and pending again if it is a timer with a period. Whom it concerns is due,
-    /// and the first reaction that it triggers is sure.
+    /// and the first reaction that it triggers is noted.
     #[inline(always)]
     fn arrive_next(
         &mut self,
         program: &Program,
         plan: &Plan,
         due: &mut Marks,
-        sure: &mut usize,
+        triggered_turn: &mut usize,
         tag: Tag,
         present: &mut Present,
         entry: Waiting,
@@ -315,7 +335,7 @@ impl State {
         ensures places { places_of present.new ≡ places_of present.old }
         ensures sources { present.new.sources ≡ present.old.sources }
         ensures due { AreDue program.now present.old due.old.word → AreDue program.now present.new due.new.word }
-        ensures sure { IsSure program.now present.new sure.new }
+        ensures triggered_turn { IsTriggeredTurn program.now present.new triggered_turn.new }
     {
         program.valid();
         // A timer is what is mostly pending: where its kind is known, nothing asks for it again.
@@ -325,14 +345,22 @@ impl State {
                     program,
                     plan,
                     due,
-                    sure,
+                    triggered_turn,
                     present,
                     Target::Timer(n),
                     entry.value,
                 );
                 self.repeat_timer(program, tag, n, &program.timers()[n as usize]);
             }
-            _ => put(program, plan, due, sure, present, entry.target, entry.value),
+            _ => put(
+                program,
+                plan,
+                due,
+                triggered_turn,
+                present,
+                entry.target,
+                entry.value,
+            ),
         }
     }
 }
@@ -348,13 +376,13 @@ fn is_at(entries: &[Waiting], index: usize, tag: Tag) -> bool
     }
 }
 
-/// Makes a target present with a value. Whom it concerns is due, and the first reaction that it triggers is sure.
+/// Makes a target present with a value. Whom it concerns is due, and the first reaction that it triggers is noted.
 #[inline(always)]
 pub(crate) fn put(
     program: &Program,
     plan: &Plan,
     due: &mut Marks,
-    sure: &mut usize,
+    triggered_turn: &mut usize,
     present: &mut Present,
     target: Target,
     value: i64,
@@ -367,23 +395,23 @@ pub(crate) fn put(
     ensures places { places_of present.new ≡ places_of present.old }
     ensures sources { present.new.sources ≡ present.old.sources }
     ensures due { AreDue program.now present.old due.old.word → AreDue program.now present.new due.new.word }
-    ensures sure { IsSure program.now present.new sure.new }
+    ensures triggered_turn { IsTriggeredTurn program.now present.new triggered_turn.new }
 {
     program.valid();
     present.put(target, value);
     let concerned = plan.concerned(target);
     due.add_all(concerned.marks);
-    *sure = concerned.first;
+    *triggered_turn = concerned.first;
 }
 
 /// Makes the ports of the given inputs present. Whom they concern is due, and the first reaction that the last one
-/// triggers is sure.
+/// triggers is noted.
 #[inline(always)]
 pub(crate) fn arrive(
     program: &Program,
     plan: &Plan,
     due: &mut Marks,
-    sure: &mut usize,
+    triggered_turn: &mut usize,
     given: &[Given],
     present: &mut Present,
 )
@@ -395,10 +423,11 @@ pub(crate) fn arrive(
     ensures places { places_of present.new ≡ places_of present.old }
     ensures sources { present.new.sources ≡ present.old.sources }
     ensures due { AreDue program.now present.old due.old.word → AreDue program.now present.new due.new.word }
-    ensures sure { IsSure program.now present.old sure.old → IsSure program.now present.new sure.new }
+    ensures triggered_turn { IsTriggeredTurn program.now present.old triggered_turn.old →
+        IsTriggeredTurn program.now present.new triggered_turn.new }
 {
     for g in given {
         let port = Target::Port(program.port(g.input));
-        put(program, plan, due, sure, present, port, g.value);
+        put(program, plan, due, triggered_turn, present, port, g.value);
     }
 }

@@ -1,25 +1,24 @@
 //! The list of the pending entries. The earliest are taken out at its front without moving the rest, and a new one
 //! moves those on its shorter side, where there is room.
 ghost use Rattle.std.specs.Prelude.{◌≡◌, ℕ, ◌+◌, ◌-◌, ◌<◌, ◌≤◌, ◌++◌, [], true, false, length, take, drop};
-ghost use Rattle.std.specs.Prelude.{slice_index_or, slice_range, slice_set, if◌then◌else◌, IsTrue, map};
+ghost use Rattle.std.specs.Prelude.{slice_index_or, slice_set, if◌then◌else◌, IsTrue, map};
 ghost use Rattle.std.specs.List.{insert, list_all};
+ghost use Rattle.arrayvec.specs.ArrayVec.{array_vec_len};
 ghost use Rattle.warp_tag.specs.Limits.{most_pending};
-ghost use Rattle.warp_tag.specs.Moment.{is_before};
-ghost use Rattle.warp_step.specs.declared.pending.Waiting.{Waiting as Entry};
-ghost use Rattle.warp_step.specs.Snapshot.{AreInOrder, with_entry};
 ghost use Rattle.warp_body.specs.Presence.{places_of, target_fits};
 ghost use Rattle.warp_step.specs.Step.{arrived_entries, sources_of};
 ghost use Rattle.warp_step.specs.Valid.{program_places};
 ghost use Rattle.warp_step.specs.inner.Again.{is_alike, later_entry};
 ghost use Rattle.warp_step.specs.inner.Due.{AreDue};
 ghost use Rattle.warp_step.specs.inner.Plan.{plan_of, shared_period};
-ghost use Rattle.warp_step.specs.inner.Sure.{IsSure};
+ghost use Rattle.warp_step.specs.inner.TriggeredTurn.{IsTriggeredTurn};
 
 use crate::arrive::put;
 use crate::marks::Marks;
 use crate::pending::{Waiting, is_alike};
 use crate::plan::Plan;
 use crate::program::Program;
+use arrayvec::ArrayVec;
 use std::fmt;
 use std::marker::Model;
 use warp_body::{Present, Target};
@@ -28,28 +27,27 @@ use warp_tag::Tag;
 /// How many entries may be pending.
 pub(crate) const MOST_PENDING: usize = 256;
 
-/// How many places there are for them: with twice as many, entries move to the front once in 256 insertions at most.
-const PLACES: usize = 512;
+/// How many the list has room for: with twice as many, they move to its front once in 256 insertions at most.
+const ROOM: usize = 512;
 
-/// The pending entries, in order: those from `start` up to `end`.
+/// The pending entries, in order: those from `start` on.
 #[derive(Drop)]
 pub(crate) struct Entries {
-    items: [Waiting; PLACES],
+    items: ArrayVec<Waiting, ROOM>,
     start: usize,
-    end: usize,
 }
 
 impl Model for Entries {
-    ghost use Rattle.std.specs.Prelude.{◌≡◌, ◌≤◌, ◌+◌, List, length, slice_range};
+    ghost use Rattle.std.specs.Prelude.{◌≤◌, ◌+◌, List, drop};
+    ghost use Rattle.arrayvec.specs.ArrayVec.{array_vec_len};
     ghost use Rattle.warp_tag.specs.Limits.{most_pending};
     ghost use Rattle.warp_step.specs.declared.pending.Waiting.{Waiting as Entry};
 
     ghost Value = { List Entry };
 
-    ghost view = { λ e. slice_range e.items e.start e.end };
+    ghost view = { λ e. drop e.start e.items.items };
 
-    ghost invariant = { λ e. (length e.items ≡ 512) × (e.start ≤ e.end) × (e.end ≤ 512) ×
-        (e.end ≤ e.start + most_pending) };
+    ghost invariant = { λ e. (e.start ≤ array_vec_len e.items) × (array_vec_len e.items ≤ e.start + most_pending) };
 }
 
 impl Entries {
@@ -58,9 +56,8 @@ impl Entries {
         ensures { result ≡ [] }
     {
         Entries {
-            items: [Waiting::default(); PLACES],
+            items: ArrayVec::new(),
             start: 0,
-            end: 0,
         }
     }
 
@@ -70,8 +67,8 @@ impl Entries {
         ensures value { result.now ≡ self.now }
         ensures few { length result.now ≤ most_pending }
     {
-        let all = &self.items[..];
-        &all[self.start..self.end]
+        let all = self.items.as_slice();
+        &all[self.start..]
     }
 
     /// The last entry.
@@ -80,7 +77,8 @@ impl Entries {
         requires { 0 < length self.now }
         ensures { result.now ≡ slice_index_or self.now (length self.now - 1) result.now }
     {
-        &self.items[self.end - 1]
+        let all = self.items.as_slice();
+        &all[all.len() - 1]
     }
 
     /// How many there are.
@@ -89,7 +87,7 @@ impl Entries {
         ensures value { result ≡ length self.now }
         ensures few { result ≤ most_pending }
     {
-        self.end - self.start
+        self.items.len() - self.start
     }
 
     /// The same entries.
@@ -107,8 +105,9 @@ impl Entries {
         requires { at < length self.old }
         ensures { self.new ≡ slice_set self.old at entry }
     {
-        let place = self.start + at;
-        self.items[place] = entry;
+        let start = self.start;
+        let all = self.items.as_mut_slice();
+        all[start + at] = entry;
     }
 
     /// Puts an entry behind all others, if the places behind them are not used up. Answers whether it is in.
@@ -117,13 +116,11 @@ impl Entries {
         requires room { length self.old < most_pending }
         ensures { self.new ≡ (if result then insert self.old (length self.old) entry else self.old) }
     {
-        let end = self.end;
-        if end < PLACES {
-            self.items[end] = entry;
-            self.end = end + 1;
-            return true;
+        if self.items.is_full() {
+            return false;
         }
-        false
+        self.items.push(entry);
+        true
     }
 
     /// Inserts an entry at its place. Those in front of it move where they are fewer and there is room, else those
@@ -135,31 +132,28 @@ impl Entries {
         ensures { self.new ≡ insert self.old at (record { tag = tag; target = target; value = value }) }
     {
         let entry = Waiting { tag, target, value };
-        if self.start > 0 && at < self.end - self.start - at {
-            insert_in_front(&mut self.items, self.start, self.end, at, entry);
+        if self.start > 0 && at < self.len() - at {
+            insert_in_front(&mut self.items, self.start, at, entry);
             self.start -= 1;
             return;
         }
-        if self.end < PLACES {
-            insert_behind(&mut self.items, self.start, self.end, at, entry);
-            self.end += 1;
-            return;
+        if self.items.is_full() {
+            move_to_front(&mut self.items, self.start);
+            self.start = 0;
         }
-        insert_moved(&mut self.items, self.start, self.end, at, entry);
-        self.end = self.end - self.start + 1;
-        self.start = 0;
+        insert_behind(&mut self.items, self.start + at, entry);
     }
 
     /// Makes the targets of the first entries present, as long as they are at the tag and have this period, and puts
     /// these entries behind all others, at a later tag and without a value. Answers how many they are: none where there
-    /// may be no room for them. Whom they concern is due, and the first reaction that the last one triggers is sure.
+    /// may be no room for them. Whom they concern is due, and the first reaction that the last one triggers is noted.
     #[inline(always)]
     pub(crate) fn take_alike(
         &mut self,
         program: &Program,
         plan: &Plan,
         due: &mut Marks,
-        sure: &mut usize,
+        triggered_turn: &mut usize,
         tag: Tag,
         period: u64,
         later: Tag,
@@ -179,28 +173,27 @@ impl Entries {
         ensures places { places_of present.new ≡ places_of present.old }
         ensures sources { present.new.sources ≡ present.old.sources }
         ensures due { AreDue program.now present.old due.old.word → AreDue program.now present.new due.new.word }
-        ensures sure { IsSure program.now present.old sure.old → IsSure program.now present.new sure.new }
+        ensures triggered_turn { IsTriggeredTurn program.now present.old triggered_turn.old →
+            IsTriggeredTurn program.now present.new triggered_turn.new }
     {
         let start = self.start;
-        let end = self.end;
-        if end + (end - start) > PLACES {
+        let end = self.items.len();
+        if end + (end - start) > ROOM {
             return 0;
         }
         let count = shift_alike(
             &mut self.items,
             start,
-            end,
             program,
             plan,
             due,
-            sure,
+            triggered_turn,
             tag,
             period,
             later,
             present,
         );
         self.start = start + count;
-        self.end = end + count;
         count
     }
 
@@ -210,16 +203,9 @@ impl Entries {
         requires { count ≤ length self.old }
         ensures { self.new ≡ drop count self.old }
     {
-        if count == 0 {
-            return;
-        }
-        let start = self.start + count;
-        if start < self.end {
-            self.start = start;
-        } else {
-            self.start = 0;
-            self.end = 0;
-        }
+        // A look at how many there are shows that the sum fits.
+        let _end = self.items.len();
+        self.start += count;
     }
 
     /// Puts these entries, for which there is room, in the place of all.
@@ -227,9 +213,9 @@ impl Entries {
         requires { length others.now ≤ most_pending }
         ensures { self.new ≡ others.now }
     {
-        write_front(&mut self.items, others);
+        self.items.clear();
         self.start = 0;
-        self.end = others.len();
+        let _ = self.items.try_extend_from_slice(others);
     }
 }
 
@@ -239,104 +225,109 @@ impl fmt::Debug for Entries {
     }
 }
 
-/// Makes the targets of entries from a place on and before another present, as long as they are at the tag and have
-/// this period, and puts them behind these entries too, at a later tag and without a value. Answers how many they are.
-/// Whom they concern is due, and the first reaction that the last one triggers is sure.
+/// Makes the targets of the entries from a place on present, as long as they are at the tag and have this period, and
+/// puts these entries behind all others, at a later tag and without a value. Answers how many they are. Whom they
+/// concern is due, and the first reaction that the last one triggers is noted.
 #[inline(always)]
 fn shift_alike(
-    items: &mut [Waiting],
+    items: &mut ArrayVec<Waiting, ROOM>,
     start: usize,
-    end: usize,
     program: &Program,
     plan: &Plan,
     due: &mut Marks,
-    sure: &mut usize,
+    triggered_turn: &mut usize,
     tag: Tag,
     period: u64,
     later: Tag,
     present: &mut Present,
 ) -> usize
-    requires order { start ≤ end }
-    requires room { end + (end - start) ≤ length items.old }
+    requires order { start ≤ array_vec_len items.old }
+    requires room { array_vec_len items.old + (array_vec_len items.old - start) ≤ ROOM }
     requires fits { IsTrue (list_all (λ w. target_fits (program_places program.now) w.target)
-        (slice_range items.old start end)) }
+        (drop start items.old.items)) }
     requires places { places_of present.old ≡ program_places program.now }
     requires plan { plan.now ≡ plan_of program.now }
     requires some { 0 < period }
     requires shared { period ≡ shared_period program.now.timers }
     requires own { present.old.sources ≡ sources_of program.now }
-    ensures few { result ≤ end - start }
-    ensures entries { slice_range items.new start (end + result) ≡
-        slice_range items.old start end ++ map (later_entry later) (take result (slice_range items.old start end)) }
-    ensures alike { IsTrue (list_all (is_alike program.now tag period)
-        (take result (slice_range items.old start end))) }
-    ensures present { present.new ≡ arrived_entries (take result (slice_range items.old start end)) present.old }
+    ensures few { result ≤ array_vec_len items.old - start }
+    ensures entries { drop start items.new.items ≡
+        drop start items.old.items ++ map (later_entry later) (take result (drop start items.old.items)) }
+    ensures alike { IsTrue (list_all (is_alike program.now tag period) (take result (drop start items.old.items))) }
+    ensures present { present.new ≡ arrived_entries (take result (drop start items.old.items)) present.old }
     ensures places { places_of present.new ≡ places_of present.old }
     ensures sources { present.new.sources ≡ present.old.sources }
     ensures due { AreDue program.now present.old due.old.word → AreDue program.now present.new due.new.word }
-    ensures sure { IsSure program.now present.old sure.old → IsSure program.now present.new sure.new }
-    ensures len { length items.new ≡ length items.old }
+    ensures triggered_turn { IsTriggeredTurn program.now present.old triggered_turn.old →
+        IsTriggeredTurn program.now present.new triggered_turn.new }
+    ensures len { array_vec_len items.new ≡ array_vec_len items.old + result }
 {
+    let end = items.len();
     let mut count = 0;
     while start + count < end {
         let entry = items[start + count];
         if !is_alike(program, &entry, tag, period) {
             return count;
         }
-        items[end + count] = Waiting {
+        items.push(Waiting {
             tag: later,
             target: entry.target,
             value: 0,
-        };
-        put(program, plan, due, sure, present, entry.target, entry.value);
+        });
+        put(
+            program,
+            plan,
+            due,
+            triggered_turn,
+            present,
+            entry.target,
+            entry.value,
+        );
         count += 1;
     }
     count
 }
 
-/// Inserts an entry among those from a place up to another, of which the front moves down by one.
+/// Inserts an entry among those from a place on, of which the front moves down by one.
 #[inline(always)]
-fn insert_in_front(items: &mut [Waiting], start: usize, end: usize, at: usize, entry: Waiting)
+fn insert_in_front(items: &mut [Waiting], start: usize, at: usize, entry: Waiting)
     requires room { 0 < start }
-    requires within { start + at ≤ end }
-    requires end { end ≤ length items.old }
-    ensures entries { slice_range items.new (start - 1) end ≡ insert (slice_range items.old start end) at entry }
+    requires within { start + at ≤ length items.old }
+    ensures entries { drop (start - 1) items.new ≡ insert (drop start items.old) at entry }
     ensures len { length items.new ≡ length items.old }
 {
     items.copy_within(start..start + at, start - 1);
     items[start - 1 + at] = entry;
 }
 
-/// Inserts an entry among those from a place up to another, of which those behind it move up by one.
+/// Inserts an entry at a place of a list that is not full. Those from there on move up by one.
 #[inline(always)]
-fn insert_behind(items: &mut [Waiting], start: usize, end: usize, at: usize, entry: Waiting)
-    requires within { start + at ≤ end }
-    requires room { end < length items.old }
-    ensures entries { slice_range items.new start (end + 1) ≡ insert (slice_range items.old start end) at entry }
-    ensures len { length items.new ≡ length items.old }
+fn insert_behind(items: &mut ArrayVec<Waiting, ROOM>, at: usize, entry: Waiting)
+    requires within { at ≤ array_vec_len items.old }
+    requires room { array_vec_len items.old < ROOM }
+    ensures { items.new.items ≡ insert items.old.items at entry }
 {
-    items.copy_within(start + at..end, start + at + 1);
-    items[start + at] = entry;
+    items.push(Waiting::default());
+    move_up(items, at, entry);
 }
 
-/// Inserts an entry among those from a place up to another, and moves them all to the front.
+/// Moves all from a place on but the last up by one, over it, and writes an entry there.
+#[inline(always)]
+fn move_up(items: &mut [Waiting], at: usize, entry: Waiting)
+    requires { at < length items.old }
+    ensures { items.new ≡ insert (take (length items.old - 1) items.old) at entry }
+{
+    items.copy_within(at..items.len() - 1, at + 1);
+    items[at] = entry;
+}
+
+/// Moves the entries from a place on to the front. Those before them go.
 #[inline(never)]
-fn insert_moved(items: &mut [Waiting], start: usize, end: usize, at: usize, entry: Waiting)
-    requires within { start + at ≤ end }
-    requires end { end ≤ length items.old }
-    requires room { end - start < length items.old }
-    ensures entries { slice_range items.new 0 (end - start + 1) ≡ insert (slice_range items.old start end) at entry }
-    ensures len { length items.new ≡ length items.old }
+fn move_to_front(items: &mut ArrayVec<Waiting, ROOM>, start: usize)
+    requires { start ≤ array_vec_len items.old }
+    ensures { items.new.items ≡ drop start items.old.items }
 {
+    let end = items.len();
     items.copy_within(start..end, 0);
-    insert_behind(items, 0, end - start, at, entry);
-}
-
-/// Writes these entries over the first ones.
-fn write_front(items: &mut [Waiting], others: &[Waiting])
-    requires { length others.now ≤ length items.old }
-    ensures entries { take (length others.now) items.new ≡ others.now }
-    ensures len { length items.new ≡ length items.old }
-{
-    items[..others.len()].copy_from_slice(others);
+    items.truncate(end - start);
 }

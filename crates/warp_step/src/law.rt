@@ -10,7 +10,7 @@ ghost use Rattle.warp_step.specs.Order.{file_order, in_order, is_admissible, lea
 ghost use Rattle.warp_step.specs.Valid.{is_rising, is_valid, rule_fits};
 ghost use Rattle.warp_step.specs.Snapshot.{Snapshot, start_state};
 ghost use Rattle.warp_step.specs.Step.{outputs_after, reacted, state_after};
-ghost use Rattle.warp_step.specs.declared.given.Given.{Given};
+ghost use Rattle.warp_step.specs.declared.given_input.Given.{Given};
 ghost use Rattle.warp_step.specs.Run.{Row, Run, events_until, rows_until, outputs_of, outputs_until, state_at_end};
 
 /// A law: exactly one trace fits a program and its events.

@@ -7,10 +7,11 @@
 #![tactic(auto)]
 
 mod arrive;
+mod builtin_twice;
 mod counter;
 mod enter;
 mod entries;
-mod given;
+mod given_input;
 mod law;
 mod marks;
 mod meter;
@@ -22,10 +23,9 @@ mod program;
 mod react;
 mod reaction;
 mod state;
-mod twice;
 
 pub use counter::Counter;
-pub use given::Given;
+pub use given_input::Given;
 pub use law::{
     any_order, early_outputs, early_rows, file_order_is_admissible, one_trace, outputs_begin,
 };

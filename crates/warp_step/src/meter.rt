@@ -1,7 +1,7 @@
 //! What counts the steps of a program.
 ghost use Rattle.std.specs.Prelude.{◌≡◌, ℕ, ◌+◌};
 
-use crate::given::Given;
+use crate::given_input::Given;
 use crate::state::State;
 use warp_tag::{Out, Tag};
 

@@ -13,7 +13,7 @@ ghost use Rattle.warp_step.specs.inner.Plan.{plan_of};
 ghost use Rattle.warp_step.specs.inner.Room.{lists_of};
 
 use crate::arrive::arrive;
-use crate::given::Given;
+use crate::given_input::Given;
 use crate::marks::Marks;
 use crate::meter::Meter;
 use crate::parts::Link;
@@ -199,13 +199,13 @@ fn advance(
     present.clear();
     let taken = state.take_entries(program, plan, tag, present);
     let mut due = taken.marks;
-    let mut sure = taken.first;
-    arrive(program, plan, &mut due, &mut sure, given, present);
+    let mut triggered_turn = taken.first;
+    arrive(program, plan, &mut due, &mut triggered_turn, given, present);
     let wished = run_reactions(
         program,
         plan,
         &mut due,
-        sure,
+        triggered_turn,
         &mut state.vars,
         present,
         wishes,

@@ -25,7 +25,7 @@ use warp_body::{Code, Places, Sizes, Target, fits};
 use warp_tag::OutOfMemory;
 
 /// How many numbers places have.
-const PLACES: usize = 337;
+const PLACE_COUNT: usize = 337;
 
 /// The place by whose presence a target is present: of a port its source, else itself.
 fn place_of(sources: &[u32], target: Target) -> Target
@@ -70,7 +70,7 @@ fn heeded(alloc: Global, triggers: &[Target], sources: &[u32]) -> Result<Vec<boo
     requires { IsTrue (list_all (λ trigger. is_numbered (place_of sources.now trigger)) triggers.now) }
     ensures { IfOk result (λ row. row.items ≡ heeded sources.now triggers.now) }
 {
-    let mut row = vec![in alloc; false; PLACES]?;
+    let mut row = vec![in alloc; false; PLACE_COUNT]?;
     for trigger in triggers {
         row[place_number(place_of(sources, *trigger))] = true;
     }
@@ -277,8 +277,8 @@ fn of_places(
         ≡ map (λ n. first_heeding (sources_of program.now) (numbered_place n) 0 (in_turn program.now)) place_numbers) }
 {
     let rows = heeded_in_turn(alloc, program, sources)?;
-    let mut all = Vec::with_capacity(alloc, PLACES)?;
-    for number in 0..PLACES {
+    let mut all = Vec::with_capacity(alloc, PLACE_COUNT)?;
+    for number in 0..PLACE_COUNT {
         all.push(of_place(program, sources, &rows, number))?;
     }
     Ok(all)

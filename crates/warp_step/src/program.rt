@@ -2,11 +2,12 @@
 ghost use Rattle.std.specs.Prelude.{◌≡◌, ◌↔◌, ℕ, ◌<◌, ◌≤◌, IsTrue, IfOk, length, map};
 ghost use Rattle.warp_tag.specs.Limits.{last_microstep, longest_period, widest};
 ghost use Rattle.warp_step.specs.Program.{rule_of, delay_of, raised, top_of};
+ghost use Rattle.warp_step.specs.Snapshot.{begins};
 ghost use Rattle.warp_step.specs.View.{program_of};
 ghost use Rattle.warp_step.specs.Valid.{is_valid};
 
 use crate::parts::{Action, Link, Parts, Port, ProgramInput, Timer, Variable};
-use crate::reaction::{Reaction, copy_reactions, same_reactions};
+use crate::reaction::{Reaction, begins, copy_reactions, same_reactions};
 use std::alloc::Global;
 use std::marker::Model;
 use warp_tag::{Form, OutOfMemory};
@@ -116,6 +117,13 @@ impl Program {
         ensures { map rule_of result.now ≡ self.now.reactions }
     {
         &self.parts.reactions
+    }
+
+    /// Whether one of the reactions is triggered by startup.
+    pub fn begins(&self) -> bool
+        ensures { result ≡ begins self.now }
+    {
+        begins(&self.parts.reactions)
     }
 
     /// The numbers of the reactions, each once, in the order in which a step runs them. Whatever precedes a reaction

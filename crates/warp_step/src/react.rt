@@ -14,7 +14,7 @@ ghost use Rattle.warp_step.specs.inner.Flagged.{AreOf};
 ghost use Rattle.warp_step.specs.inner.Marks.{most_marks, no_marks};
 ghost use Rattle.warp_step.specs.inner.Plan.{marks_of_places, plan_of, ready_turn, turn_rule, with_ports};
 ghost use Rattle.warp_step.specs.inner.Room.{lists_of};
-ghost use Rattle.warp_step.specs.inner.Sure.{IsSure};
+ghost use Rattle.warp_step.specs.inner.TriggeredTurn.{IsTriggeredTurn};
 ghost use Rattle.warp_step.specs.Step.{Reacting, after_reactions, is_triggered, no_wishes};
 ghost use Rattle.warp_step.specs.Step.{outputs_from, react, sources_of, with_output};
 
@@ -47,12 +47,12 @@ impl Wished {
 
 /// Whether one of the reaction's triggers is present. Where that is sure they are not looked at.
 #[inline(always)]
-fn triggered(is_sure: bool, ready: &ReadyReaction, present: &Present) -> bool
-    requires sure { is_sure ≡ true → is_triggered (turn_rule (ready_turn ready.now)) present.now ≡ true }
+fn triggered(is_known: bool, ready: &ReadyReaction, present: &Present) -> bool
+    requires triggered_turn { is_known ≡ true → is_triggered (turn_rule (ready_turn ready.now)) present.now ≡ true }
     requires triggers { IsTrue (list_all (target_fits (places_of present.now)) (ready_turn ready.now).triggers) }
     ensures { result ≡ is_triggered (turn_rule (ready_turn ready.now)) present.now }
 {
-    if is_sure {
+    if is_known {
         return true;
     }
     // Nearly always there is one, and a loop would cost more than it.
@@ -103,7 +103,7 @@ fn is_one_present(targets: &[Target], present: &Present) -> bool
 /// what it writes concerns is due then.
 #[inline(always)]
 fn run_reaction(
-    is_sure: bool,
+    is_known: bool,
     ready: &ReadyReaction,
     due: &mut Marks,
     vars: &mut Vars,
@@ -111,7 +111,7 @@ fn run_reaction(
     wishes: &mut Vec<Wishes>,
 ) -> bool
     requires number { (ready_turn ready.now).number < length wishes.old.items }
-    requires sure { is_sure ≡ true → is_triggered (turn_rule (ready_turn ready.now)) present.old ≡ true }
+    requires triggered_turn { is_known ≡ true → is_triggered (turn_rule (ready_turn ready.now)) present.old ≡ true }
     requires triggers { IsTrue (list_all (target_fits (places_of present.old)) (ready_turn ready.now).triggers) }
     requires body { IsTrue (body_fits (sizes_of vars.old present.old) (ready_turn ready.now).body) }
     requires room { schedules_of (ready_turn ready.now).body ≤ most_wishes }
@@ -136,7 +136,7 @@ fn run_reaction(
         (ready_turn ready.now).after ≡ with_ports (marks_of_places P) rule.writes no_marks →
         AreDue P present.old due.old.word → AreDue P present.new due.new.word }
 {
-    if triggered(is_sure, ready, present) {
+    if triggered(is_known, ready, present) {
         due.add_all(ready.after);
         ready.code.run(vars, present, &mut wishes[ready.number]);
         return ready.may_wish;
@@ -146,13 +146,13 @@ fn run_reaction(
 
 /// Runs the reactions that are triggered, in the program's order, and says who may have wishes then. It looks
 /// at those that are due, which all are that something present triggers, and tests them but the first one where that
-/// is sure.
+/// is noted.
 #[inline(always)]
 pub(crate) fn run_reactions(
     program: &Program,
     plan: &Plan,
     due: &mut Marks,
-    sure: usize,
+    triggered_turn: usize,
     vars: &mut Vars,
     present: &mut Present,
     wishes: &mut Vec<Wishes>,
@@ -163,7 +163,7 @@ pub(crate) fn run_reactions(
     requires plan { plan.now ≡ plan_of program.now }
     requires own { present.old.sources ≡ sources_of program.now }
     requires due { AreDue program.now present.old due.old.word }
-    requires sure { IsSure program.now present.old sure }
+    requires triggered_turn { IsTriggeredTurn program.now present.old triggered_turn }
     ensures effect { record { vars = vars.new; present = present.new; wishes = lists_of wishes.new.items }
         ≡ after_reactions program.now program.now.order (record {
           vars = vars.old;
@@ -182,12 +182,12 @@ pub(crate) fn run_reactions(
     program.valid();
     let mut wished = Wished { count: 0, last: 0 };
     let mut turn = due.next(0);
-    let mut is_sure = turn == sure;
+    let mut is_known = turn == triggered_turn;
     while turn < plan.turns() {
         let ready = plan.reaction(turn);
-        let may_wish = run_reaction(is_sure, ready, due, vars, present, wishes);
+        let may_wish = run_reaction(is_known, ready, due, vars, present, wishes);
         wished.note(may_wish, ready.number);
-        is_sure = false;
+        is_known = false;
         turn = due.after(turn);
     }
     wished

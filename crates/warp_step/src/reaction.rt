@@ -1,6 +1,9 @@
 //! Reactions, their copies and comparison.
 ghost use Rattle.std.specs.Prelude.{◌≡◌, ◌↔◌, IsTrue, IfOk, map};
+ghost use Rattle.std.specs.List.{list_any};
+ghost use Rattle.warp_body.specs.declared.place.Target.TheVariants as to;
 ghost use Rattle.warp_step.specs.Program.{rule_of};
+ghost use Rattle.warp_step.specs.Valid.{names};
 
 use std::alloc::Global;
 use warp_body::{Stmt, Target, copy_body, same_body};
@@ -87,4 +90,23 @@ pub(crate) fn same_reactions(a: &[Reaction], b: &[Reaction]) -> bool
         }
     }
     true
+}
+
+/// Whether one of these reactions is triggered by startup.
+pub(crate) fn begins(reactions: &[Reaction]) -> bool
+    ensures { result ≡ list_any (λ r. names r.triggers to.Startup) (map rule_of reactions.now) }
+{
+    for reaction in reactions {
+        if names(&reaction.triggers, Target::Startup) {
+            return true;
+        }
+    }
+    false
+}
+
+/// Whether the list names the target.
+fn names(targets: &[Target], target: Target) -> bool
+    ensures { result ≡ names targets.now target }
+{
+    targets.iter().any(|other| target.is_same(*other))
 }

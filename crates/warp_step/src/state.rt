@@ -1,10 +1,7 @@
 //! The state of a program between two steps.
 ghost use Rattle.std.specs.Prelude.{◌≡◌, ◌≤◌, ◌+◌, ◌↔◌, ℕ, pos, length, map, IfOk, IsTrue};
-ghost use Rattle.std.specs.List.{list_any};
 ghost use Rattle.warp_tag.specs.Limits.{longest_delay, widest, most_pending, most_variables};
-ghost use Rattle.warp_step.specs.Program.{rule_of, top_of};
-ghost use Rattle.warp_step.specs.Valid.{names};
-ghost use Rattle.warp_body.specs.declared.place.Target.TheVariants as to;
+ghost use Rattle.warp_step.specs.Program.{top_of};
 ghost use Rattle.warp_step.specs.Snapshot.{AreInOrder, IsStateOf, entered, landed, least_pending, start_state};
 ghost use Rattle.warp_step.specs.Snapshot.{with_loss, with_timers};
 
@@ -12,7 +9,6 @@ use crate::entries::Entries;
 use crate::parts::Variable;
 use crate::pending::{Waiting, enter_entry, enter_last};
 use crate::program::Program;
-use crate::reaction::Reaction;
 use std::alloc::Global;
 use std::marker::Model;
 use warp_body::{Target, Vars};
@@ -53,7 +49,7 @@ impl State {
             pending: Entries::new(),
             lost: 0,
         };
-        if begins(program.reactions()) {
+        if program.begins() {
             state.enter(Tag::beginning_of(0), Target::Startup, 0);
         }
         state.enter_timers(program);
@@ -236,23 +232,4 @@ fn set_all(vars: &mut Vars, values: &[i64])
     for (number, value) in values.iter().enumerate() {
         vars.set(number as u32, *value);
     }
-}
-
-/// Whether one of the reactions is triggered by startup.
-fn begins(reactions: &[Reaction]) -> bool
-    ensures { result ≡ list_any (λ r. names r.triggers to.Startup) (map rule_of reactions.now) }
-{
-    for reaction in reactions {
-        if names(&reaction.triggers, Target::Startup) {
-            return true;
-        }
-    }
-    false
-}
-
-/// Whether the list names the target.
-fn names(targets: &[Target], target: Target) -> bool
-    ensures { result ≡ names targets.now target }
-{
-    targets.iter().any(|other| target.is_same(*other))
 }

@@ -11,7 +11,7 @@ use Rattle.warp_table.specs.Records.{set_of}
 use Rattle.warp_table.specs.declared.rows.Known.{Known}
 use Rattle.warp_table.specs.declared.names.Name.{Name}
 use Rattle.warp_table.specs.inner.Heard.{Announced, Heard, IsHeard, with_tag}
-use Rattle.warp_table.specs.inner.Kept.{HoldsEvent, IsAdded, Keeps, NotesEvent, entries_of, event_place, is_named, kept_of, known_of, other_place, payload_at, put_known, put_other, with_event_at, with_withdrawal_at, withdrawal_place}
+use Rattle.warp_table.specs.inner.Kept.{OtherPlaces, HoldsEvent, IsAdded, Keeps, NotesEvent, entries_of, event_place, is_named, kept_of, known_of, other_place, payload_at, put_known, put_other, with_event_at, with_withdrawal_at, withdrawal_place}
 use Rattle.warp_table.specs.inner.News.{IsNewsOf}
 use Rattle.warp_table.proofs.EventPlaces.{announcement_places, event_places, holds_own, withdrawal_places}
 use Rattle.warp_table.proofs.HeardNews.{event_kept as event_told, event_new, own_announcement, own_event, own_withdrawal, withdrawal_new}
@@ -20,11 +20,11 @@ use Rattle.warp_table.proofs.Places.{not_there}
 use Rattle.warp_table.proofs.Sets.{in_set}
 
 -- a record is there, and its origin hears of it
-pub record IsTold (records : List Record) (said : Record) (place : ℕ) (names : List (Name × Known)) (others : List (Record × ℕ)) (own : Heard) : Type 0 where
+pub record IsTold (records : List Record) (said : Record) (place : ℕ) (names : List (Name × Known)) (others : OtherPlaces) (own : Heard) : Type 0 where
   pub added : IsAdded records said place names others
   pub heard : IsHeard (set_of (records ++ said ∷ [])) (origin_of said) own
 
-module _ (records : List Record) (names : List (Name × Known)) (others : List (Record × ℕ)) (k : Keeps records names others) (own : Heard) where
+module _ (records : List Record) (names : List (Name × Known)) (others : OtherPlaces) (k : Keeps records names others) (own : Heard) where
   module _ (name : Name) (heard : IsHeard (set_of records) name.origin own) where
     -- the event that the name keeps is one of its own
     pub holds : HoldsEvent records name (known_of name names).event
@@ -44,7 +44,7 @@ module _ (records : List Record) (names : List (Name × Known)) (others : List (
         false≢true (sym (no_event none) ∙ told.1 (payload, (in_set records (Event name.origin name.tag payload.0 payload.1)).0 has))
     event_lacks payload (inr none) has = not_there records names others (Event name.origin name.tag payload.0 payload.1) k.places none has
 
-    pub event_added : (payload : ℕ × ℤ) (place event : ℕ) (now_names : List (Name × Known)) (now : List (Record × ℕ)) (own_now : Heard) → place ≡ length records + 1 →
+    pub event_added : (payload : ℕ × ℤ) (place event : ℕ) (now_names : List (Name × Known)) (now : OtherPlaces) (own_now : Heard) → place ≡ length records + 1 →
         now_names ≡ put_known names name (with_event_at event (known_of name names)) → NotesEvent records name payload (known_of name names).event event others now own own_now →
         IsTold records (Event name.origin name.tag payload.0 payload.1) place now_names now own_now
     event_added payload place event now_names now own_now last put n =
@@ -70,7 +70,7 @@ module _ (records : List Record) (names : List (Name × Known)) (others : List (
     pub withdrawal_fresh : (known_of name names).withdrawal ≡ 0 → Contains own.withdrawn name.tag → ⊥
     withdrawal_fresh none = withdrawal_new records (entries_of records names) own name.origin name.tag (record { kept = k.tells; heard = heard; new = withdrawal_lacks none })
 
-    pub withdrawal_added : (place next : ℕ) (now_names : List (Name × Known)) (now : List (Record × ℕ)) (own_now : Heard) → next ≡ length records + 1 → place ≡ next → (known_of name names).withdrawal ≡ 0 →
+    pub withdrawal_added : (place next : ℕ) (now_names : List (Name × Known)) (now : OtherPlaces) (own_now : Heard) → next ≡ length records + 1 → place ≡ next → (known_of name names).withdrawal ≡ 0 →
         now_names ≡ put_known names name (with_withdrawal_at next (known_of name names)) → now ≡ others → own_now ≡ record own { withdrawn = with_tag name.tag own.withdrawn } →
         IsTold records (Withdraw name.origin name.tag) place now_names now own_now
     withdrawal_added place next now_names now own_now is last none put same hears =
@@ -82,7 +82,7 @@ module _ (records : List Record) (names : List (Name × Known)) (others : List (
           added = record {
             new = lacks;
             last = last ∙ is;
-            keeps = subst (λ (os : List (Record × ℕ)). Keeps (records ++ said ∷ []) now_names os) (sym same) (subst (λ (ns : List (Name × Known)). Keeps (records ++ said ∷ []) ns others) (sym put_last) (record {
+            keeps = subst (λ (os : OtherPlaces). Keeps (records ++ said ∷ []) now_names os) (sym same) (subst (λ (ns : List (Name × Known)). Keeps (records ++ said ∷ []) ns others) (sym put_last) (record {
               tells = withdrawal_kept records names name k.places.events k.tells;
               places = withdrawal_places records names others k.places name lacks;
             }));
@@ -91,7 +91,7 @@ module _ (records : List Record) (names : List (Name × Known)) (others : List (
               (own_withdrawal records (entries_of records names) own name.origin name.tag news);
         }
 
-  pub announcement_added : (origin : ℕ) (tag : Moment) (events withdrawn place next : ℕ) (now_names : List (Name × Known)) (now : List (Record × ℕ)) (own_now : Heard) → IsHeard (set_of records) origin own →
+  pub announcement_added : (origin : ℕ) (tag : Moment) (events withdrawn place next : ℕ) (now_names : List (Name × Known)) (now : OtherPlaces) (own_now : Heard) → IsHeard (set_of records) origin own →
       next ≡ length records + 1 → place ≡ next → other_place others (Announce origin tag events withdrawn) ≡ None → now_names ≡ names → now ≡ put_other others (Announce origin tag events withdrawn) next →
       own_now ≡ record own { announced = own_now.announced } →
       ((a : Announced) → Contains own_now.announced a ↔ Contains own.announced a ⊎ (a ≡ record { tag = tag; events = events; withdrawn = withdrawn })) →
@@ -105,7 +105,7 @@ module _ (records : List Record) (names : List (Name × Known)) (others : List (
         added = record {
           new = lacks;
           last = last ∙ is;
-          keeps = subst (λ (ns : List (Name × Known)). Keeps (records ++ said ∷ []) ns now) (sym same) (subst (λ (os : List (Record × ℕ)). Keeps (records ++ said ∷ []) names os) (sym put_last) (record {
+          keeps = subst (λ (ns : List (Name × Known)). Keeps (records ++ said ∷ []) ns now) (sym same) (subst (λ (os : OtherPlaces). Keeps (records ++ said ∷ []) names os) (sym put_last) (record {
             tells = announcement_kept records names origin tag events withdrawn k.places.events k.tells;
             places = announcement_places records names others k.places origin tag events withdrawn lacks;
           }));

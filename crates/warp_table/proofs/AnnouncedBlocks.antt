@@ -12,8 +12,8 @@ use Rattle.std.proofs.lemmas.List.Sums.{fold-append}
 use Rattle.std.proofs.lemmas.List.Elements.{All-append, All-cons, All-drop, All-map, All-weaker}
 use Rattle.warp_tag.specs.Moment.{Moment, is_before}
 use Rattle.warp_table.specs.inner.Tally.{AreInOrder, AreSome, IsJudged, IsSpare, IsVerdict, IsSpared, all_of, before_of, beyond, counted, fits, has_doubled, is_exceeded, is_met, judged_in, less_one, no_names, number_of, place_of, with_more, with_name, with_one, with_tally}
-use Rattle.warp_table.specs.declared.tally.Kind.{Kind}
-use Rattle.warp_table.specs.declared.tally.Kind.TheVariants.{Event, Withdrawal}
+use Rattle.warp_table.specs.declared.tally.EventOrWithdrawal.{EventOrWithdrawal}
+use Rattle.warp_table.specs.declared.tally.EventOrWithdrawal.TheVariants.{Event, Withdrawal}
 use Rattle.warp_table.specs.declared.tally.Numbers.{Numbers}
 use Rattle.warp_table.specs.declared.tally.Tally.{Tally}
 use Rattle.warp_table.specs.declared.tally.Verdict.{Verdict}
@@ -80,7 +80,7 @@ pushed_down more xs none = ap (λ (m : Numbers). map (with_more m) xs) none ∙ 
     same [] = refl
     same (y ∷ ys) = λ i. record y { events_before = no_more y.events_before i; withdrawn_before = no_more y.withdrawn_before i } ∷ same ys i
 
-pub one_added : (kind : Kind) (more : Numbers) (xs : List Tally) → map (with_more (with_one kind more)) xs ≡ map (with_name kind) (map (with_more more) xs)
+pub one_added : (kind : EventOrWithdrawal) (more : Numbers) (xs : List Tally) → map (with_more (with_one kind more)) xs ≡ map (with_name kind) (map (with_more more) xs)
 one_added kind more [] = refl
 one_added Event more (x ∷ xs) = λ i. record x { events_before = one_later x.events_before more.events i; withdrawn_before = x.withdrawn_before + more.withdrawn } ∷ one_added Event more xs i
 one_added Withdrawal more (x ∷ xs) = λ i. record x { events_before = x.events_before + more.events; withdrawn_before = one_later x.withdrawn_before more.withdrawn i } ∷ one_added Withdrawal more xs i
@@ -90,7 +90,7 @@ pub all_fit : (spare more : Numbers) (xs : List Tally) → All (IsSpared spare) 
 all_fit spare more xs all = All-weaker (λ c. IsSpared spare (with_more more c)) (fits more) (λ c h. (h.few_events, h.few_withdrawn)) xs (All-from_map (IsSpared spare) (with_more more) xs all)
 
 -- and for one more for all
-pub one_fits : (kind : Kind) (more : Numbers) (xs : List Tally) → 0 < length (map (with_more more) xs) → All (λ c. before_of kind c + 1 < 2 ^ 64) (map (with_more more) xs) → number_of kind more + 1 < 2 ^ 64
+pub one_fits : (kind : EventOrWithdrawal) (more : Numbers) (xs : List Tally) → 0 < length (map (with_more more) xs) → All (λ c. before_of kind c + 1 < 2 ^ 64) (map (with_more more) xs) → number_of kind more + 1 < 2 ^ 64
 one_fits kind more [] some room = absurd (omega arith)
 one_fits Event more (x ∷ xs) some room =
     let first : (x.events_before + more.events) + 1 < 2 ^ 64 = room 0 x (omega arith) in
@@ -122,11 +122,11 @@ spare_next n announced count some (inl none) = absurd (omega arith)
 spare_next n announced count some (inr (inl below)) = inr (inl (omega arith))
 spare_next n announced count some (inr (inr above)) = inr (inr (omega arith))
 
-pub within_next : (kind : Kind) (spare : Numbers) (c : Tally) → 0 < number_of kind spare → before_of kind c + 1 < 2 ^ 64 → IsSpared spare c → IsSpared (less_one kind spare) (with_name kind c)
+pub within_next : (kind : EventOrWithdrawal) (spare : Numbers) (c : Tally) → 0 < number_of kind spare → before_of kind c + 1 < 2 ^ 64 → IsSpared spare c → IsSpared (less_one kind spare) (with_name kind c)
 within_next Event spare c some room h = record { events = spare_next spare.events c.events c.events_before some h.events; withdrawn = h.withdrawn; few_events = room; few_withdrawn = h.few_withdrawn }
 within_next Withdrawal spare c some room h = record { events = h.events; withdrawn = spare_next spare.withdrawn c.withdrawn c.withdrawn_before some h.withdrawn; few_events = h.few_events; few_withdrawn = room }
 
-pub all_next : (kind : Kind) (spare : Numbers) (xs : List Tally) → 0 < number_of kind spare → All (λ c. before_of kind c + 1 < 2 ^ 64) xs → All (IsSpared spare) xs → All (IsSpared (less_one kind spare)) (map (with_name kind) xs)
+pub all_next : (kind : EventOrWithdrawal) (spare : Numbers) (xs : List Tally) → 0 < number_of kind spare → All (λ c. before_of kind c + 1 < 2 ^ 64) xs → All (IsSpared spare) xs → All (IsSpared (less_one kind spare)) (map (with_name kind) xs)
 all_next kind spare xs some room all = All-map (IsSpared (less_one kind spare)) (with_name kind) xs (λ k d l. within_next kind spare (get_or xs k d) some (room k d l) (all k d l))
 
 same_le : (n announced count : ℕ) → 0 < n → IsSpare n announced count → nat_le announced (count + 1) ≡ nat_le announced count
@@ -139,15 +139,15 @@ same_lt n announced count some (inl none) = absurd (omega arith)
 same_lt n announced count some (inr (inl below)) = grind (arith, nat_tests)
 same_lt n announced count some (inr (inr above)) = grind (arith, nat_tests)
 
-same_met : (kind : Kind) (spare : Numbers) (c : Tally) → 0 < number_of kind spare → IsSpared spare c → is_met (with_name kind c) ≡ is_met c
+same_met : (kind : EventOrWithdrawal) (spare : Numbers) (c : Tally) → 0 < number_of kind spare → IsSpared spare c → is_met (with_name kind c) ≡ is_met c
 same_met Event spare c some h = ap (λ b. b && nat_le c.withdrawn c.withdrawn_before) (same_le spare.events c.events c.events_before some h.events)
 same_met Withdrawal spare c some h = ap (λ b. nat_le c.events c.events_before && b) (same_le spare.withdrawn c.withdrawn c.withdrawn_before some h.withdrawn)
 
-same_exceeded : (kind : Kind) (spare : Numbers) (c : Tally) → 0 < number_of kind spare → IsSpared spare c → is_exceeded (with_name kind c) ≡ is_exceeded c
+same_exceeded : (kind : EventOrWithdrawal) (spare : Numbers) (c : Tally) → 0 < number_of kind spare → IsSpared spare c → is_exceeded (with_name kind c) ≡ is_exceeded c
 same_exceeded Event spare c some h = ap (λ b. b || nat_lt c.withdrawn c.withdrawn_before) (same_lt spare.events c.events c.events_before some h.events)
 same_exceeded Withdrawal spare c some h = ap (λ b. nat_lt c.events c.events_before || b) (same_lt spare.withdrawn c.withdrawn c.withdrawn_before some h.withdrawn)
 
-same_tag : (kind : Kind) (c : Tally) → (with_name kind c).tag ≡ c.tag
+same_tag : (kind : EventOrWithdrawal) (c : Tally) → (with_name kind c).tag ≡ c.tag
 same_tag Event c = refl
 same_tag Withdrawal c = refl
 
@@ -167,20 +167,20 @@ judged_stays v c h = λ i. record {
   is_broken = broken_already v.is_broken (is_exceeded c) h.exceeded i;
 }
 
-judged_next : (kind : Kind) (spare : Numbers) (v : Verdict) (c : Tally) → 0 < number_of kind spare → IsSpared spare c → IsJudged v c → IsJudged v (with_name kind c)
+judged_next : (kind : EventOrWithdrawal) (spare : Numbers) (v : Verdict) (c : Tally) → 0 < number_of kind spare → IsSpared spare c → IsJudged v c → IsJudged v (with_name kind c)
 judged_next kind spare v c some within h = record {
   met = λ m. rw (same_tag kind c) (h.met (sym (same_met kind spare c some within) ∙ m));
   exceeded = λ e. h.exceeded (sym (same_exceeded kind spare c some within) ∙ e);
 }
 
-pub fold_stays : (kind : Kind) (spare : Numbers) (v : Verdict) (xs : List Tally) → 0 < number_of kind spare → All (IsSpared spare) xs → All (IsJudged v) xs → fold with_tally v (map (with_name kind) xs) ≡ v
+pub fold_stays : (kind : EventOrWithdrawal) (spare : Numbers) (v : Verdict) (xs : List Tally) → 0 < number_of kind spare → All (IsSpared spare) xs → All (IsJudged v) xs → fold with_tally v (map (with_name kind) xs) ≡ v
 fold_stays kind spare v [] some within judged = refl
 fold_stays kind spare v (x ∷ xs) some within judged =
     ap (λ (w : Verdict). fold with_tally w (map (with_name kind) xs)) (judged_stays v (with_name kind x) (judged_next kind spare v x some (within 0 x (omega arith)) (judged 0 x (omega arith))))
     ∙ fold_stays kind spare v xs some (λ k d l. within (suc k) d (omega arith)) (λ k d l. judged (suc k) d (omega arith))
 
 -- where all are beyond a tag, all are counted
-pub counted_all : (kind : Kind) (tag : Moment) (xs : List Tally) → place_of tag xs ≡ 0 → counted kind tag xs ≡ map (with_name kind) xs
+pub counted_all : (kind : EventOrWithdrawal) (tag : Moment) (xs : List Tally) → place_of tag xs ≡ 0 → counted kind tag xs ≡ map (with_name kind) xs
 counted_all kind tag xs none = ap (λ n. take n xs ++ map (with_name kind) (drop n xs)) none
 
 pub beyond_all : (tag : Moment) (xs : List Tally) → place_of tag xs ≡ 0 → beyond tag xs ≡ xs
@@ -348,10 +348,10 @@ both_parts zero xs = refl
 both_parts (suc n) [] = refl
 both_parts (suc n) (x ∷ xs) = ap (λ ys. x ∷ ys) (both_parts n xs)
 
-pub split_same : (blocks : List (List Tally)) (n : ℕ) (block : List Tally) → n < length blocks → block ≡ get_or blocks n block → all_of (set (insert blocks (suc n) (drop 64 block)) n (take 64 block)) ≡ all_of blocks
-split_same [] n block l is = absurd (omega arith)
-split_same (b ∷ blocks) zero block l is = sym (append_assoc (take 64 block) (drop 64 block) (all_of blocks)) ∙ ap (λ ts. ts ++ all_of blocks) (both_parts 64 block ∙ is)
-split_same (b ∷ blocks) (suc n) block l is = ap (λ ts. b ++ ts) (split_same blocks n block (omega arith) is)
+pub split_same : (cut : ℕ) (blocks : List (List Tally)) (n : ℕ) (block : List Tally) → n < length blocks → block ≡ get_or blocks n block → all_of (set (insert blocks (suc n) (drop cut block)) n (take cut block)) ≡ all_of blocks
+split_same cut [] n block l is = absurd (omega arith)
+split_same cut (b ∷ blocks) zero block l is = sym (append_assoc (take cut block) (drop cut block) (all_of blocks)) ∙ ap (λ ts. ts ++ all_of blocks) (both_parts cut block ∙ is)
+split_same cut (b ∷ blocks) (suc n) block l is = ap (λ ts. b ++ ts) (split_same cut blocks n block (omega arith) is)
 
 pub split_some : (blocks : List (List Tally)) (n : ℕ) (front later : List Tally) → n < length blocks → 0 < length front → 0 < length later → AreSome blocks → AreSome (set (insert blocks (suc n) later) n front)
 split_some [] n front later l f g some = absurd (omega arith)
@@ -365,8 +365,10 @@ set_some [] n block g some = λ k d l. absurd (omega arith)
 set_some (b ∷ blocks) zero block g some = All-cons (λ x. 0 < length x) block blocks g (λ k d l. some (suc k) d (omega arith))
 set_some (b ∷ blocks) (suc n) block g some = All-cons (λ x. 0 < length x) b (set blocks n block) (some 0 b (omega arith)) (set_some blocks n block g (λ k d l. some (suc k) d (omega arith)))
 
-pub half_length : (block : List Tally) → 64 < length block → (0 < length (take 64 block)) × (0 < length (drop 64 block))
-half_length block more = (omega (arith, length-take 64 block), omega (arith, length-drop 64 block))
+pub parts_length : (cut : ℕ) (block : List Tally) → (0 < cut) × (cut ≤ 64) → 64 < length block → (0 < length (take cut block)) × (0 < length (drop cut block))
+parts_length cut block some more =
+    let within : cut < length block = omega (arith, some.1, more) in
+    (omega (arith, some.0, within, length-take cut block), omega (arith, within, length-drop cut block))
 
 pub drop_whole : {X : Type 0} (n : ℕ) (xs : List X) → take (length xs - n) (drop n xs) ≡ drop n xs
 drop_whole {X = X} n xs = take_more (drop n xs) (length xs - n) (omega (arith, length-drop n xs))
@@ -432,7 +434,7 @@ place_here tag x xs h = rw h refl
 place_there : (tag : Moment) (x : Tally) (xs : List Tally) → is_before tag x.tag ≡ false → place_of tag (x ∷ xs) ≡ suc (place_of tag xs)
 place_there tag x xs h = rw h (omega arith)
 
-counted_there : (kind : Kind) (tag : Moment) (x : Tally) (xs : List Tally) → is_before tag x.tag ≡ false → counted kind tag (x ∷ xs) ≡ x ∷ counted kind tag xs
+counted_there : (kind : EventOrWithdrawal) (tag : Moment) (x : Tally) (xs : List Tally) → is_before tag x.tag ≡ false → counted kind tag (x ∷ xs) ≡ x ∷ counted kind tag xs
 counted_there kind tag x xs h = ap (λ n. take n (x ∷ xs) ++ map (with_name kind) (drop n (x ∷ xs))) (place_there tag x xs h)
 
 beyond_there_on : (tag : Moment) (x : Tally) (xs : List Tally) → is_before tag x.tag ≡ false → beyond tag (x ∷ xs) ≡ beyond tag xs
@@ -448,7 +450,7 @@ later_place tag x xs (y ∷ ys) ordered h =
     let here = All-right (λ c. is_before c.tag x.tag ≡ false) xs (y ∷ ys) first 0 y (omega arith) in
     place_here tag y ys (still_beyond tag x.tag y.tag h here)
 
-counted_both : (kind : Kind) (tag : Moment) (xs ys : List Tally) → AreInOrder (xs ++ ys) → counted kind tag (xs ++ ys) ≡ counted kind tag xs ++ counted kind tag ys
+counted_both : (kind : EventOrWithdrawal) (tag : Moment) (xs ys : List Tally) → AreInOrder (xs ++ ys) → counted kind tag (xs ++ ys) ≡ counted kind tag xs ++ counted kind tag ys
 counted_both kind tag [] ys ordered = refl
 counted_both kind tag (x ∷ xs) ys ordered = elim (cases_Bool (is_before tag x.tag)) [
   | inl h ↦ counted_all kind tag (x ∷ (xs ++ ys)) (place_here tag x (xs ++ ys) h) ∙ map-append (with_name kind) (x ∷ xs) ys
@@ -468,19 +470,19 @@ beyond_both tag (x ∷ xs) ys ordered = elim (cases_Bool (is_before tag x.tag)) 
       ∙ ap (λ l. l ++ beyond tag ys) (sym (beyond_there_on tag x xs h))
 ]
 
-counted_blocks : (kind : Kind) (tag : Moment) (blocks : List (List Tally)) → AreInOrder (all_of blocks) → all_of (map (counted kind tag) blocks) ≡ counted kind tag (all_of blocks)
+counted_blocks : (kind : EventOrWithdrawal) (tag : Moment) (blocks : List (List Tally)) → AreInOrder (all_of blocks) → all_of (map (counted kind tag) blocks) ≡ counted kind tag (all_of blocks)
 counted_blocks kind tag [] ordered = refl
 counted_blocks kind tag (b ∷ blocks) ordered =
     ap (λ ts. counted kind tag b ++ ts) (counted_blocks kind tag blocks (in_order-right b (all_of blocks) ordered)) ∙ sym (counted_both kind tag b (all_of blocks) ordered)
 
-judged_blocks : (kind : Kind) (tag : Moment) (v : Verdict) (blocks : List (List Tally)) → AreInOrder (all_of blocks) → fold (judged_in kind tag) v blocks ≡ fold with_tally v (map (with_name kind) (beyond tag (all_of blocks)))
+judged_blocks : (kind : EventOrWithdrawal) (tag : Moment) (v : Verdict) (blocks : List (List Tally)) → AreInOrder (all_of blocks) → fold (judged_in kind tag) v blocks ≡ fold with_tally v (map (with_name kind) (beyond tag (all_of blocks)))
 judged_blocks kind tag v [] ordered = refl
 judged_blocks kind tag v (b ∷ blocks) ordered =
     judged_blocks kind tag (judged_in kind tag v b) blocks (in_order-right b (all_of blocks) ordered)
     ∙ sym (fold-append with_tally v (map (with_name kind) (beyond tag b)) (map (with_name kind) (beyond tag (all_of blocks))))
     ∙ ap (fold with_tally v) (sym (map-append (with_name kind) (beyond tag b) (beyond tag (all_of blocks))) ∙ ap (map (with_name kind)) (sym (beyond_both tag b (all_of blocks) ordered)))
 
-front_kept : (kind : Kind) (tag : Moment) (xs ys : List Tally) → All (λ c. is_before tag c.tag ≡ false) xs → counted kind tag (xs ++ ys) ≡ xs ++ counted kind tag ys
+front_kept : (kind : EventOrWithdrawal) (tag : Moment) (xs ys : List Tally) → All (λ c. is_before tag c.tag ≡ false) xs → counted kind tag (xs ++ ys) ≡ xs ++ counted kind tag ys
 front_kept kind tag [] ys none = refl
 front_kept kind tag (x ∷ xs) ys none = counted_there kind tag x (xs ++ ys) (none 0 x (omega arith)) ∙ ap (λ l. x ∷ l) (front_kept kind tag xs ys (λ k d l. none (suc k) d (omega arith)))
 
@@ -493,7 +495,7 @@ all_of-append [] ys = refl
 all_of-append (b ∷ xs) ys = ap (λ ts. b ++ ts) (all_of-append xs ys) ∙ sym (append_assoc b (all_of xs) (all_of ys))
 
 -- where none is beyond the tag, it is counted in none
-pub counted_none : (kind : Kind) (tag : Moment) (xs : List Tally) → All (λ c. is_before tag c.tag ≡ false) xs → counted kind tag xs ≡ xs
+pub counted_none : (kind : EventOrWithdrawal) (tag : Moment) (xs : List Tally) → All (λ c. is_before tag c.tag ≡ false) xs → counted kind tag xs ≡ xs
 counted_none kind tag [] none = refl
 counted_none kind tag (x ∷ xs) none = counted_there kind tag x xs (none 0 x (omega arith)) ∙ ap (λ l. x ∷ l) (counted_none kind tag xs (λ k d l. none (suc k) d (omega arith)))
 
@@ -502,7 +504,7 @@ beyond_none tag [] none = refl
 beyond_none tag (x ∷ xs) none = beyond_there_on tag x xs (none 0 x (omega arith)) ∙ beyond_none tag xs (λ k d l. none (suc k) d (omega arith))
 
 -- counted in the blocks behind a front that has none beyond the tag, it is counted in all
-pub counted_behind : (kind : Kind) (tag : Moment) (blocks : List (List Tally)) (n : ℕ) → AreInOrder (all_of blocks) → All (λ c. is_before tag c.tag ≡ false) (all_of (take n blocks)) →
+pub counted_behind : (kind : EventOrWithdrawal) (tag : Moment) (blocks : List (List Tally)) (n : ℕ) → AreInOrder (all_of blocks) → All (λ c. is_before tag c.tag ≡ false) (all_of (take n blocks)) →
     all_of (take n blocks ++ map (counted kind tag) (drop n blocks)) ≡ counted kind tag (all_of blocks)
 counted_behind kind tag blocks n ordered none =
     all_of-append (take n blocks) (map (counted kind tag) (drop n blocks))
@@ -510,7 +512,7 @@ counted_behind kind tag blocks n ordered none =
     ∙ sym (front_kept kind tag (all_of (take n blocks)) (all_of (drop n blocks)) none)
     ∙ ap (counted kind tag) (all_of-parts blocks n)
 
-pub judged_behind : (kind : Kind) (tag : Moment) (v : Verdict) (blocks : List (List Tally)) (n : ℕ) → AreInOrder (all_of blocks) → All (λ c. is_before tag c.tag ≡ false) (all_of (take n blocks)) →
+pub judged_behind : (kind : EventOrWithdrawal) (tag : Moment) (v : Verdict) (blocks : List (List Tally)) (n : ℕ) → AreInOrder (all_of blocks) → All (λ c. is_before tag c.tag ≡ false) (all_of (take n blocks)) →
     fold (judged_in kind tag) v (drop n blocks) ≡ fold with_tally v (map (with_name kind) (beyond tag (all_of blocks)))
 judged_behind kind tag v blocks n ordered none =
     judged_blocks kind tag v (drop n blocks) (rest_in_order blocks n ordered)
@@ -523,15 +525,15 @@ insert_before [] n block d l = absurd (omega arith)
 insert_before (b ∷ blocks) zero block d l = refl
 insert_before (b ∷ blocks) (suc n) block d l = insert_before blocks n block d (omega arith)
 
-pub split_all : (blocks : List (List Tally)) (at : ℕ) (b m later cut : List Tally) (now : List (List Tally)) → at < length blocks → b ≡ get_or blocks at b → 64 < length b → later ≡ drop 64 b → now ≡ insert blocks (at + 1) later →
-    m ≡ get_or now at m → cut ≡ take 64 m → AreSome blocks → (all_of (set now at cut) ≡ all_of blocks) × AreSome (set now at cut)
-split_all blocks at b m later cut now l is more rest new there front some =
+pub split_all : (stay : ℕ) (blocks : List (List Tally)) (at : ℕ) (b m later cut : List Tally) (now : List (List Tally)) → (0 < stay) × (stay ≤ 64) → at < length blocks → b ≡ get_or blocks at b → 64 < length b → later ≡ drop stay b →
+    now ≡ insert blocks (at + 1) later → m ≡ get_or now at m → cut ≡ take stay m → AreSome blocks → (all_of (set now at cut) ≡ all_of blocks) × AreSome (set now at cut)
+split_all stay blocks at b m later cut now few l is more rest new there front some =
     let next : at + 1 ≡ suc at = omega arith in
     let same : m ≡ b = there ∙ ap (λ (bs : List (List Tally)). get_or bs at m) (new ∙ ap (λ n. insert blocks n later) next) ∙ insert_before blocks at later m l ∙ get_or_default blocks at m b l ∙ sym is in
-    let all : now ≡ insert blocks (suc at) (drop 64 b) = new ∙ (λ i. insert blocks (next i) (rest i)) in
-    let both : set now at cut ≡ set (insert blocks (suc at) (drop 64 b)) at (take 64 b) = λ i. set (all i) at ((front ∙ ap (take 64) same) i) in
-    let halves = half_length b more in
-    (ap all_of both ∙ split_same blocks at b l is, subst AreSome (sym both) (split_some blocks at (take 64 b) (drop 64 b) l halves.0 halves.1 some))
+    let all : now ≡ insert blocks (suc at) (drop stay b) = new ∙ (λ i. insert blocks (next i) (rest i)) in
+    let both : set now at cut ≡ set (insert blocks (suc at) (drop stay b)) at (take stay b) = λ i. set (all i) at ((front ∙ ap (take stay) same) i) in
+    let parts = parts_length stay b few more in
+    (ap all_of both ∙ split_same stay blocks at b l is, subst AreSome (sym both) (split_some blocks at (take stay b) (drop stay b) l parts.0 parts.1 some))
 
 -- Behind an answer
 
@@ -539,7 +541,7 @@ pub ok_then : {T E P Q : Type 0} (r : Result T E) → (P → Q) → OnOk r P →
 ok_then (Ok x) f h = f h
 ok_then (Err e) f h = h
 
-pub counted_some : (kind : Kind) (tag : Moment) (blocks : List (List Tally)) (n : ℕ) → AreSome blocks → AreSome (take n blocks ++ map (counted kind tag) (drop n blocks))
+pub counted_some : (kind : EventOrWithdrawal) (tag : Moment) (blocks : List (List Tally)) (n : ℕ) → AreSome blocks → AreSome (take n blocks ++ map (counted kind tag) (drop n blocks))
 counted_some kind tag [] zero some = some
 counted_some kind tag [] (suc n) some = some
 counted_some kind tag (b ∷ blocks) zero some =
@@ -547,7 +549,7 @@ counted_some kind tag (b ∷ blocks) zero some =
 counted_some kind tag (b ∷ blocks) (suc n) some =
     All-cons (λ x. 0 < length x) b (take n blocks ++ map (counted kind tag) (drop n blocks)) (some 0 b (omega arith)) (counted_some kind tag blocks n (λ k d l. some (suc k) d (omega arith)))
 
-pub length-counted_behind : (kind : Kind) (tag : Moment) (blocks : List (List Tally)) (n : ℕ) → length (take n blocks ++ map (counted kind tag) (drop n blocks)) ≡ length blocks
+pub length-counted_behind : (kind : EventOrWithdrawal) (tag : Moment) (blocks : List (List Tally)) (n : ℕ) → length (take n blocks ++ map (counted kind tag) (drop n blocks)) ≡ length blocks
 length-counted_behind kind tag [] zero = refl
 length-counted_behind kind tag [] (suc n) = refl
 length-counted_behind kind tag (b ∷ blocks) zero = ap (λ n. suc n) (length-counted_behind kind tag blocks zero)

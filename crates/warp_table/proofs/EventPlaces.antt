@@ -3,7 +3,6 @@ use Rattle.std.proofs.Common.{◌≡◌, ◌≢◌, inl, inr, ℕ, ℤ, ◌+◌,
 use Rattle.std.specs.List.{All}
 use Rattle.std.specs.Map.{lookup}
 use Rattle.std.specs.Option.{unwrap_or}
-use Rattle.std.specs.Ordering.{is_eq}
 use Rattle.std.proofs.lemmas.Bool.{both_ways, cases_Bool, false_from_ne_true}
 use Rattle.std.proofs.lemmas.Bool.Decides.{Decides-eqb, Decides-like, same_from_decides}
 use Rattle.std.proofs.lemmas.List.Elements.{All-weaker}
@@ -11,22 +10,22 @@ use Rattle.warp_tag.specs.Moment.{Moment}
 use Rattle.warp_tag.specs.Table.{greater, is_lesser}
 use Rattle.warp_record.specs.declared.record.Record.{Record}
 use Rattle.warp_record.specs.declared.record.Record.TheVariants.{Event, Withdraw, Announce}
-use Rattle.warp_record.specs.Order.{cmp-Decides, record_cmp}
+use Rattle.warp_record.specs.Order.{kind_of}
 use Rattle.warp_table.specs.Log.{IsAt}
 use Rattle.warp_table.specs.Records.{same_record}
 use Rattle.warp_table.specs.declared.rows.Known.{Known}
 use Rattle.warp_table.specs.declared.names.Name.{Name}
 use Rattle.warp_table.specs.declared.table.Parted.{Parted}
 use Rattle.warp_table.specs.inner.Heard.{Heard, earlier_of, with_heard_event, with_tag}
-use Rattle.warp_table.specs.inner.Kept.{HoldsEvent, KeepsPlaces, NotesEvent, counts_less, event_place, is_named, is_this, known_of, nothing_known, other_place, parted_of, payload_at, payload_of, place_in, put_known, put_other, stands, with_event_at, with_withdrawal_at, withdrawal_place}
+use Rattle.warp_table.specs.inner.Kept.{OtherPlaces, HoldsEvent, KeepsPlaces, NotesEvent, counts_less, event_place, is_named, is_this, known_of, nothing_known, other_place, parted_of, payload_at, payload_of, place_in, put_known, put_other, stands, with_event_at, with_withdrawal_at, withdrawal_place}
 use Rattle.warp_table.proofs.FirstNames.{named-Decides}
-use Rattle.warp_table.proofs.Places.{All-found, All-inserted, cond_apart, holds_more, kept_places, last_at, lookup_inserted, lookup_ordered, more_at, record_at-is, record_same, stands-is, stands_apart}
+use Rattle.warp_table.proofs.Places.{All-found, All-inserted, cond_apart, holds_more, kept_places, last_at, lookup_inserted, more_at, record_at-is, record_same, stands-is, stands_apart}
 use Rattle.warp_table.proofs.Sets.{same_record-Decides}
 
 -- One more event, beside the one that its name keeps
 
 -- it is the first
-pub first_noted : (records : List Record) (name : Name) (payload : ℕ × ℤ) (others : List (Record × ℕ)) (own own_now : Heard) →
+pub first_noted : (records : List Record) (name : Name) (payload : ℕ × ℤ) (others : OtherPlaces) (own own_now : Heard) →
     own_now ≡ record own { events = with_tag name.tag own.events } → NotesEvent records name payload 0 (length records + 1) others others own own_now
 first_noted records name payload others own own_now heard =
     let said : Record = Event name.origin name.tag payload.0 payload.1 in
@@ -44,10 +43,8 @@ same_either : (a b : Record) → same_record a b ≡ same_record b a
 same_either a b = same_from_decides (same_record a b) (same_record b a) (same_record-Decides a b) (Decides-like (same_record b a) sym sym (same_record-Decides b a))
 
 -- among the others is one more
-other_put : (others : List (Record × ℕ)) (new other : Record) (place : ℕ) → other_place (put_other others new place) other ≡ (if same_record other new then Some place else other_place others other)
-other_put others new other place =
-    lookup_ordered record_cmp cmp-Decides other others new place
-    ∙ ap (λ b. if b then Some place else other_place others other) (same_from_decides (is_eq (record_cmp other new)) (same_record other new) (cmp-Decides other new) (same_record-Decides other new))
+other_put : (others : OtherPlaces) (new other : Record) (place : ℕ) → other_place (put_other others new place) other ≡ (if same_record other new then Some place else other_place others other)
+other_put others new other place = refl
 
 -- what is found nowhere does not stand where its name keeps one
 found_nowhere : (stands : Bool) (place : ℕ) (other : Option ℕ) → (if stands then Some place else other) ≡ None → stands ≡ false
@@ -55,7 +52,7 @@ found_nowhere true place other none = cc
 found_nowhere false place other none = refl
 
 -- or it is a further one, beside one with this payload
-module _ (records : List Record) (name : Name) (payload before : ℕ × ℤ) (kept : ℕ) (others : List (Record × ℕ)) (own own_now : Heard) where
+module _ (records : List Record) (name : Name) (payload before : ℕ × ℤ) (kept : ℕ) (others : OtherPlaces) (own own_now : Heard) where
   abbrev said : Record
   said = Event name.origin name.tag payload.0 payload.1
 
@@ -103,25 +100,36 @@ module _ (records : List Record) (name : Name) (payload before : ℕ × ℤ) (ke
       }
 
   -- the one that counts less goes to the others
-  pub further_noted : (parted : Parted) (now : List (Record × ℕ)) → IsAt records kept one → event_place records kept others said ≡ None → parted ≡ parted_of records kept said payload →
+  pub further_noted : (parted : Parted) (now : OtherPlaces) → IsAt records kept one → event_place records kept others said ≡ None → parted ≡ parted_of records kept said payload →
       now ≡ put_other others parted.other parted.at → own_now ≡ record own { doubled = Some (earlier_of own.doubled name.tag) } → NotesEvent records name payload kept parted.event others now own own_now
   further_noted parted now at none is put heard = elim (cases_Bool (is_lesser before payload)) [
     | inl lesser ↦
         (let p : parted ≡ record { other = one; at = kept; event = length records + 1 } =
         is ∙ ap (λ (o : Option Record). if counts_less (payload_of o) payload then record { other = unwrap_or o said; at = kept; event = length records + 1 } else record { other = said; at = length records + 1; event = kept }) (record_at-is records kept one at)
         ∙ ap (λ b. if b then record { other = one; at = kept; event = length records + 1 } else record { other = said; at = length records + 1; event = kept }) lesser in
-        subst (λ (o : List (Record × ℕ)). NotesEvent records name payload kept parted.event others o own own_now) (sym (put ∙ ap (λ (q : Parted). put_other others q.other q.at) p))
+        subst (λ (o : OtherPlaces). NotesEvent records name payload kept parted.event others o own own_now) (sym (put ∙ ap (λ (q : Parted). put_other others q.other q.at) p))
         (subst (λ (q : Parted). NotesEvent records name payload kept q.event others (put_other others one kept) own own_now) (sym p) (greater_noted at none lesser heard)))
     | inr least ↦
         (let p : parted ≡ record { other = said; at = length records + 1; event = kept } =
         is ∙ ap (λ (o : Option Record). if counts_less (payload_of o) payload then record { other = unwrap_or o said; at = kept; event = length records + 1 } else record { other = said; at = length records + 1; event = kept }) (record_at-is records kept one at)
         ∙ ap (λ b. if b then record { other = one; at = kept; event = length records + 1 } else record { other = said; at = length records + 1; event = kept }) least in
-        subst (λ (o : List (Record × ℕ)). NotesEvent records name payload kept parted.event others o own own_now) (sym (put ∙ ap (λ (q : Parted). put_other others q.other q.at) p))
+        subst (λ (o : OtherPlaces). NotesEvent records name payload kept parted.event others o own own_now) (sym (put ∙ ap (λ (q : Parted). put_other others q.other q.at) p))
         (subst (λ (q : Parted). NotesEvent records name payload kept q.event others (put_other others said (length records + 1)) own own_now) (sym p) (lesser_noted at none least heard)))
   ]
 
+  -- and is an event
+  pub parted_kind : (parted : Parted) → IsAt records kept one → parted ≡ parted_of records kept said payload → kind_of parted.other ≡ 0
+  parted_kind parted at is = elim (cases_Bool (is_lesser before payload)) [
+    | inl lesser ↦
+        ap (λ (q : Parted). kind_of q.other) (is ∙ ap (λ (o : Option Record). if counts_less (payload_of o) payload then record { other = unwrap_or o said; at = kept; event = length records + 1 } else record { other = said; at = length records + 1; event = kept }) (record_at-is records kept one at)
+        ∙ ap (λ b. if b then record { other = one; at = kept; event = length records + 1 } else record { other = said; at = length records + 1; event = kept }) lesser)
+    | inr least ↦
+        ap (λ (q : Parted). kind_of q.other) (is ∙ ap (λ (o : Option Record). if counts_less (payload_of o) payload then record { other = unwrap_or o said; at = kept; event = length records + 1 } else record { other = said; at = length records + 1; event = kept }) (record_at-is records kept one at)
+        ∙ ap (λ b. if b then record { other = one; at = kept; event = length records + 1 } else record { other = said; at = length records + 1; event = kept }) least)
+  ]
+
 -- the same of what is kept and noted by these names
-pub first_event : (records : List Record) (name : Name) (payload : ℕ × ℤ) (kept event : ℕ) (others : List (Record × ℕ)) (own own_now : Heard) → kept ≡ 0 → event ≡ length records + 1 →
+pub first_event : (records : List Record) (name : Name) (payload : ℕ × ℤ) (kept event : ℕ) (others : OtherPlaces) (own own_now : Heard) → kept ≡ 0 → event ≡ length records + 1 →
     own_now ≡ record own { events = with_tag name.tag own.events } → NotesEvent records name payload kept event others others own own_now
 first_event records name payload kept event others own own_now none last heard =
     subst (λ (k : ℕ). NotesEvent records name payload k event others others own own_now) (sym none)
@@ -174,7 +182,7 @@ holds_own records names name all = by (lookup (is_named name.origin name.tag) na
 
 -- Of other names nothing changes
 
-module _ (records : List Record) (names : List (Name × Known)) (others : List (Record × ℕ)) (h : KeepsPlaces records names others) where
+module _ (records : List Record) (names : List (Name × Known)) (others : OtherPlaces) (h : KeepsPlaces records names others) where
   -- the event that a name keeps is found as before
   stands_same : (new other : Record) (name : Name) → stands (records ++ new ∷ []) (known_of name names).event other ≡ stands records (known_of name names).event other
   stands_same new other name = ap (λ (o : Option Record). is_this o other) (record_same records new name (known_of name names).event (holds_own records names name h.events))
@@ -191,7 +199,7 @@ module _ (records : List Record) (names : List (Name × Known)) (others : List (
 
   -- One more event
 
-  module _ (now : List (Record × ℕ)) (name : Name) (payload : ℕ × ℤ) (event : ℕ) (own own_now : Heard) (n : NotesEvent records name payload (known_of name names).event event others now own own_now) where
+  module _ (now : OtherPlaces) (name : Name) (payload : ℕ × ℤ) (event : ℕ) (own own_now : Heard) (n : NotesEvent records name payload (known_of name names).event event others now own own_now) where
     abbrev event_said : Record
     event_said = Event name.origin name.tag payload.0 payload.1
 

@@ -1,4 +1,5 @@
 pub mod Places
+pub mod RisingRecords
 pub mod EventPlaces
 pub mod Sizes
 pub mod Allowed
@@ -30,3 +31,4 @@ pub mod Heard
 pub mod HeardNews
 pub mod LeastReach
 pub mod SomeHeard
+pub mod NoRecords

@@ -21,7 +21,7 @@ use Rattle.warp_table.specs.Log.{EachOnce, IsAt}
 use Rattle.warp_table.specs.Records.{same_record}
 use Rattle.warp_table.specs.declared.rows.Known.{Known}
 use Rattle.warp_table.specs.declared.names.Name.{Name}
-use Rattle.warp_table.specs.inner.Kept.{HoldsEvent, KeepsPlaces, is_this, place_in, record_at, stands, with_value}
+use Rattle.warp_table.specs.inner.Kept.{OtherPlaces, HoldsEvent, KeepsPlaces, is_this, place_in, record_at, stands, with_value}
 use Rattle.warp_table.proofs.Sets.{same_record-Decides}
 
 -- The record at a place
@@ -182,7 +182,7 @@ module _ {K V : Type 0} (cmp : K → K → Ordering) (is : (a b : K) → Decides
 -- The places after one more record
 
 -- Where the places are those of before, and that of a new record comes behind the last one, they are those of the records
-module _ (records : List Record) (names now_names : List (Name × Known)) (others now_others : List (Record × ℕ)) (new : Record) where
+module _ (records : List Record) (names now_names : List (Name × Known)) (others now_others : OtherPlaces) (new : Record) where
   -- the new record is found at the last place, and the others where they were
   abbrev pub IsPlaced : Type 0
   IsPlaced = (said : Record) → place_in (records ++ new ∷ []) now_names now_others said ≡ (if same_record new said then Some (length records + 1) else place_in records names others said)
@@ -210,7 +210,7 @@ module _ (records : List Record) (names now_names : List (Name × Known)) (other
 -- What the places are good for
 
 -- no record stands at two places
-pub each_once : (records : List Record) (names : List (Name × Known)) (others : List (Record × ℕ)) → KeepsPlaces records names others → EachOnce records
+pub each_once : (records : List Record) (names : List (Name × Known)) (others : OtherPlaces) → KeepsPlaces records names others → EachOnce records
 each_once records names others h = λ i j d before within same.
     let first : IsAt records (i + 1) (get_or records j d) = place_at i d (omega (arith, before, within)) (get_or records j d) same in
     let second : IsAt records (j + 1) (get_or records j d) = place_at j d within (get_or records j d) refl in
@@ -224,14 +224,14 @@ each_once records names others h = λ i j d before within same.
         (omega arith, ap (slice_get records) same ∙ slice_get-get_or records k d within ∙ ap Some is)
 
 -- a record that has no place is not there
-pub not_there : (records : List Record) (names : List (Name × Known)) (others : List (Record × ℕ)) (said : Record) → KeepsPlaces records names others → place_in records names others said ≡ None → Contains records said → ⊥
+pub not_there : (records : List Record) (names : List (Name × Known)) (others : OtherPlaces) (said : Record) → KeepsPlaces records names others → place_in records names others said ≡ None → Contains records said → ⊥
 not_there records names others said h none has =
     let at = some_place records said has in
     let both : None ≡ Some at.0 = sym none ∙ h.found said at.0 at.1 in
     cc
 
 -- what is found is the record's place
-pub place_told : (records : List Record) (names : List (Name × Known)) (others : List (Record × ℕ)) (said : Record) (found : Option ℕ) → KeepsPlaces records names others → length records ≤ most_records →
+pub place_told : (records : List Record) (names : List (Name × Known)) (others : OtherPlaces) (said : Record) (found : Option ℕ) → KeepsPlaces records names others → length records ≤ most_records →
     found ≡ place_in records names others said → IfSome found (λ place. IsAt records place said × (place ≤ most_records))
 place_told records names others said None h few is = tt
 place_told records names others said (Some place) h few is =
@@ -239,7 +239,7 @@ place_told records names others said (Some place) h few is =
     (at, omega (arith, few, slice_get_within records (place - 1) said at.1))
 
 -- and where none is found it is not there
-pub place_lacks : (records : List Record) (names : List (Name × Known)) (others : List (Record × ℕ)) (said : Record) (found : Option ℕ) → KeepsPlaces records names others →
+pub place_lacks : (records : List Record) (names : List (Name × Known)) (others : OtherPlaces) (said : Record) (found : Option ℕ) → KeepsPlaces records names others →
     found ≡ place_in records names others said → IfNone found (Contains records said → ⊥)
 place_lacks records names others said None h is = not_there records names others said h (sym is)
 place_lacks records names others said (Some place) h is = tt

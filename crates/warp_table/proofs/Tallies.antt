@@ -14,8 +14,8 @@ use Rattle.warp_tag.specs.Moment.{Moment, is_before}
 use Rattle.warp_tag.proofs.Tags.{before_trans, not_before_self}
 use Rattle.warp_table.specs.inner.Heard.{Announced, Heard, IsExceeded, IsExceededBy, IsHeardTo, IsReachedBy, earlier_of, with_tag}
 use Rattle.warp_table.specs.inner.Tally.{AreInOrder, AreKept, Counts, IsVerdict, announcement_of, before_of, beyond, counted, has_doubled, is_exceeded, is_met, place_of, with_name, with_tally}
-use Rattle.warp_table.specs.declared.tally.Kind.{Kind}
-use Rattle.warp_table.specs.declared.tally.Kind.TheVariants.{Event, Withdrawal}
+use Rattle.warp_table.specs.declared.tally.EventOrWithdrawal.{EventOrWithdrawal}
+use Rattle.warp_table.specs.declared.tally.EventOrWithdrawal.TheVariants.{Event, Withdrawal}
 use Rattle.warp_table.specs.declared.tally.Tally.{Tally}
 use Rattle.warp_table.specs.declared.tally.Verdict.{Verdict}
 use Rattle.warp_table.proofs.Members.{All-insert, AllPairs-first, AllPairs-one, AllPairs-tail, Contains-cases, Contains-here, Contains-insert, Contains-from_insert, Contains-there, Contains-map, Contains-from_map, Contains-nil}
@@ -23,23 +23,23 @@ use Rattle.warp_table.proofs.InOrder.{ascending-with_tag, before_not_behind, cou
 
 -- One more name before its tag
 
-pub tag-with_name : (kind : Kind) (c : Tally) → (with_name kind c).tag ≡ c.tag
+pub tag-with_name : (kind : EventOrWithdrawal) (c : Tally) → (with_name kind c).tag ≡ c.tag
 tag-with_name Event c = refl
 tag-with_name Withdrawal c = refl
 
-met-with_name : (kind : Kind) (c : Tally) → is_met c ≡ true → is_met (with_name kind c) ≡ true
+met-with_name : (kind : EventOrWithdrawal) (c : Tally) → is_met c ≡ true → is_met (with_name kind c) ≡ true
 met-with_name Event c h = grind (arith, nat_tests)
 met-with_name Withdrawal c h = grind (arith, nat_tests)
 
-exceeded-with_name : (kind : Kind) (c : Tally) → is_exceeded c ≡ true → is_exceeded (with_name kind c) ≡ true
+exceeded-with_name : (kind : EventOrWithdrawal) (c : Tally) → is_exceeded c ≡ true → is_exceeded (with_name kind c) ≡ true
 exceeded-with_name Event c h = grind (arith, nat_tests)
 exceeded-with_name Withdrawal c h = grind (arith, nat_tests)
 
-doubled-with_name : (kind : Kind) (doubled : Option Moment) (c : Tally) → has_doubled doubled (with_name kind c) ≡ has_doubled doubled c
+doubled-with_name : (kind : EventOrWithdrawal) (doubled : Option Moment) (c : Tally) → has_doubled doubled (with_name kind c) ≡ has_doubled doubled c
 doubled-with_name kind None c = refl
 doubled-with_name kind (Some t) c = ap (is_before t) (tag-with_name kind c)
 
-announcement-with_name : (kind : Kind) (c : Tally) → announcement_of (with_name kind c) ≡ announcement_of c
+announcement-with_name : (kind : EventOrWithdrawal) (c : Tally) → announcement_of (with_name kind c) ≡ announcement_of c
 announcement-with_name Event c = refl
 announcement-with_name Withdrawal c = refl
 
@@ -123,7 +123,7 @@ broken_more false false false true h = refl
 broken_more false false false false h = refl
 
 -- the verdict where a name is counted in the later ones
-verdict_counted : (kind : Kind) (doubled : Option Moment) (front later : List Tally) (v : Verdict) → IsVerdict doubled (front ++ later) v → IsVerdict doubled (front ++ map (with_name kind) later) (fold with_tally v (map (with_name kind) later))
+verdict_counted : (kind : EventOrWithdrawal) (doubled : Option Moment) (front later : List Tally) (v : Verdict) → IsVerdict doubled (front ++ later) v → IsVerdict doubled (front ++ map (with_name kind) later) (fold with_tally v (map (with_name kind) later))
 verdict_counted kind doubled front later v was =
     let after : List Tally = map (with_name kind) later in
     let all : List Tally = front ++ after in
@@ -164,7 +164,7 @@ map-same : {Y : Type 0} (g : Tally → Y) (f : Tally → Tally) → ((c : Tally)
 map-same g f same [] = refl
 map-same g f same (x ∷ xs) = ap (λ y. y ∷ map g (map f xs)) (same x) ∙ ap (λ ys. g x ∷ ys) (map-same g f same xs)
 
-map-counted : {Y : Type 0} (g : Tally → Y) (kind : Kind) → ((c : Tally) → g (with_name kind c) ≡ g c) → (tag : Moment) (xs : List Tally) → map g (counted kind tag xs) ≡ map g xs
+map-counted : {Y : Type 0} (g : Tally → Y) (kind : EventOrWithdrawal) → ((c : Tally) → g (with_name kind c) ≡ g c) → (tag : Moment) (xs : List Tally) → map g (counted kind tag xs) ≡ map g xs
 map-counted g kind same tag xs =
     let n = place_of tag xs in
     map-append g (take n xs) (map (with_name kind) (drop n xs))
@@ -172,10 +172,10 @@ map-counted g kind same tag xs =
     ∙ sym (map-append g (take n xs) (drop n xs))
     ∙ ap (map g) (take-append-drop n xs)
 
-pub announced-counted : (kind : Kind) (tag : Moment) (xs : List Tally) → map announcement_of (counted kind tag xs) ≡ map announcement_of xs
+pub announced-counted : (kind : EventOrWithdrawal) (tag : Moment) (xs : List Tally) → map announcement_of (counted kind tag xs) ≡ map announcement_of xs
 announced-counted kind tag xs = map-counted announcement_of kind (announcement-with_name kind) tag xs
 
-pub length-counted : (kind : Kind) (tag : Moment) (xs : List Tally) → length (counted kind tag xs) ≡ length xs
+pub length-counted : (kind : EventOrWithdrawal) (tag : Moment) (xs : List Tally) → length (counted kind tag xs) ≡ length xs
 length-counted kind tag xs =
     sym (length-map (counted kind tag xs) announcement_of) ∙ ap length (announced-counted kind tag xs) ∙ length-map xs announcement_of
 
@@ -211,7 +211,7 @@ All-from_both : (P Q R : Tally → Type 0) → ((c : Tally) → P c → Q c → 
 All-from_both P Q R f xs p q = λ k d l. f (get_or xs k d) (p k d l) (q k d l)
 
 -- where a name is counted beyond its tag, the tallies count it
-counts_more : (N : Tally → Type 0) (C : Tally → Type 0) (kind : Kind) (tag : Moment) →
+counts_more : (N : Tally → Type 0) (C : Tally → Type 0) (kind : EventOrWithdrawal) (tag : Moment) →
     ((c : Tally) → C c → is_before tag c.tag ≡ false → N c) → ((c : Tally) → C c → is_before tag c.tag ≡ true → N (with_name kind c)) →
     (xs : List Tally) → AreInOrder xs → All C xs → All N (counted kind tag xs)
 counts_more N C kind tag front later xs ordered all =
@@ -220,7 +220,7 @@ counts_more N C kind tag front later xs ordered all =
     (All-from_both C (λ c. is_before tag c.tag ≡ false) N front (take n xs) (All-take C n xs all) (front_not_beyond tag xs))
     (All-map N (with_name kind) (drop n xs) (All-from_both C (λ c. is_before tag c.tag ≡ true) (λ c. N (with_name kind c)) later (drop n xs) (All-drop C n xs all) (are_beyond tag xs ordered)))
 
-verdict_more : (kind : Kind) (doubled : Option Moment) (tag : Moment) (xs : List Tally) (v : Verdict) → IsVerdict doubled xs v → IsVerdict doubled (counted kind tag xs) (fold with_tally v (map (with_name kind) (beyond tag xs)))
+verdict_more : (kind : EventOrWithdrawal) (doubled : Option Moment) (tag : Moment) (xs : List Tally) (v : Verdict) → IsVerdict doubled xs v → IsVerdict doubled (counted kind tag xs) (fold with_tally v (map (with_name kind) (beyond tag xs)))
 verdict_more kind doubled tag xs v was =
     let n = place_of tag xs in
     verdict_counted kind doubled (take n xs) (drop n xs) v (subst (λ (ys : List Tally). IsVerdict doubled ys v) (sym (take-append-drop n xs)) was)

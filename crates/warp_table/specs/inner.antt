@@ -1,4 +1,5 @@
 pub mod Kept
+pub mod Others
 pub mod Heard
 pub mod Blocks
 pub mod Tally

@@ -13,7 +13,7 @@ ghost use Rattle.warp_table.specs.inner.Tally.{counted, fits, judged_in, no_name
 ghost use Rattle.warp_table.specs.inner.Tally.{with_tally};
 
 use crate::tags::{Tagged, place};
-use crate::tally::{Kind, Numbers, Tally, Verdict};
+use crate::tally::{EventOrWithdrawal, Numbers, Tally, Verdict};
 use std::alloc::{AllocError, Global};
 use std::marker::Model;
 use warp_tag::Tag;
@@ -23,7 +23,7 @@ const HALF: usize = 64;
 
 /// Counts one more name in each of these announcements, and adds them to the verdict.
 #[inline(never)]
-fn count_in(later: &mut [Tally], kind: Kind, mut verdict: Verdict) -> Verdict
+fn count_in(later: &mut [Tally], kind: EventOrWithdrawal, mut verdict: Verdict) -> Verdict
     requires { All (λ t. before_of kind t + 1 < 2 ^ 64) later.old }
     ensures tallies { later.new ≡ map (with_name kind) later.old }
     ensures judged { result ≡ fold with_tally verdict later.new }
@@ -37,7 +37,7 @@ fn count_in(later: &mut [Tally], kind: Kind, mut verdict: Verdict) -> Verdict
 
 /// Counts a new name in the announcements beyond its tag, and judges these anew.
 #[inline(always)]
-fn count_name(announced: &mut [Tally], tag: Tag, kind: Kind, verdict: &mut Verdict)
+fn count_name(announced: &mut [Tally], tag: Tag, kind: EventOrWithdrawal, verdict: &mut Verdict)
     requires in_order { AreInOrder announced.old }
     requires room { All (λ t. before_of kind t + 1 < 2 ^ 64) announced.old }
     ensures tallies { announced.new ≡ counted kind tag announced.old }
@@ -135,11 +135,28 @@ impl Block {
         })
     }
 
-    /// Whether it is to take no further one.
-    fn is_full(&self) -> bool
+    /// Whether one of this tag goes in front of all of them.
+    fn begins_beyond(&self, tag: Tag) -> bool {
+        let Some(first) = self.tallies.first() else {
+            return false;
+        };
+        tag.is_before(first.tag)
+    }
+
+    /// Whether it is to take no further one of this tag. What comes newest first goes in front of all, and moves all of
+    /// a block, so it gets a new block earlier.
+    fn is_full(&self, tag: Tag) -> bool
         ensures { result ≡ true → 64 < length self.now }
     {
-        self.tallies.len() >= 2 * HALF
+        let count = self.tallies.len();
+        count >= 2 * HALF || (count > HALF && self.begins_beyond(tag))
+    }
+
+    /// So many stay in front where it is parted for one of this tag: one, where that goes in front of all, and else half.
+    fn stay(&self, tag: Tag) -> usize
+        ensures { (0 < result) × (result ≤ 64) }
+    {
+        if self.begins_beyond(tag) { 1 } else { HALF }
     }
 
     /// Whether one of them is beyond the tag.
@@ -165,7 +182,7 @@ impl Block {
     }
 
     /// Counts a new name in the announcements beyond its tag, and judges these anew.
-    fn count_among(&mut self, tag: Tag, kind: Kind, verdict: &mut Verdict)
+    fn count_among(&mut self, tag: Tag, kind: EventOrWithdrawal, verdict: &mut Verdict)
         requires in_order { AreInOrder self.old }
         requires room { All (λ t. before_of kind t + 1 < 2 ^ 64) self.old }
         ensures tallies { self.new ≡ counted kind tag self.old }
@@ -177,7 +194,7 @@ impl Block {
     }
 
     /// Counts a new name in the announcements beyond its tag. A verdict that has them all judged is brought up to date.
-    fn count_name(&mut self, tag: Tag, kind: Kind, verdict: &mut Verdict)
+    fn count_name(&mut self, tag: Tag, kind: EventOrWithdrawal, verdict: &mut Verdict)
         requires some { 0 < length self.old }
         requires in_order { AreInOrder self.old }
         requires room { All (λ t. before_of kind t + 1 < 2 ^ 64) self.old }
@@ -280,7 +297,7 @@ fn first_beyond(blocks: &[Block], tag: Tag) -> usize
 }
 
 /// Counts a new name in each of these blocks.
-fn count_in_blocks(blocks: &mut [Block], tag: Tag, kind: Kind, verdict: &mut Verdict)
+fn count_in_blocks(blocks: &mut [Block], tag: Tag, kind: EventOrWithdrawal, verdict: &mut Verdict)
     requires some { AreSome blocks.old }
     requires in_order { AreInOrder (all_of blocks.old) }
     requires room { All (λ t. before_of kind t + 1 < 2 ^ 64) (all_of blocks.old) }
@@ -295,7 +312,13 @@ fn count_in_blocks(blocks: &mut [Block], tag: Tag, kind: Kind, verdict: &mut Ver
 
 /// Counts a new name in each of these blocks from this place on.
 #[inline(always)]
-fn count_behind(blocks: &mut [Block], first: usize, tag: Tag, kind: Kind, verdict: &mut Verdict)
+fn count_behind(
+    blocks: &mut [Block],
+    first: usize,
+    tag: Tag,
+    kind: EventOrWithdrawal,
+    verdict: &mut Verdict,
+)
     requires within { first ≤ length blocks.old }
     requires some { AreSome (drop first blocks.old) }
     requires in_order { AreInOrder (all_of (drop first blocks.old)) }
@@ -320,7 +343,7 @@ fn put_last(blocks: &mut Vec<Block>, tally: Tally) -> Result<(), AllocError>
     ensures err { OnErr result (all_of blocks.new.items ≡ all_of blocks.old.items) }
 {
     let count = blocks.len();
-    if count > 0 && !blocks[count - 1].is_full() {
+    if count > 0 && !blocks[count - 1].is_full(tally.tag) {
         return blocks[count - 1].insert(tally);
     }
     let block = Block::of(tally, *blocks.allocator())?;
@@ -328,29 +351,30 @@ fn put_last(blocks: &mut Vec<Block>, tally: Tally) -> Result<(), AllocError>
     Ok(())
 }
 
-/// Splits a block into halves where it is full. The announcements stay, also on an `Err`.
-fn split_if_full(blocks: &mut Vec<Block>, at: usize) -> Result<(), AllocError>
+/// Parts a block in two where it is full for one more of this tag. The announcements stay, also on an `Err`.
+fn split_if_full(blocks: &mut Vec<Block>, at: usize, tag: Tag) -> Result<(), AllocError>
     requires some { AreSome blocks.old.items }
     requires within { at < length blocks.old.items }
     ensures some { AreSome blocks.new.items }
     ensures same { all_of blocks.new.items ≡ all_of blocks.old.items }
 {
-    if !blocks[at].is_full() {
+    if !blocks[at].is_full(tag) {
         return Ok(());
     }
-    let later = blocks[at].copy_from(HALF)?;
+    let stay = blocks[at].stay(tag);
+    let later = blocks[at].copy_from(stay)?;
     blocks.insert(at + 1, later)?;
-    blocks[at].cut(HALF);
+    blocks[at].cut(stay);
     Ok(())
 }
 
 /// The announcements of one origin, seen as their list.
 #[derive(Drop)]
-pub(crate) struct Announced {
+pub(crate) struct Announcements {
     blocks: Vec<Block>,
 }
 
-impl Model for Announced {
+impl Model for Announcements {
     ghost use Rattle.std.specs.Prelude.{List};
     ghost use Rattle.warp_table.specs.declared.tally.Tally.{Tally};
     ghost use Rattle.warp_table.specs.inner.Tally.{AreSome, all_of};
@@ -362,12 +386,12 @@ impl Model for Announced {
     ghost invariant = { λ a. AreSome a.blocks.items };
 }
 
-impl Announced {
+impl Announcements {
     /// None yet. They grow in `alloc`.
-    pub(crate) fn new(alloc: Global) -> Announced
+    pub(crate) fn new(alloc: Global) -> Announcements
         ensures { result ≡ [] }
     {
-        Announced {
+        Announcements {
             blocks: Vec::new(alloc),
         }
     }
@@ -394,7 +418,7 @@ impl Announced {
 
     /// Counts a new name in the announcements beyond its tag. A verdict that has them all judged is brought up to date.
     #[inline(always)]
-    pub(crate) fn count_name(&mut self, tag: Tag, kind: Kind, verdict: &mut Verdict)
+    pub(crate) fn count_name(&mut self, tag: Tag, kind: EventOrWithdrawal, verdict: &mut Verdict)
         requires in_order { AreInOrder self.old }
         requires room { All (λ t. before_of kind t + 1 < 2 ^ 64) self.old }
         requires judged { All (IsJudged verdict.old) self.old }
@@ -415,10 +439,10 @@ impl Announced {
         if at == self.blocks.len() {
             return put_last(&mut self.blocks, tally);
         }
-        if !self.blocks[at].is_full() {
+        if !self.blocks[at].is_full(tally.tag) {
             return self.blocks[at].insert(tally);
         }
-        split_if_full(&mut self.blocks, at)?;
+        split_if_full(&mut self.blocks, at, tally.tag)?;
         let at = first_beyond(&self.blocks, tally.tag);
         self.blocks[at].insert(tally)
     }

@@ -3,13 +3,13 @@
 //! Each announcement has how many names are before its tag. A new name is counted in the announcements beyond it
 //! (`announced.rt`), so that what comes in order of tag costs no pass over what came before.
 ghost use Rattle.std.specs.Prelude.{◌≡◌, ◌↔◌, ◌⊎◌, Contains, IsTrue, OnOk, OnErr, false};
-ghost use Rattle.warp_table.specs.inner.Heard.{Announced as Said, IsExceeded, IsHeardTo, earlier_of, nothing_heard};
+ghost use Rattle.warp_table.specs.inner.Heard.{Announced, IsExceeded, IsHeardTo, earlier_of, nothing_heard};
 ghost use Rattle.warp_table.specs.inner.Heard.{with_tag};
 ghost use Rattle.warp_table.specs.inner.Tally.{tags_of, with_noted};
 
-use crate::announced::Announced;
+use crate::announced::Announcements;
 use crate::tag_log::TagLog;
-use crate::tally::{Kind, Tally, Verdict};
+use crate::tally::{EventOrWithdrawal, Tally, Verdict};
 use std::alloc::{AllocError, Global};
 use std::marker::Model;
 use warp_tag::Tag;
@@ -30,7 +30,7 @@ pub(crate) struct Announcer {
     events: TagLog,
     withdrawn: TagLog,
     doubled: Option<Tag>,
-    announced: Announced,
+    announced: Announcements,
     verdict: Verdict,
 }
 
@@ -61,7 +61,7 @@ impl Announcer {
             events: TagLog::new(alloc),
             withdrawn: TagLog::new(alloc),
             doubled: None,
-            announced: Announced::new(alloc),
+            announced: Announcements::new(alloc),
             verdict: Verdict {
                 reached: Tag::default(),
                 is_broken: false,
@@ -78,7 +78,7 @@ impl Announcer {
     {
         self.events.insert(tag)?;
         self.announced
-            .count_name(tag, Kind::Event, &mut self.verdict);
+            .count_name(tag, EventOrWithdrawal::Event, &mut self.verdict);
         Ok(())
     }
 
@@ -103,20 +103,20 @@ impl Announcer {
     {
         self.withdrawn.insert(tag)?;
         self.announced
-            .count_name(tag, Kind::Withdrawal, &mut self.verdict);
+            .count_name(tag, EventOrWithdrawal::Withdrawal, &mut self.verdict);
         Ok(())
     }
 
     /// Notes a new name that has an event, or a withdrawal. An `Err` changes nothing.
     #[inline(always)]
-    pub(crate) fn note(&mut self, kind: Kind, tag: Tag) -> Result<(), AllocError>
+    pub(crate) fn note(&mut self, kind: EventOrWithdrawal, tag: Tag) -> Result<(), AllocError>
         requires { ¬ Contains (tags_of kind self.old) tag }
         ensures ok { OnOk result (self.new ≡ with_noted kind tag self.old) }
         ensures err { OnErr result (self.new ≡ self.old) }
     {
         match kind {
-            Kind::Event => self.note_event(tag),
-            Kind::Withdrawal => self.note_withdrawal(tag),
+            EventOrWithdrawal::Event => self.note_event(tag),
+            EventOrWithdrawal::Withdrawal => self.note_withdrawal(tag),
         }
     }
 
@@ -137,7 +137,7 @@ impl Announcer {
         events: u32,
         withdrawn: u32,
     ) -> Result<(), AllocError>
-        ensures announced { OnOk result ((a : Said) → Contains self.new.announced a ↔
+        ensures announced { OnOk result ((a : Announced) → Contains self.new.announced a ↔
             Contains self.old.announced a ⊎ (a ≡ record { tag = tag; events = events; withdrawn = withdrawn })) }
         ensures ok { OnOk result (self.new ≡ record self.old { announced = self.new.announced }) }
         ensures err { OnErr result (self.new ≡ self.old) }

@@ -12,12 +12,13 @@ mod blocks;
 mod honest_law;
 mod law;
 mod names;
+mod noting;
+mod others;
 mod rows;
 mod table;
 mod tag_log;
 mod tags;
 mod tally;
-mod ways;
 
 pub use honest_law::{honest_within, later_horizon, one_horizon, same_below, some_reach};
 pub use law::{

@@ -4,7 +4,7 @@ ghost use Rattle.warp_table.specs.inner.NamesByOrigin.{rows_at};
 
 use crate::announcer::Announcer;
 use crate::rows::{Known, Rows};
-use crate::tally::Kind;
+use crate::tally::EventOrWithdrawal;
 use std::alloc::Global;
 use std::marker::Model;
 use warp_tag::{OutOfMemory, Tag};
@@ -142,7 +142,7 @@ impl Names {
         &mut self,
         name: Name,
         known: Known,
-        kind: Kind,
+        kind: EventOrWithdrawal,
         announcer: &mut Announcer,
     ) -> Result<(), OutOfMemory>
         requires new { lookup (is_named name.origin name.tag) self.old ≡ None }

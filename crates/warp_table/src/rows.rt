@@ -10,7 +10,7 @@ ghost use Rattle.warp_table.specs.inner.NamesByOrigin.{AreInOrder, IsWith, row_o
 
 use crate::announcer::Announcer;
 use crate::blocks::{Tagged, block_near, has_room_beyond_all, make_room_anywhere, put, put_last};
-use crate::tally::Kind;
+use crate::tally::EventOrWithdrawal;
 use std::alloc::Global;
 use std::marker::Model;
 use warp_tag::{OutOfMemory, Tag};
@@ -74,7 +74,7 @@ impl Tagged for NameRow {
 
 /// The place of the first row that is not before the tag, sought by halves.
 #[inline(never)]
-fn place_by_halves(rows: &[NameRow], tag: Tag) -> usize
+fn row_by_halves(rows: &[NameRow], tag: Tag) -> usize
     requires { AreInOrder rows.now }
     ensures place { result ≡ row_place tag rows.now }
     ensures within { result ≤ length rows.now }
@@ -94,7 +94,7 @@ fn place_of(rows: &[NameRow], tag: Tag) -> usize
         return rows.len();
     }
     if tag.is_before(last.tag) {
-        return place_by_halves(rows, tag);
+        return row_by_halves(rows, tag);
     }
     rows.len() - 1
 }
@@ -276,7 +276,7 @@ impl Rows {
         &mut self,
         tag: Tag,
         known: Known,
-        kind: Kind,
+        kind: EventOrWithdrawal,
         announcer: &mut Announcer,
     ) -> Result<(), OutOfMemory>
         requires new { row_of tag self.old ≡ None }

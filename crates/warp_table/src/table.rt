@@ -22,16 +22,17 @@ ghost use Rattle.warp_table.specs.Records.{set_of};
 ghost use Rattle.warp_table.specs.LogNames.{names_of};
 ghost use Rattle.warp_table.specs.inner.Heard.{AreHeard};
 ghost use Rattle.warp_table.specs.inner.Kept.{Keeps, counts_less, entry_of};
-ghost use Rattle.warp_table.specs.inner.Kept.{event_place, known_of, other_place, parted_of, payload_at};
+ghost use Rattle.warp_table.specs.inner.Kept.{event_place, known_of, parted_of, payload_at};
 ghost use Rattle.warp_table.specs.inner.Kept.{place_in};
 ghost use Rattle.warp_table.specs.inner.Kept.{record_at, stands};
+ghost use Rattle.warp_table.specs.inner.Others.{places};
 
 use crate::announcer::Announcer;
 use crate::names::{Name, Names};
+use crate::noting::{note, note_last};
+use crate::others::Others;
 use crate::rows::Known;
-use crate::ways::{note, note_last};
 use std::alloc::Global;
-use std::collections::BTreeMap;
 use std::marker::Model;
 use warp_record::{Record, Refusal};
 use warp_step::Program;
@@ -66,7 +67,7 @@ pub struct Table {
     records: Vec<Record>,
     names: Names,
     /// Of announcements, and of the events of a name that has one with a greater payload.
-    others: BTreeMap<Record, u32>,
+    others: Others,
     announcers: Vec<Announcer>,
 }
 
@@ -76,12 +77,13 @@ impl Model for Table {
     ghost use Rattle.warp_tag.specs.Limits.{most_records};
     ghost use Rattle.warp_table.specs.inner.Heard.{AreHeard};
     ghost use Rattle.warp_table.specs.inner.Kept.{Keeps};
+    ghost use Rattle.warp_table.specs.inner.Others.{places};
 
     ghost Value = { List Record };
 
     ghost view = { λ t. t.records.items };
 
-    ghost invariant = { λ t. (length t.records.items ≤ most_records) × Keeps t.records.items t.names t.others.entries
+    ghost invariant = { λ t. (length t.records.items ≤ most_records) × Keeps t.records.items t.names (places t.others)
         × AreHeard t.records.items t.announcers.items };
 }
 
@@ -115,7 +117,7 @@ impl Table {
         Table {
             records: Vec::new(alloc),
             names: Names::new(alloc),
-            others: BTreeMap::new(alloc),
+            others: Others::new(alloc),
             announcers: Vec::new(alloc),
         }
     }
@@ -284,7 +286,7 @@ fn payload_at(records: &[Record], place: u32) -> Option<(u32, i64)>
 }
 
 /// Whether the record stands at this place.
-fn stands(records: &[Record], place: u32, record: &Record) -> bool
+pub(crate) fn stands(records: &[Record], place: u32, record: &Record) -> bool
     ensures { result ≡ stands records.now place «record».now }
 {
     match record_at(records, place) {
@@ -312,38 +314,21 @@ fn known_of(names: &Names, name: Name) -> Known
     names.known(name).unwrap_or(Known::nothing())
 }
 
-/// The place of a record among those that no name keeps.
-fn other_place(others: &BTreeMap<Record, u32>, record: &Record) -> Option<u32>
-    ensures { result ≡ other_place others.now.entries «record».now }
-{
-    others.get(record).copied()
-}
-
 /// The place of an event whose name keeps the event at the place `kept`.
-pub(crate) fn event_place(
-    records: &[Record],
-    kept: u32,
-    others: &BTreeMap<Record, u32>,
-    record: &Record,
-) -> Option<u32>
-    ensures { result ≡ event_place records.now kept others.now.entries «record».now }
+fn event_place(records: &[Record], kept: u32, others: &Others, record: &Record) -> Option<u32>
+    ensures { result ≡ event_place records.now kept (places others.now) «record».now }
 {
     if stands(records, kept, record) {
         Some(kept)
     } else {
-        other_place(others, record)
+        others.place(record)
     }
 }
 
 /// The place of a record; `None` where it is not there.
 #[inline(never)]
-fn place_of(
-    records: &[Record],
-    names: &Names,
-    others: &BTreeMap<Record, u32>,
-    record: &Record,
-) -> Option<u32>
-    ensures { result ≡ place_in records.now names.now others.now.entries «record».now }
+fn place_of(records: &[Record], names: &Names, others: &Others, record: &Record) -> Option<u32>
+    ensures { result ≡ place_in records.now names.now (places others.now) «record».now }
 {
     match *record {
         Record::Event { origin, tag, .. } => {
@@ -354,7 +339,7 @@ fn place_of(
             let kept = known_of(names, Name { origin, tag }).withdrawal;
             if kept == 0 { None } else { Some(kept) }
         }
-        Record::Announce { .. } => other_place(others, record),
+        Record::Announce { .. } => others.place(record),
     }
 }
 

@@ -9,7 +9,7 @@ use warp_tag::Tag;
 
 /// What is noted of a name.
 #[derive(Clone, Copy)]
-pub(crate) enum Kind {
+pub(crate) enum EventOrWithdrawal {
     Event,
     Withdrawal,
 }
@@ -43,34 +43,34 @@ impl Numbers {
     }
 
     /// The number of this kind.
-    pub(crate) fn of(&self, kind: Kind) -> usize
+    pub(crate) fn of(&self, kind: EventOrWithdrawal) -> usize
         ensures { result ≡ number_of kind self.now }
     {
         match kind {
-            Kind::Event => self.events,
-            Kind::Withdrawal => self.withdrawn,
+            EventOrWithdrawal::Event => self.events,
+            EventOrWithdrawal::Withdrawal => self.withdrawn,
         }
     }
 
     /// One more of this kind.
-    pub(crate) fn add(&mut self, kind: Kind)
+    pub(crate) fn add(&mut self, kind: EventOrWithdrawal)
         requires { number_of kind self.old + 1 < 2 ^ 64 }
         ensures { self.new ≡ with_one kind self.old }
     {
         match kind {
-            Kind::Event => self.events += 1,
-            Kind::Withdrawal => self.withdrawn += 1,
+            EventOrWithdrawal::Event => self.events += 1,
+            EventOrWithdrawal::Withdrawal => self.withdrawn += 1,
         }
     }
 
     /// One less of this kind.
-    pub(crate) fn take(&mut self, kind: Kind)
+    pub(crate) fn take(&mut self, kind: EventOrWithdrawal)
         requires { 0 < number_of kind self.old }
         ensures { self.new ≡ less_one kind self.old }
     {
         match kind {
-            Kind::Event => self.events -= 1,
-            Kind::Withdrawal => self.withdrawn -= 1,
+            EventOrWithdrawal::Event => self.events -= 1,
+            EventOrWithdrawal::Withdrawal => self.withdrawn -= 1,
         }
     }
 
@@ -144,13 +144,13 @@ impl Tally {
     }
 
     /// Counts one more name of this kind before its tag.
-    pub(crate) fn count(&mut self, kind: Kind)
+    pub(crate) fn count(&mut self, kind: EventOrWithdrawal)
         requires { before_of kind self.old + 1 < 2 ^ 64 }
         ensures { self.new ≡ with_name kind self.old }
     {
         match kind {
-            Kind::Event => self.events_before += 1,
-            Kind::Withdrawal => self.withdrawn_before += 1,
+            EventOrWithdrawal::Event => self.events_before += 1,
+            EventOrWithdrawal::Withdrawal => self.withdrawn_before += 1,
         }
     }
 

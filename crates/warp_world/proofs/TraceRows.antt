@@ -6,7 +6,7 @@ use Rattle.warp_tag.specs.declared.out.Out.{Out}
 use Rattle.warp_step.specs.Program.{Program}
 use Rattle.warp_step.specs.Snapshot.{Snapshot}
 use Rattle.warp_step.specs.Step.{state_after, outputs_after}
-use Rattle.warp_step.specs.declared.given.Given.{Given}
+use Rattle.warp_step.specs.declared.given_input.Given.{Given}
 use Rattle.warp_world.specs.Labels.{Names}
 use Rattle.warp_world.specs.Trace.{came, changed, changed_part, due, due_part, events_part, outputs_part, pending_part, put, released_part, tag_part}
 use Rattle.warp_world.specs.inner.Tracing.{TellsRow}

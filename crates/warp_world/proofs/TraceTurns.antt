@@ -14,7 +14,7 @@ use Rattle.warp_step.specs.Program.{Program}
 use Rattle.warp_step.specs.Snapshot.{Snapshot, least_pending, start_state}
 use Rattle.warp_step.specs.Step.{Step, state_after, outputs_after}
 use Rattle.warp_step.specs.Run.{Row, RunFrom, IsNext, waits, is_after, given_of, given_at}
-use Rattle.warp_step.specs.declared.given.Given.{Given}
+use Rattle.warp_step.specs.declared.given_input.Given.{Given}
 use Rattle.warp_step.specs.declared.pending.Waiting.{Waiting}
 use Rattle.warp_step.proofs.TagsOfRun.{start_after}
 use Rattle.warp_step.proofs.TraceExists.{exists}

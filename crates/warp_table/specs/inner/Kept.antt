@@ -2,8 +2,9 @@
 -- a public call cites this.
 use Rattle.std.specs.Prelude.{◌≡◌, ◌⊎◌, ℕ, ℤ, ◌+◌, ◌-◌, Bool, false, not, ◌==◌, ◌&&◌, if◌then◌else◌, is_some, Option, Some, None, List, [], ◌∷◌, ◌++◌, length, map, slice_get, All, Contains}
 use Rattle.std.specs.Map.{lookup}
-use Rattle.std.specs.Option.{unwrap_or}
-use Rattle.std.specs.BTreeMap.{insert_entry, is_at}
+use Rattle.std.specs.Option.{option_or, unwrap_or}
+use Rattle.std.specs.Ordering.{is_eq}
+use Rattle.std.specs.BTreeMap.{is_at}
 use Rattle.warp_tag.specs.Moment.{Moment, is_same}
 use Rattle.warp_tag.specs.Table.{fresh, greater, is_lesser}
 use Rattle.warp_tag.specs.declared.entry.Entry.{Entry}
@@ -99,16 +100,32 @@ pub record KeepsNames (records : List Record) (names : List (Name × Entry)) : T
   pub order : map (λ kept. (kept.0.origin, kept.0.tag)) names ≡ names_of records
   pub each : (origin : ℕ) (tag : Moment) → Tells (set_of records) origin tag (lookup (is_named origin tag) names)
 
--- the place of a record among those that no name keeps
-abbrev pub other_place : List (Record × ℕ) → Record → Option ℕ
-other_place others said = lookup (is_at (record_cmp said)) others
+-- where the records stand that no name keeps
+abbrev pub OtherPlaces : Type 0
+OtherPlaces = Record → Option ℕ
 
--- these with one more, in the order of records
-abbrev pub put_other : List (Record × ℕ) → Record → ℕ → List (Record × ℕ)
-put_other others said place = insert_entry record_cmp others said place
+-- where there are none
+abbrev pub no_others : OtherPlaces
+no_others said = None
+
+-- the place of a record among them
+abbrev pub other_place : OtherPlaces → Record → Option ℕ
+other_place others said = others said
+
+-- these with one more
+abbrev pub put_other : OtherPlaces → Record → ℕ → OtherPlaces
+put_other others said place = λ other. if same_record other said then Some place else others other
+
+-- the place that is kept of a record, where this is it
+abbrev pub place_if : Record → Record × ℕ → Option ℕ
+place_if said kept = if is_eq (record_cmp kept.0 said) then Some kept.1 else None
+
+-- those of a list, and those of a map
+abbrev pub places_of : List (Record × ℕ) → List (Record × ℕ) → OtherPlaces
+places_of listed entries said = option_or (lookup (is_at (record_cmp said)) listed) (lookup (is_at (record_cmp said)) entries)
 
 -- the place of an event whose name keeps the event at `kept`
-abbrev pub event_place : List Record → ℕ → List (Record × ℕ) → Record → Option ℕ
+abbrev pub event_place : List Record → ℕ → OtherPlaces → Record → Option ℕ
 event_place records kept others said = if stands records kept said then Some kept else other_place others said
 
 -- the place of a withdrawal whose name keeps this one
@@ -116,7 +133,7 @@ abbrev pub withdrawal_place : ℕ → Option ℕ
 withdrawal_place kept = if kept == 0 then None else Some kept
 
 -- the place of a record
-abbrev pub place_in : List Record → List (Name × Known) → List (Record × ℕ) → Record → Option ℕ
+abbrev pub place_in : List Record → List (Name × Known) → OtherPlaces → Record → Option ℕ
 place_in records names others (Event origin tag input value) =
     event_place records (known_of (record { origin = origin; tag = tag }) names).event others (Event origin tag input value)
 place_in records names others (Withdraw origin tag) = withdrawal_place (known_of (record { origin = origin; tag = tag }) names).withdrawal
@@ -128,13 +145,13 @@ HoldsEvent records name place =
     (place ≡ 0) ⊎ ((payload : ℕ × ℤ) × IsAt records place (Event name.origin name.tag payload.0 payload.1))
 
 -- the places that are kept are those of the records
-pub record KeepsPlaces (records : List Record) (names : List (Name × Known)) (others : List (Record × ℕ)) : Type 0 where
+pub record KeepsPlaces (records : List Record) (names : List (Name × Known)) (others : OtherPlaces) : Type 0 where
   pub events : All (λ kept. HoldsEvent records kept.0 kept.1.event) names
   pub so : (said : Record) (place : ℕ) → place_in records names others said ≡ Some place → IsAt records place said
   pub found : (said : Record) (place : ℕ) → IsAt records place said → place_in records names others said ≡ Some place
 
 -- what is kept of a list of records: of its names, and of the places
-pub record Keeps (records : List Record) (names : List (Name × Known)) (others : List (Record × ℕ)) : Type 0 where
+pub record Keeps (records : List Record) (names : List (Name × Known)) (others : OtherPlaces) : Type 0 where
   pub tells : KeepsNames records (entries_of records names)
   pub places : KeepsPlaces records names others
 
@@ -153,7 +170,7 @@ parted_of records kept said payload =
 
 -- one more event of a name: its name keeps the event at `event` in the place of that at `kept`, and these are the other
 -- records' places and what is heard of its origin, before and after
-pub record NotesEvent (records : List Record) (name : Name) (payload : ℕ × ℤ) (kept event : ℕ) (others now : List (Record × ℕ)) (own own_now : Heard) : Type 0 where
+pub record NotesEvent (records : List Record) (name : Name) (payload : ℕ × ℤ) (kept event : ℕ) (others now : OtherPlaces) (own own_now : Heard) : Type 0 where
   pub lacks : (kept ≡ 0) ⊎ (event_place records kept others (Event name.origin name.tag payload.0 payload.1) ≡ None)
   pub holds : HoldsEvent (records ++ Event name.origin name.tag payload.0 payload.1 ∷ []) name event
   pub counts : payload_at (records ++ Event name.origin name.tag payload.0 payload.1 ∷ []) event ≡ Some (greater (payload_at records kept) payload)
@@ -162,7 +179,7 @@ pub record NotesEvent (records : List Record) (name : Name) (payload : ℕ × �
   pub heard : own_now ≡ with_heard_event (is_some (payload_at records kept)) name.tag own
 
 -- a record that the list lacks came in behind it, and this is kept then
-pub record IsAdded (records : List Record) (said : Record) (place : ℕ) (names : List (Name × Known)) (others : List (Record × ℕ)) : Type 0 where
+pub record IsAdded (records : List Record) (said : Record) (place : ℕ) (names : List (Name × Known)) (others : OtherPlaces) : Type 0 where
   pub new : ¬ Contains records said
   pub last : place ≡ length records + 1
   pub keeps : Keeps (records ++ said ∷ []) names others

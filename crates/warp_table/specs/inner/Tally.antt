@@ -5,19 +5,19 @@ use Rattle.std.specs.List.{list_any, position_or_len}
 use Rattle.warp_tag.specs.Moment.{Moment, is_before}
 use Rattle.warp_table.specs.Announced.{beginning}
 use Rattle.warp_table.specs.inner.Heard.{Announced, AreAscending, Heard, count_before, with_tag}
-use Rattle.warp_table.specs.declared.tally.Kind.{Kind}
-use Rattle.warp_table.specs.declared.tally.Kind.TheVariants.{Event, Withdrawal}
+use Rattle.warp_table.specs.declared.tally.EventOrWithdrawal.{EventOrWithdrawal}
+use Rattle.warp_table.specs.declared.tally.EventOrWithdrawal.TheVariants.{Event, Withdrawal}
 use Rattle.warp_table.specs.declared.tally.Numbers.{Numbers}
 use Rattle.warp_table.specs.declared.tally.Tally.{Tally}
 use Rattle.warp_table.specs.declared.tally.Verdict.{Verdict}
 
 -- the tags of the names that have an event, or a withdrawal
-abbrev pub tags_of : Kind → Heard → List Moment
+abbrev pub tags_of : EventOrWithdrawal → Heard → List Moment
 tags_of Event heard = heard.events
 tags_of Withdrawal heard = heard.withdrawn
 
 -- what is heard, with a new name that has an event, or a withdrawal
-abbrev pub with_noted : Kind → Moment → Heard → Heard
+abbrev pub with_noted : EventOrWithdrawal → Moment → Heard → Heard
 with_noted Event tag heard = record heard { events = with_tag tag heard.events }
 with_noted Withdrawal tag heard = record heard { withdrawn = with_tag tag heard.withdrawn }
 
@@ -26,12 +26,12 @@ abbrev pub announcement_of : Tally → Announced
 announcement_of tally = record { tag = tally.tag; events = tally.events; withdrawn = tally.withdrawn }
 
 -- how many names of a kind are before its tag
-abbrev pub before_of : Kind → Tally → ℕ
+abbrev pub before_of : EventOrWithdrawal → Tally → ℕ
 before_of Event tally = tally.events_before
 before_of Withdrawal tally = tally.withdrawn_before
 
 -- a tally with one more name of a kind before its tag
-abbrev pub with_name : Kind → Tally → Tally
+abbrev pub with_name : EventOrWithdrawal → Tally → Tally
 with_name Event tally = record tally { events_before = tally.events_before + 1 }
 with_name Withdrawal tally = record tally { withdrawn_before = tally.withdrawn_before + 1 }
 
@@ -68,7 +68,7 @@ abbrev pub beyond : Moment → List Tally → List Tally
 beyond tag tallies = drop (place_of tag tallies) tallies
 
 -- the tallies, with one more name of a kind at this tag
-abbrev pub counted : Kind → Moment → List Tally → List Tally
+abbrev pub counted : EventOrWithdrawal → Moment → List Tally → List Tally
 counted kind tag tallies = take (place_of tag tallies) tallies ++ map (with_name kind) (beyond tag tallies)
 
 -- the tally counts the names of these tags
@@ -95,17 +95,17 @@ abbrev pub no_names : Numbers
 no_names = record { events = 0; withdrawn = 0 }
 
 -- the number of a kind
-abbrev pub number_of : Kind → Numbers → ℕ
+abbrev pub number_of : EventOrWithdrawal → Numbers → ℕ
 number_of Event n = n.events
 number_of Withdrawal n = n.withdrawn
 
 -- one more of a kind
-abbrev pub with_one : Kind → Numbers → Numbers
+abbrev pub with_one : EventOrWithdrawal → Numbers → Numbers
 with_one Event n = record n { events = n.events + 1 }
 with_one Withdrawal n = record n { withdrawn = n.withdrawn + 1 }
 
 -- one less of a kind
-abbrev pub less_one : Kind → Numbers → Numbers
+abbrev pub less_one : EventOrWithdrawal → Numbers → Numbers
 less_one Event n = record n { events = n.events - 1 }
 less_one Withdrawal n = record n { withdrawn = n.withdrawn - 1 }
 
@@ -143,5 +143,5 @@ abbrev pub AreSome : List (List Tally) → Type 0
 AreSome blocks = All (λ block. 0 < length block) blocks
 
 -- a verdict, with a new name counted in a block
-abbrev pub judged_in : Kind → Moment → Verdict → List Tally → Verdict
+abbrev pub judged_in : EventOrWithdrawal → Moment → Verdict → List Tally → Verdict
 judged_in kind tag verdict block = fold with_tally verdict (map (with_name kind) (beyond tag block))

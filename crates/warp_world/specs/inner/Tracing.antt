@@ -8,7 +8,7 @@ use Rattle.warp_step.specs.Program.{Program}
 use Rattle.warp_step.specs.Snapshot.{Snapshot}
 use Rattle.warp_step.specs.Step.{numbers, state_after, outputs_after}
 use Rattle.warp_step.specs.Run.{Row}
-use Rattle.warp_step.specs.declared.given.Given.{Given}
+use Rattle.warp_step.specs.declared.given_input.Given.{Given}
 use Rattle.warp_line.specs.inner.Replay.{is_waiting}
 use Rattle.warp_world.specs.Labels.{Names}
 use Rattle.warp_world.specs.Trace.{changed_at, row_line}

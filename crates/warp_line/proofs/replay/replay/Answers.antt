@@ -6,7 +6,7 @@ use Rattle.warp_tag.specs.declared.entry.Entry.{Entry}
 use Rattle.warp_step.specs.Snapshot.{Snapshot, least_pending, start_state}
 use Rattle.warp_step.specs.Run.{given_of}
 use Rattle.warp_step.specs.Events.{event_fits}
-use Rattle.warp_step.specs.declared.given.Given.{Given}
+use Rattle.warp_step.specs.declared.given_input.Given.{Given}
 use Rattle.warp_tag.specs.declared.out.Out.{Out}
 use Rattle.warp_line.specs.inner.Replay.{StepsWhereWaiting, Passes, next_of}
 use Rattle.warp_line.proofs.NextLemmas.{next_entries, next_pending, none_next}

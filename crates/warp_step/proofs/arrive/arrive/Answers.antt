@@ -5,7 +5,7 @@ use Rattle.std.proofs.lemmas.List.{at_drop_all, at_drop_more}
 use Rattle.warp_body.specs.Presence.{with_value}
 use Rattle.warp_body.specs.declared.place.Target.TheVariants as to
 use Rattle.warp_step.specs.Step.{arrived}
-use Rattle.warp_step.specs.declared.given.Given.{Given}
+use Rattle.warp_step.specs.declared.given_input.Given.{Given}
 use Rattle.warp_step.proofs.FrontLemmas.{left_parts}
 use Rattle.warp_step.proofs.arrive.arrive.Goals as goal
 
@@ -34,7 +34,7 @@ loop-g-preserved c =
       sources = c.put.ensures.sources ∙ c.loop-g.invariant.sources;
       known = (left_parts (λ (h : Given). nat_lt h.input (length P.inputs)) given i some lt c.loop-g.invariant.known).1;
       due = λ were. c.put.ensures.due (c.loop-g.invariant.due were);
-      sure = λ was. c.put.ensures.sure;
+      triggered_turn = λ was. c.put.ensures.triggered_turn;
     }
 
 pub returns-clause-present : goal.returns-clause-present

@@ -5,7 +5,7 @@ use Rattle.std.specs.List.{list_all}
 use Rattle.warp_body.specs.Presence.{places_of}
 use Rattle.warp_step.specs.Step.{arrived}
 use Rattle.warp_step.specs.inner.Due.{AreDue}
-use Rattle.warp_step.specs.inner.Sure.{IsSure}
+use Rattle.warp_step.specs.inner.TriggeredTurn.{IsTriggeredTurn}
 use Rattle.warp_step.proofs.arrive.arrive.Given as goal
 
 abbrev pub invariant-loop-g : goal.invariant-loop-g
@@ -15,5 +15,5 @@ invariant-loop-g l = record {
   sources : l.present.sources ≡ l.fn.present.sources;
   known : IsTrue (list_all (λ g. nat_lt g.input (length l.program.inputs)) (drop l.g-index l.given));
   due : AreDue l.program l.fn.present l.fn.due.word → AreDue l.program l.present l.due.word;
-  sure : IsSure l.program l.fn.present l.fn.sure → IsSure l.program l.present l.sure;
+  triggered_turn : IsTriggeredTurn l.program l.fn.present l.fn.triggered_turn → IsTriggeredTurn l.program l.present l.triggered_turn;
 }

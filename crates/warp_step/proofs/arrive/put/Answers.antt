@@ -12,7 +12,7 @@ use Rattle.warp_step.specs.Valid.{program_places}
 use Rattle.warp_step.specs.inner.Due.{AreDue}
 use Rattle.warp_step.proofs.DueLemmas.{Marks, due_after, follows_value, marks_all}
 use Rattle.warp_step.proofs.PlaceLemmas.{concerned_fits, place_within}
-use Rattle.warp_step.proofs.SureLemmas.{first_fits, sure_after}
+use Rattle.warp_step.proofs.TriggeredTurnLemmas.{first_fits, sure_after}
 use Rattle.warp_step.proofs.arrive.put.Goals as goal
 
 pub concerned-concerned-requires : goal.concerned-concerned-requires
@@ -43,8 +43,8 @@ returns-clause-due c = λ were.
     put_due P target _ c.args.present.now c.put.new.self c.args.due.now.word c.concerned-concerned.result.marks.word c.add_all.new.self.word
     c.requires.own c.put.ensures.value called c.add_all.ensures were
 
-pub returns-clause-sure : goal.returns-clause-sure
-returns-clause-sure c =
+pub returns-clause-triggered_turn : goal.returns-clause-triggered_turn
+returns-clause-triggered_turn c =
     let P = c.args.program.now in
     let target = c.args.target in
     let fits : IsTrue (target_fits (program_places P) target) =

@@ -1,10 +1,9 @@
 -- what was moved leaves a place for the entry
-use Rattle.std.proofs.Common.{◌+◌, ◌-◌, ap, ◌∙◌, set}
-use Rattle.std.specs.Prelude.{slice_range}
-use Rattle.warp_step.proofs.EntryMoves.{came_in_front}
+use Rattle.std.proofs.Common.{◌+◌, ◌-◌, ap, ◌∙◌, drop, set}
+use Rattle.warp_step.proofs.EntryMoves.{came_down}
 use Rattle.warp_step.proofs.entries.insert_in_front.Goals as goal
 
 pub returns-clause-entries : goal.returns-clause-entries
 returns-clause-entries c =
-    ap (λ es. slice_range (set es (c.args.start - 1 + c.args.at) c.args.entry) (c.args.start - 1) c.args.end) c.copy_within.ensures.after
-    ∙ came_in_front c.args.items.now c.args.start c.args.end c.args.at c.args.entry c.requires.room c.requires.within c.requires.end
+    ap (λ es. drop (c.args.start - 1) (set es (c.args.start - 1 + c.args.at) c.args.entry)) c.copy_within.ensures.after
+    ∙ came_down c.args.items.now c.args.start c.args.at c.args.entry c.requires.room c.requires.within

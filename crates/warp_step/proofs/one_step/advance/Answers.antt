@@ -25,8 +25,8 @@ run_reactions-wished-requires-clause-vars c =
 pub run_reactions-wished-requires-clause-due : goal.run_reactions-wished-requires-clause-due
 run_reactions-wished-requires-clause-due c = c.arrive.ensures.due c.take_entries-taken.ensures.due
 
-pub run_reactions-wished-requires-clause-sure : goal.run_reactions-wished-requires-clause-sure
-run_reactions-wished-requires-clause-sure c = c.arrive.ensures.sure c.take_entries-taken.ensures.sure
+pub run_reactions-wished-requires-clause-triggered_turn : goal.run_reactions-wished-requires-clause-triggered_turn
+run_reactions-wished-requires-clause-triggered_turn c = c.arrive.ensures.triggered_turn c.take_entries-taken.ensures.triggered_turn
 
 -- the places stay the program's
 pub arrive-requires-clause-places : goal.arrive-requires-clause-places

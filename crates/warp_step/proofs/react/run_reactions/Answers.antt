@@ -19,7 +19,7 @@ use Rattle.warp_step.specs.inner.Flagged.{AreOf}
 use Rattle.warp_step.specs.inner.Plan.{Plan, TurnPlan, may_wish, plan_of, ready_turn, rule_numbered, turn_plan, turn_rule}
 use Rattle.warp_step.specs.Program.{Program, Rule}
 use Rattle.warp_step.specs.Valid.{is_valid, program_places, program_sizes, rule_fits}
-use Rattle.warp_step.specs.inner.Sure.{IsSure}
+use Rattle.warp_step.specs.inner.TriggeredTurn.{IsTriggeredTurn}
 use Rattle.warp_step.specs.Step.{Reacting, after_reactions, is_triggered, react}
 use Rattle.warp_step.specs.inner.Room.{lists_of}
 use Rattle.warp_step.proofs.ReactLemmas.{after_one_more, empty_at, empty_pass, react_other}
@@ -109,7 +109,7 @@ loop-turn-init c =
       };
       few = omega arith;
       due = c.requires.due;
-      sure = λ h. subst (λ (k : ℕ). IsSure P c.args.present.now k) (sym (eqb-true c.next-turn.result c.args.sure h)) c.requires.sure;
+      triggered_turn = λ h. subst (λ (k : ℕ). IsTriggeredTurn P c.args.present.now k) (sym (eqb-true c.next-turn.result c.args.triggered_turn h)) c.requires.triggered_turn;
     }
 
 pub run_reaction-may_wish-requires : goal.run_reaction-may_wish-requires
@@ -131,8 +131,8 @@ run_reaction-may_wish-requires c =
     let same = ap (λ (t : TurnPlan). t.number) kept.is in
     record {
       number = omega (arith, same, below, lists);
-      sure = λ h. ap (λ (t : TurnPlan). is_triggered (turn_rule t) c.loop-turn.present) kept.is
-          ∙ c.loop-turn.invariant.sure h rule (rule_in_turn P turn n kept.mine.within kept.mine.number);
+      triggered_turn = λ h. ap (λ (t : TurnPlan). is_triggered (turn_rule t) c.loop-turn.present) kept.is
+          ∙ c.loop-turn.invariant.triggered_turn h rule (rule_in_turn P turn n kept.mine.within kept.mine.number);
       triggers = subst (λ (t : TurnPlan). IsTrue (list_all (target_fits (places_of c.loop-turn.present)) t.triggers)) own
           (subst (λ (p : Places). IsTrue (list_all (target_fits p) rule.triggers)) places fits.triggers);
       body = subst (λ (t : TurnPlan). IsTrue (body_fits (sizes_of c.loop-turn.vars c.loop-turn.present) t.body)) own
@@ -192,7 +192,7 @@ loop-turn-preserved c =
           (omega (arith, number, mine.below, lists, all, ran.ensures.bodies));
       few = omega (arith, counted ran.result c.loop-turn.wished c.note.new.self c.reaction-ready.result.now.number c.note.ensures, c.loop-turn.invariant.few, next.ensures.from);
       due = due;
-      sure = λ h. let no : false ≡ true = h in cc;
+      triggered_turn = λ h. let no : false ≡ true = h in cc;
     }
 
 pub after-turn-requires : goal.after-turn-requires

@@ -9,7 +9,7 @@ use Rattle.warp_step.specs.Step.{after_reactions, no_wishes}
 use Rattle.warp_step.specs.inner.Room.{lists_of}
 use Rattle.warp_step.specs.inner.Due.{AreDue}
 use Rattle.warp_step.specs.inner.Flagged.{AreOf}
-use Rattle.warp_step.specs.inner.Sure.{IsSure}
+use Rattle.warp_step.specs.inner.TriggeredTurn.{IsTriggeredTurn}
 use Rattle.warp_step.proofs.react.run_reactions.Given as goal
 
 abbrev pub invariant-loop-turn : goal.invariant-loop-turn
@@ -28,7 +28,7 @@ invariant-loop-turn l = record {
   wished : AreOf l.wished (lists_of l.wishes.items);
   few : l.wished.count ≤ l.turn;
   due : AreDue l.program l.present l.due.word;
-  sure : l.is_sure ≡ true → IsSure l.program l.present l.turn;
+  triggered_turn : l.is_known ≡ true → IsTriggeredTurn l.program l.present l.turn;
 }
 
 abbrev pub decreases-loop-turn : goal.decreases-loop-turn

@@ -1,8 +1,7 @@
 use Rattle.std.proofs.Common.{IsTrue, IsSomeAnd, ◌≡◌, ℕ, ◌<◌, arith, sym, ap, ◌∙◌, subst, length, true, false, cond, Some, None}
-use Rattle.std.specs.Vec.{vec_capacity}
 use Rattle.warp_tag.specs.Table.{has_name}
 use Rattle.warp_arena.specs.Places.{IsOrdered, node_of}
-use Rattle.warp_arena.proofs.Walks.{threads, node_read}
+use Rattle.warp_arena.proofs.Walks.{room_of, threads, node_read}
 use Rattle.warp_arena.proofs.Reading.{places}
 use Rattle.warp_arena.proofs.Finding.{node_of-none, node_of-at}
 use Rattle.warp_arena.proofs.Beside.{last_is}
@@ -52,6 +51,6 @@ pub returns-then-is_of-clause-named : goal.returns-then-is_of-clause-named
 returns-then-is_of-clause-named c =
     let o = c.args.origin in
     let g = c.args.tag in
-    let order = subst IsOrdered c.self.view_is (ordered c.self.inside c.self.invariant.whole (vec_capacity c.self.inside.nodes)) in
+    let order = subst IsOrdered c.self.view_is (ordered c.self.inside c.self.invariant.whole (room_of c.self.inside)) in
     let r = entry_of-node_of o g c.args.self.now.places order.handles c.new.result (returns-then-is_of-clause-handle c) in
     subst (λ x. IsSomeAnd x (λ e. IsTrue (has_name o g e))) (sym r.1) r.2

@@ -1,6 +1,5 @@
 use Rattle.std.proofs.Common.{◌≡◌, ℕ, ℤ, Option, ◌<◌, ◌+◌, ◌-◌, arith, sym, ap, ◌∙◌, subst, None, length, List, get_or, set}
 use Rattle.std.proofs.lemmas.List.{with_items_is}
-use Rattle.std.specs.Vec.{vec_capacity}
 use Rattle.warp_tag.specs.Moment.{Moment}
 use Rattle.warp_tag.specs.declared.entry.Entry.{Entry}
 use Rattle.warp_arena.specs.declared.arena.Arena.TheInside.{Inside}
@@ -10,7 +9,7 @@ use Rattle.warp_arena.specs.declared.node.Origin.{Origin}
 use Rattle.warp_arena.specs.Places.{Place, Contents, named, places_of, node_of, entry_of, with_place}
 use Rattle.warp_arena.specs.Changes.{Threaded, CanThread}
 use Rattle.warp_arena.specs.Shape.{last_not_after, IsWhole, threads_of, contents_of, next_in, entry_at, by_tag, of_origin, no_origin}
-use Rattle.warp_arena.proofs.Walks.{threads, node_read, origin_read}
+use Rattle.warp_arena.proofs.Walks.{room_of, threads, node_read, origin_read}
 use Rattle.warp_arena.proofs.Wholes.{Ready, Threadable, ready, threadable}
 use Rattle.warp_arena.proofs.Gaps.{tag_after, own_after}
 use Rattle.warp_arena.proofs.Inserted.{new_handle, whole_inserted, contents_inserted}
@@ -25,7 +24,7 @@ record Before (a : Inside) (o : ℕ) (g : Moment) (b c : ℕ) : Type 0 where
   is_ready : Ready a o g b c
   can_thread : Threadable (length a.nodes.items) (next_in a.ends (by_tag a.nodes.items)) (next_in (get_or a.by_origin.items o no_origin).ends (of_origin a.nodes.items)) b c a.free
 
-before_insert : (a : Inside) (v : Contents) (o : ℕ) (g : Moment) (b c : ℕ) → contents_of (threads a) a.used (vec_capacity a.nodes) ≡ v → IsWhole (threads a) a.used → o < v.origins → 0 < v.free → node_of o g v.places ≡ None → b ≡ last_not_after o g v.places → c ≡ last_not_after o g (places_of o v.places) → Before a o g b c
+before_insert : (a : Inside) (v : Contents) (o : ℕ) (g : Moment) (b c : ℕ) → contents_of (threads a) a.used (room_of a) ≡ v → IsWhole (threads a) a.used → o < v.origins → 0 < v.free → node_of o g v.places ≡ None → b ≡ last_not_after o g v.places → c ≡ last_not_after o g (places_of o v.places) → Before a o g b c
 before_insert a v o g b c is w declared room absent s r =
     let h : o < length a.by_origin.items = omega (arith, ap (λ u. u.origins) is) in
     let q = ready a w o g b c
@@ -91,7 +90,7 @@ invariant_of-self c =
     (whole_inserted a c.args.origin c.args.tag c.args.gap.now.before c.args.gap.now.own_before b.is_ready b.declared
     c.thread_node.new.nodes c.index_mut-own.result.now.ends c.thread_node.new.ends c.thread_node.new.own_ends c.index.result.now.by_tag.next c.args.event own free change) in
     let contents =
-    ap (λ ns. contents_of (threads_of ns (set a.by_origin.items c.args.origin (record { ends = c.thread_node.new.own_ends; touched = a.free })) c.thread_node.new.ends c.index.result.now.by_tag.next) (a.used + 1) (vec_capacity a.nodes)) items
+    ap (λ ns. contents_of (threads_of ns (set a.by_origin.items c.args.origin (record { ends = c.thread_node.new.own_ends; touched = a.free })) c.thread_node.new.ends c.index.result.now.by_tag.next) (a.used + 1) (room_of a)) items
     ∙ contents_inserted a c.args.origin c.args.tag c.args.gap.now.before c.args.gap.now.own_before b.is_ready b.declared
     c.thread_node.new.nodes c.index_mut-own.result.now.ends c.thread_node.new.ends c.thread_node.new.own_ends c.index.result.now.by_tag.next c.args.event own free change in
     let p : Place = record { node = a.free; entry = named c.args.origin c.args.tag c.args.event } in
@@ -113,7 +112,7 @@ returns-clause-places c =
     c.args.gap.now.before c.args.gap.now.own_before a.free e) c.named-entry.ensures threaded in
     let items = with_items_is a.nodes c.thread_node.new.nodes (omega (arith, change.len, a.nodes.ok.0)) in
     let v = c.args.self.now in
-    ap (λ ns. contents_of (threads_of ns (set a.by_origin.items c.args.origin (record { ends = c.thread_node.new.own_ends; touched = a.free })) c.thread_node.new.ends c.index.result.now.by_tag.next) (a.used + 1) (vec_capacity a.nodes)) items
+    ap (λ ns. contents_of (threads_of ns (set a.by_origin.items c.args.origin (record { ends = c.thread_node.new.own_ends; touched = a.free })) c.thread_node.new.ends c.index.result.now.by_tag.next) (a.used + 1) (room_of a)) items
     ∙ contents_inserted a c.args.origin c.args.tag c.args.gap.now.before c.args.gap.now.own_before b.is_ready b.declared
     c.thread_node.new.nodes c.index_mut-own.result.now.ends c.thread_node.new.ends c.thread_node.new.own_ends c.index.result.now.by_tag.next c.args.event own free change
     ∙ ap (λ u. let w : Contents = record { origins = u.origins; places = with_place (record { node = a.free; entry = named c.args.origin c.args.tag c.args.event }) u.places; free = u.free - 1; room = u.room } in w) c.self.view_is

@@ -1,13 +1,15 @@
 -- the entry that was there is written over
-use Rattle.std.proofs.Common.{◌<◌, ◌-◌, ap, ◌∙◌, arith, length}
-use Rattle.std.specs.Prelude.{slice_set}
-use Rattle.std.proofs.lemmas.List.Edits.{length-between}
-use Rattle.warp_step.proofs.EntryMoves.{written}
+use Rattle.std.proofs.Common.{◌+◌, ap, ◌∙◌, drop, length, length-set, set}
+use Rattle.std.specs.List.{refill}
+use Rattle.std.proofs.lemmas.List.{drop-set-add}
+use Rattle.warp_step.proofs.EntryMoves.{refilled}
 use Rattle.warp_step.proofs.entries.Entries.set.Goals as goal
 
 pub returns : goal.returns
 returns c =
     let is = c.self.inside in
-    let long = length-between is.items is.start is.end (omega (arith, c.self.invariant)) in
-    let within : c.args.at < is.end - is.start = omega (arith, long, ap length c.self.view_is) in
-    written is.items is.start is.end c.args.at c.args.entry within ∙ ap (λ es. slice_set es c.args.at c.args.entry) c.self.view_is
+    let xs = is.items.items in
+    let n = is.start + c.args.at in
+    ap (λ ys. drop is.start (refill (length xs) xs (set ys n c.args.entry))) c.as_mut_slice-all.ensures.value
+    ∙ ap (drop is.start) (refilled xs (set xs n c.args.entry) (length-set xs n c.args.entry))
+    ∙ drop-set-add is.start xs c.args.at c.args.entry ∙ ap (λ es. set es c.args.at c.args.entry) c.self.view_is

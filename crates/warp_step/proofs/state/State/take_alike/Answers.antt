@@ -17,5 +17,5 @@ returns-in_default c =
       places = refl;
       sources = refl;
       due = λ were. were;
-      sure = λ was. was;
+      triggered_turn = λ was. was;
     }

@@ -20,7 +20,7 @@ loop-init c =
       places = c.take_alike-count.ensures.places;
       sources = c.take_alike-count.ensures.sources;
       due = c.take_alike-count.ensures.due;
-      sure = c.take_alike-count.ensures.sure;
+      triggered_turn = c.take_alike-count.ensures.triggered_turn;
     }
 
 -- whether the first entry that is left is at the tag is what was asked
@@ -66,7 +66,7 @@ loop-preserved c =
       places = c.take_first.ensures.places ∙ c.loop.invariant.places;
       sources = c.take_first.ensures.sources ∙ c.loop.invariant.sources;
       due = λ were. c.take_first.ensures.due (c.loop.invariant.due were);
-      sure = λ was. c.take_first.ensures.sure;
+      triggered_turn = λ was. c.take_first.ensures.triggered_turn;
     }
 
 all : (c : goal.After-loop) → AllTaken c.args.program.now c.args.tag c.args.self.now c.loop.self c.args.present.now c.loop.present

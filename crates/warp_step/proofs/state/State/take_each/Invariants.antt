@@ -2,7 +2,7 @@
 use Rattle.std.proofs.Common.{◌≡◌, ◌+◌}
 use Rattle.warp_body.specs.Presence.{places_of}
 use Rattle.warp_step.specs.inner.Due.{AreDue}
-use Rattle.warp_step.specs.inner.Sure.{IsSure}
+use Rattle.warp_step.specs.inner.TriggeredTurn.{IsTriggeredTurn}
 use Rattle.warp_step.proofs.TakenLemmas.{SoFar}
 use Rattle.warp_step.proofs.state.State.take_each.Given as goal
 
@@ -12,5 +12,5 @@ invariant-loop l = record {
   places : places_of l.present ≡ places_of l.fn.present;
   sources : l.present.sources ≡ l.fn.present.sources;
   due : AreDue l.program l.fn.present l.fn.due.word → AreDue l.program l.present l.due.word;
-  sure : IsSure l.program l.fn.present l.fn.sure → IsSure l.program l.present l.sure;
+  triggered_turn : IsTriggeredTurn l.program l.fn.present l.fn.triggered_turn → IsTriggeredTurn l.program l.present l.triggered_turn;
 }

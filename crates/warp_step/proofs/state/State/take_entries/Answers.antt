@@ -8,7 +8,7 @@ use Rattle.warp_step.specs.inner.Front.{HasOtherHead}
 use Rattle.warp_step.specs.declared.pending.Waiting.{Waiting}
 use Rattle.warp_step.proofs.FrontLemmas.{Taken, first_here, other_head, stands_at, taken}
 use Rattle.warp_step.proofs.RepeatLemmas.{absent_due, none_alone}
-use Rattle.warp_step.proofs.SureLemmas.{none_sure}
+use Rattle.warp_step.proofs.TriggeredTurnLemmas.{none_sure}
 use Rattle.warp_step.proofs.state.State.take_entries.Goals as goal
 
 -- nothing is taken
@@ -38,8 +38,8 @@ returns-then-not-is_at-clause-present c =
 pub returns-then-not-is_at-clause-due : goal.returns-then-not-is_at-clause-due
 returns-then-not-is_at-clause-due c = absent_due c.args.program.now c.args.present.now _ c.requires.absent
 
-pub returns-then-not-is_at-clause-sure : goal.returns-then-not-is_at-clause-sure
-returns-then-not-is_at-clause-sure c = none_sure c.args.program.now c.args.present.now c.none.result.first c.valid.ensures c.none.ensures.first
+pub returns-then-not-is_at-clause-triggered_turn : goal.returns-then-not-is_at-clause-triggered_turn
+returns-then-not-is_at-clause-triggered_turn c = none_sure c.args.program.now c.args.present.now c.none.result.first c.valid.ensures c.none.ensures.first
 
 -- the first entry is taken
 one : (c : goal.After-take_one) → Taken c.args.tag c.args.self.now (drop 1 c.args.self.now.pending) (absent c.args.program.now) c.take_one.new.present

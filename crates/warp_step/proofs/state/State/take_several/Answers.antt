@@ -3,7 +3,7 @@ use Rattle.std.proofs.Common.{◌≡◌, sym, ap, ◌∙◌, arith}
 use Rattle.warp_body.specs.Presence.{places_of}
 use Rattle.warp_step.specs.Step.{absent, arrived_entries, without_entries}
 use Rattle.warp_step.proofs.RepeatLemmas.{absent_due, absent_places}
-use Rattle.warp_step.proofs.SureLemmas.{none_sure}
+use Rattle.warp_step.proofs.TriggeredTurnLemmas.{none_sure}
 use Rattle.warp_step.proofs.TakenLemmas.{here, repeat_here}
 use Rattle.warp_step.proofs.TargetsOfStep.{fit_targets}
 use Rattle.warp_step.proofs.state.State.take_several.Goals as goal
@@ -28,5 +28,5 @@ returns-clause-present c = c.take_each.ensures.present ∙ ap (arrived_entries (
 pub returns-clause-due : goal.returns-clause-due
 returns-clause-due c = c.take_each.ensures.due (absent_due c.args.program.now c.args.present.now _ c.requires.absent)
 
-pub returns-clause-sure : goal.returns-clause-sure
-returns-clause-sure c = c.take_each.ensures.sure (none_sure c.args.program.now c.args.present.now _ c.valid.ensures (omega arith))
+pub returns-clause-triggered_turn : goal.returns-clause-triggered_turn
+returns-clause-triggered_turn c = c.take_each.ensures.triggered_turn (none_sure c.args.program.now c.args.present.now _ c.valid.ensures (omega arith))

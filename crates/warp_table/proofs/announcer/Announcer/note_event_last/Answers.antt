@@ -4,7 +4,7 @@ use Rattle.std.proofs.lemmas.Bool.{cases_Bool}
 use Rattle.warp_tag.specs.Moment.{Moment}
 use Rattle.warp_table.specs.inner.Heard.{Heard, with_tag}
 use Rattle.warp_table.specs.inner.Tally.{AreKept, announcement_of, counted, with_name, with_tally}
-use Rattle.warp_table.specs.declared.tally.Kind.TheVariants.{Event}
+use Rattle.warp_table.specs.declared.tally.EventOrWithdrawal.TheVariants.{Event}
 use Rattle.warp_table.specs.declared.tally.Tally.{Tally}
 use Rattle.warp_table.specs.declared.tally.Verdict.{Verdict}
 use Rattle.warp_table.proofs.AnnouncedBlocks.{beyond_none, counted_none}
