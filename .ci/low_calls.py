@@ -1,9 +1,11 @@
 """Calls of `warp_cases` below and beside replicas: program files, steps, timelines, arenas, boards and lanes."""
 
+import hashlib
 import json
 
 from calls import EXAMPLES, NO_MEMORY, REFUSED, Calls, Step, before, made
 from flat_calls import end_records, end_replies
+from program_files import canonical
 
 
 def quiet(line, *said):
@@ -26,18 +28,21 @@ def two_times(said, refused):
 
 
 def loading():
-    """A program that is loaded and copied; its labels, and its account. In the place of a call that was refused stands no other."""
+    """A program that is loaded and copied; its names, and its account. In the place of a call that was refused stands no other."""
+    text = text_of("pair.json")
+    fingerprint = hashlib.sha256(canonical(json.loads(text)).encode()).hexdigest()
     told, copied = "2 origins, 2 reactions", ["copied, the same true"]
     account = ["reactors 2, reactions 2, origins 2, variables 1, stop 100", "var 0 g.k", "input 0 f.a origin 0",
-               "input 1 g.b origin 1", "output 0 g.z"]
+               "input 1 g.b origin 1", "output 0 g.z", f"fingerprint {fingerprint}",
+               '{"form":1,"origins":2,"stop":100,"vars":["g.k"],"inputs":[[0,"f.a"],[1,"g.b"]],"outputs":["g.z"]}']
     load = Step([told, *copied, *copied], calls=3, otherwise=[
         [REFUSED], *([told, *both] for both in two_times(copied, [NO_MEMORY]))])
     label = Step([*account, *account], calls=3, otherwise=[[REFUSED], *two_times(account, [NO_MEMORY])])
-    return Calls("loading and copying a program, and its account", "load", text_of("pair.json"), [load, load, label, label])
+    return Calls("loading and copying a program, and its account", "load", text, [load, load, label, label])
 
 
 def refusing():
-    told, why = "refused 2", ['the file: "stop" is missing']
+    told, why = "refused 2", ['line 1, column 1: the file: "stop" is missing']
     load = Step([told, *why, *why], calls=3, otherwise=[
         [REFUSED], *([told, *both] for both in two_times(why, [NO_MEMORY]))])
     label = Step([told], otherwise=[[REFUSED]])

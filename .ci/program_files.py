@@ -1,5 +1,7 @@
-"""The program files of rows/ and examples/, with what `load` says of each: for `.ci/schema` and `.ci/language`."""
+"""The program files of rows/ and examples/, with what `load` says of each, and their canonical texts: for `.ci/schema`,
+`.ci/language`, `.ci/fingerprints` and `.ci/memory`."""
 
+import json
 import re
 import runpy
 from pathlib import Path
@@ -20,3 +22,20 @@ def files():
     for path in sorted((ROOT / "examples").glob("*.json")):
         if path.name != "refused.json":
             yield f"examples/{path.name}", path.read_bytes(), 0
+
+
+def filled(it, keys, **inside):
+    """The object with all of its keys, in this order; what stands under the keys `inside` has objects itself."""
+    full = {key: it.get(key, []) for key in keys}
+    return full | {key: [fill(each) for each in full[key]] for key, fill in inside.items()}
+
+
+def full_reactor(it):
+    keys = ("name", "vars", "inputs", "outputs", "actions", "timers", "reactions")
+    return filled(it, keys, reactions=lambda each: filled(each, ("on", "reads", "writes", "body")))
+
+
+def canonical(program):
+    """The text by which a program is known, as docs/reference/program_files.md describes it."""
+    keys = ("version", "stop", "origins", "reactors", "links", "inputs", "outputs")
+    return json.dumps(filled(program, keys, reactors=full_reactor), separators=(",", ":"))

@@ -4,7 +4,9 @@ use crate::mark::{begin, end};
 use crate::transcript::{NO_MEMORY, Transcript};
 use std::alloc::Global;
 use warp_line::Timeline;
-use warp_prog::{Labels, LoadError, explanation, load, load_labelled, program_account};
+use warp_prog::{
+    AccountOptions, LoadError, NamedProgram, explanation, load, load_named, program_account,
+};
 use warp_replica::Replica;
 use warp_step::Program;
 
@@ -80,27 +82,33 @@ fn explain_once(alloc: Global, out: &mut Transcript, text: &str, error: LoadErro
     }
 }
 
-/// Loads the program of this text with its labels, and where it is one tells two times what is in it.
+/// Loads the program of this text with its names, and where it is one tells two times what is in it.
 fn label_once(alloc: Global, out: &mut Transcript, text: &str) {
     begin(alloc);
-    let labelled = load_labelled(alloc, text.as_bytes());
+    let named = load_named(alloc, text.as_bytes());
     end(alloc);
-    match labelled {
-        Ok(labelled) => tell_twice(alloc, out, &labelled.program, &labelled.labels),
+    match named {
+        Ok(named) => tell_twice(alloc, out, &named),
         Err(error) => out.say(format_args!("refused {}", error.number())),
     }
 }
 
 /// Tells two times what is in a program.
-fn tell_twice(alloc: Global, out: &mut Transcript, program: &Program, labels: &Labels) {
-    tell_once(alloc, out, program, labels);
-    tell_once(alloc, out, program, labels);
+fn tell_twice(alloc: Global, out: &mut Transcript, named: &NamedProgram) {
+    tell_once(alloc, out, named);
+    tell_once(alloc, out, named);
 }
 
 /// Tells what is in a program.
-fn tell_once(alloc: Global, out: &mut Transcript, program: &Program, labels: &Labels) {
+fn tell_once(alloc: Global, out: &mut Transcript, named: &NamedProgram) {
+    let options = AccountOptions {
+        numbers: true,
+        rows: false,
+        fingerprint: true,
+        names: true,
+    };
     begin(alloc);
-    let told = program_account(alloc, program, labels, true, false);
+    let told = program_account(alloc, named, options);
     end(alloc);
     match told {
         Ok(text) => out.say_text(text.as_bytes()),

@@ -30,3 +30,5 @@ pub mod StatementLemmas
 pub mod ReadLemmas
 pub mod RuleLemmas
 pub mod LimitLemmas
+pub mod CanonicalLemmas
+pub mod OwnLemmas

@@ -1,10 +1,9 @@
--- What a program file tells its reader: the names that stand for numbers, and what is in a program.
-use Rattle.std.specs.Prelude.{◌≡◌, ◌+◌, ℕ, Bool, List, [], ◌∷◌, ◌++◌, Ok, codes, decimal, length, map, slice_get, if◌then◌else◌}
+-- What a program file tells its reader: the names that stand for numbers.
+use Rattle.std.specs.Prelude.{◌≡◌, ◌+◌, ℕ, List, [], ◌∷◌, ◌++◌, Ok, codes, decimal, length, map, slice_get}
 use Rattle.std.specs.Option.{option_map_or}
 use Rattle.warp_step.specs.Program.{Program}
 use Rattle.warp_step.specs.declared.parts.ProgramInput.{ProgramInput}
 use Rattle.warp_prog.specs.File.{File, ReactorPart, Word}
-use Rattle.warp_prog.specs.OwnRows.{own_rows}
 use Rattle.warp_prog.specs.Reading.{reading_of}
 use Rattle.warp_prog.specs.Uses.{action_names, timer_names, variable_names}
 use Rattle.warp_prog.specs.declared.file.InputPart.{InputPart}
@@ -88,14 +87,3 @@ input_lines inputs n (l ∷ ls) =
 abbrev pub numbers_text : Program → Names → List ℕ
 numbers_text P names =
     number_lines (codes "var") 0 names.variables ++ input_lines P.inputs 0 names.inputs ++ number_lines (codes "output") 0 names.outputs
-
--- how many rows a program makes by itself, and how many outputs each of them has at most, in a line
-abbrev pub rows_line : Program → List ℕ
-rows_line P =
-    counted (codes "own rows") (own_rows P) ++ counted (codes ", outputs of each at most") (length P.outputs) ++ 10 ∷ []
-
--- what is told of a program with these labels, with its numbers and its own rows where they are wanted
-abbrev pub account_text : Program → Names → Bool → Bool → List ℕ
-account_text P names with_numbers with_rows =
-    summary_line (length names.reactors) P ++ (if with_numbers then numbers_text P names else [])
-    ++ (if with_rows then rows_line P else [])

@@ -20,3 +20,6 @@ pub mod Reading
 pub mod Refusal
 pub mod Explain
 pub mod OwnRows
+pub mod Canonical
+pub mod NamesLine
+pub mod Account

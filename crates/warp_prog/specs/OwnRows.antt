@@ -1,5 +1,5 @@
 -- The rows that a program makes by itself: those of startup and of its timers, where nothing else comes.
-use Rattle.std.specs.Prelude.{ℕ, zero, suc, ◌+◌, ◌-◌, ◌%◌, Bool, ◌&&◌, ◌||◌, ◌==◌, nat_le, if◌then◌else◌}
+use Rattle.std.specs.Prelude.{ℕ, zero, suc, ◌+◌, ◌*◌, ◌-◌, ◌%◌, Bool, ◌&&◌, ◌||◌, ◌==◌, List, [], ◌++◌, codes, length, nat_le, nat_lt, if◌then◌else◌}
 use Rattle.std.specs.List.{list_any}
 use Rattle.warp_step.specs.Program.{Program}
 use Rattle.warp_step.specs.Snapshot.{begins}
@@ -22,3 +22,27 @@ own_before P (suc time) = own_before P time + (if is_own P time then 1 else 0)
 -- how many rows a program makes by itself up to its stop
 abbrev pub own_rows : Program → ℕ
 own_rows P = own_before P (P.stop + 1)
+
+-- how many outputs these put at most: each row as many as there are program outputs
+abbrev pub own_outputs : Program → ℕ
+own_outputs P = own_rows P * length P.outputs
+
+-- more rows or outputs than these are warned of
+abbrev pub many : ℕ
+many = 1000000
+
+-- the warning of many rows, or else of many outputs
+abbrev pub many_text : Program → List ℕ
+many_text P =
+    if nat_lt many (own_rows P) then codes "warning: startup and timers make more than 1,000,000 rows, which the first query has to wait for\n"
+    else (if nat_lt many (own_outputs P)
+    then codes "warning: startup and timers may make more than 1,000,000 outputs, which the first query has to wait for\n" else [])
+
+-- the warning of a program in which actions or links lead round without a delay
+abbrev pub round_text : Bool → List ℕ
+round_text goes_round =
+    if goes_round then codes "warning: one time may have a row at each microstep: actions or links lead round without delay\n" else []
+
+-- what is warned of
+abbrev pub warning_text : Program → Bool → List ℕ
+warning_text P goes_round = many_text P ++ round_text goes_round

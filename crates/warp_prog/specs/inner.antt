@@ -1,9 +1,9 @@
-pub mod Kind
+pub mod Things
 pub mod Rule
 pub mod Room
 pub mod Read
 pub mod Placing
 pub mod Cause
 pub mod Circle
-pub mod Fingerprint
+pub mod Hash
 pub mod Others

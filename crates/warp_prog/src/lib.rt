@@ -6,11 +6,12 @@
 #![tactic(auto)]
 
 mod backward;
-mod both;
+mod canonical;
 mod due;
 mod error;
 mod explain;
 mod file;
+mod json_names;
 mod law;
 mod limits;
 mod loading;
@@ -24,12 +25,17 @@ mod reading;
 mod role;
 mod scope;
 mod shape;
-mod twice;
+mod stands_twice;
+mod two_results;
 mod undeclared;
 mod uses;
 
+pub use canonical::fingerprint;
 pub use due::own_rows;
 pub use error::LoadError;
-pub use explain::{Labels, explanation, program_account, rows_warning};
+pub use explain::{
+    AccountOptions, Labels, explanation, program_account, program_warnings, rows_warning,
+};
+pub use json_names::names_line;
 pub use law::loader_order;
-pub use loading::{LabelledProgram, load, load_labelled};
+pub use loading::{LabelledProgram, NamedProgram, load, load_labelled, load_named};

@@ -8,7 +8,7 @@ ghost use Rattle.warp_prog.specs.Limits.{first_version, last_version, lists_exce
 ghost use Rattle.warp_prog.specs.Limits.{total, totals_exceed, action_exceeds, timer_exceeds, link_exceeds};
 ghost use Rattle.warp_prog.specs.Limits.{reaction_exceeds, reactor_exceeds, parts_exceed, exceeds_limits};
 ghost use Rattle.warp_prog.specs.View.{file_tree, reactor_tree, reaction_tree};
-ghost use Rattle.warp_prog.specs.inner.Kind.{count_of};
+ghost use Rattle.warp_prog.specs.inner.Things.{count_of};
 ghost use Rattle.warp_prog.specs.inner.Others.{ends_exceed, others_exceed};
 ghost use Rattle.warp_prog.specs.declared.file.InputPart.{InputPart};
 
@@ -45,7 +45,7 @@ pub(crate) const MOST_INPUTS: usize = 64;
 pub(crate) const MOST_OUTPUTS: usize = 64;
 
 /// Things of which all reactors together have a limit.
-pub(crate) enum Kind {
+pub(crate) enum LimitedThings {
     Variables,
     /// Inputs and outputs together.
     Ports,
@@ -154,22 +154,22 @@ fn any_total(reactors: &[Reactor], at: &mut Trail) -> bool
 fn totals_exceed(reactors: &[Reactor]) -> bool
     ensures { result ≡ totals_exceed (map reactor_tree reactors.now) }
 {
-    are_more(reactors, &Kind::Variables, MOST_VARIABLES)
-        || are_more(reactors, &Kind::Ports, MOST_PORTS)
-        || are_more(reactors, &Kind::Actions, MOST_ACTIONS)
-        || are_more(reactors, &Kind::Timers, MOST_TIMERS)
-        || are_more(reactors, &Kind::Reactions, MOST_REACTIONS)
+    are_more(reactors, &LimitedThings::Variables, MOST_VARIABLES)
+        || are_more(reactors, &LimitedThings::Ports, MOST_PORTS)
+        || are_more(reactors, &LimitedThings::Actions, MOST_ACTIONS)
+        || are_more(reactors, &LimitedThings::Timers, MOST_TIMERS)
+        || are_more(reactors, &LimitedThings::Reactions, MOST_REACTIONS)
 }
 
 /// Whether all reactors together have more of a kind than so many.
-fn are_more(reactors: &[Reactor], kind: &Kind, most: usize) -> bool
+fn are_more(reactors: &[Reactor], kind: &LimitedThings, most: usize) -> bool
     ensures { result ≡ nat_lt most (total (count_of kind.now) (map reactor_tree reactors.now)) }
 {
     room_after_all(reactors, kind, most).is_none()
 }
 
 /// The room that is left of so much after the things of a kind in all reactors; `None` where it is not enough.
-fn room_after_all(reactors: &[Reactor], kind: &Kind, room: usize) -> Option<usize>
+fn room_after_all(reactors: &[Reactor], kind: &LimitedThings, room: usize) -> Option<usize>
     ensures { let n = total (count_of kind.now) (map reactor_tree reactors.now) in
         SomeIff result (n ≤ room) (room - n) }
 {
@@ -181,17 +181,17 @@ fn room_after_all(reactors: &[Reactor], kind: &Kind, room: usize) -> Option<usiz
 }
 
 /// The room that is left of so much after the things of a kind in a reactor; `None` where it is not enough.
-pub(crate) fn room_after(reactor: &Reactor, kind: &Kind, room: usize) -> Option<usize>
+pub(crate) fn room_after(reactor: &Reactor, kind: &LimitedThings, room: usize) -> Option<usize>
     ensures { let n = count_of kind.now (reactor_tree reactor.now) in SomeIff result (n ≤ room) (room - n) }
 {
     match kind {
-        Kind::Variables => room.checked_sub(reactor.variables.len()),
-        Kind::Ports => room
+        LimitedThings::Variables => room.checked_sub(reactor.variables.len()),
+        LimitedThings::Ports => room
             .checked_sub(reactor.inputs.len())?
             .checked_sub(reactor.outputs.len()),
-        Kind::Actions => room.checked_sub(reactor.actions.len()),
-        Kind::Timers => room.checked_sub(reactor.timers.len()),
-        Kind::Reactions => room.checked_sub(reactor.reactions.len()),
+        LimitedThings::Actions => room.checked_sub(reactor.actions.len()),
+        LimitedThings::Timers => room.checked_sub(reactor.timers.len()),
+        LimitedThings::Reactions => room.checked_sub(reactor.reactions.len()),
     }
 }
 

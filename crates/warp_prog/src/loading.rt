@@ -1,6 +1,7 @@
 //! Loading a program file.
-ghost use Rattle.std.specs.Prelude.{◌≡◌, ◌<◌, ◌^◌, true, false, Ok, IfOk, IfErr, OnOk, length};
+ghost use Rattle.std.specs.Prelude.{◌≡◌, ◌<◌, ◌^◌, true, false, Ok, IfOk, IfErr, OnOk, length, string_bytes};
 ghost use Rattle.warp_step.specs.View.{program_of};
+ghost use Rattle.warp_prog.specs.Canonical.{IsCanonical};
 ghost use Rattle.warp_prog.specs.Explain.{IsLabelled};
 ghost use Rattle.warp_prog.specs.Load.{IsFaultless, IsLoaded, IsRefused, lacks_order};
 ghost use Rattle.warp_prog.specs.Numbered.{is_first_version, numbered};
@@ -9,6 +10,7 @@ ghost use Rattle.warp_prog.specs.View.{file_tree};
 ghost use Rattle.warp_prog.specs.inner.Cause.{IsCause, IsNamed};
 
 use crate::backward::leads_back;
+use crate::canonical::canonical;
 use crate::error::LoadError;
 use crate::explain::trail::Trail;
 use crate::explain::{Labels, labels_of};
@@ -18,7 +20,8 @@ use crate::names::names_unknown;
 use crate::numbered::numbered;
 use crate::order::{file_order, loader_order};
 use crate::reading::reading;
-use crate::twice::names_twice;
+use crate::stands_twice::names_twice;
+use crate::two_results::both;
 use crate::undeclared::is_undeclared;
 use std::alloc::{AllocError, Global};
 use warp_step::{Parts, Program};
@@ -59,6 +62,56 @@ pub fn load_labelled(alloc: Global, bytes: &[u8]) -> Result<LabelledProgram, Loa
 {
     let read = read_program(alloc, bytes)?;
     with_labels(read.program, labels_of(alloc, &read.file))
+}
+
+/// A program, the names of its parts, and its text.
+#[derive(Drop)]
+pub struct NamedProgram {
+    /// The program.
+    pub program: Program,
+    /// The names that its file has for the program's things.
+    pub labels: Labels,
+    /// Its file written back in one way: JSON with no white space, each key there and in a fixed order. Files that differ
+    /// only in white space, in the order of keys, and in keys that are not there or have an empty list, have one text.
+    pub canonical: String,
+}
+
+/// Loads the program that the bytes of a file spell, with the names of its parts and its canonical text: the file is
+/// read once for all.
+///
+/// # Errors
+///
+/// Those of `load`, of the same bytes.
+pub fn load_named(alloc: Global, bytes: &[u8]) -> Result<NamedProgram, LoadError>
+    ensures program { IfOk result (λ n. IsLoaded bytes.now n.program) }
+    ensures labels { IfOk result (λ n. IsLabelled bytes.now n.labels) }
+    ensures canonical { IfOk result (λ n. IsCanonical bytes.now (string_bytes n.canonical)) }
+    ensures err { IfErr result (IsRefused bytes.now) }
+{
+    let read = read_program(alloc, bytes)?;
+    let labels = labels_of(alloc, &read.file);
+    with_names(read.program, labels, canonical(alloc, &read.file))
+}
+
+/// A program with these labels and this text, if there was memory for both.
+fn with_names(
+    program: Program,
+    labels: Result<Labels, AllocError>,
+    canonical: Result<String, AllocError>,
+) -> Result<NamedProgram, LoadError>
+    ensures program { IfOk result (λ n. n.program ≡ program) }
+    ensures labels { IfOk result (λ n. labels ≡ Ok n.labels) }
+    ensures canonical { IfOk result (λ n. canonical ≡ Ok n.canonical) }
+    ensures err { IfErr result (λ error. error ≡ LoadError.Memory) }
+{
+    let Ok((labels, canonical)) = both(labels, canonical) else {
+        return Err(LoadError::Memory);
+    };
+    Ok(NamedProgram {
+        program,
+        labels,
+        canonical,
+    })
 }
 
 /// A program, and the file that spells it.

@@ -1,7 +1,7 @@
 //! Names of reactors and of what stands in them, and references to ports.
 ghost use Rattle.std.specs.Prelude.{◌≡◌};
 ghost use Rattle.warp_prog.specs.Word.{is_letter, is_word_byte, are_word_bytes, is_name, name_of};
-ghost use Rattle.warp_prog.specs.inner.Fingerprint.{with_byte, fingerprint_of};
+ghost use Rattle.warp_prog.specs.inner.Hash.{with_byte, hash_of};
 
 use arrayvec::ArrayString;
 use std::marker::Model;
@@ -14,13 +14,13 @@ const LONGEST_NAME: usize = 32;
 pub struct Name {
     text: ArrayString<32>,
     /// A number that follows from the text: names whose numbers differ are not the same, and no text is looked at.
-    fingerprint: u64,
+    hash: u64,
 }
 
 impl Model for Name {
     ghost use Rattle.std.specs.Prelude.{◌≡◌, ℕ, List};
     ghost use Rattle.std.specs.Coded.{coded_ℕ, coded_list};
-    ghost use Rattle.warp_prog.specs.inner.Fingerprint.{fingerprint_of};
+    ghost use Rattle.warp_prog.specs.inner.Hash.{hash_of};
 
     ghost Value = { List ℕ };
 
@@ -28,7 +28,7 @@ impl Model for Name {
 
     ghost view = { λ n. n.text.bytes };
 
-    ghost invariant = { λ n. n.fingerprint ≡ fingerprint_of n.text.bytes };
+    ghost invariant = { λ n. n.hash ≡ hash_of n.text.bytes };
 }
 
 impl Name {
@@ -39,9 +39,9 @@ impl Name {
         if !is_name(text.as_bytes()) {
             return None;
         }
-        let fingerprint = fingerprint_of(text.as_bytes());
+        let hash = hash_of(text.as_bytes());
         match ArrayString::from(text) {
-            Ok(text) => Some(Name { text, fingerprint }),
+            Ok(text) => Some(Name { text, hash }),
             Err(_) => None,
         }
     }
@@ -54,29 +54,29 @@ impl Name {
     }
 
     /// The number that follows from the name.
-    pub(crate) fn fingerprint(&self) -> u64
-        ensures { result ≡ fingerprint_of self.now }
+    pub(crate) fn hash(&self) -> u64
+        ensures { result ≡ hash_of self.now }
     {
-        self.fingerprint
+        self.hash
     }
 }
 
 /// The number of a text.
-fn fingerprint_of(text: &[u8]) -> u64
-    ensures { result ≡ fingerprint_of text.now }
+fn hash_of(text: &[u8]) -> u64
+    ensures { result ≡ hash_of text.now }
 {
-    let mut fingerprint = 0;
+    let mut hash = 0;
     for byte in text {
-        fingerprint = with_byte(fingerprint, *byte);
+        hash = with_byte(hash, *byte);
     }
-    fingerprint
+    hash
 }
 
 /// The number after one more byte: those of names of at most seven bytes all differ.
-fn with_byte(fingerprint: u64, byte: u8) -> u64
-    ensures { result ≡ with_byte fingerprint byte }
+fn with_byte(hash: u64, byte: u8) -> u64
+    ensures { result ≡ with_byte hash byte }
 {
-    fingerprint.wrapping_mul(257).wrapping_add(byte as u64)
+    hash.wrapping_mul(257).wrapping_add(byte as u64)
 }
 
 fn is_letter(byte: u8) -> bool

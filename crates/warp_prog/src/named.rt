@@ -50,7 +50,7 @@ impl Named for TimerPart {
 pub(crate) fn is_same(a: &Name, b: &Name) -> bool
     ensures { result ≡ bytes_eq a.now b.now }
 {
-    if a.fingerprint() != b.fingerprint() {
+    if a.hash() != b.hash() {
         return false;
     }
     a.as_str() == b.as_str()

@@ -2,13 +2,13 @@
 use Rattle.std.specs.Prelude.{fold}
 use Rattle.clap.specs.Words.{App, Rule, Text, new_app, with_rule, with_subcommand}
 use Rattle.warp_words.specs.Words.{any_words, flag, further_number, wanted_number, wanted_word}
-use Rattle.warp_words.specs.declared.command_line.Kind.{Kind}
-use Rattle.warp_words.specs.declared.command_line.Kind.TheVariants as kind
+use Rattle.warp_words.specs.declared.command_line.PartKind.{PartKind}
+use Rattle.warp_words.specs.declared.command_line.PartKind.TheVariants as kind
 use Rattle.warp_words.specs.declared.command_line.Part.{Part}
 use Rattle.warp_words.specs.declared.command_line.Subcommand.{Subcommand}
 
 -- the rule of a part of this name and kind
-abbrev pub rule_as : Text → Kind → Rule
+abbrev pub rule_as : Text → PartKind → Rule
 rule_as name kind.Word = wanted_word name
 rule_as name kind.Words = any_words name
 rule_as name kind.Flag = flag name

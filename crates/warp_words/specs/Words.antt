@@ -8,6 +8,7 @@ use Rattle.clap.specs.Simple.{on_top}
 use Rattle.clap.specs.ValueTests.{is_unsigned_in}
 use Rattle.clap.specs.declared.builder.action.ArgAction.TheVariants.{Append, SetTrue}
 use Rattle.clap.specs.declared.builder.value_parser.ValueParser.TheVariants.{Unsigned}
+use Rattle.warp_words.specs.declared.command_line.CheckOptions.{CheckOptions}
 use Rattle.warp_words.specs.declared.command_line.Job.{Job}
 use Rattle.warp_words.specs.declared.command_line.Job.TheVariants.{Run, Play, Serve, Check, Trace}
 
@@ -40,9 +41,9 @@ further_number name most = record (wanted_number name most) { required = false }
 abbrev pub any_words : Text → Rule
 any_words place = record (new_rule place) { action = Some Append }
 
--- the highest port, and the most sessions
-abbrev pub last_port : ℕ
-last_port = 65535
+-- the highest port to listen on, and the most sessions
+abbrev pub last_listening_port : ℕ
+last_listening_port = 65535
 
 abbrev pub most_sessions : ℕ
 most_sessions = 16
@@ -59,15 +60,16 @@ flag name = record (new_rule name) { long = Some name; action = Some SetTrue }
 abbrev pub serve_command : App
 serve_command =
     with_rule (with_rule (with_rule (with_rule (with_rule (with_rule (new_app (codes "serve"))
-    (wanted_word (codes "PROGRAM"))) (wanted_number (codes "port") last_port))
+    (wanted_word (codes "PROGRAM"))) (wanted_number (codes "port") last_listening_port))
     (wanted_number (codes "sessions") most_sessions)) (flag (codes "tell-pulls")))
     (further_number (codes "peer-timeout") most_seconds)) (any_words (codes "PEER"))
 
--- `check` with PROGRAM, `--numbers` and `--rows`
+-- `check` with PROGRAM, `--numbers`, `--rows`, `--fingerprint`, `--names` and `--warn`
 abbrev pub check_command : App
 check_command =
-    with_rule (with_rule (with_rule (new_app (codes "check")) (wanted_word (codes "PROGRAM"))) (flag (codes "numbers")))
-    (flag (codes "rows"))
+    with_rule (with_rule (with_rule (with_rule (with_rule (with_rule (new_app (codes "check"))
+    (wanted_word (codes "PROGRAM"))) (flag (codes "numbers"))) (flag (codes "rows")))
+    (flag (codes "fingerprint"))) (flag (codes "names"))) (flag (codes "warn"))
 
 -- `trace` with PROGRAM and `--steps`
 abbrev pub trace_command : App
@@ -88,13 +90,13 @@ warpd_command =
 -- what the words may ask for: to run the program of this name; or over the program of the first name to play the schedule of
 -- the second; or to serve the program of this name at a port, for so many sessions, to tell how pulls ended or not, to bear so many
 -- seconds of a peer's silence or any number, and to pull from these peers; or to check the
--- program of this name, and to tell its numbers or not, and its own rows or not; or to print the rows of a run of the program of this
+-- program of this name, and to tell what these options say; or to print the rows of a run of the program of this
 -- name, or its steps as they were executed
 pub data Task : Type 0 where
   RunProgram : Text → Task
   PlaySchedule : Text → Text → Task
   ServeProgram : Text → ℕ → ℕ → Bool → Option ℕ → List Text → Task
-  CheckProgram : Text → Bool → Bool → Task
+  CheckProgram : Text → CheckOptions → Task
   TraceProgram : Text → Bool → Task
 
 -- what `run` asks for, of what was found for it: the word in the place of PROGRAM
@@ -129,15 +131,22 @@ abbrev pub serve_task : List Row → Option Task
 serve_task found =
     option_and_then (λ program. option_and_then (λ port. option_map (λ sessions. ServeProgram program port sessions
     (is_set (codes "tell-pulls") found) (number_found (codes "peer-timeout") most_seconds found) (all_of_or_none (codes "PEER") found))
-    (number_found (codes "sessions") most_sessions found)) (number_found (codes "port") last_port found))
+    (number_found (codes "sessions") most_sessions found)) (number_found (codes "port") last_listening_port found))
     (first_of (codes "PROGRAM") found)
 
--- what `check` asks for, of what was found for it: the word in the place of PROGRAM, and whether `--numbers` and `--rows`
--- are there
+-- which options of `check` are there, of what was found for it
+abbrev pub check_options : List Row → CheckOptions
+check_options found = record {
+  numbers = is_set (codes "numbers") found;
+  rows = is_set (codes "rows") found;
+  fingerprint = is_set (codes "fingerprint") found;
+  names = is_set (codes "names") found;
+  warnings = is_set (codes "warn") found;
+}
+
+-- what `check` asks for, of what was found for it: the word in the place of PROGRAM, and its options
 abbrev pub check_task : List Row → Option Task
-check_task found =
-    option_map (λ program. CheckProgram program (is_set (codes "numbers") found) (is_set (codes "rows") found))
-    (first_of (codes "PROGRAM") found)
+check_task found = option_map (λ program. CheckProgram program (check_options found)) (first_of (codes "PROGRAM") found)
 
 -- what `trace` asks for, of what was found for it: the word in the place of PROGRAM, and whether `--steps` is there
 abbrev pub trace_task : List Row → Option Task
@@ -166,12 +175,12 @@ task_of (Run program) = RunProgram program.now
 task_of (Play program schedule) = PlaySchedule program.now schedule.now
 task_of (Serve program port sessions tells_pulls peer_timeout peers) =
     ServeProgram program.now port sessions tells_pulls peer_timeout (map (λ word. word.now) peers.items)
-task_of (Check program with_numbers with_rows) = CheckProgram program.now with_numbers with_rows
+task_of (Check program options) = CheckProgram program.now options
 task_of (Trace program with_steps) = TraceProgram program.now with_steps
 
 -- the port, the number of sessions and the seconds are in their ranges
 abbrev pub IsInRange : Task → Type 0
 IsInRange (ServeProgram program port sessions tells_pulls peer_timeout peers) =
-    (1 ≤ port) × (port ≤ last_port) × (1 ≤ sessions) × (sessions ≤ most_sessions)
+    (1 ≤ port) × (port ≤ last_listening_port) × (1 ≤ sessions) × (sessions ≤ most_sessions)
     × IfSome peer_timeout (λ seconds. (1 ≤ seconds) × (seconds ≤ most_seconds))
 IsInRange task = Unit {0}

@@ -7,7 +7,7 @@ ghost use Rattle.warp_words.specs.Parts.{app_for, rule_for, with_made, with_part
 ghost use Rattle.warp_words.specs.declared.command_line.Subcommand.{Subcommand};
 ghost use Rattle.warp_words.specs.Words.{play_task, run_task, task_found, task_in, task_of};
 ghost use Rattle.warp_words.specs.Words.{IsInRange, all_of_or_none, number_found, number_up_to};
-ghost use Rattle.warp_words.specs.Words.{check_task, is_set, serve_task, trace_task};
+ghost use Rattle.warp_words.specs.Words.{check_options, check_task, is_set, serve_task, trace_task};
 ghost use Rattle.warp_words.specs.Words.{top_command, warpd_command};
 
 use crate::{check_help, serve_help, trace_help};
@@ -49,10 +49,8 @@ pub enum Job<'a> {
     Check {
         /// The word that names the program to check.
         program: &'a str,
-        /// Whether to tell the numbers of its things too.
-        with_numbers: bool,
-        /// Whether to tell how many rows it makes by itself too.
-        with_rows: bool,
+        /// What to tell beside that.
+        options: CheckOptions,
     },
     /// Print the rows of the one run over the lines of standard input.
     Trace {
@@ -61,6 +59,21 @@ pub enum Job<'a> {
         /// Whether to print the steps in the order in which they were executed in their place.
         with_steps: bool,
     },
+}
+
+/// What `check` tells beside the line of what is in a program.
+#[derive(Clone, Copy, Debug, Drop, PartialEq, Eq)]
+pub struct CheckOptions {
+    /// The numbers of its things.
+    pub numbers: bool,
+    /// How many rows it makes by itself.
+    pub rows: bool,
+    /// Its fingerprint.
+    pub fingerprint: bool,
+    /// What its numbers stand for, for other programs.
+    pub names: bool,
+    /// What is allowed, and may not have been meant.
+    pub warnings: bool,
 }
 
 const VERSION: &str = "1.1.0";
@@ -203,10 +216,16 @@ const NUMBERS: &str = "numbers";
 
 const ROWS: &str = "rows";
 
+const FINGERPRINT: &str = "fingerprint";
+
+const NAMES: &str = "names";
+
+const WARN: &str = "warn";
+
 const STEPS: &str = "steps";
 
-/// The highest port.
-const LAST_PORT: u64 = 65_535;
+/// The highest port to listen on.
+const LAST_LISTENING_PORT: u64 = 65_535;
 
 /// The most sessions of a server.
 const MOST_SESSIONS: u64 = 16;
@@ -215,7 +234,7 @@ const MOST_SESSIONS: u64 = 16;
 const MOST_SECONDS: u64 = 86_400;
 
 /// What a part of a subcommand is.
-enum Kind {
+enum PartKind {
     /// A place for a word, which has to be there.
     Word,
     /// Places for any number of words.
@@ -232,7 +251,7 @@ enum Kind {
 struct Part {
     name: &'static str,
     help: &'static str,
-    kind: Kind,
+    kind: PartKind,
 }
 
 /// The texts of help. Functions without clauses give them: the proof of one with clauses pays for each byte of a text
@@ -262,7 +281,7 @@ struct Subcommand {
 const PROGRAM_PART: Part = Part {
     name: PROGRAM,
     help: PROGRAM_HELP,
-    kind: Kind::Word,
+    kind: PartKind::Word,
 };
 
 const RUN: Subcommand = Subcommand {
@@ -279,7 +298,7 @@ const PLAY: Subcommand = Subcommand {
         Part {
             name: SCHEDULE,
             help: SCHEDULE_HELP,
-            kind: Kind::Word,
+            kind: PartKind::Word,
         },
     ],
 };
@@ -292,15 +311,15 @@ const SERVE: Subcommand = Subcommand {
         Part {
             name: PORT,
             help: serve_help::PORT_HELP,
-            kind: Kind::Number {
+            kind: PartKind::Number {
                 value: "P",
-                most: LAST_PORT,
+                most: LAST_LISTENING_PORT,
             },
         },
         Part {
             name: SESSIONS,
             help: serve_help::SESSIONS_HELP,
-            kind: Kind::Number {
+            kind: PartKind::Number {
                 value: "K",
                 most: MOST_SESSIONS,
             },
@@ -308,12 +327,12 @@ const SERVE: Subcommand = Subcommand {
         Part {
             name: TELL_PULLS,
             help: serve_help::TELL_PULLS_HELP,
-            kind: Kind::Flag,
+            kind: PartKind::Flag,
         },
         Part {
             name: PEER_TIMEOUT,
             help: serve_help::PEER_TIMEOUT_HELP,
-            kind: Kind::FurtherNumber {
+            kind: PartKind::FurtherNumber {
                 value: "SECONDS",
                 most: MOST_SECONDS,
             },
@@ -321,7 +340,7 @@ const SERVE: Subcommand = Subcommand {
         Part {
             name: PEER,
             help: serve_help::PEER_HELP,
-            kind: Kind::Words,
+            kind: PartKind::Words,
         },
     ],
 };
@@ -334,12 +353,27 @@ const CHECK: Subcommand = Subcommand {
         Part {
             name: NUMBERS,
             help: check_help::NUMBERS_HELP,
-            kind: Kind::Flag,
+            kind: PartKind::Flag,
         },
         Part {
             name: ROWS,
             help: check_help::ROWS_HELP,
-            kind: Kind::Flag,
+            kind: PartKind::Flag,
+        },
+        Part {
+            name: FINGERPRINT,
+            help: check_help::FINGERPRINT_HELP,
+            kind: PartKind::Flag,
+        },
+        Part {
+            name: NAMES,
+            help: check_help::NAMES_HELP,
+            kind: PartKind::Flag,
+        },
+        Part {
+            name: WARN,
+            help: check_help::WARN_HELP,
+            kind: PartKind::Flag,
         },
     ],
 };
@@ -352,7 +386,7 @@ const TRACE: Subcommand = Subcommand {
         Part {
             name: STEPS,
             help: trace_help::STEPS_HELP,
-            kind: Kind::Flag,
+            kind: PartKind::Flag,
         },
     ],
 };
@@ -428,13 +462,21 @@ fn check_job<'a>(found: &ArgMatches<'a>) -> Option<Job<'a>>
     ensures { option_map task_of result ≡ check_task (rows_of (found_of found.now)) }
 {
     let program = text(found, PROGRAM)?;
-    let with_numbers = is_set(found, NUMBERS);
-    let with_rows = is_set(found, ROWS);
-    Some(Job::Check {
-        program,
-        with_numbers,
-        with_rows,
-    })
+    let options = check_options(found);
+    Some(Job::Check { program, options })
+}
+
+/// Which options of `check` are there.
+fn check_options(found: &ArgMatches<'_>) -> CheckOptions
+    ensures { result ≡ check_options (rows_of (found_of found.now)) }
+{
+    CheckOptions {
+        numbers: is_set(found, NUMBERS),
+        rows: is_set(found, ROWS),
+        fingerprint: is_set(found, FINGERPRINT),
+        names: is_set(found, NAMES),
+        warnings: is_set(found, WARN),
+    }
 }
 
 /// What `trace` asks for.
@@ -466,7 +508,7 @@ fn serve_job<'a>(alloc: Global, found: &ArgMatches<'a>) -> Result<Option<Job<'a>
     let Some(program) = text(found, PROGRAM) else {
         return Ok(None);
     };
-    let Some(port) = number(found, PORT, LAST_PORT) else {
+    let Some(port) = number(found, PORT, LAST_LISTENING_PORT) else {
         return Ok(None);
     };
     let Some(sessions) = number(found, SESSIONS, MOST_SESSIONS) else {
@@ -646,15 +688,15 @@ fn argument<'a>(alloc: Global, part: &'static Part) -> Arg<'a>
 {
     let argument = Arg::new(alloc, part.name).help(part.help);
     match part.kind {
-        Kind::Word => argument.required(true),
-        Kind::Words => argument.action(ArgAction::Append),
-        Kind::Flag => argument.long(part.name).action(ArgAction::SetTrue),
-        Kind::Number { value, most } => argument
+        PartKind::Word => argument.required(true),
+        PartKind::Words => argument.action(ArgAction::Append),
+        PartKind::Flag => argument.long(part.name).action(ArgAction::SetTrue),
+        PartKind::Number { value, most } => argument
             .long(part.name)
             .value_name(value)
             .required(true)
             .value_parser(ValueParser::unsigned(1, most)),
-        Kind::FurtherNumber { value, most } => argument
+        PartKind::FurtherNumber { value, most } => argument
             .long(part.name)
             .value_name(value)
             .value_parser(ValueParser::unsigned(1, most)),

@@ -6,4 +6,4 @@ mod command_line;
 mod serve_help;
 mod trace_help;
 
-pub use command_line::{Job, words};
+pub use command_line::{CheckOptions, Job, words};

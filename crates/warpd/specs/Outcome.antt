@@ -7,11 +7,14 @@ use Rattle.clap.specs.declared.error.kind.ErrorKind.TheVariants as kind
 use Rattle.warp_tag.specs.Limits.{most_reads}
 use Rattle.warp_step.specs.Program.{Program as ReactorProgram}
 use Rattle.warp_step.specs.Twice.{twice}
-use Rattle.warp_prog.specs.Explain.{IsLabelled, Names, account_text}
+use Rattle.warp_prog.specs.Account.{account_text}
+use Rattle.warp_prog.specs.Canonical.{IsCanonical}
+use Rattle.warp_prog.specs.Explain.{IsLabelled, Names}
 use Rattle.warp_prog.specs.Load.{IsLoaded, IsRefused}
 use Rattle.warp_prog.specs.Refusal.{number_of}
 use Rattle.warp_prog.specs.declared.error.LoadError.{LoadError}
 use Rattle.warp_prog.specs.declared.error.LoadError.TheVariants.{Memory as WantOfMemory}
+use Rattle.warp_prog.specs.declared.explain.account.AccountOptions.{AccountOptions}
 use Rattle.warp_world.specs.Schedule.{IsFault}
 use Rattle.warp_world.specs.declared.fault.ScheduleFault.{ScheduleFault}
 use Rattle.warp_world.specs.declared.fault.ScheduleFault.TheVariants as schedule_fault
@@ -30,6 +33,7 @@ use Rattle.warp_session.specs.Stream.{WritesFront}
 use Rattle.warp_world.specs.Play.{PlaysSchedule}
 use Rattle.warp_lanes.specs.Engine.{most_lanes}
 use Rattle.warp_words.specs.Words.{Task, RunProgram, PlaySchedule, ServeProgram, CheckProgram, TraceProgram, task_in, warpd_command}
+use Rattle.warp_words.specs.declared.command_line.CheckOptions.{CheckOptions}
 use Rattle.warp_session.specs.declared.door.ServeFault.{ServeFault}
 use Rattle.warp_session.specs.declared.door.ServeFault.TheVariants as serve_fault
 use Rattle.warp_session.specs.declared.desk_session.SessionEnd.{SessionEnd}
@@ -144,23 +148,29 @@ IsPrinted text before after outcome =
     × (((outcome ≡ Done) × Appends before.written after.written text × (after.failed_writes ≡ before.failed_writes))
     ⊎ ((outcome ≡ Output) × WritesFront before.written after.written text × (after.failed_writes ≡ before.failed_writes + 1)))
 
--- a text tells of the program that these bytes spell what is in it, by the labels of the file, with its numbers and its
--- own rows where they are wanted
-abbrev pub IsToldOf : List ℕ → Bool → Bool → List ℕ → Type 0
-IsToldOf bytes with_numbers with_rows text =
-    (P : ReactorProgram) × (names : Names) × IsLoaded bytes P × IsLabelled bytes names × (text ≡ account_text P names with_numbers with_rows)
+-- what an account tells by the options of `check`
+abbrev pub account_options : CheckOptions → AccountOptions
+account_options o = record { numbers = o.numbers; rows = o.rows; fingerprint = o.fingerprint; names = o.names }
 
--- a text tells so of the program of this name: of `builtin:twice` by some names, or of that of some bytes, which were
--- read of a file, by their labels
-abbrev pub IsTold : List ℕ → Bool → Bool → List ℕ → Type 0
-IsTold name with_numbers with_rows text =
-    (name ≡ codes "builtin:twice" → (names : Names) × (text ≡ account_text twice names with_numbers with_rows))
-    × (name ≢ codes "builtin:twice" → (bytes : List ℕ) × IsToldOf bytes with_numbers with_rows text)
+-- a text tells of the program that these bytes spell what is in it, by the labels and the canonical text of the file, with what
+-- the options ask for
+abbrev pub IsToldOf : List ℕ → CheckOptions → List ℕ → Type 0
+IsToldOf bytes options text =
+    (P : ReactorProgram) × (names : Names) × (canonical : List ℕ) × IsLoaded bytes P × IsLabelled bytes names × IsCanonical bytes canonical
+    × (text ≡ account_text P names canonical (account_options options))
+
+-- a text tells so of the program of this name: of `builtin:twice` by some names and some canonical text, or of that of some
+-- bytes, which were read of a file, by theirs
+abbrev pub IsTold : List ℕ → CheckOptions → List ℕ → Type 0
+IsTold name options text =
+    (name ≡ codes "builtin:twice"
+    → (names : Names) × (canonical : List ℕ) × (text ≡ account_text twice names canonical (account_options options)))
+    × (name ≢ codes "builtin:twice" → (bytes : List ℕ) × IsToldOf bytes options text)
 
 -- checking the program of this name ends so: what tells of it is printed; or where there is none, nothing is printed
-abbrev pub Checks : List ℕ → Bool → Bool → Seen → Seen → Outcome → Type 0
-Checks name with_numbers with_rows before after outcome =
-    ((text : List ℕ) × IsTold name with_numbers with_rows text × IsPrinted text before after outcome)
+abbrev pub Checks : List ℕ → CheckOptions → Seen → Seen → Outcome → Type 0
+Checks name options before after outcome =
+    ((text : List ℕ) × IsTold name options text × IsPrinted text before after outcome)
     ⊎ (IsNone name outcome × (after ≡ before))
 
 -- the outcome where a schedule was refused so: the line where it was, but for want of memory
@@ -324,7 +334,7 @@ Does (RunProgram program) before after outcome = Runs program before after outco
 Does (PlaySchedule program schedule) before after outcome = Plays program before after outcome
 Does (ServeProgram program port sessions tells_pulls peer_timeout peers) before after outcome =
     ServesInLanes program port (sessions + length peers) before after outcome
-Does (CheckProgram program with_numbers with_rows) before after outcome = Checks program with_numbers with_rows before after outcome
+Does (CheckProgram program options) before after outcome = Checks program options before after outcome
 Does (TraceProgram program with_steps) before after outcome = Traces program with_steps before after outcome
 
 -- the run whose words are these ends so: words with no fault have what they ask for done, and of others the

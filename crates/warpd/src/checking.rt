@@ -1,56 +1,72 @@
 //! What `warpd check` tells of the program that a word names.
 ghost use Rattle.std.specs.Prelude.{◌≡◌, ◌⊎◌, ◌+◌, IfErr, IfOk, ℕ, List, string_bytes};
 ghost use Rattle.warp_step.specs.Twice.{twice};
-ghost use Rattle.warp_prog.specs.Explain.{Names, account_text};
+ghost use Rattle.warp_prog.specs.Account.{account_text};
+ghost use Rattle.warp_prog.specs.Explain.{Names};
 ghost use Rattle.warp_prog.specs.Load.{IsLoaded, IsRefused};
 ghost use Rattle.warp_prog.specs.Reading.{longest_file};
-ghost use Rattle.warpd.specs.Outcome.{IsFrontOf, IsNone, IsTold, IsToldOf, refused_outcome};
+ghost use Rattle.warpd.specs.Outcome.{IsFrontOf, IsNone, IsTold, IsToldOf, account_options, refused_outcome};
 
 use crate::file_bytes::{first_bytes, without_file};
 use crate::outcome::Outcome;
 use crate::program_file::{ENOUGH, TWICE, refused};
-use std::alloc::Global;
+use std::alloc::{AllocError, Global};
 use std::fs::{self, Files};
 use std::io::Read;
 use warp_prog::{
-    LabelledProgram, LoadError, explanation, load_labelled, program_account, rows_warning,
+    AccountOptions, LoadError, NamedProgram, explanation, load_named, program_account,
+    program_warnings, rows_warning,
 };
 use warp_step::Program;
+use warp_words::CheckOptions;
 
-/// What is told of the program of this name. Where its file is refused, `remark` gets where and why.
+/// What is told of the program of this name. Where its file is refused, `remark` gets where and why; else it gets the
+/// warnings that are asked for.
 pub(crate) fn account_of<F: Files>(
     files: &F,
     alloc: Global,
     name: &str,
-    with_numbers: bool,
-    with_rows: bool,
+    options: CheckOptions,
     remark: &mut String,
 ) -> Result<String, Outcome>
-    ensures ok { IfOk result (λ text. IsTold name.now with_numbers with_rows (string_bytes text)) }
+    ensures ok { IfOk result (λ text. IsTold name.now options (string_bytes text)) }
     ensures err { IfErr result (IsNone name.now) }
 {
     if name == "builtin:twice" {
-        return built_in_account(alloc, with_numbers, with_rows);
+        return built_in_account(alloc, options);
     }
     match fs::open(files, name) {
-        Ok(file) => file_account(alloc, file, with_numbers, with_rows, remark),
+        Ok(file) => file_account(alloc, file, options, remark),
         Err(error) => Err(without_file(&error, Outcome::NoProgram)),
     }
 }
 
-/// What is told of the program `twice`.
-fn built_in_account(alloc: Global, with_numbers: bool, with_rows: bool) -> Result<String, Outcome>
-    ensures ok { IfOk result
-        (λ text. (names : Names) × (string_bytes text ≡ account_text twice names with_numbers with_rows)) }
+/// What an account tells by these options.
+fn account_options(options: CheckOptions) -> AccountOptions
+    ensures { result ≡ account_options options }
+{
+    AccountOptions {
+        numbers: options.numbers,
+        rows: options.rows,
+        fingerprint: options.fingerprint,
+        names: options.names,
+    }
+}
+
+/// What is told of the program `twice`, of which there is nothing to warn of.
+fn built_in_account(alloc: Global, options: CheckOptions) -> Result<String, Outcome>
+    ensures ok { IfOk result (λ text. (names : Names) × (canonical : List ℕ)
+        × (string_bytes text ≡ account_text twice names canonical (account_options options))) }
     ensures err { IfErr result (λ outcome. outcome ≡ Outcome.Memory) }
 {
     let Ok(program) = Program::twice(alloc) else {
         return Err(Outcome::Memory);
     };
-    let Ok(labelled) = load_labelled(alloc, TWICE.as_bytes()) else {
+    let Ok(read) = load_named(alloc, TWICE.as_bytes()) else {
         return Err(Outcome::Memory);
     };
-    match program_account(alloc, &program, &labelled.labels, with_numbers, with_rows) {
+    let named = NamedProgram { program, ..read };
+    match program_account(alloc, &named, account_options(options)) {
         Ok(text) => Ok(text),
         Err(_) => Err(Outcome::Memory),
     }
@@ -61,19 +77,17 @@ fn built_in_account(alloc: Global, with_numbers: bool, with_rows: bool) -> Resul
 fn file_account<R: Read + Drop>(
     alloc: Global,
     reader: R,
-    with_numbers: bool,
-    with_rows: bool,
+    options: CheckOptions,
     remark: &mut String,
 ) -> Result<String, Outcome>
     ensures ok { IfOk result (λ text. (bytes : List ℕ)
-        × IsFrontOf (longest_file + 1) (R.remaining reader) bytes
-        × IsToldOf bytes with_numbers with_rows (string_bytes text)) }
+        × IsFrontOf (longest_file + 1) (R.remaining reader) bytes × IsToldOf bytes options (string_bytes text)) }
     ensures err { IfErr result (λ outcome. (outcome ≡ Outcome.NoProgram) ⊎ (outcome ≡ Outcome.Memory)
         ⊎ ((bytes : List ℕ) × IsFrontOf (longest_file + 1) (R.remaining reader) bytes
         × ((error : LoadError) × IsRefused bytes error × (outcome ≡ refused_outcome error)))) }
 {
     let bytes = first_bytes(alloc, reader, ENOUGH, Outcome::NoProgram)?;
-    let text = bytes_account(alloc, &bytes, with_numbers, with_rows, remark)?;
+    let text = bytes_account(alloc, &bytes, options, remark)?;
     Ok(text)
 }
 
@@ -81,21 +95,17 @@ fn file_account<R: Read + Drop>(
 fn bytes_account(
     alloc: Global,
     bytes: &[u8],
-    with_numbers: bool,
-    with_rows: bool,
+    options: CheckOptions,
     remark: &mut String,
 ) -> Result<String, Outcome>
-    ensures ok { IfOk result (λ text. IsToldOf bytes.now with_numbers with_rows (string_bytes text)) }
+    ensures ok { IfOk result (λ text. IsToldOf bytes.now options (string_bytes text)) }
     ensures err { IfErr result
         (λ outcome. (error : LoadError) × IsRefused bytes.now error × (outcome ≡ refused_outcome error)) }
 {
-    match load_labelled(alloc, bytes) {
-        Ok(labelled) => {
-            let LabelledProgram { program, labels } = labelled;
-            if with_rows {
-                warn(alloc, &program, remark);
-            }
-            match program_account(alloc, &program, &labels, with_numbers, with_rows) {
+    match load_named(alloc, bytes) {
+        Ok(named) => {
+            warn(alloc, bytes, &named.program, options, remark);
+            match program_account(alloc, &named, account_options(options)) {
                 Ok(text) => Ok(text),
                 Err(_) => Err(refused(LoadError::Memory)),
             }
@@ -104,10 +114,26 @@ fn bytes_account(
     }
 }
 
-/// Warns in the remark of a program that may make very many rows by itself, if there is memory for it.
-fn warn(alloc: Global, program: &Program, remark: &mut String) {
-    if let Ok(text) = rows_warning(alloc, program) {
-        *remark = text;
+/// Gives the remark the warnings that are asked for, as far as there is memory for them.
+fn warn(
+    alloc: Global,
+    bytes: &[u8],
+    program: &Program,
+    options: CheckOptions,
+    remark: &mut String,
+) {
+    if options.rows {
+        add_remark(remark, rows_warning(alloc, program));
+    }
+    if options.warnings {
+        add_remark(remark, program_warnings(alloc, bytes));
+    }
+}
+
+/// Adds a text to the remark, if there was memory for it, and there is room.
+fn add_remark(remark: &mut String, text: Result<String, AllocError>) {
+    if let Ok(text) = text {
+        let _ = remark.push_str(text.as_str());
     }
 }
 

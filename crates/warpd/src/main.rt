@@ -55,7 +55,7 @@ use warp_line::Timeline;
 use warp_run::Warp;
 use warp_session::{SessionEnd, Sink, Source, Stream, run_session, write_all};
 use warp_step::Program;
-use warp_words::{Job, words};
+use warp_words::{CheckOptions, Job, words};
 use warp_world::play_text;
 
 fn main(rt: HostRuntime) -> ExitCode {
@@ -219,11 +219,7 @@ fn carry_out<P: Host + Net<Listener = TcpListener, Stream = TcpStream>, R: Sourc
             };
             serve(rt, alloc, program, &service, streams)
         }
-        Job::Check {
-            program,
-            with_numbers,
-            with_rows,
-        } => check(rt, alloc, program, with_numbers, with_rows, streams),
+        Job::Check { program, options } => check(rt, alloc, program, options, streams),
         Job::Trace {
             program,
             with_steps,
@@ -345,14 +341,13 @@ fn check<F: Files, R: Source, W: Sink>(
     files: &F,
     alloc: Global,
     name: &str,
-    with_numbers: bool,
-    with_rows: bool,
+    options: CheckOptions,
     streams: &mut Streams<R, W>,
 ) -> Outcome
-    ensures { Checks name.now with_numbers with_rows streams.old streams.new result }
+    ensures { Checks name.now options streams.old streams.new result }
 {
     let remark = &mut streams.remark;
-    match account_of(files, alloc, name, with_numbers, with_rows, remark) {
+    match account_of(files, alloc, name, options, remark) {
         Ok(text) => print(text.as_str().as_bytes(), streams),
         Err(outcome) => outcome,
     }

@@ -1,36 +1,82 @@
-//! What is in a program: one line, and the numbers by which lines and replies speak of it.
+//! What is in a program: one line, the numbers by which lines and replies speak of it, its rows, and what it is.
 ghost use Rattle.std.specs.Prelude.{◌≡◌, ◌++◌, ◌∷◌, [], IfOk, OnOk, codes, length, map, string_bytes};
 ghost use Rattle.std.specs.Prelude.{if◌then◌else◌};
-ghost use Rattle.warp_prog.specs.Explain.{account_text, counted, input_lines, number_lines, numbers_text, rows_line};
-ghost use Rattle.warp_prog.specs.Explain.{origin_at, summary_line};
+ghost use Rattle.warp_prog.specs.Account.{account_text, fingerprint_line, identity_text, measures_text, names_line};
+ghost use Rattle.warp_prog.specs.Account.{rows_line};
+ghost use Rattle.warp_prog.specs.Explain.{counted, input_lines, number_lines, numbers_text, origin_at, summary_line};
 
+use crate::canonical::fingerprint;
 use crate::due::own_rows;
 use crate::explain::labels::Labels;
+use crate::explain::rows::own_outputs;
+use crate::json_names::names_line;
+use crate::loading::NamedProgram;
 use itoa::Buffer;
 use std::alloc::{AllocError, Global};
 use warp_step::{Program, ProgramInput};
 
-/// What is in a program with these labels, as a line; and with its numbers, for each variable, program input and
-/// program output a line with its number and its label, and an input's with its origin; and with its rows, how many it
-/// makes by itself.
+/// What an account of a program tells beside its first line.
+#[derive(Clone, Copy, Debug, Drop, PartialEq, Eq)]
+pub struct AccountOptions {
+    /// For each variable, program input and program output a line with its number and its label, and an input's with
+    /// its origin.
+    pub numbers: bool,
+    /// How many rows the program makes by itself, and how many outputs at most.
+    pub rows: bool,
+    /// Its fingerprint.
+    pub fingerprint: bool,
+    /// Its names, as one line of JSON.
+    pub names: bool,
+}
+
+/// What is in a program, as a line, and behind it what the options ask for.
 ///
 /// # Errors
 ///
 /// Only where a growth was refused.
 pub fn program_account(
     alloc: Global,
-    program: &Program,
-    labels: &Labels,
-    with_numbers: bool,
-    with_rows: bool,
+    named: &NamedProgram,
+    options: AccountOptions,
 ) -> Result<String, AllocError>
-    ensures { IfOk result (λ text. string_bytes text ≡ account_text program.now labels.now with_numbers with_rows) }
+    ensures { IfOk result (λ text. string_bytes text
+        ≡ account_text named.now.program named.now.labels (string_bytes named.now.canonical) options) }
 {
     let mut text = String::new(alloc);
-    add_summary(&mut text, program, labels.reactors.len())?;
-    add_wanted_numbers(&mut text, program, labels, with_numbers)?;
-    add_wanted_rows(&mut text, program, with_rows)?;
+    add_measures(&mut text, &named.program, &named.labels, options)?;
+    add_identity(alloc, &mut text, named, options)?;
     Ok(text)
+}
+
+/// Adds how much is in a program, with its numbers and its rows where they are asked for.
+fn add_measures(
+    text: &mut String,
+    program: &Program,
+    labels: &Labels,
+    options: AccountOptions,
+) -> Result<(), AllocError>
+    ensures { OnOk result (string_bytes text.new
+        ≡ string_bytes text.old ++ measures_text program.now labels.now options) }
+{
+    add_summary(text, program, labels.reactors.len())?;
+    add_wanted_numbers(text, program, labels, options.numbers)?;
+    add_wanted_rows(text, program, options.rows)?;
+    Ok(())
+}
+
+/// Adds which program it is, where that is asked for.
+fn add_identity(
+    alloc: Global,
+    text: &mut String,
+    named: &NamedProgram,
+    options: AccountOptions,
+) -> Result<(), AllocError>
+    ensures { OnOk result (string_bytes text.new ≡ string_bytes text.old
+        ++ identity_text named.now.program named.now.labels (string_bytes named.now.canonical) options) }
+{
+    add_wanted_fingerprint(alloc, text, &named.canonical, options.fingerprint)?;
+    add_wanted_names(alloc, text, named, options.names)?;
+    Ok(())
 }
 
 /// Adds the numbers where they are wanted.
@@ -62,16 +108,74 @@ fn add_wanted_rows(text: &mut String, program: &Program, is_wanted: bool) -> Res
     }
 }
 
-/// Adds the line of how many rows a program makes by itself.
+/// Adds the line of the fingerprint of this text where it is wanted.
+fn add_wanted_fingerprint(
+    alloc: Global,
+    text: &mut String,
+    canonical: &str,
+    is_wanted: bool,
+) -> Result<(), AllocError>
+    ensures { let line = fingerprint_line canonical.now in
+        OnOk result (string_bytes text.new ≡ string_bytes text.old ++ (if is_wanted then line else [])) }
+{
+    if is_wanted {
+        add_fingerprint(alloc, text, canonical)
+    } else {
+        Ok(())
+    }
+}
+
+/// Adds the line of the fingerprint of this text.
+fn add_fingerprint(alloc: Global, text: &mut String, canonical: &str) -> Result<(), AllocError>
+    ensures { OnOk result (string_bytes text.new ≡ string_bytes text.old ++ fingerprint_line canonical.now) }
+{
+    let digits = fingerprint(alloc, canonical)?;
+    text.push_str("fingerprint ")?;
+    text.push_str(&digits)?;
+    end_line(text)?;
+    Ok(())
+}
+
+/// Adds the line of names where it is wanted.
+fn add_wanted_names(
+    alloc: Global,
+    text: &mut String,
+    named: &NamedProgram,
+    are_wanted: bool,
+) -> Result<(), AllocError>
+    ensures { let line = names_line named.now.program named.now.labels in
+        OnOk result (string_bytes text.new ≡ string_bytes text.old ++ (if are_wanted then line else [])) }
+{
+    if are_wanted {
+        add_names(alloc, text, &named.program, &named.labels)
+    } else {
+        Ok(())
+    }
+}
+
+/// Adds the line of names.
+fn add_names(
+    alloc: Global,
+    text: &mut String,
+    program: &Program,
+    labels: &Labels,
+) -> Result<(), AllocError>
+    ensures { OnOk result
+        (string_bytes text.new ≡ string_bytes text.old ++ names_line program.now labels.now) }
+{
+    let line = names_line(alloc, program, labels)?;
+    text.push_str(&line)?;
+    end_line(text)
+}
+
+/// Adds the line of how many rows a program makes by itself, and how many outputs at most.
 fn add_rows(text: &mut String, program: &Program) -> Result<(), AllocError>
     ensures { OnOk result (string_bytes text.new ≡ string_bytes text.old ++ rows_line program.now) }
 {
+    let outputs = program.outputs().len() as u64;
     add_count(text, "own rows", own_rows(program))?;
-    add_count(
-        text,
-        ", outputs of each at most",
-        program.outputs().len() as u64,
-    )?;
+    add_count(text, ", outputs of each at most", outputs)?;
+    add_count(text, ", of all at most", own_outputs(program))?;
     end_line(text)?;
     Ok(())
 }
@@ -161,7 +265,7 @@ fn add_inputs(
 }
 
 /// The origin of the program input of this number, or 0 where there is none.
-fn origin_at(inputs: &[ProgramInput], number: usize) -> u32
+pub(crate) fn origin_at(inputs: &[ProgramInput], number: usize) -> u32
     ensures { result ≡ origin_at inputs.now number }
 {
     match inputs.get(number) {

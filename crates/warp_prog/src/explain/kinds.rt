@@ -2,7 +2,8 @@
 
 use crate::explain::neighbour::Nearest;
 use crate::file::Reactor;
-use crate::named::Named;
+use crate::name::Name;
+use crate::named::{Named, is_among};
 use crate::role::Role;
 
 /// The kinds of things for which a name may stand in a role.
@@ -111,5 +112,64 @@ fn compare_each<'f, T: Named>(nearest: &mut Nearest<'f>, is_asked: bool, things:
         for thing in things {
             nearest.compare(thing.name().as_str());
         }
+    }
+}
+
+/// What a name is that stands for a thing of the reactor of another kind than its role asks, and what may be done with
+/// that.
+pub(crate) fn other_kind(reactor: &Reactor, role: Role, name: &Name) -> Option<&'static str> {
+    if is_among(&reactor.inputs, name) {
+        return Some(other_input(role));
+    }
+    if is_among(&reactor.outputs, name) {
+        return Some(other_output(role));
+    }
+    if is_among(&reactor.variables, name) {
+        return Some(other_variable(role));
+    }
+    if is_among(&reactor.actions, name) {
+        return Some(other_action(role));
+    }
+    if is_among(&reactor.timers, name) {
+        return Some(other_timer(role));
+    }
+    None
+}
+
+fn other_input(role: Role) -> &'static str {
+    match role {
+        Role::Variable => "an input: it cannot be assigned",
+        _ => "an input",
+    }
+}
+
+fn other_output(role: Role) -> &'static str {
+    match role {
+        Role::Variable => "an output: write [\"put\", output, expression]",
+        Role::Value => "an output: it cannot be read",
+        _ => "an output",
+    }
+}
+
+fn other_variable(role: Role) -> &'static str {
+    match role {
+        Role::Action => "a variable: write [\"set\", variable, expression]",
+        Role::Cause => "a variable: it triggers nothing",
+        Role::Written => "a variable: it needs no declaration",
+        _ => "a variable",
+    }
+}
+
+fn other_action(role: Role) -> &'static str {
+    match role {
+        Role::Variable => "an action: write [\"schedule\", action, delay, expression]",
+        _ => "an action",
+    }
+}
+
+fn other_timer(role: Role) -> &'static str {
+    match role {
+        Role::Value => "a timer, which has no value: write [\"present\", timer]",
+        _ => "a timer",
     }
 }

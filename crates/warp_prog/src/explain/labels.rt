@@ -8,7 +8,7 @@ ghost use Rattle.warp_prog.specs.View.{file_tree, reactor_tree};
 use crate::file::{ProgramFile, Reactor};
 use crate::name::Name;
 use crate::named::Named;
-use crate::twice::Refers;
+use crate::stands_twice::Refers;
 use std::alloc::{AllocError, Global};
 use std::marker::Model;
 

@@ -7,12 +7,13 @@ use crate::explain::reason::Reason;
 use crate::explain::trail::{Segment, Trail};
 use crate::file::Reactor;
 use crate::limits::{
-    Kind, MOST_ACTIONS, MOST_PORTS, MOST_REACTIONS, MOST_TIMERS, MOST_VARIABLES, room_after,
+    LimitedThings, MOST_ACTIONS, MOST_PORTS, MOST_REACTIONS, MOST_TIMERS, MOST_VARIABLES,
+    room_after,
 };
 
 /// How many things of a kind all reactors together may have.
 struct Total {
-    kind: Kind,
+    kind: LimitedThings,
     most: usize,
     /// What they are, in words.
     things: &'static str,
@@ -20,27 +21,27 @@ struct Total {
 
 const TOTALS: &[Total] = &[
     Total {
-        kind: Kind::Variables,
+        kind: LimitedThings::Variables,
         most: MOST_VARIABLES,
         things: "variables in the reactors up to here",
     },
     Total {
-        kind: Kind::Ports,
+        kind: LimitedThings::Ports,
         most: MOST_PORTS,
         things: "inputs and outputs in the reactors up to here",
     },
     Total {
-        kind: Kind::Actions,
+        kind: LimitedThings::Actions,
         most: MOST_ACTIONS,
         things: "actions in the reactors up to here",
     },
     Total {
-        kind: Kind::Timers,
+        kind: LimitedThings::Timers,
         most: MOST_TIMERS,
         things: "timers in the reactors up to here",
     },
     Total {
-        kind: Kind::Reactions,
+        kind: LimitedThings::Reactions,
         most: MOST_REACTIONS,
         things: "reactions in the reactors up to here",
     },
@@ -64,7 +65,7 @@ pub(crate) fn note_totals(reactors: &[Reactor], at: &mut Trail) -> bool
 
 /// The place of the first reactor up to which there are more than so many things of a kind; how many reactors there are
 /// where there is none.
-fn place_past(reactors: &[Reactor], kind: &Kind, most: usize) -> usize {
+fn place_past(reactors: &[Reactor], kind: &LimitedThings, most: usize) -> usize {
     let mut room = most;
     for (i, reactor) in reactors.iter().enumerate() {
         match room_after(reactor, kind, room) {

@@ -1,7 +1,7 @@
 //! What is wrong at a place of a program file, and its words.
 
 use crate::explain::circle::write_circle;
-use crate::explain::kinds::{compare_all, kinds_of};
+use crate::explain::kinds::{compare_all, kinds_of, other_kind};
 use crate::explain::neighbour::Nearest;
 use crate::explain::terms::Vocabulary;
 use crate::explain::text::push_all;
@@ -46,6 +46,8 @@ pub(crate) enum Reason<'f> {
     Backward(&'f Name, &'f Name),
     /// Reactions of these reactors, by their numbers: each waits for the next, and the last for the first.
     Circle(&'f [u32], &'f [Reactor]),
+    /// The origin of this number has no inputs.
+    Unowned(i64),
 }
 
 /// Writes what is wrong.
@@ -69,7 +71,16 @@ pub(crate) fn write_reason(
         Reason::SameReactor(place) => write!(text, "reactors[{place}] has this name too"),
         Reason::Backward(from, to) => write_backward(text, from, to),
         Reason::Circle(circle, reactors) => write_circle(text, circle, reactors),
+        Reason::Unowned(origin) => write_unowned(text, origin),
     }
+}
+
+fn write_unowned(text: &mut String, origin: i64) -> Result<(), AllocError> {
+    write!(
+        text,
+        "origin {origin} has no inputs: it holds the horizon at (0, 0)"
+    )?;
+    text.push_str(" until somebody announces for it")
 }
 
 fn write_named(text: &mut String, name: &Name, words: &str) -> Result<(), AllocError> {
@@ -112,6 +123,9 @@ fn write_unread(
     vocabulary: Vocabulary,
 ) -> Result<(), AllocError> {
     write_word(alloc, text, word, vocabulary.kind)?;
+    if let Some(form) = vocabulary.instead_of(word) {
+        return push_all(text, &[" (write ", form, ")"]);
+    }
     let mut nearest = Nearest::new(alloc, word);
     for other in vocabulary.words {
         nearest.compare(*other);
@@ -137,6 +151,9 @@ fn write_unknown(
     let kinds = kinds_of(role);
     let words = kinds.words;
     write!(text, "\"{wanted}\" is no {words} of \"{of}\"")?;
+    if let Some(other) = other_kind(reactor, role, name) {
+        return push_all(text, &[" (it is ", other, ")"]);
+    }
     let mut nearest = Nearest::new(alloc, wanted);
     compare_all(&mut nearest, reactor, &kinds);
     nearest.write(text)

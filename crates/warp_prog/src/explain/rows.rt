@@ -1,34 +1,71 @@
-//! What is told beforehand of a program that may make very many rows by itself.
+//! What is told beforehand of a program that may make very many rows or outputs by itself.
+ghost use Rattle.std.specs.Prelude.{◌≡◌, ◌++◌, [], Bool, IfOk, OnOk, codes, string_bytes};
+ghost use Rattle.std.specs.Prelude.{if◌then◌else◌};
+ghost use Rattle.warp_prog.specs.OwnRows.{many_text, own_outputs, round_text, warning_text};
 
 use crate::due::own_rows;
 use std::alloc::{AllocError, Global};
 use warp_body::{Stmt, Target};
 use warp_step::{Action, Link, Program};
 
-/// A program that makes more rows than these by itself is warned of.
-const MANY_ROWS: u64 = 1_000_000;
+/// A program that makes more rows or outputs than these by itself is warned of.
+const MANY: u64 = 1_000_000;
 
-const MANY: &str = "\
-warning: timers alone make more than 1,000,000 rows, which the first query has to wait for\n";
+const MANY_ROWS: &str = "\
+warning: startup and timers make more than 1,000,000 rows, which the first query has to wait for\n";
+
+const MANY_OUTPUTS: &str = "\
+warning: startup and timers may make more than 1,000,000 outputs, which the first query has to wait for\n";
 
 const ROUND: &str = "\
-warning: rows may grow without bound at a tag: actions or links lead round without delay\n";
+warning: one time may have a row at each microstep: actions or links lead round without delay\n";
 
-/// Warnings, a line each: of a program that makes more than 1,000,000 rows by itself, and of one in which an action or a
-/// port leads back to itself without a delay, so that one time may have a row at each microstep. None for any other.
+/// How many outputs a program puts at most in the rows that it makes by itself, 0 to 640,000,064: as many in each as
+/// it has.
+#[tactic(auto, using(crate::proofs::OwnLemmas::few_outputs))]
+pub(crate) fn own_outputs(program: &Program) -> u64
+    ensures { result ≡ own_outputs program.now }
+{
+    program.valid();
+    own_rows(program) * program.outputs().len() as u64
+}
+
+/// Warnings, a line each: of a program that makes more than 1,000,000 rows by itself, or outputs in them; and of one in
+/// which an action or a port leads back to itself without a delay, so that one time may have a row at each microstep.
+/// None for any other.
 ///
 /// # Errors
 ///
 /// Only where a growth was refused.
-pub fn rows_warning(alloc: Global, program: &Program) -> Result<String, AllocError> {
+pub fn rows_warning(alloc: Global, program: &Program) -> Result<String, AllocError>
+    ensures { IfOk result (λ text. (goes_round : Bool) × (string_bytes text ≡ warning_text program.now goes_round)) }
+{
     let mut text = String::new(alloc);
-    if own_rows(program) > MANY_ROWS {
-        text.push_str(MANY)?;
-    }
-    if leads_round(alloc, program)? {
-        text.push_str(ROUND)?;
-    }
+    let goes_round = leads_round(alloc, program)?;
+    text.push_str(many_warning(program))?;
+    text.push_str(round_warning(goes_round))?;
     Ok(text)
+}
+
+/// The warning of many rows, or else of many outputs; empty where neither are many.
+fn many_warning(program: &Program) -> &'static str
+    ensures { result.now ≡ many_text program.now }
+{
+    if own_rows(program) > MANY {
+        return MANY_ROWS;
+    }
+    if own_outputs(program) > MANY {
+        MANY_OUTPUTS
+    } else {
+        ""
+    }
+}
+
+/// The warning of a program that goes round without a delay; empty for any other.
+fn round_warning(goes_round: bool) -> &'static str
+    ensures { result.now ≡ round_text goes_round }
+{
+    if goes_round { ROUND } else { "" }
 }
 
 /// Whether an action or a port leads back to itself without a delay.

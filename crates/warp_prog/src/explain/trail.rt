@@ -1,5 +1,6 @@
 //! Where something is wrong in a program file, and what.
 
+use crate::explain::place::{after_white, item_place, member_place, position};
 use crate::explain::reason::Reason;
 use crate::explain::text::push_all;
 use crate::name::Name;
@@ -87,33 +88,75 @@ impl<'f> Trail<'f> {
         self.reason
     }
 
-    /// Writes the segments from the first on, with the names of the reactors of the file.
-    pub(crate) fn write(&self, text: &mut String, file: &Value) -> Result<(), AllocError> {
+    /// Writes the line and the column at which the part begins, in these bytes of the file, and the segments from the
+    /// first on, with the names of the reactors of the file.
+    pub(crate) fn write(
+        &self,
+        text: &mut String,
+        bytes: &[u8],
+        file: &Value,
+    ) -> Result<(), AllocError> {
+        let at = position(bytes, self.place(bytes));
+        let line = at.line;
+        let column = at.column;
+        write!(text, "line {line}, column {column}: ")?;
+        self.write_segments(text, file)
+    }
+
+    /// Where the part begins in these bytes of the file.
+    fn place(&self, bytes: &[u8]) -> usize {
+        let mut place = after_white(bytes, 0);
+        for segment in self.segments.as_slice().iter().rev() {
+            place = part_place(bytes, place, *segment);
+        }
+        place
+    }
+
+    /// Writes the segments from the first on.
+    fn write_segments(&self, text: &mut String, file: &Value) -> Result<(), AllocError> {
         if self.segments.is_empty() {
             return text.push_str("the file");
         }
+        let mut is_first = true;
         for segment in self.segments.as_slice().iter().rev() {
-            write_segment(text, *segment, file)?;
+            write_segment(text, is_first, *segment, file)?;
+            is_first = false;
         }
         Ok(())
     }
 }
 
-/// Writes a segment behind those that are there.
-fn write_segment(text: &mut String, segment: Segment, file: &Value) -> Result<(), AllocError> {
+/// Where the part to which a segment leads begins, from the part at this place.
+fn part_place(bytes: &[u8], place: usize, segment: Segment) -> usize {
+    match segment {
+        Segment::Key(key) => member_place(bytes, place, key),
+        Segment::Of(key, number) => item_place(bytes, member_place(bytes, place, key), number),
+        Segment::Item(number) => item_place(bytes, place, number),
+    }
+}
+
+/// Writes a segment behind those that are there, if it is not the first.
+fn write_segment(
+    text: &mut String,
+    is_first: bool,
+    segment: Segment,
+    file: &Value,
+) -> Result<(), AllocError> {
     match segment {
         Segment::Key(key) => {
-            write_comma(text)?;
+            write_comma(text, is_first)?;
             push_all(text, &["\"", key, "\""])
         }
-        Segment::Of(key, place) => write_part(text, key, place, file),
+        Segment::Of(key, place) => {
+            write_comma(text, is_first)?;
+            write_part(text, key, place, file)
+        }
         Segment::Item(place) => write!(text, "[{place}]"),
     }
 }
 
 /// Writes the segment to an item of the list under a key.
 fn write_part(text: &mut String, key: &str, place: usize, file: &Value) -> Result<(), AllocError> {
-    write_comma(text)?;
     write!(text, "{key}[{place}]")?;
     if key == "reactors" {
         return write_name(text, place, file);
@@ -121,9 +164,9 @@ fn write_part(text: &mut String, key: &str, place: usize, file: &Value) -> Resul
     Ok(())
 }
 
-/// Writes a comma if something stands before it.
-fn write_comma(text: &mut String) -> Result<(), AllocError> {
-    if text.is_empty() {
+/// Writes a comma, but before the first segment.
+fn write_comma(text: &mut String, is_first: bool) -> Result<(), AllocError> {
+    if is_first {
         return Ok(());
     }
     text.push_str(", ")

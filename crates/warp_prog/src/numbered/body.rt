@@ -7,11 +7,11 @@ ghost use Rattle.warp_prog.specs.Numbered.{numbered_term, numbered_statement, nu
 ghost use Rattle.warp_prog.specs.inner.Room.{HasRoom};
 ghost use Rattle.warp_prog.specs.View.{reactor_tree, term_tree, statement_tree, body_tree};
 
-use crate::both::both;
 use crate::file::{Expression, Reactor, Statement};
 use crate::name::Name;
 use crate::numbered::place::{action_number, output_number, place_of, readable, variable_number};
 use crate::scope::Before;
+use crate::two_results::both;
 use std::alloc::Global;
 use warp_body::{BinaryOperator, Expr, Stmt};
 use warp_tag::OutOfMemory;

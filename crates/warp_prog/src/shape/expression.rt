@@ -8,12 +8,12 @@ ghost use Rattle.warp_prog.specs.View.{term_tree};
 ghost use Rattle.warp_prog.specs.Word.{name_at};
 ghost use Rattle.warp_prog.specs.inner.Read.{IsRead, with_one, with_two, with_three};
 
-use crate::both::both;
 use crate::file::Expression;
 use crate::misread::Misread;
 use crate::name::Name;
 use crate::shape::json::first_word;
 use crate::shape::word::name_at;
+use crate::two_results::both;
 use serde_json::Value;
 use std::alloc::Global;
 use warp_body::{BinaryOperator, UnaryOperator};

@@ -8,13 +8,13 @@ ghost use Rattle.warp_prog.specs.File.{NamedBody};
 ghost use Rattle.warp_prog.specs.View.{term_tree, statement_tree, body_tree};
 ghost use Rattle.warp_prog.specs.inner.Read.{IsRead, list_tree};
 
-use crate::both::both;
 use crate::file::{Expression, Statement};
 use crate::misread::Misread;
 use crate::name::Name;
 use crate::shape::expression::expression;
 use crate::shape::json::first_word;
 use crate::shape::word::{integer_at, name_at};
+use crate::two_results::both;
 use serde_json::Value;
 use std::alloc::Global;
 

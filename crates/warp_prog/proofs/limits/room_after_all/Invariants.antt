@@ -2,7 +2,7 @@
 use Rattle.std.proofs.Common.{◌≡◌, ◌+◌, drop, map}
 use Rattle.warp_prog.specs.Limits.{total}
 use Rattle.warp_prog.specs.View.{reactor_tree}
-use Rattle.warp_prog.specs.inner.Kind.{count_of}
+use Rattle.warp_prog.specs.inner.Things.{count_of}
 use Rattle.warp_prog.proofs.limits.room_after_all.Given as goal
 
 abbrev pub invariant-loop-reactor : goal.invariant-loop-reactor

@@ -7,6 +7,11 @@ use crate::explain::trail::{Segment, Trail};
 use crate::shape::json::first_word;
 use serde_json::Value;
 
+const NO_BODY: &str = "no list of statements (write [[..], ..])";
+
+/// Where a body has the first word of a statement in the place of a statement.
+const BARE_WORD: &str = "no statement (a body is a list of statements: write [[..]])";
+
 /// What stands at a place of a statement.
 #[derive(Clone, Copy)]
 enum Slot {
@@ -65,7 +70,7 @@ fn form_of(word: &str) -> Option<Form> {
 pub(crate) fn body_fails<'v>(value: &'v Value, segment: Segment, at: &mut Trail<'v>) -> bool {
     match value {
         Value::Array(items) => statements_fail(items.as_slice(), segment, at),
-        _ => at.fault_at(segment, Reason::Form(value, "no list of statements")),
+        _ => at.fault_at(segment, Reason::Form(value, NO_BODY)),
     }
 }
 
@@ -83,6 +88,9 @@ fn statements_fail<'v>(items: &'v [Value], segment: Segment, at: &mut Trail<'v>)
 fn statement_fails<'v>(value: &'v Value, at: &mut Trail<'v>) -> bool {
     match value {
         Value::Array(items) => parts_fail(items.as_slice(), at),
+        Value::String(word) if form_of(word.as_str()).is_some() => {
+            at.fault(Reason::Form(value, BARE_WORD))
+        }
         _ => at.fault(Reason::Form(value, "no statement")),
     }
 }

@@ -8,7 +8,7 @@ use Rattle.clap.specs.Walk.{Row, Text}
 use Rattle.clap.specs.Simple.{App, argument_words, built, help_shape, subcommand_of}
 use Rattle.clap.specs.Faults.{fault_of}
 use Rattle.clap.specs.ValueTests.{is_unsigned_in}
-use Rattle.warp_words.specs.Words.{IsInRange, Task, last_port, most_seconds, most_sessions, number_up_to, task_found, task_of, warpd_command}
+use Rattle.warp_words.specs.Words.{IsInRange, Task, last_listening_port, most_seconds, most_sessions, number_up_to, task_found, task_of, warpd_command}
 use Rattle.warp_words.specs.Words.{PlaySchedule, RunProgram, ServeProgram}
 use Rattle.clap.specs.Words.{first_of, subcommand_rows_of}
 use Rattle.warp_words.proofs.GivenArguments.{Gives, entered_gives, level_given}
@@ -53,7 +53,7 @@ serve_gives : Gives whole HasTask (codes "serve")
 serve_gives words e =
     let given = level_given (slice_index_or whole.subs 2 help_shape) (refl, refl) words e in
     served _ _ _ _ (given.0.there refl)
-    (number_there last_port _ (given.1.0.there refl) given.1.0.passes)
+    (number_there last_listening_port _ (given.1.0.there refl) given.1.0.passes)
     (number_there most_sessions _ (given.1.1.0.there refl) given.1.1.0.passes)
 
 check_gives : Gives whole HasTask (codes "check")
@@ -91,7 +91,7 @@ number_in : (most : ℕ) (o : Option Text) → IfSome (option_and_then (number_u
 number_in most None = tt
 number_in most (Some word) = spelled_in most word
 
-served_in : (b : Bool) (peers : List Text) (r : Option ℕ) → IfSome r (IsUpTo most_seconds) → (o : Option Text) (p q : Option ℕ) → IfSome p (IsUpTo last_port) → IfSome q (IsUpTo most_sessions)
+served_in : (b : Bool) (peers : List Text) (r : Option ℕ) → IfSome r (IsUpTo most_seconds) → (o : Option Text) (p q : Option ℕ) → IfSome p (IsUpTo last_listening_port) → IfSome q (IsUpTo most_sessions)
     → IfSome (option_and_then (λ program. option_and_then (λ port. option_map (λ sessions. ServeProgram program port sessions b r peers) q) p) o) IsInRange
 served_in b peers r wait None p q port sessions = tt
 served_in b peers r wait (Some program) None q port sessions = tt
@@ -118,7 +118,7 @@ found_in (Some (name, rows)) =
     (either (bytes_eq name (codes "play")) _ _ (by_two PlaySchedule (λ one other. tt) (first_of (codes "PROGRAM") rows) (first_of (codes "SCHEDULE") rows))
     (either (bytes_eq name (codes "serve")) _ _
     (served_in _ _ _ (number_in most_seconds (first_of (codes "peer-timeout") rows)) (first_of (codes "PROGRAM") rows) _ _
-    (number_in last_port (first_of (codes "port") rows)) (number_in most_sessions (first_of (codes "sessions") rows)))
+    (number_in last_listening_port (first_of (codes "port") rows)) (number_in most_sessions (first_of (codes "sessions") rows)))
     (either (bytes_eq name (codes "check")) _ _ (by_one _ (λ word. tt) (first_of (codes "PROGRAM") rows))
     (either (bytes_eq name (codes "trace")) _ _ (by_one _ (λ word. tt) (first_of (codes "PROGRAM") rows)) tt))))
 

@@ -19,5 +19,5 @@ pub returns-clause-ok : goal.returns-clause-ok
 returns-clause-ok g c = (
   c.in_ok-bytes.bytes.items,
   c.in_ok-bytes.ensures.bytes,
-  subst (λ bytes. IsToldOf bytes c.args.with_numbers c.args.with_rows (string_bytes c.in_ok-text.text)) c.deref.ensures.value c.in_ok-text.ensures.ok,
+  subst (λ bytes. IsToldOf bytes c.args.options (string_bytes c.in_ok-text.text)) c.deref.ensures.value c.in_ok-text.ensures.ok,
 )

@@ -1,0 +1,15 @@
+use Rattle.std.proofs.Common.{sym, ◌∙◌}
+use Rattle.std.specs.Prelude.{bytes_eq}
+use Rattle.warp_prog.specs.Twice.{repeats, all_names}
+use Rattle.warp_prog.specs.View.{reactor_tree}
+use Rattle.warp_prog.specs.File.{ReactorPart}
+use Rattle.warp_prog.proofs.Anys.{any_seen_more, any_seen_none}
+use Rattle.warp_prog.proofs.stands_twice.any_names_repeat.Goals as goal
+
+pub loop-reactor-preserved : goal.loop-reactor-preserved
+loop-reactor-preserved c =
+    any_seen_more (λ (r : ReactorPart). repeats bytes_eq (all_names r)) reactor_tree _ c.loop-reactor.reactor-index c.reactor-item.result c.loop-reactor-test.true c.reactor-item.is (sym c.names_repeat.ensures ∙ c.if-names_repeat.false)
+    ∙ c.loop-reactor.invariant
+
+pub returns : goal.returns
+returns c = sym (any_seen_none (λ (r : ReactorPart). repeats bytes_eq (all_names r)) reactor_tree _ c.loop-reactor.reactor-index c.loop-reactor-test.false) ∙ c.loop-reactor.invariant

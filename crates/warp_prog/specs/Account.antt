@@ -1,0 +1,37 @@
+-- The account of a program, as `warpd check` prints it.
+use Rattle.std.specs.Prelude.{ℕ, List, [], ◌∷◌, ◌++◌, codes, length, if◌then◌else◌}
+use Rattle.warp_step.specs.Program.{Program}
+use Rattle.warp_prog.specs.Canonical.{fingerprint_of}
+use Rattle.warp_prog.specs.Explain.{Names, counted, numbers_text, summary_line}
+use Rattle.warp_prog.specs.NamesLine.{names_text}
+use Rattle.warp_prog.specs.OwnRows.{own_outputs, own_rows}
+use Rattle.warp_prog.specs.declared.explain.account.AccountOptions.{AccountOptions}
+
+-- how many rows a program makes by itself, how many outputs each of them has at most, and all together, in a line
+abbrev pub rows_line : Program → List ℕ
+rows_line P =
+    counted (codes "own rows") (own_rows P) ++ counted (codes ", outputs of each at most") (length P.outputs)
+    ++ counted (codes ", of all at most") (own_outputs P) ++ 10 ∷ []
+
+-- the fingerprint of a program with this text, in a line
+abbrev pub fingerprint_line : List ℕ → List ℕ
+fingerprint_line canonical = codes "fingerprint " ++ fingerprint_of canonical ++ 10 ∷ []
+
+-- the names of a program, in a line
+abbrev pub names_line : Program → Names → List ℕ
+names_line P names = names_text P names ++ 10 ∷ []
+
+-- how much is in a program with these labels, with its numbers and its rows where they are asked for
+abbrev pub measures_text : Program → Names → AccountOptions → List ℕ
+measures_text P names options =
+    summary_line (length names.reactors) P ++ (if options.numbers then numbers_text P names else [])
+    ++ (if options.rows then rows_line P else [])
+
+-- which program it is, by its text and its labels, where that is asked for
+abbrev pub identity_text : Program → Names → List ℕ → AccountOptions → List ℕ
+identity_text P names canonical options =
+    (if options.fingerprint then fingerprint_line canonical else []) ++ (if options.names then names_line P names else [])
+
+-- what is told of a program with these labels and this text
+abbrev pub account_text : Program → Names → List ℕ → AccountOptions → List ℕ
+account_text P names canonical options = measures_text P names options ++ identity_text P names canonical options

@@ -1,0 +1,166 @@
+-- A program file as one text, by which programs are told apart: JSON with no white space, each key there, in this order, and every
+-- list in the order of the file. No name has a byte that JSON writes otherwise, so the text is a program file, which is read back as
+-- this one: two files with one text are the same tree.
+use Rattle.std.specs.Prelude.{◌≡◌, ℕ, ℤ, ◌+◌, ◌==◌, List, [], ◌∷◌, ◌++◌, Option, None, Some, Ok, codes, map, if◌then◌else◌}
+use Rattle.std.specs.Fmt.{signed_decimal}
+use Rattle.sha2.specs.Sha256.{sha256}
+use Rattle.hex.specs.Hex.{encode_lower}
+use Rattle.warp_body.specs.declared.operator.UnaryOperator.{UnaryOperator}
+use Rattle.warp_body.specs.declared.operator.UnaryOperator.TheVariants.{Negate, Not}
+use Rattle.warp_body.specs.declared.operator.BinaryOperator.{BinaryOperator}
+use Rattle.warp_body.specs.declared.operator.BinaryOperator.TheVariants.{Add, Subtract, Multiply, Divide, Remainder, Equal, Less, And, Or}
+use Rattle.warp_prog.specs.Explain.{port_label}
+use Rattle.warp_prog.specs.File.{Word, File, ReactorPart, ReactionPart, NamedTerm, Literal, Named, PresentNamed, OneNamed, TwoNamed, ChoiceNamed, NamedStatement, SetNamed, PutNamed, ScheduleNamed, ChooseNamed, NamedBody, NamedDone, NamedThen}
+use Rattle.warp_prog.specs.Reading.{reading_of}
+use Rattle.warp_prog.specs.declared.file.PortName.{PortName}
+use Rattle.warp_prog.specs.declared.file.VariablePart.{VariablePart}
+use Rattle.warp_prog.specs.declared.file.ActionPart.{ActionPart}
+use Rattle.warp_prog.specs.declared.file.TimerPart.{TimerPart}
+use Rattle.warp_prog.specs.declared.file.LinkPart.{LinkPart}
+use Rattle.warp_prog.specs.declared.file.InputPart.{InputPart}
+
+-- what stands before the item with this number of a list: a comma, but before the first
+abbrev pub comma : ℕ → List ℕ
+comma n = if n == 0 then [] else codes ","
+
+-- these texts, the first of which has this number in its list, with commas between them
+abbrev pub separated : ℕ → List (List ℕ) → List ℕ
+separated n [] = []
+separated n (t ∷ ts) = (comma n ++ t) ++ separated (n + 1) ts
+
+-- a list of these texts
+abbrev pub listed : List (List ℕ) → List ℕ
+listed ts = codes "[" ++ separated 0 ts ++ codes "]"
+
+-- a text between quotation marks
+abbrev pub quoted : List ℕ → List ℕ
+quoted w = codes "\"" ++ w ++ codes "\""
+
+-- the word of an operator over one part
+abbrev pub unary_word : UnaryOperator → List ℕ
+unary_word Negate = codes "neg"
+unary_word Not = codes "not"
+
+-- the word of an operator over two parts
+abbrev pub binary_word : BinaryOperator → List ℕ
+binary_word Add = codes "+"
+binary_word Subtract = codes "-"
+binary_word Multiply = codes "*"
+binary_word Divide = codes "/"
+binary_word Remainder = codes "%"
+binary_word Equal = codes "="
+binary_word Less = codes "<"
+binary_word And = codes "and"
+binary_word Or = codes "or"
+
+-- the front of a list that begins with a word
+abbrev pub word_front : List ℕ → List ℕ
+word_front word = codes "[\"" ++ word ++ codes "\","
+
+-- an expression
+abbrev pub term_text : NamedTerm → List ℕ
+term_text (Literal n) = signed_decimal n
+term_text (Named name) = quoted name
+term_text (PresentNamed name) = word_front (codes "present") ++ quoted name ++ codes "]"
+term_text (OneNamed op a) = word_front (unary_word op) ++ term_text a ++ codes "]"
+term_text (TwoNamed op a b) = word_front (binary_word op) ++ term_text a ++ codes "," ++ term_text b ++ codes "]"
+term_text (ChoiceNamed c a b) = word_front (codes "if") ++ term_text c ++ codes "," ++ term_text a ++ codes "," ++ term_text b ++ codes "]"
+
+-- the front of a list that begins with a word and a name
+abbrev pub named_front : List ℕ → Word → List ℕ
+named_front word name = word_front word ++ quoted name
+
+-- the end of a list whose last item is an expression
+abbrev pub closing_text : NamedTerm → List ℕ
+closing_text e = codes "," ++ term_text e ++ codes "]"
+
+-- a statement of this word, with a name and an expression
+abbrev pub assignment_text : List ℕ → Word → NamedTerm → List ℕ
+assignment_text word name e = named_front word name ++ closing_text e
+
+-- a statement that schedules
+abbrev pub scheduling_text : Word → ℤ → NamedTerm → List ℕ
+scheduling_text name delay e = named_front (codes "schedule") name ++ (codes "," ++ signed_decimal delay) ++ closing_text e
+
+-- a statement that chooses between two lists, of which each is these statements
+abbrev pub choice_text : NamedTerm → List ℕ → List ℕ → List ℕ
+choice_text e first second =
+    (word_front (codes "if") ++ term_text e) ++ (codes ",[" ++ first) ++ ((codes "],[" ++ second) ++ codes "]]")
+
+abbrev mutual
+  -- a statement
+  pub statement_text : NamedStatement → List ℕ
+  statement_text (SetNamed name e) = assignment_text (codes "set") name e
+  statement_text (PutNamed name e) = assignment_text (codes "put") name e
+  statement_text (ScheduleNamed name delay e) = scheduling_text name delay e
+  statement_text (ChooseNamed e first second) = choice_text e (statements_text 0 first) (statements_text 0 second)
+
+  -- statements, the first of which has this number in its list, with commas between them
+  pub statements_text : ℕ → NamedBody → List ℕ
+  statements_text n NamedDone = []
+  statements_text n (NamedThen s ss) = (comma n ++ statement_text s) ++ statements_text (n + 1) ss
+
+-- a reaction
+abbrev pub reaction_text : ReactionPart → List ℕ
+reaction_text r =
+    (codes "{\"on\":" ++ listed (map quoted r.triggers)) ++ (codes ",\"reads\":" ++ listed (map quoted r.reads))
+    ++ (codes ",\"writes\":" ++ listed (map quoted r.writes)) ++ (codes ",\"body\":[" ++ statements_text 0 r.body) ++ codes "]}"
+
+-- a port, a variable, an action, a timer
+abbrev pub port_text : PortName → List ℕ
+port_text p = quoted (port_label p)
+
+abbrev pub variable_text : VariablePart → List ℕ
+variable_text v = codes "[" ++ quoted v.name ++ codes "," ++ signed_decimal v.start ++ codes "]"
+
+abbrev pub action_text : ActionPart → List ℕ
+action_text a = codes "[" ++ quoted a.name ++ codes "," ++ signed_decimal a.delay ++ codes "]"
+
+abbrev pub timer_text : TimerPart → List ℕ
+timer_text t = codes "[" ++ quoted t.name ++ codes "," ++ signed_decimal t.offset ++ codes "," ++ signed_decimal t.period ++ codes "]"
+
+-- the delay of a link behind its ports; nothing where it has none
+abbrev pub delay_text : Option ℤ → List ℕ
+delay_text None = []
+delay_text (Some delay) = codes "," ++ signed_decimal delay
+
+-- a link, and a program input
+abbrev pub link_text : LinkPart → List ℕ
+link_text l = codes "[" ++ port_text l.source ++ codes "," ++ port_text l.target ++ delay_text l.delay ++ codes "]"
+
+abbrev pub input_text : InputPart → List ℕ
+input_text i = codes "[" ++ signed_decimal i.origin ++ codes "," ++ port_text i.port ++ codes "]"
+
+-- a reactor: its name, its variables and its ports; and the rest
+abbrev pub reactor_front : ReactorPart → List ℕ
+reactor_front r =
+    (codes "{\"name\":" ++ quoted r.name) ++ (codes ",\"vars\":" ++ listed (map variable_text r.variables))
+    ++ (codes ",\"inputs\":" ++ listed (map quoted r.inputs)) ++ (codes ",\"outputs\":" ++ listed (map quoted r.outputs))
+
+abbrev pub reactor_rest : ReactorPart → List ℕ
+reactor_rest r =
+    (codes ",\"actions\":" ++ listed (map action_text r.actions)) ++ (codes ",\"timers\":" ++ listed (map timer_text r.timers))
+    ++ (codes ",\"reactions\":" ++ listed (map reaction_text r.reactions)) ++ codes "}"
+
+abbrev pub reactor_text : ReactorPart → List ℕ
+reactor_text r = reactor_front r ++ reactor_rest r
+
+-- the numbers of a file, with their keys
+abbrev pub head_text : File → List ℕ
+head_text f =
+    (codes "{\"version\":" ++ signed_decimal f.version) ++ (codes ",\"stop\":" ++ signed_decimal f.stop)
+    ++ (codes ",\"origins\":" ++ signed_decimal f.origins)
+
+-- a file
+abbrev pub canonical_of : File → List ℕ
+canonical_of f =
+    head_text f ++ (codes ",\"reactors\":" ++ listed (map reactor_text f.reactors)) ++ (codes ",\"links\":" ++ listed (map link_text f.links))
+    ++ (codes ",\"inputs\":" ++ listed (map input_text f.inputs)) ++ (codes ",\"outputs\":" ++ listed (map port_text f.outputs)) ++ codes "}"
+
+-- bytes are a file whose text this is
+abbrev pub IsCanonical : List ℕ → List ℕ → Type 0
+IsCanonical bytes text = (f : File) × (reading_of bytes ≡ Ok f) × (text ≡ canonical_of f)
+
+-- the fingerprint of a program with this text: its SHA-256 digest in 64 hex digits
+abbrev pub fingerprint_of : List ℕ → List ℕ
+fingerprint_of text = encode_lower (sha256 text)

@@ -1,0 +1,140 @@
+//! A program file written back as one text, by which programs are told apart, and the fingerprint of that text.
+ghost use Rattle.std.specs.Prelude.{◌≡◌, ◌++◌, IfOk, OnOk, string_bytes};
+ghost use Rattle.std.specs.Fmt.{signed_decimal};
+ghost use Rattle.warp_prog.specs.Canonical.{canonical_of, fingerprint_of, head_text, quoted, reactor_front};
+ghost use Rattle.warp_prog.specs.Canonical.{reactor_rest, reactor_text};
+ghost use Rattle.warp_prog.specs.View.{file_tree, reactor_tree};
+
+mod body;
+mod list;
+mod number;
+mod part;
+mod reaction;
+
+use crate::file::{ProgramFile, Reactor};
+use crate::name::Name;
+pub(crate) use list::{Spell, add_comma, spell_list, spell_quoted};
+use number::spell_keyed;
+use sha2::{Digest, Sha256};
+use std::alloc::{AllocError, Global};
+
+/// The SHA-256 digest of a program's canonical text, in 64 hex digits of small letters.
+///
+/// # Errors
+///
+/// Only where a growth was refused.
+pub fn fingerprint(alloc: Global, canonical: &str) -> Result<String, AllocError>
+    ensures { IfOk result (λ text. string_bytes text ≡ fingerprint_of canonical.now) }
+{
+    hex::encode(alloc, Sha256::digest(canonical.as_bytes()))
+}
+
+/// The text of a file.
+pub(crate) fn canonical(alloc: Global, file: &ProgramFile) -> Result<String, AllocError>
+    ensures { IfOk result (λ text. string_bytes text ≡ canonical_of (file_tree file.now)) }
+{
+    let mut text = String::new(alloc);
+    spell_file(&mut text, file)?;
+    Ok(text)
+}
+
+/// Adds the text of a file.
+fn spell_file(text: &mut String, file: &ProgramFile) -> Result<(), AllocError>
+    ensures { OnOk result (string_bytes text.new ≡ string_bytes text.old ++ canonical_of (file_tree file.now)) }
+{
+    spell_head(text, file)?;
+    spell_list(text, ",\"reactors\":", &file.reactors)?;
+    spell_list(text, ",\"links\":", &file.links)?;
+    spell_list(text, ",\"inputs\":", &file.inputs)?;
+    spell_list(text, ",\"outputs\":", &file.outputs)?;
+    text.push_str("}")?;
+    Ok(())
+}
+
+/// Adds the numbers of a file with their keys.
+fn spell_head(text: &mut String, file: &ProgramFile) -> Result<(), AllocError>
+    ensures { OnOk result (string_bytes text.new ≡ string_bytes text.old ++ head_text (file_tree file.now)) }
+{
+    spell_version(text, "{\"version\":", file)?;
+    spell_stop(text, ",\"stop\":", file)?;
+    spell_origins(text, ",\"origins\":", file)?;
+    Ok(())
+}
+
+// Each number apart, and its key from outside: so the proof of the head meets no literal beside a number of 64 bits.
+
+/// Adds the version of a file behind this key.
+fn spell_version(text: &mut String, key: &str, file: &ProgramFile) -> Result<(), AllocError>
+    ensures { OnOk result (string_bytes text.new
+        ≡ string_bytes text.old ++ (key.now ++ signed_decimal file.now.version)) }
+{
+    spell_keyed(text, key, file.version)
+}
+
+/// Adds the stop of a file behind this key.
+fn spell_stop(text: &mut String, key: &str, file: &ProgramFile) -> Result<(), AllocError>
+    ensures { OnOk result (string_bytes text.new
+        ≡ string_bytes text.old ++ (key.now ++ signed_decimal file.now.stop)) }
+{
+    spell_keyed(text, key, file.stop)
+}
+
+/// Adds the number of a file's origins behind this key.
+fn spell_origins(text: &mut String, key: &str, file: &ProgramFile) -> Result<(), AllocError>
+    ensures { OnOk result (string_bytes text.new
+        ≡ string_bytes text.old ++ (key.now ++ signed_decimal file.now.origins)) }
+{
+    spell_keyed(text, key, file.origins)
+}
+
+impl Spell for Reactor {
+    ghost use Rattle.warp_prog.specs.Canonical.{reactor_text};
+    ghost use Rattle.warp_prog.specs.View.{reactor_tree};
+
+    ghost spelled = { λ r. reactor_text (reactor_tree r) };
+
+    fn spell(&self, text: &mut String) -> Result<(), AllocError> {
+        spell_reactor(text, self)
+    }
+}
+
+/// Adds the text of a reactor.
+fn spell_reactor(text: &mut String, reactor: &Reactor) -> Result<(), AllocError>
+    ensures { OnOk result
+        (string_bytes text.new ≡ string_bytes text.old ++ reactor_text (reactor_tree reactor.now)) }
+{
+    spell_front(text, reactor)?;
+    spell_rest(text, reactor)
+}
+
+/// Adds the name, the variables and the ports of a reactor.
+fn spell_front(text: &mut String, reactor: &Reactor) -> Result<(), AllocError>
+    ensures { OnOk result
+        (string_bytes text.new ≡ string_bytes text.old ++ reactor_front (reactor_tree reactor.now)) }
+{
+    spell_named(text, "{\"name\":", &reactor.name)?;
+    spell_list(text, ",\"vars\":", &reactor.variables)?;
+    spell_list(text, ",\"inputs\":", &reactor.inputs)?;
+    spell_list(text, ",\"outputs\":", &reactor.outputs)?;
+    Ok(())
+}
+
+/// Adds the actions, the timers and the reactions of a reactor, and its end.
+fn spell_rest(text: &mut String, reactor: &Reactor) -> Result<(), AllocError>
+    ensures { OnOk result
+        (string_bytes text.new ≡ string_bytes text.old ++ reactor_rest (reactor_tree reactor.now)) }
+{
+    spell_list(text, ",\"actions\":", &reactor.actions)?;
+    spell_list(text, ",\"timers\":", &reactor.timers)?;
+    spell_list(text, ",\"reactions\":", &reactor.reactions)?;
+    text.push_str("}")?;
+    Ok(())
+}
+
+/// Adds a key, as it stands behind what is before it, and a name.
+fn spell_named(text: &mut String, key: &str, name: &Name) -> Result<(), AllocError>
+    ensures { OnOk result (string_bytes text.new ≡ string_bytes text.old ++ (key.now ++ quoted name.now)) }
+{
+    text.push_str(key)?;
+    name.spell(text)
+}

@@ -1,0 +1,118 @@
+//! Parts of a file that hold no list.
+
+ghost use Rattle.std.specs.Prelude.{◌≡◌, ◌++◌, OnOk, codes, string_bytes};
+ghost use Rattle.std.specs.Fmt.{signed_decimal};
+ghost use Rattle.warp_prog.specs.Canonical.{delay_text, quoted};
+
+use crate::canonical::list::{Spell, spell_quoted};
+use crate::canonical::number::{spell_further, spell_number};
+use crate::file::{ActionPart, InputPart, LinkPart, PortName, TimerPart, VariablePart};
+use crate::name::Name;
+use std::alloc::AllocError;
+
+impl Spell for Name {
+    ghost use Rattle.warp_prog.specs.Canonical.{quoted};
+
+    ghost spelled = { λ n. quoted n };
+
+    fn spell(&self, text: &mut String) -> Result<(), AllocError> {
+        spell_quoted(text, self.as_str())
+    }
+}
+
+impl Spell for PortName {
+    ghost use Rattle.warp_prog.specs.Canonical.{port_text};
+
+    ghost spelled = { λ p. port_text p };
+
+    fn spell(&self, text: &mut String) -> Result<(), AllocError> {
+        text.push_str("\"")?;
+        text.push_str(self.reactor.as_str())?;
+        text.push_str(".")?;
+        text.push_str(self.port.as_str())?;
+        text.push_str("\"")
+    }
+}
+
+/// Adds a list of a name and a number, without its end.
+fn open_pair(text: &mut String, name: &Name, number: i64) -> Result<(), AllocError>
+    ensures { OnOk result (string_bytes text.new
+        ≡ string_bytes text.old ++ (codes "[" ++ quoted name.now ++ codes "," ++ signed_decimal number)) }
+{
+    text.push_str("[")?;
+    name.spell(text)?;
+    spell_further(text, number)
+}
+
+impl Spell for VariablePart {
+    ghost use Rattle.warp_prog.specs.Canonical.{variable_text};
+
+    ghost spelled = { λ v. variable_text v };
+
+    fn spell(&self, text: &mut String) -> Result<(), AllocError> {
+        open_pair(text, &self.name, self.start)?;
+        text.push_str("]")
+    }
+}
+
+impl Spell for ActionPart {
+    ghost use Rattle.warp_prog.specs.Canonical.{action_text};
+
+    ghost spelled = { λ a. action_text a };
+
+    fn spell(&self, text: &mut String) -> Result<(), AllocError> {
+        open_pair(text, &self.name, self.delay)?;
+        text.push_str("]")
+    }
+}
+
+impl Spell for TimerPart {
+    ghost use Rattle.warp_prog.specs.Canonical.{timer_text};
+
+    ghost spelled = { λ t. timer_text t };
+
+    fn spell(&self, text: &mut String) -> Result<(), AllocError> {
+        open_pair(text, &self.name, self.offset)?;
+        spell_further(text, self.period)?;
+        text.push_str("]")
+    }
+}
+
+impl Spell for LinkPart {
+    ghost use Rattle.warp_prog.specs.Canonical.{link_text};
+
+    ghost spelled = { λ l. link_text l };
+
+    fn spell(&self, text: &mut String) -> Result<(), AllocError> {
+        text.push_str("[")?;
+        self.source.spell(text)?;
+        text.push_str(",")?;
+        self.target.spell(text)?;
+        spell_delay(text, self.delay)?;
+        text.push_str("]")
+    }
+}
+
+/// Adds the delay of a link behind its ports, if it has one.
+fn spell_delay(text: &mut String, delay: Option<i64>) -> Result<(), AllocError>
+    ensures { OnOk result (string_bytes text.new ≡ string_bytes text.old ++ delay_text delay) }
+{
+    match delay {
+        Some(delay) => spell_further(text, delay),
+        None => Ok(()),
+    }
+}
+
+impl Spell for InputPart {
+    ghost use Rattle.warp_prog.specs.Canonical.{input_text};
+
+    ghost spelled = { λ i. input_text i };
+
+    fn spell(&self, text: &mut String) -> Result<(), AllocError> {
+        text.push_str("[")?;
+        spell_number(text, self.origin)?;
+        text.push_str(",")?;
+        self.port.spell(text)?;
+        text.push_str("]")
+    }
+}
