@@ -1,6 +1,6 @@
-use Rattle.std.proofs.Common.{◌≡◌, ◌<◌, ◌++◌, ◌∷◌, [], ◌∙◌, ap, sym, subst, arith, length, length-append}
+use Rattle.std.proofs.Common.{◌<◌, ◌++◌, ◌∷◌, [], ◌∙◌, ap, sym, subst, arith, length, length-append}
 use Rattle.std.proofs.lemmas.List.{append_assoc}
-use Rattle.rtrb.specs.Ring.{known_items, received}
+use Rattle.rtrb.specs.Ring.{received}
 use Rattle.warp_step.proofs.ValidLemmas.{validity}
 use Rattle.warp_replica.specs.Answered.{facts_of}
 use Rattle.warp_lanes.specs.Engine.{AnswersLine, AreAnswered}
