@@ -48,7 +48,7 @@ module _ (P : Program) (records : List Record) (done : List Row) (log : ℕ) (on
     broken = announced.broken;
   }
 
-  are_answers : AreAnswers P (set_of records) answers
+  pub are_answers : AreAnswers P (set_of records) answers
   are_answers = record {
     events = live (table_of records);
     live = live_by_set records;

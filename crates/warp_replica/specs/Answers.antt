@@ -1,5 +1,5 @@
 -- What a program answers over a set of records.
-use Rattle.std.specs.Prelude.{◌≡◌, ℕ, Bool, IsTrue, ◌↔◌, List}
+use Rattle.std.specs.Prelude.{◌≡◌, ℕ, ℤ, Bool, IsTrue, ◌↔◌, List}
 use Rattle.warp_tag.specs.Moment.{Moment}
 use Rattle.warp_tag.specs.Table.{Event}
 use Rattle.warp_step.specs.Program.{Program}
@@ -41,3 +41,7 @@ pub record AreAnswers (P : Program) (S : Records) (a : Answers) : Type 0 where
 -- this list is what the program releases over the set
 abbrev pub IsReleased : Program → Records → List Out → Type 0
 IsReleased P S outputs = (a : Answers) × AreAnswers P S a × (outputs ≡ a.released)
+
+-- these are the values of the program's variables over the set
+abbrev pub AreVariables : Program → Records → List ℤ → Type 0
+AreVariables P S values = (a : Answers) × AreAnswers P S a × (values ≡ a.state.vars)

@@ -16,7 +16,7 @@ ghost use Rattle.warp_table.specs.Check.{refusal_of};
 ghost use Rattle.warp_table.specs.Names.{origin_of};
 ghost use Rattle.warp_table.specs.Records.{set_of};
 ghost use Rattle.warp_table.specs.LogNames.{table_of};
-ghost use Rattle.warp_replica.specs.Answers.{IsReleased};
+ghost use Rattle.warp_replica.specs.Answers.{AreVariables, IsReleased};
 ghost use Rattle.warp_replica.specs.Chain.{TakeFirst};
 ghost use Rattle.warp_replica.specs.Floor.{CollectsTo, comes_behind, floor_after};
 ghost use Rattle.warp_replica.specs.Merge.{Merges};
@@ -428,6 +428,17 @@ impl<T: Timeline> Replica<T> {
         let outputs = self.timeline.outputs();
         let count = outputs.partition_point(|output| output.tag.is_before(horizon));
         &outputs[..count]
+    }
+
+    /// The values of all variables at the end of the run, in their order.
+    pub fn vars(&self) -> &[i64]
+        requires { IsTrue (T.settled self.now.timeline) }
+        ensures { AreVariables self.now.program (set_of self.now.records) result.now }
+    {
+        // Each record is there once, and so they can be counted; each program is valid, and so has a horizon.
+        self.valid();
+        self.program.valid();
+        self.timeline.state().vars()
     }
 
     /// Tells whether the origin broke an announcement of its own, if the program has such an origin.
