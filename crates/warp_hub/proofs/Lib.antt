@@ -1,0 +1,4 @@
+mod GateRunning
+mod Pushed
+mod WordForms
+pub mod OneLog

@@ -1,0 +1,160 @@
+-- Which words have two or three words, and what these are.
+use Rattle.std.proofs.Common.{◌≡◌, ℕ, ◌<◌, ◌≤◌, true, List, [], ◌∷◌, length, get_or, drop, codes, decimal, refl, sym, ap, ◌∙◌, arith}
+use Rattle.std.specs.List.{slice_split}
+use Rattle.std.proofs.lemmas.Fmt.{decimal_injective}
+use Rattle.warp_record.specs.Number.{is_space}
+use Rattle.warp_record.proofs.PlainWords.{are_plain, is_plain, plain_decimal, words_of_text}
+use Rattle.warp_tag.specs.Limits.{last_number}
+use Rattle.warp_hub.specs.Words.{IsWatch, IsWord, subject_name, watch_words, word_spelling, word_words}
+use Rattle.warp_hub.specs.declared.words.Subject.{Subject}
+use Rattle.warp_hub.specs.declared.words.Subject.TheVariants as subject
+use Rattle.warp_hub.specs.declared.words.Watch.{Watch}
+use Rattle.warp_hub.specs.declared.words.Watch.TheVariants as watch
+use Rattle.warp_hub.specs.declared.words.Word.{Word}
+use Rattle.warp_hub.specs.declared.words.Word.TheVariants as word
+
+-- how many words there are
+count : (a b : List (List ℕ)) → a ≡ b → length a ≡ length b
+count a b are = ap length are
+
+first : (a b : List (List ℕ)) → a ≡ b → get_or a 0 [] ≡ get_or b 0 []
+first a b are = ap (λ (ws : List (List ℕ)). get_or ws 0 []) are
+
+second : (a b : List (List ℕ)) → a ≡ b → get_or a 1 [] ≡ get_or b 1 []
+second a b are = ap (λ (ws : List (List ℕ)). get_or ws 1 []) are
+
+rest : (a b : List (List ℕ)) → a ≡ b → drop 1 a ≡ drop 1 b
+rest a b are = ap (λ (ws : List (List ℕ)). drop 1 ws) are
+
+-- a word of two words
+pub data Two (key text : List ℕ) : Type 0 where
+  release : (number : ℕ) → number ≤ last_number → key ≡ codes "release" → text ≡ decimal number → Two key text
+  watched : (what : Watch) → IsWatch what → key ≡ codes "watch" → text ∷ [] ≡ watch_words what → Two key text
+  unwatched : (what : Subject) → key ≡ codes "unwatch" → text ≡ subject_name what → Two key text
+
+pub two_of : (key text : List ℕ) (said : Word) → IsWord said → key ∷ text ∷ [] ≡ word_words said → Two key text
+two_of key text word.Program fits are = absurd (omega (arith, count _ _ are))
+two_of key text word.Names fits are = absurd (omega (arith, count _ _ are))
+two_of key text word.Vars fits are = absurd (omega (arith, count _ _ are))
+two_of key text word.Releases fits are = absurd (omega (arith, count _ _ are))
+two_of key text (word.Release number) fits are = release number fits (first _ _ are) (second _ _ are)
+two_of key text (word.Watch (watch.Log place)) fits are = absurd (omega (arith, count _ _ are))
+two_of key text (word.Watch (watch.Released number)) fits are = absurd (omega (arith, count _ _ are))
+two_of key text (word.Watch watch.Vars) fits are = watched watch.Vars tt (first _ _ are) (rest _ _ are)
+two_of key text (word.Watch watch.Horizon) fits are = watched watch.Horizon tt (first _ _ are) (rest _ _ are)
+two_of key text (word.Watch watch.Breach) fits are = watched watch.Breach tt (first _ _ are) (rest _ _ are)
+two_of key text (word.Unwatch what) fits are = unwatched what (first _ _ are) (second _ _ are)
+
+-- the keywords of two words differ in their first letter
+pub no_two : (key text : List ℕ) (said : Word) → (key ≡ codes "release" → ⊥) → (key ≡ codes "watch" → ⊥) → (key ≡ codes "unwatch" → ⊥)
+    → IsWord said → key ∷ text ∷ [] ≡ word_words said → ⊥
+no_two key text said r w u fits are = elim (two_of key text said fits are) [
+  | release number small is text_is ↦ r is
+  | watched what range is text_is ↦ w is
+  | unwatched what is text_is ↦ u is
+]
+
+pub no_release : (key text : List ℕ) (said : Word) → key ≡ codes "release" → ((number : ℕ) → number ≤ last_number → text ≡ decimal number → ⊥)
+    → IsWord said → key ∷ text ∷ [] ≡ word_words said → ⊥
+no_release key text said key_is none fits are = elim (two_of key text said fits are) [
+  | release number small is text_is ↦ none number small text_is
+  | watched what range is text_is ↦ omega (arith, ap (λ (w : List ℕ). get_or w 0 0) (sym key_is ∙ is))
+  | unwatched what is text_is ↦ omega (arith, ap (λ (w : List ℕ). get_or w 0 0) (sym key_is ∙ is))
+]
+
+pub no_watch : (key text : List ℕ) (said : Word) → key ≡ codes "watch" → ((what : Watch) → IsWatch what → text ∷ [] ≡ watch_words what → ⊥)
+    → IsWord said → key ∷ text ∷ [] ≡ word_words said → ⊥
+no_watch key text said key_is none fits are = elim (two_of key text said fits are) [
+  | release number small is text_is ↦ omega (arith, ap (λ (w : List ℕ). get_or w 0 0) (sym key_is ∙ is))
+  | watched what range is text_is ↦ none what range text_is
+  | unwatched what is text_is ↦ omega (arith, ap (λ (w : List ℕ). get_or w 0 0) (sym key_is ∙ is))
+]
+
+pub no_unwatch : (key text : List ℕ) (said : Word) → key ≡ codes "unwatch" → ((what : Subject) → text ≡ subject_name what → ⊥)
+    → IsWord said → key ∷ text ∷ [] ≡ word_words said → ⊥
+no_unwatch key text said key_is none fits are = elim (two_of key text said fits are) [
+  | release number small is text_is ↦ omega (arith, ap (λ (w : List ℕ). get_or w 0 0) (sym key_is ∙ is))
+  | watched what range is text_is ↦ omega (arith, ap (λ (w : List ℕ). get_or w 0 0) (sym key_is ∙ is))
+  | unwatched what is text_is ↦ none what text_is
+]
+
+-- a word of three words is a watch of something from a number on
+pub three_of : (key what number : List ℕ) (said : Word) → IsWord said → key ∷ what ∷ number ∷ [] ≡ word_words said
+    → (w : Watch) × IsWatch w × (key ≡ codes "watch") × (what ∷ number ∷ [] ≡ watch_words w)
+three_of key what number word.Program fits are = absurd (omega (arith, count _ _ are))
+three_of key what number word.Names fits are = absurd (omega (arith, count _ _ are))
+three_of key what number word.Vars fits are = absurd (omega (arith, count _ _ are))
+three_of key what number word.Releases fits are = absurd (omega (arith, count _ _ are))
+three_of key what number (word.Release n) fits are = absurd (omega (arith, count _ _ are))
+three_of key what number (word.Watch w) fits are = (w, fits, first _ _ are, rest _ _ are)
+three_of key what number (word.Unwatch w) fits are = absurd (omega (arith, count _ _ are))
+
+pub number_of : (what number : List ℕ) (w : Watch) → IsWatch w → what ∷ number ∷ [] ≡ watch_words w
+    → (n : ℕ) × (n ≤ last_number) × (number ≡ decimal n)
+number_of what number (watch.Log place) fits are = (place, fits.1, second _ _ are)
+number_of what number (watch.Released n) fits are = (n, fits, second _ _ are)
+number_of what number watch.Vars fits are = absurd (omega (arith, count _ _ are))
+number_of what number watch.Horizon fits are = absurd (omega (arith, count _ _ are))
+number_of what number watch.Breach fits are = absurd (omega (arith, count _ _ are))
+
+-- the places of a log begin at 1
+pub no_place_zero : (what : List ℕ) (number : ℕ) (w : Watch) → number ≡ 0 → (what ≡ codes "released" → ⊥) → IsWatch w
+    → what ∷ decimal number ∷ [] ≡ watch_words w → ⊥
+no_place_zero what number (watch.Log place) zero other fits are =
+    let same = decimal_injective number place (omega (arith, zero)) (omega (arith, fits.1)) (second _ _ are) in
+    omega (arith, same, zero, fits.0)
+no_place_zero what number (watch.Released n) zero other fits are = other (first _ _ are)
+no_place_zero what number watch.Vars zero other fits are = omega (arith, count _ _ are)
+no_place_zero what number watch.Horizon zero other fits are = omega (arith, count _ _ are)
+no_place_zero what number watch.Breach zero other fits are = omega (arith, count _ _ are)
+
+pub no_watch_from : (what : List ℕ) (number : ℕ) (w : Watch) → (what ≡ codes "released" → ⊥) → (what ≡ codes "log" → ⊥) → IsWatch w
+    → what ∷ decimal number ∷ [] ≡ watch_words w → ⊥
+no_watch_from what number (watch.Log place) r l fits are = l (first _ _ are)
+no_watch_from what number (watch.Released n) r l fits are = r (first _ _ are)
+no_watch_from what number watch.Vars r l fits are = omega (arith, count _ _ are)
+no_watch_from what number watch.Horizon r l fits are = omega (arith, count _ _ are)
+no_watch_from what number watch.Breach r l fits are = omega (arith, count _ _ are)
+
+-- a word has one to three words
+pub few_words : (said : Word) → (0 < length (word_words said)) × (length (word_words said) ≤ 3)
+few_words word.Program = (omega arith, omega arith)
+few_words word.Names = (omega arith, omega arith)
+few_words word.Vars = (omega arith, omega arith)
+few_words word.Releases = (omega arith, omega arith)
+few_words (word.Release number) = (omega arith, omega arith)
+few_words (word.Watch (watch.Log place)) = (omega arith, omega arith)
+few_words (word.Watch (watch.Released number)) = (omega arith, omega arith)
+few_words (word.Watch watch.Vars) = (omega arith, omega arith)
+few_words (word.Watch watch.Horizon) = (omega arith, omega arith)
+few_words (word.Watch watch.Breach) = (omega arith, omega arith)
+few_words (word.Unwatch what) = (omega arith, omega arith)
+
+plain_subject : (what : Subject) → is_plain (subject_name what) ≡ true
+plain_subject subject.Log = refl
+plain_subject subject.Released = refl
+plain_subject subject.Vars = refl
+plain_subject subject.Horizon = refl
+plain_subject subject.Breach = refl
+
+-- the words of a word are plain
+pub plain_words : (said : Word) → IsWord said → are_plain (word_words said) ≡ true
+plain_words word.Program fits = refl
+plain_words word.Names fits = refl
+plain_words word.Vars fits = refl
+plain_words word.Releases fits = refl
+plain_words (word.Release number) fits = rw (plain_decimal number (omega (arith, fits))) refl
+plain_words (word.Watch (watch.Log place)) fits = rw (plain_decimal place (omega (arith, fits.1))) refl
+plain_words (word.Watch (watch.Released number)) fits = rw (plain_decimal number (omega (arith, fits))) refl
+plain_words (word.Watch watch.Vars) fits = refl
+plain_words (word.Watch watch.Horizon) fits = refl
+plain_words (word.Watch watch.Breach) fits = refl
+plain_words (word.Unwatch what) fits = rw (plain_subject what) refl
+
+-- the words of a text that spells a word
+pub words_of_word : (bytes : List ℕ) (said : Word) → IsWord said → bytes ≡ word_spelling said
+    → (slice_split is_space bytes ≡ word_words said) × (length (slice_split is_space bytes) ≤ 3)
+words_of_word bytes said fits is =
+    let few = few_words said in
+    let same = words_of_text bytes (word_words said) few.0 (plain_words said fits) is in
+    (same, rw same few.1)

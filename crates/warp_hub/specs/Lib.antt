@@ -1,0 +1,7 @@
+pub mod Follow
+pub mod Gate
+pub mod Hub
+pub mod Pages
+pub mod Rights
+pub mod Tokens
+pub mod Words

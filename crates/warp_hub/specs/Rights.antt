@@ -1,0 +1,35 @@
+-- What a client may send.
+use Rattle.std.specs.Prelude.{ℕ, Bool, true, false, slice_index_or}
+use Rattle.warp_record.specs.Record.{origin_of}
+use Rattle.warp_record.specs.declared.line.Line.{Line}
+use Rattle.warp_record.specs.declared.line.Line.TheVariants as line
+use Rattle.warp_hub.specs.declared.rights.Rights.{Rights}
+use Rattle.warp_hub.specs.declared.rights.Rights.TheVariants as rights
+
+-- whether they allow anything but a token
+abbrev pub is_known : Rights → Bool
+is_known rights.Nothing = false
+is_known rights.Read = true
+is_known (rights.Origins origins) = true
+is_known rights.All = true
+
+-- whether they allow this origin's records
+abbrev pub may_send_for : Rights → ℕ → Bool
+may_send_for rights.Nothing origin = false
+may_send_for rights.Read origin = false
+may_send_for (rights.Origins origins) origin = slice_index_or origins origin false
+may_send_for rights.All origin = true
+
+-- whether they allow to collect
+abbrev pub may_collect : Rights → Bool
+may_collect rights.Nothing = false
+may_collect rights.Read = false
+may_collect (rights.Origins origins) = true
+may_collect rights.All = true
+
+-- whether they allow this line: a record by its origin
+abbrev pub may_send : Rights → Line → Bool
+may_send r (line.Put said) = may_send_for r (origin_of said)
+may_send r (line.Ask query) = is_known r
+may_send r line.Collect = may_collect r
+may_send r (line.Look look) = is_known r

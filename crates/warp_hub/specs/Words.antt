@@ -1,0 +1,76 @@
+-- The words that a host knows beside the lines of a session, their ranges, and the one spelling of each.
+use Rattle.std.specs.Prelude.{ℕ, ◌≤◌, List, [], ◌∷◌, ◌++◌, length, All, codes, decimal}
+use Rattle.std.specs.List.{join_with_byte}
+use Rattle.warp_tag.specs.Limits.{last_number}
+use Rattle.warp_hub.specs.declared.words.Subject.{Subject}
+use Rattle.warp_hub.specs.declared.words.Subject.TheVariants as subject
+use Rattle.warp_hub.specs.declared.words.Watch.{Watch}
+use Rattle.warp_hub.specs.declared.words.Watch.TheVariants as watch
+use Rattle.warp_hub.specs.declared.words.Word.{Word}
+use Rattle.warp_hub.specs.declared.words.Word.TheVariants as word
+
+-- the ranges of what is to be watched
+abbrev pub IsWatch : Watch → Type 0
+IsWatch (watch.Log place) = (1 ≤ place) × (place ≤ last_number)
+IsWatch (watch.Released number) = number ≤ last_number
+IsWatch watch.Vars = Unit {0}
+IsWatch watch.Horizon = Unit {0}
+IsWatch watch.Breach = Unit {0}
+
+-- the ranges of a word
+abbrev pub IsWord : Word → Type 0
+IsWord word.Program = Unit {0}
+IsWord word.Names = Unit {0}
+IsWord word.Vars = Unit {0}
+IsWord word.Releases = Unit {0}
+IsWord (word.Release number) = number ≤ last_number
+IsWord (word.Watch what) = IsWatch what
+IsWord (word.Unwatch what) = Unit {0}
+
+-- the name of what can be watched
+abbrev pub subject_name : Subject → List ℕ
+subject_name subject.Log = codes "log"
+subject_name subject.Released = codes "released"
+subject_name subject.Vars = codes "vars"
+subject_name subject.Horizon = codes "horizon"
+subject_name subject.Breach = codes "breach"
+
+-- the words of what is to be watched
+abbrev pub watch_words : Watch → List (List ℕ)
+watch_words (watch.Log place) = codes "log" ∷ decimal place ∷ []
+watch_words (watch.Released number) = codes "released" ∷ decimal number ∷ []
+watch_words watch.Vars = codes "vars" ∷ []
+watch_words watch.Horizon = codes "horizon" ∷ []
+watch_words watch.Breach = codes "breach" ∷ []
+
+-- the words of a word's line
+abbrev pub word_words : Word → List (List ℕ)
+word_words word.Program = codes "program" ∷ []
+word_words word.Names = codes "names" ∷ []
+word_words word.Vars = codes "vars" ∷ []
+word_words word.Releases = codes "releases" ∷ []
+word_words (word.Release number) = codes "release" ∷ decimal number ∷ []
+word_words (word.Watch what) = codes "watch" ∷ watch_words what
+word_words (word.Unwatch what) = codes "unwatch" ∷ subject_name what ∷ []
+
+-- a word's line, without its line feed: its words, with one space between two
+abbrev pub word_spelling : Word → List ℕ
+word_spelling said = join_with_byte 32 (word_words said)
+
+-- the most bytes of a token
+abbrev pub most_token : ℕ
+most_token = 128
+
+-- the byte may stand in a token: it is one of ! to ~
+abbrev pub IsTokenByte : ℕ → Type 0
+IsTokenByte byte = (33 ≤ byte) × (byte ≤ 126)
+
+-- the bytes are a token
+pub record IsToken (bytes : List ℕ) : Type 0 where
+  pub some : 1 ≤ length bytes
+  pub most : length bytes ≤ most_token
+  pub each : All IsTokenByte bytes
+
+-- the line of a token, without its line feed
+abbrev pub token_spelling : List ℕ → List ℕ
+token_spelling token = codes "token " ++ token

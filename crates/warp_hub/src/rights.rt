@@ -1,0 +1,109 @@
+//! Rights: whose records a client may send.
+
+ghost use Rattle.std.specs.Prelude.{◌≡◌};
+ghost use Rattle.warp_record.specs.Record.{origin_of};
+ghost use Rattle.warp_hub.specs.Rights as spec;
+
+use itoa::Buffer;
+use std::alloc::{AllocError, Global};
+use warp_record::{Line, Record};
+
+/// The most origins of a program in any form.
+pub const MOST_ORIGINS: usize = 64;
+
+/// What a client may send.
+#[derive(Clone, Copy)]
+pub enum Rights {
+    /// Nothing but a token: it has said none, and the host has tokens.
+    Nothing,
+    /// `read`: queries, looks and words, but neither records nor `collect`.
+    Read,
+    /// These origins' records, and all other lines. The flag at a place says it of the origin with that number.
+    Origins([bool; MOST_ORIGINS]),
+    /// `*`: all lines.
+    All,
+}
+
+impl Rights {
+    /// Whether it may send anything but a token.
+    pub fn is_known(&self) -> bool
+        ensures { result ≡ spec.is_known self.now }
+    {
+        match self {
+            Rights::Nothing => false,
+            _ => true,
+        }
+    }
+
+    /// Whether it may send this origin's records.
+    pub fn may_send_for(&self, origin: u32) -> bool
+        ensures { result ≡ spec.may_send_for self.now origin }
+    {
+        match self {
+            Rights::Nothing => false,
+            Rights::Read => false,
+            Rights::Origins(origins) => match origins.get(origin as usize) {
+                Some(may) => *may,
+                None => false,
+            },
+            Rights::All => true,
+        }
+    }
+
+    /// Whether it may collect.
+    fn may_collect(&self) -> bool
+        ensures { result ≡ spec.may_collect self.now }
+    {
+        match self {
+            Rights::Nothing => false,
+            Rights::Read => false,
+            Rights::Origins(_) => true,
+            Rights::All => true,
+        }
+    }
+
+    /// Whether it may send this record.
+    fn may_put(&self, said: &Record) -> bool
+        ensures { result ≡ spec.may_send_for self.now (origin_of said.now) }
+    {
+        self.may_send_for(said.origin())
+    }
+
+    /// Whether it may send this line.
+    #[inline(always)]
+    pub fn may_send(&self, line: &Line) -> bool
+        ensures { result ≡ spec.may_send self.now «line».now }
+    {
+        match line {
+            Line::Put(said) => self.may_put(said),
+            Line::Collect => self.may_collect(),
+            _ => self.is_known(),
+        }
+    }
+
+    /// The line that tells them: `may` and what may be sent, with a line feed.
+    pub(crate) fn line(&self, alloc: Global) -> Result<Vec<u8>, AllocError> {
+        let mut text = Vec::new(alloc);
+        text.extend_from_slice(b"may")?;
+        match self {
+            Rights::Nothing => {}
+            Rights::Read => text.extend_from_slice(b" read")?,
+            Rights::Origins(origins) => write_origins(origins, &mut text)?,
+            Rights::All => text.extend_from_slice(b" *")?,
+        }
+        text.push(b'\n')?;
+        Ok(text)
+    }
+}
+
+/// Appends the numbers of these origins, in rising order, a space in front of each.
+fn write_origins(origins: &[bool; MOST_ORIGINS], text: &mut Vec<u8>) -> Result<(), AllocError> {
+    for (origin, may) in origins.iter().enumerate() {
+        if *may {
+            text.push(b' ')?;
+            let mut buffer = Buffer::new();
+            text.extend_from_slice(buffer.format(origin).as_bytes())?;
+        }
+    }
+    Ok(())
+}

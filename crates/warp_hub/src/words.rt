@@ -1,0 +1,232 @@
+//! Words: the lines that a host knows beside those of a session. Each has one spelling.
+
+ghost use Rattle.std.specs.Prelude.{◌≡◌, ℕ, List, ◌≤◌, [], ◌∷◌, IfNone, IfSome, IsTrue, ◌↔◌, decimal, map};
+ghost use Rattle.warp_tag.specs.Limits.{last_number};
+ghost use Rattle.warp_hub.specs.Words.{IsToken, IsWatch, IsWord, subject_name, token_spelling, watch_words};
+ghost use Rattle.warp_hub.specs.Words.{word_spelling, word_words};
+ghost use Rattle.warp_hub.specs.declared.words.Subject.{Subject};
+ghost use Rattle.warp_hub.specs.declared.words.Watch.{Watch};
+ghost use Rattle.warp_hub.specs.declared.words.Word.{Word};
+
+use warp_record::{is_keyword, read_u32, split_words};
+
+/// What can be watched.
+#[derive(Clone, Copy)]
+pub enum Subject {
+    /// `log`: the records.
+    Log,
+    /// `released`: the released outputs that were shown.
+    Released,
+    /// `vars`: all variables.
+    Vars,
+    /// `horizon`: the horizon.
+    Horizon,
+    /// `breach`: the broken origins.
+    Breach,
+}
+
+/// What is to be watched, and from where on.
+#[derive(Clone, Copy)]
+pub enum Watch {
+    /// `log P`: the records from this place on, from 1.
+    Log(u32),
+    /// `released I`: the released outputs from this number on, from 0.
+    Released(u32),
+    /// `vars`: all variables, now and at each change.
+    Vars,
+    /// `horizon`: the horizon, now and at each change.
+    Horizon,
+    /// `breach`: the broken origins, now and at each change.
+    Breach,
+}
+
+/// A word, but for `token T`.
+#[derive(Clone, Copy)]
+pub enum Word {
+    /// `program`: which program it is.
+    Program,
+    /// `names`: the names of variables, inputs and outputs.
+    Names,
+    /// `vars`: all variables.
+    Vars,
+    /// `releases`: how many released outputs are shown.
+    Releases,
+    /// `release I`: the released output with this number, from 0.
+    Release(u32),
+    /// `watch WHAT`: what is to be watched.
+    Watch(Watch),
+    /// `unwatch WHAT`: what is no longer to be watched.
+    Unwatch(Subject),
+}
+
+/// The number that the word spells.
+fn read_index(word: &[u8]) -> Option<u32>
+    ensures found { IfSome result (λ number. (number ≤ last_number) × (word.now ≡ decimal number)) }
+    ensures none { IfNone result ((number : ℕ) → number ≤ last_number → word.now ≡ decimal number → ⊥) }
+{
+    read_u32(word, u32::MAX)
+}
+
+/// The word that is spelled by one word; `None` where there is none.
+fn word_of_one(word: &[u8]) -> Option<Word>
+    ensures found { IfSome result (λ said. IsWord said × (word.now ∷ [] ≡ word_words said)) }
+    ensures none { IfNone result ((said : Word) → IsWord said → word.now ∷ [] ≡ word_words said → ⊥) }
+{
+    if is_keyword(word, b"program") {
+        Some(Word::Program)
+    } else if is_keyword(word, b"names") {
+        Some(Word::Names)
+    } else if is_keyword(word, b"vars") {
+        Some(Word::Vars)
+    } else if is_keyword(word, b"releases") {
+        Some(Word::Releases)
+    } else {
+        None
+    }
+}
+
+/// What this word names.
+fn subject_of(word: &[u8]) -> Option<Subject>
+    ensures found { IfSome result (λ what. word.now ≡ subject_name what) }
+    ensures none { IfNone result ((what : Subject) → word.now ≡ subject_name what → ⊥) }
+{
+    if is_keyword(word, b"log") {
+        Some(Subject::Log)
+    } else if is_keyword(word, b"released") {
+        Some(Subject::Released)
+    } else if is_keyword(word, b"vars") {
+        Some(Subject::Vars)
+    } else if is_keyword(word, b"horizon") {
+        Some(Subject::Horizon)
+    } else if is_keyword(word, b"breach") {
+        Some(Subject::Breach)
+    } else {
+        None
+    }
+}
+
+/// What is to be watched that needs no number; `None` where this names none.
+fn watch_of_one(word: &[u8]) -> Option<Watch>
+    ensures found { IfSome result (λ what. IsWatch what × (word.now ∷ [] ≡ watch_words what)) }
+    ensures none { IfNone result ((what : Watch) → IsWatch what → word.now ∷ [] ≡ watch_words what → ⊥) }
+{
+    if is_keyword(word, b"vars") {
+        Some(Watch::Vars)
+    } else if is_keyword(word, b"horizon") {
+        Some(Watch::Horizon)
+    } else if is_keyword(word, b"breach") {
+        Some(Watch::Breach)
+    } else {
+        None
+    }
+}
+
+/// The word that is spelled by these two; `None` where there is none.
+fn word_of_two(word: &[u8], rest: &[u8]) -> Option<Word>
+    ensures found { IfSome result (λ said. IsWord said × (word.now ∷ rest.now ∷ [] ≡ word_words said)) }
+    ensures none { IfNone result ((said : Word) → IsWord said → word.now ∷ rest.now ∷ [] ≡ word_words said → ⊥) }
+{
+    if is_keyword(word, b"release") {
+        return Some(Word::Release(read_index(rest)?));
+    }
+    if is_keyword(word, b"watch") {
+        return Some(Word::Watch(watch_of_one(rest)?));
+    }
+    if is_keyword(word, b"unwatch") {
+        return Some(Word::Unwatch(subject_of(rest)?));
+    }
+    None
+}
+
+/// What is to be watched from this number on; `None` where this names none.
+fn watch_from(word: &[u8], number: u32) -> Option<Watch>
+    requires { number ≤ last_number }
+    ensures found { IfSome result (λ what. IsWatch what × (word.now ∷ decimal number ∷ [] ≡ watch_words what)) }
+    ensures none { IfNone result ((what : Watch) → IsWatch what → word.now ∷ decimal number ∷ [] ≡ watch_words what → ⊥) }
+{
+    if is_keyword(word, b"released") {
+        return Some(Watch::Released(number));
+    }
+    if number == 0 {
+        return None;
+    }
+    if is_keyword(word, b"log") {
+        return Some(Watch::Log(number));
+    }
+    None
+}
+
+/// The word that is spelled by these three; `None` where there is none.
+fn word_of_three(word: &[u8], what: &[u8], number: &[u8]) -> Option<Word>
+    ensures found { IfSome result (λ said. IsWord said
+        × (word.now ∷ what.now ∷ number.now ∷ [] ≡ word_words said)) }
+    ensures none { IfNone result ((said : Word) → IsWord said →
+        word.now ∷ what.now ∷ number.now ∷ [] ≡ word_words said → ⊥) }
+{
+    if !is_keyword(word, b"watch") {
+        return None;
+    }
+    Some(Word::Watch(watch_from(what, read_index(number)?)?))
+}
+
+/// The word that is spelled by these; `None` where there is none.
+fn word_of(words: &[&[u8]]) -> Option<Word>
+    ensures found { IfSome result (λ said. IsWord said × (map (λ text. text.now) words.now ≡ word_words said)) }
+    ensures none { IfNone result
+        ((said : Word) → IsWord said → map (λ text. text.now) words.now ≡ word_words said → ⊥) }
+{
+    match words {
+        [word] => word_of_one(word),
+        [word, rest] => word_of_two(word, rest),
+        [word, what, number] => word_of_three(word, what, number),
+        _ => None,
+    }
+}
+
+/// The word with this spelling; `None` where there is none, and for `token T`.
+pub fn read_word(bytes: &[u8]) -> Option<Word>
+    ensures found { IfSome result (λ said. IsWord said × (bytes.now ≡ word_spelling said)) }
+    ensures none { IfNone result ((said : Word) → IsWord said → bytes.now ≡ word_spelling said → ⊥) }
+{
+    let words = split_words(bytes)?;
+    word_of(&words)
+}
+
+/// The most bytes of a token.
+pub const MOST_TOKEN: usize = 128;
+
+/// What stands in front of a token in its line.
+const TOKEN: &[u8] = b"token ";
+
+/// Whether these bytes are a token: 1 to 128 bytes of `!` to `~`.
+pub(crate) fn is_token(bytes: &[u8]) -> bool
+    ensures { IsTrue result ↔ IsToken bytes.now }
+{
+    if bytes.is_empty() {
+        return false;
+    }
+    if bytes.len() > MOST_TOKEN {
+        return false;
+    }
+    for byte in bytes {
+        if *byte < b'!' {
+            return false;
+        }
+        if *byte > b'~' {
+            return false;
+        }
+    }
+    true
+}
+
+/// The token T of a line `token T`; `None` where the bytes are none.
+pub fn read_token(bytes: &[u8]) -> Option<&[u8]>
+    ensures found { IfSome result (λ token. IsToken token.now × (bytes.now ≡ token_spelling token.now)) }
+    ensures none { IfNone result ((token : List ℕ) → IsToken token → bytes.now ≡ token_spelling token → ⊥) }
+{
+    let token = bytes.strip_prefix(TOKEN)?;
+    if !is_token(token) {
+        return None;
+    }
+    Some(token)
+}

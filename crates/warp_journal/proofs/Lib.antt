@@ -1,0 +1,4 @@
+pub mod GoingOn
+pub mod Kept
+pub mod Lines
+pub mod Rest

@@ -1,0 +1,3 @@
+pub mod Shownness
+pub mod Tellings
+pub mod TextLines

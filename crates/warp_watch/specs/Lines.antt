@@ -1,0 +1,70 @@
+-- The lines of what is told, and where pages end.
+use Rattle.std.specs.Prelude.{ℕ, ℤ, zero, suc, ◌+◌, ◌-◌, Bool, List, [], ◌∷◌, ◌++◌, map, length, take, drop, min, max, codes}
+use Rattle.std.specs.Prelude.{decimal, Option, Some, None, ◌==◌, if◌then◌else◌}
+use Rattle.std.specs.Fmt.{signed_decimal}
+use Rattle.std.specs.List.{join_with_byte}
+use Rattle.warp_tag.specs.declared.out.Out.{Out}
+use Rattle.warp_record.specs.declared.record.Record.{Record}
+use Rattle.warp_record.specs.Record.{record_words}
+use Rattle.warp_record.specs.Reply.{out_words}
+
+-- a line: its words, with one space between two, and a line feed
+abbrev pub line_of : List (List ℕ) → List ℕ
+line_of words = join_with_byte 32 words ++ 10 ∷ []
+
+-- how many lines a page has at most
+abbrev pub page : ℕ
+page = 256
+
+-- where a page ends at the latest: behind what is there, and where it is limited at its limit
+abbrev pub page_limit : ℕ → ℕ → ℕ
+page_limit end until = if until == 0 then end else min end until
+
+-- how many lines a page has that begins at this place
+abbrev pub page_count : ℕ → ℕ → ℕ → ℕ
+page_count end from until = min page (page_limit end until - from)
+
+-- the first place of a page of the log: places count from 1
+abbrev pub first_place : ℕ → ℕ
+first_place from = max 1 from
+
+-- the origins below this number that are broken, in rising order
+abbrev pub broken_below : (ℕ → Bool) → ℕ → List ℕ
+broken_below broken zero = []
+broken_below broken (suc origin) =
+    broken_below broken origin ++ (if broken origin then origin ∷ [] else [])
+
+-- the lines of records of the log, the first of which is at this place
+abbrev pub record_lines : ℕ → List Record → List ℕ
+record_lines place [] = []
+record_lines place (said ∷ records) =
+    line_of (codes "log" ∷ decimal place ∷ record_words said) ++ record_lines (suc place) records
+
+-- the lines of shown outputs, the first of which has this number
+abbrev pub output_lines : ℕ → List Out → List ℕ
+output_lines number [] = []
+output_lines number (out ∷ outs) =
+    line_of (codes "released" ∷ decimal number ∷ out_words out) ++ output_lines (suc number) outs
+
+-- the page of the log from here on
+abbrev pub log_page : List Record → ℕ → ℕ → List ℕ
+log_page records from until =
+    record_lines (first_place from)
+    (take (page_count (length records + 1) (first_place from) until) (drop (first_place from - 1) records))
+
+-- the line of all variables, at a log of this length
+abbrev pub vars_line : ℕ → List ℤ → List ℕ
+vars_line len values = line_of (codes "vars" ∷ decimal len ∷ map signed_decimal values)
+
+-- the line of the broken origins, at a log of this length
+abbrev pub breach_line : ℕ → List ℕ → List ℕ
+breach_line len origins = line_of (codes "breach" ∷ decimal len ∷ map decimal origins)
+
+-- the line that stands behind the last shown output where none comes any more
+abbrev pub frozen_line : List ℕ
+frozen_line = line_of (codes "frozen" ∷ [])
+
+-- the line of an output of this number, if there is one, at a log of this length
+abbrev pub release_line : ℕ → Option Out → List ℕ
+release_line len (Some out) = line_of (codes "release" ∷ decimal len ∷ out_words out)
+release_line len None = line_of (codes "none" ∷ decimal len ∷ [])

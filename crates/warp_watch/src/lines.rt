@@ -1,0 +1,96 @@
+//! The lines of what a settled replica tells.
+ghost use Rattle.std.specs.Prelude.{◌≡◌, ◌≤◌, ◌-◌, [], ◌∷◌, ◌++◌, IsTrue, OnOk, decimal, drop, if◌then◌else◌, length};
+ghost use Rattle.std.specs.Prelude.{take};
+ghost use Rattle.std.specs.List.{flat_map};
+ghost use Rattle.warp_table.specs.Records.{set_of};
+ghost use Rattle.warp_replica.specs.Answers.{Answers, AreAnswers};
+ghost use Rattle.warp_watch.specs.Lines.{breach_line, broken_below, record_lines, vars_line};
+
+use crate::shown::is_broken;
+use crate::words::{add_number, add_reply, add_values};
+use warp_line::Timeline;
+use warp_record::Reply;
+use warp_replica::Replica;
+use warp_tag::OutOfMemory;
+
+/// Appends the line of all variables of a settled replica.
+pub(crate) fn add_vars<T: Timeline>(
+    text: &mut Vec<u8>,
+    replica: &Replica<T>,
+) -> Result<(), OutOfMemory>
+    requires { IsTrue (T.settled replica.now.timeline) }
+    ensures { OnOk result
+        ((a : Answers) × AreAnswers replica.now.program (set_of replica.now.records) a
+        × (text.new.items ≡ text.old.items ++ vars_line (length replica.now.records) a.state.vars)) }
+{
+    text.extend_from_slice(b"vars")?;
+    add_number(text, replica.len())?;
+    add_values(text, replica.vars())?;
+    text.push(b'\n')?;
+    Ok(())
+}
+
+/// Appends the broken origins below this number, each behind a space, of a settled replica's program.
+fn add_broken<T: Timeline>(
+    text: &mut Vec<u8>,
+    replica: &Replica<T>,
+    end: u32,
+) -> Result<(), OutOfMemory>
+    requires settled { IsTrue (T.settled replica.now.timeline) }
+    requires within { end ≤ replica.now.program.origins }
+    ensures { OnOk result ((a : Answers) → AreAnswers replica.now.program (set_of replica.now.records) a →
+        text.new.items ≡ text.old.items ++ flat_map (λ origin. 32 ∷ decimal origin) (broken_below a.broken end)) }
+{
+    for origin in 0..end {
+        add_origin(text, origin, is_broken(replica, origin))?;
+    }
+    Ok(())
+}
+
+/// Appends an origin behind a space, if it is broken.
+fn add_origin(text: &mut Vec<u8>, origin: u32, is_broken: bool) -> Result<(), OutOfMemory>
+    ensures { OnOk result (text.new.items
+        ≡ text.old.items ++ (if is_broken then 32 ∷ decimal origin else [])) }
+{
+    if is_broken {
+        return add_number(text, origin);
+    }
+    Ok(())
+}
+
+/// Appends the line of the broken origins of a settled replica.
+pub(crate) fn add_breaches<T: Timeline>(
+    text: &mut Vec<u8>,
+    replica: &Replica<T>,
+) -> Result<(), OutOfMemory>
+    requires { IsTrue (T.settled replica.now.timeline) }
+    ensures { OnOk result ((a : Answers) → AreAnswers replica.now.program (set_of replica.now.records) a →
+        text.new.items ≡ text.old.items
+        ++ breach_line (length replica.now.records) (broken_below a.broken replica.now.program.origins)) }
+{
+    text.extend_from_slice(b"breach")?;
+    add_number(text, replica.len())?;
+    add_broken(text, replica, replica.program().origins())?;
+    text.push(b'\n')?;
+    Ok(())
+}
+
+/// Appends the lines of the records at these places of the log, from 1, the last place not among them.
+pub(crate) fn add_records<T: Timeline>(
+    text: &mut Vec<u8>,
+    replica: &Replica<T>,
+    first: u32,
+    end: u32,
+) -> Result<(), OutOfMemory>
+    requires { 1 ≤ first }
+    ensures { OnOk result (text.new.items ≡ text.old.items
+        ++ record_lines first (take (end - first) (drop (first - 1) replica.now.records))) }
+{
+    for place in first..end {
+        let Some(record) = replica.entry(place) else {
+            return Ok(());
+        };
+        add_reply(text, &Reply::Log { log: place, record })?;
+    }
+    Ok(())
+}
