@@ -331,6 +331,101 @@ def sessions():
         yield Flat(f"a session in the manner {manner!r}", "manner", "twice", [], [f"{end}: 0 records", *written.split("\n")], f"{manner}\n{TWO}")
 
 
+def told(question, lines, len, next=0, frozen=False):
+    """A question, the lines that answer it, and what is told of a page."""
+    return question, *lines, f"next {next} of {len}, {str(frozen).lower()}"
+
+
+# Two events of the first origin, and announcements of both up to time 7; then an event behind them.
+ROWS = ["5 0 0 3", "6 0 0 10"]
+RECORDS = ["event 0 5 0 0 3", "event 0 6 0 0 4", "announce 0 7 0 2 0", "announce 1 7 0 0 0"]
+
+
+def shown():
+    released, log = ([f"{word} {n + first} {text}" for n, text in enumerate(some)]
+                     for word, first, some in (("released", 0, ROWS), ("log", 1, RECORDS)))
+    yield paired("what watchers are told, and that it is frozen", "watches", "twice", [
+        told("vars", ["vars 0 0"], 0), told("horizon", ["horizon 0 0 0"], 0), told("breaches", ["breach 0"], 0),
+        told("log 1 0", [], 0, 1), told("released 0 0", [], 0), told("releases", ["releases 0 0 0"], 0),
+        *((f"take {text}", "taken") for text in RECORDS), ("update", "shown 2 false"), ("update", "shown 2 false"),
+        told("vars", ["vars 4 10"], 4), told("horizon", ["horizon 4 7 0"], 4), told("breaches", ["breach 4"], 4),
+        told("releases", ["releases 4 2 0"], 4), told("release 1", [f"release 4 {ROWS[1]}"], 4), told("release 2", ["none 4"], 4),
+        told("released 0 0", released, 4, 2), told("released 1 0", released[1:], 4, 2), told("released 0 1", released[:1], 4, 1),
+        told("released 2 0", [], 4, 2), told("released 7 0", [], 4, 7), told("released 2 1", [], 4, 2),
+        told("log 0 0", log, 4, 5), told("log 1 0", log, 4, 5), told("log 2 4", log[1:3], 4, 4), told("log 4 9", log[3:], 4, 5),
+        told("log 5 0", [], 4, 5), told("log 9 0", [], 4, 9), told("log 3 2", [], 4, 3), told("log 0 1", [], 4, 1),
+        ("take event 0 3 0 0 9", "taken"), ("update", "shown 2 true"), ("take event 0 8 0 0 1", "taken"), ("update", "shown 2 true"),
+        told("vars", ["vars 6 93"], 6), told("breaches", ["breach 6 0"], 6), told("releases", ["releases 6 2 1"], 6),
+        told("released 0 0", [*released, "frozen"], 6, 2, True), told("released 1 2", [released[1], "frozen"], 6, 2, True),
+        told("released 0 1", released[:1], 6, 1), told("released 2 0", ["frozen"], 6, 2, True), told("released 9 0", ["frozen"], 6, 9, True),
+    ])
+
+
+def pages():
+    """Three events of value 0 at each of a hundred times, all of them released."""
+    tags = [(time, micro) for time in range(1, 101) for micro in range(3)]
+    records = [*(f"event 0 {time} {micro} 0 0" for time, micro in tags), "announce 0 101 0 300 0", "announce 1 101 0 0 0"]
+    log = [f"log {place} {text}" for place, text in enumerate(records, 1)]
+    released = [f"released {number} {time} {micro} 0 0" for number, (time, micro) in enumerate(tags)]
+    yield paired("pages of a long log and of many outputs", "watches", "twice", [
+        *((f"take {text}", "taken") for text in records), ("update", "shown 300 false"),
+        told("log 1 0", log[:256], 302, 257), told("log 257 0", log[256:], 302, 303), told("log 2 300", log[1:257], 302, 258),
+        told("log 290 295", log[289:294], 302, 295), told("log 303 0", [], 302, 303),
+        told("released 0 0", released[:256], 302, 256), told("released 256 0", released[256:], 302, 300),
+        told("released 10 266", released[10:266], 302, 266), told("released 10 267", released[10:266], 302, 266),
+        told("released 300 0", [], 302, 300), ("take event 0 50 3 0 1", "taken"), ("update", "shown 300 true"),
+        told("released 0 0", released[:256], 303, 256), told("released 256 0", [*released[256:], "frozen"], 303, 300, True),
+    ])
+
+
+# The first line and what a host, and a `serve`, answers to it.
+HELLO, HOST, SERVE = ("connect", "program"), "peer program 1 here", "peer refused 1"
+FIVE, SIX, NONE = "event 0 5 0 0 3", "event 0 6 0 0 4", "withdraw 0 5 0"
+
+
+def followed(name, *calls):
+    return paired(f"following a peer: {name}", "follows", "", [("peer program 1 here", "strange", "over"), HELLO, *calls])
+
+
+def watched(place, check=()):
+    """A host is found, and followed from this place on."""
+    return [(HOST, check[0] if check else f"watch log {place}"), *([(check[1], f"watch log {place}")] if check else []),
+            ("peer watching 1", f"found at {place}, true")]
+
+
+def following():
+    had = [*watched(1), (f"peer * log 1 {FIVE}", FIVE), ("hub taken 1",), (f"peer * log 2 {SIX}", SIX)]
+    yield followed("a host, that is lost and found, and refused records", *had, ("lose", "over"), HELLO, (HOST, "log 2"), ("hub taken 2",),
+        (f"peer log 2 {SIX}", "watch log 2"), ("peer watching 1", "found at 2, true"), (f"peer * log 2 {SIX}", SIX),
+        (f"peer * log 3 {NONE}", NONE), ("hub known 2",), ("hub refused 3", "refused 3 at 3"), (f"peer * log 4 {FIVE}", FIVE),
+        ("hub refused 3",), (f"peer * log 5 {SIX}", SIX), ("hub refused 2", "refused 2 at 5"), (f"peer * log 7 {NONE}", "strange", "over"),
+        (f"peer * log 6 {NONE}", "strange", "over"))
+    for name, there in (("a shorter one", "none 1"), ("none", "none 0"), ("another one", f"log 2 {FIVE}")):
+        yield followed(f"the log of a host became {name}", *had, ("hub taken 2",), HELLO, *watched(1, ("log 2", f"peer {there}")),
+                       (f"peer * log 1 {SIX}", SIX))
+    yield followed("a host whose records find no memory", *had, ("hub refused 8", "no memory", "over"), HELLO,
+                   *watched(2, ("log 2", f"peer log 9 {SIX}")))
+    yield followed("pieces of lines", HELLO, (HOST, "watch log 1"), ("part watch",), ("peer ing 5", "found at 1, true"), ("part * lo",),
+                   ("part g 1 ",), (f"peer {FIVE}", FIVE), (f"part {'x' * 100}",), (f"peer {'x' * 28}", "strange", "over"), HELLO,
+                   (f"part {'x' * 100}",), (f"peer {'x' * 29}", "strange", "over"))
+    serve = [(SERVE, "found at 1, false", "log 1")]
+    yield followed("a serve", *serve, (f"peer log 3 {FIVE}", "log 2", "log 3", FIVE), (f"peer log 3 {SIX}", SIX),
+        (f"peer log 4 {NONE}", "log 4", NONE), (f"peer log 4 {SIX}", "log 5", SIX), ("peer none 4", "level"), ("again", "log 5"),
+        (f"peer log 5 {FIVE}", "log 6", FIVE), ("peer none 5", "level"), (f"peer log 6 {FIVE}", "strange", "over"), ("again", "over"),
+        *((f"hub taken {n}", "over") for n in range(1, 7)), HELLO, (SERVE, "log 5"), (f"peer log 5 {FIVE}", "found at 6, false", "log 6"))
+    yield followed("many places of a serve", *serve, (f"peer log 200 {FIVE}", *(f"log {n}" for n in range(2, 66)), FIVE),
+                   *((f"peer log 200 {SIX}", f"log {n}", SIX) for n in range(66, 201)), *((f"peer log 200 {SIX}", SIX) for _ in range(63)),
+                   (f"peer log 200 {SIX}", "log 201", SIX), ("peer none 200", "level"))
+    yield followed("a serve that is busy", *serve, ("peer refused 10", "strange", "over"), HELLO, *serve, ("peer none 1", "strange", "over"))
+    said = ("connect secret", "token secret", "program")
+    yield followed("tokens", said, ("peer may 0 1",), *watched(1), said, ("peer refused 13", "not allowed", "over"), said, ("peer refused 1",), *serve,
+                   said, ("peer may", "strange", "over"))
+    yield followed("what is no answer", ("peer program 1 there", "another program", "over"), HELLO, ("peer program", "strange", "over"), HELLO,
+                   ("peer refused 13", "not allowed", "over"), HELLO, (HOST, "watch log 1"), (f"peer * log 1 {FIVE}", "strange", "over"), HELLO,
+                   *watched(1), ("peer * log 1 event 0 05 0 0 3", "strange", "over"), HELLO, *watched(1), ("peer * gone slow", "strange", "over"),
+                   HELLO, *watched(1), (f"peer log 1 {FIVE}", "strange", "over"), HELLO, *serve, (f"peer * log 1 {FIVE}", "strange", "over"))
+
+
 def cases():
-    for some in (slow, forty, collecting, desks, merging, meeting, world, files, copies, feeding, spellings, streams, sessions):
+    for some in (shown, pages, following, slow, forty, collecting, desks, merging, meeting, world, files, copies, feeding, spellings, streams, sessions):
         yield from some()

@@ -4,7 +4,7 @@ import hashlib
 import json
 
 from calls import EXAMPLES, NO_MEMORY, REFUSED, Calls, Step, before, made
-from flat_calls import end_records, end_replies
+from flat_calls import HOST, end_records, end_replies
 from program_files import canonical
 
 
@@ -229,7 +229,32 @@ def draining():
     return Calls("draining a lane", "lanes", "twice", steps)
 
 
+def watching():
+    """What is released is shown, and told; what was refused memory is the same when it is asked for again."""
+    line = "event 0 5 0 0 3"
+    steps = [before([(f"take {text}", "taken") for text in (line, "announce 0 7 0 1 0", "announce 1 7 0 0 0")]),
+             Step(["shown 1 false"] * 2, ["update"] * 2, 2, (0,), [[NO_MEMORY, "shown 1 false"]])]
+    for question, said, next in (
+        ("vars", ["vars 3 3"], 0), ("releases", ["releases 3 1 0"], 0), ("release 0", ["release 3 5 0 0 3"], 0), ("horizon", ["horizon 3 7 0"], 0),
+        ("breaches", ["breach 3"], 0), ("log 1 2", [f"log 1 {line}"], 2), ("released 0 0", ["released 0 5 0 0 3"], 1),
+    ):
+        steps.append(Step([*said, f"next {next} of 3, false"], [question], otherwise=[[NO_MEMORY]]))
+    return Calls("what watchers are told", "watches", "twice", steps)
+
+
+def following():
+    """A peer's record for which there is no room is none that was had: the next connection begins with its place."""
+    record = "event 0 5 0 0 3"
+    lines = [f"peer * log 1 {record}", "connect", HOST, f"peer log 1 {record}", "peer watching 1"]
+    step = Step([record, "program", "log 1", "watch log 1", "found at 1, true"], lines, 5, (0,),
+                [[NO_MEMORY, "over", "program", "watch log 1", "strange", "over", "strange", "over"]])
+    return Calls("following a peer", "follows", "", [
+        before([("connect", "program"), (HOST, "watch log 1"), ("peer watching 1", "found at 1, true")]), step])
+
+
 def cases():
+    yield watching()
+    yield following()
     yield loading()
     yield refusing()
     yield making_twice()

@@ -33,7 +33,7 @@ from os import PathLike
 from typing import NamedTuple, Optional, Union
 
 __all__ = [
-    "Announce", "Announcer", "Board", "Breach", "Carrier", "Client", "Collected", "Count", "Differ", "Ended", "Entry", "Event", "Horizon",
+    "Announce", "Announcer", "Board", "Breach", "Carrier", "Client", "Collected", "Count", "Differ", "Ended", "Entry", "Event", "Horizon", "HostClient",
     "Known", "Names", "Nothing", "Output", "Record", "Refused", "Row", "Shape", "Tag", "Taken", "Var", "Withdraw", "carry",
 ]
 
@@ -41,7 +41,7 @@ MEANINGS = {
     1: "the line is none, or out of range", 2: "the program has no such origin", 3: "past the program's stop",
     4: "the program has no such input", 5: "the input belongs to another origin", 6: "the program has no such variable",
     7: "the log is full", 8: "no memory", 9: "the line is too long", 10: "busy: too many lines of this session wait",
-    11: "there is no board: only a server has one",
+    11: "there is no board: only a server has one", 13: "this client may not send that", 14: "the journal cannot be written",
 }
 # So many lines are sent before their replies are read: they fit into the buffers on the way, so neither side waits for the other.
 WINDOW = 256
@@ -284,7 +284,9 @@ class Client:
         made = socket.create_connection(self._address, self._timeout)
         made.setsockopt(socket.IPPROTO_TCP, socket.TCP_NODELAY, 1)
         self._begin(made.makefile("rb"), made.makefile("wb", buffering=0))
+        # Its two files keep it open.
         made.close()
+        self._socket = made
 
     @classmethod
     def run(cls, program: str, command: Sequence[str] = ("warpd",), names: Optional[Names] = None) -> Client:
@@ -710,3 +712,6 @@ def carry(addresses: Sequence[tuple[str, int]], pause: float = 0.05, timeout: fl
         return total
     finally:
         carrier.close()
+
+
+from .hosted import HostClient  # noqa: E402 (which stands on all of this)

@@ -14,6 +14,7 @@ mod boards;
 mod bodies;
 mod desks;
 mod files;
+mod follows;
 mod lanes;
 mod lines;
 mod mark;
@@ -29,6 +30,7 @@ mod steps;
 mod streams;
 mod timelines;
 mod transcript;
+mod watches;
 mod worlds;
 
 use std::alloc::Global;
@@ -71,7 +73,14 @@ fn perform<X: Clock>(
         "meetings" => meetings::perform::<Warp, Plain>(alloc, out, program, rest),
         "pulls" => pulls::all::<Warp, X>(rt, alloc, out, program, rest),
         "exhausted" => pulls::exhausted(rt, alloc, out, rest),
-        "replicas" | "timelines" | "worlds" | "manner" | "sessions" | "session" | "lanes" => {
+        "replicas"
+        | "timelines"
+        | "worlds"
+        | "manner"
+        | "sessions"
+        | "session"
+        | "lanes"
+        | "watches" => {
             over::<Warp>(alloc, out, word, program, rest);
         }
         _ => over_none(alloc, out, word, program, rest),
@@ -87,6 +96,7 @@ fn over<T: Timeline>(alloc: Global, out: &mut Transcript, word: &str, program: &
         "manner" => sessions::in_manner::<T>(alloc, out, program, rest),
         "sessions" => sessions::all::<T>(alloc, out, program, rest),
         "session" => sessions::one::<T>(alloc, out, program, rest),
+        "watches" => watches::perform::<T>(alloc, out, program, rest),
         _ => lanes::perform::<T>(alloc, out, program, rest),
     }
 }
@@ -100,6 +110,7 @@ fn over_none(alloc: Global, out: &mut Transcript, word: &str, program: &str, res
         "arenas" => arenas::perform(alloc, out, rest),
         "bodies" => bodies::perform(alloc, out, program, rest),
         "boards" => boards::perform(alloc, out),
+        "follows" => follows::perform(alloc, out, rest),
         "schedule" => worlds::read_once(alloc, out, Form::One, rest.as_bytes()),
         "same" => files::compare(alloc, out, program, rest),
         "parts" => files::tell_parts(alloc, out, program),

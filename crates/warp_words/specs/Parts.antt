@@ -1,7 +1,7 @@
 -- What the parser makes of the code's table of subcommands. No public contract cites this.
 use Rattle.std.specs.Prelude.{fold}
 use Rattle.clap.specs.Words.{App, Rule, Text, new_app, with_rule, with_subcommand}
-use Rattle.warp_words.specs.Words.{any_words, flag, further_number, wanted_number, wanted_word}
+use Rattle.warp_words.specs.Words.{any_words, flag, further_number, further_word, further_words, wanted_number, wanted_word}
 use Rattle.warp_words.specs.declared.command_line.PartKind.{PartKind}
 use Rattle.warp_words.specs.declared.command_line.PartKind.TheVariants as kind
 use Rattle.warp_words.specs.declared.command_line.Part.{Part}
@@ -14,6 +14,8 @@ rule_as name kind.Words = any_words name
 rule_as name kind.Flag = flag name
 rule_as name (kind.Number value most) = wanted_number name most
 rule_as name (kind.FurtherNumber value most) = further_number name most
+rule_as name (kind.FurtherWord value) = further_word name
+rule_as name (kind.FurtherWords value) = further_words name
 
 abbrev pub rule_for : Part → Rule
 rule_for part = rule_as part.name.now part.kind

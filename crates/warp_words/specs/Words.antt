@@ -10,7 +10,7 @@ use Rattle.clap.specs.declared.builder.action.ArgAction.TheVariants.{Append, Set
 use Rattle.clap.specs.declared.builder.value_parser.ValueParser.TheVariants.{Unsigned}
 use Rattle.warp_words.specs.declared.command_line.CheckOptions.{CheckOptions}
 use Rattle.warp_words.specs.declared.command_line.Job.{Job}
-use Rattle.warp_words.specs.declared.command_line.Job.TheVariants.{Run, Play, Serve, Check, Trace}
+use Rattle.warp_words.specs.declared.command_line.Job.TheVariants.{Run, Play, Serve, Check, Trace, Host, Journal}
 
 -- a place for one word, which has to be there
 abbrev pub wanted_word : Text → Rule
@@ -37,6 +37,14 @@ wanted_number name most = record (new_rule name) {
 abbrev pub further_number : Text → ℕ → Rule
 further_number name most = record (wanted_number name most) { required = false }
 
+-- an option for a word, which may be left out; help shows a name for the word
+abbrev pub further_word : Text → Rule
+further_word name = record (new_rule name) { long = Some name; value_names = 1 }
+
+-- an option for a word, which may be there any number of times; help shows a name for the word
+abbrev pub further_words : Text → Rule
+further_words name = record (further_word name) { action = Some Append }
+
 -- places for any number of words
 abbrev pub any_words : Text → Rule
 any_words place = record (new_rule place) { action = Some Append }
@@ -51,6 +59,10 @@ most_sessions = 16
 -- the longest time that a peer may be silent, in seconds: a day
 abbrev pub most_seconds : ℕ
 most_seconds = 86400
+
+-- the most clients of a host at a time
+abbrev pub most_clients : ℕ
+most_clients = 15000
 
 -- an option that is there or not
 abbrev pub flag : Text → Rule
@@ -75,6 +87,20 @@ check_command =
 abbrev pub trace_command : App
 trace_command = with_rule (with_rule (new_app (codes "trace")) (wanted_word (codes "PROGRAM"))) (flag (codes "steps"))
 
+-- `host` with PROGRAM, `--listen`, `--clients`, `--tokens`, `--allow-origin`, `--peer`, `--peer-tokens`, `--open`,
+-- `--until-input-ends`, `--journal` and `--sync`
+abbrev pub host_command : App
+host_command =
+    with_rule (with_rule (with_rule (with_rule (with_rule (with_rule (with_rule (with_rule (with_rule (with_rule (with_rule (new_app (codes "host"))
+    (wanted_word (codes "PROGRAM"))) (further_word (codes "listen"))) (further_number (codes "clients") most_clients))
+    (further_word (codes "tokens"))) (further_words (codes "allow-origin"))) (further_words (codes "peer")))
+    (further_word (codes "peer-tokens"))) (flag (codes "open"))) (flag (codes "until-input-ends")))
+    (further_word (codes "journal"))) (further_word (codes "sync"))
+
+-- `journal` with ACTION and FILE
+abbrev pub journal_command : App
+journal_command = with_rule (with_rule (new_app (codes "journal")) (wanted_word (codes "ACTION"))) (wanted_word (codes "FILE"))
+
 -- `warpd` wants a subcommand, answers with help where no word comes, and has a version
 abbrev pub top_command : App
 top_command = on_top
@@ -84,20 +110,39 @@ top_command = on_top
 -- `warpd` with its subcommands
 abbrev pub warpd_command : App
 warpd_command =
-    with_subcommand (with_subcommand (with_subcommand (with_subcommand (with_subcommand top_command run_command.top) play_command.top)
-    serve_command.top) check_command.top) trace_command.top
+    with_subcommand (with_subcommand (with_subcommand (with_subcommand (with_subcommand (with_subcommand (with_subcommand top_command
+    run_command.top) play_command.top) serve_command.top) check_command.top) trace_command.top) host_command.top) journal_command.top
+
+-- what a host is asked for: the program of this name, where to listen, how many clients there may be at a time, the file of
+-- tokens, the origins of pages that may connect, the peers, the file of tokens for peers, whether any address may be listened
+-- on without tokens, whether the host ends with its standard input, the file of the journal, and when that is brought to the disk
+pub record HostTask : Type 0 where
+  pub program : Text
+  pub listen : Option Text
+  pub clients : Option ℕ
+  pub tokens : Option Text
+  pub origins : List Text
+  pub peers : List Text
+  pub peer_tokens : Option Text
+  pub is_open : Bool
+  pub until_input_ends : Bool
+  pub journal : Option Text
+  pub sync : Option Text
 
 -- what the words may ask for: to run the program of this name; or over the program of the first name to play the schedule of
 -- the second; or to serve the program of this name at a port, for so many sessions, to tell how pulls ended or not, to bear so many
 -- seconds of a peer's silence or any number, and to pull from these peers; or to check the
 -- program of this name, and to tell what these options say; or to print the rows of a run of the program of this
--- name, or its steps as they were executed
+-- name, or its steps as they were executed; or to host a program; or to do what the first word says with the journal in the
+-- file of the second
 pub data Task : Type 0 where
   RunProgram : Text → Task
   PlaySchedule : Text → Text → Task
   ServeProgram : Text → ℕ → ℕ → Bool → Option ℕ → List Text → Task
   CheckProgram : Text → CheckOptions → Task
   TraceProgram : Text → Bool → Task
+  HostProgram : HostTask → Task
+  SeeJournal : Text → Text → Task
 
 -- what `run` asks for, of what was found for it: the word in the place of PROGRAM
 abbrev pub run_task : List Row → Option Task
@@ -152,6 +197,27 @@ check_task found = option_map (λ program. CheckProgram program (check_options f
 abbrev pub trace_task : List Row → Option Task
 trace_task found = option_map (λ program. TraceProgram program (is_set (codes "steps") found)) (first_of (codes "PROGRAM") found)
 
+-- what `host` asks for, of what was found for it: the word in the place of PROGRAM, and what its options have
+abbrev pub host_task : List Row → Option Task
+host_task found = option_map (λ program. HostProgram (record {
+  program = program;
+  listen = first_of (codes "listen") found;
+  clients = number_found (codes "clients") most_clients found;
+  tokens = first_of (codes "tokens") found;
+  origins = all_of_or_none (codes "allow-origin") found;
+  peers = all_of_or_none (codes "peer") found;
+  peer_tokens = first_of (codes "peer-tokens") found;
+  is_open = is_set (codes "open") found;
+  until_input_ends = is_set (codes "until-input-ends") found;
+  journal = first_of (codes "journal") found;
+  sync = first_of (codes "sync") found;
+})) (first_of (codes "PROGRAM") found)
+
+-- what `journal` asks for, of what was found for it: the words in the places of ACTION and FILE
+abbrev pub journal_task : List Row → Option Task
+journal_task found =
+    option_and_then (λ action. option_map (SeeJournal action) (first_of (codes "FILE") found)) (first_of (codes "ACTION") found)
+
 -- what the subcommand of this name asks for
 abbrev pub task_named : Text → List Row → Option Task
 task_named name found =
@@ -159,7 +225,9 @@ task_named name found =
     else (if bytes_eq name (codes "play") then play_task found
     else (if bytes_eq name (codes "serve") then serve_task found
     else (if bytes_eq name (codes "check") then check_task found
-    else (if bytes_eq name (codes "trace") then trace_task found else None))))
+    else (if bytes_eq name (codes "trace") then trace_task found
+    else (if bytes_eq name (codes "host") then host_task found
+    else (if bytes_eq name (codes "journal") then journal_task found else None))))))
 
 -- what a subcommand asks for, with what was found for it
 abbrev pub task_found : Option (Text × List Row) → Option Task
@@ -177,10 +245,25 @@ task_of (Serve program port sessions tells_pulls peer_timeout peers) =
     ServeProgram program.now port sessions tells_pulls peer_timeout (map (λ word. word.now) peers.items)
 task_of (Check program options) = CheckProgram program.now options
 task_of (Trace program with_steps) = TraceProgram program.now with_steps
+task_of (Host job) = HostProgram (record {
+  program = job.program.now;
+  listen = option_map (λ word. word.now) job.listen;
+  clients = job.clients;
+  tokens = option_map (λ word. word.now) job.tokens;
+  origins = map (λ word. word.now) job.origins.items;
+  peers = map (λ word. word.now) job.peers.items;
+  peer_tokens = option_map (λ word. word.now) job.peer_tokens;
+  is_open = job.is_open;
+  until_input_ends = job.until_input_ends;
+  journal = option_map (λ word. word.now) job.journal;
+  sync = option_map (λ word. word.now) job.sync;
+})
+task_of (Journal action file) = SeeJournal action.now file.now
 
--- the port, the number of sessions and the seconds are in their ranges
+-- the port, the number of sessions, the seconds and the number of clients are in their ranges
 abbrev pub IsInRange : Task → Type 0
 IsInRange (ServeProgram program port sessions tells_pulls peer_timeout peers) =
     (1 ≤ port) × (port ≤ last_listening_port) × (1 ≤ sessions) × (sessions ≤ most_sessions)
     × IfSome peer_timeout (λ seconds. (1 ≤ seconds) × (seconds ≤ most_seconds))
+IsInRange (HostProgram task) = IfSome task.clients (λ clients. (1 ≤ clients) × (clients ≤ most_clients))
 IsInRange task = Unit {0}

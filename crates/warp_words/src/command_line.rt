@@ -7,10 +7,10 @@ ghost use Rattle.warp_words.specs.Parts.{app_for, rule_for, with_made, with_part
 ghost use Rattle.warp_words.specs.declared.command_line.Subcommand.{Subcommand};
 ghost use Rattle.warp_words.specs.Words.{play_task, run_task, task_found, task_in, task_of};
 ghost use Rattle.warp_words.specs.Words.{IsInRange, all_of_or_none, number_found, number_up_to};
-ghost use Rattle.warp_words.specs.Words.{check_options, check_task, is_set, serve_task, trace_task};
+ghost use Rattle.warp_words.specs.Words.{check_options, check_task, host_task, is_set, journal_task, serve_task, trace_task};
 ghost use Rattle.warp_words.specs.Words.{top_command, warpd_command};
 
-use crate::{check_help, serve_help, trace_help};
+use crate::{check_help, host_help, journal_help, play_help, run_help, serve_help, trace_help};
 use clap::builder::ValueParser;
 use clap::{Arg, ArgAction, ArgMatches, Command, Error};
 use std::alloc::{AllocError, Global};
@@ -59,6 +59,42 @@ pub enum Job<'a> {
         /// Whether to print the steps in the order in which they were executed in their place.
         with_steps: bool,
     },
+    /// Serve clients that come and go, until the host is stopped.
+    Host(HostJob<'a>),
+    /// Check or repair the journal of a host.
+    Journal {
+        /// The word that says which.
+        action: &'a str,
+        /// The word that names the file of the journal.
+        file: &'a str,
+    },
+}
+
+/// What a host is asked for.
+#[derive(Debug, Drop, PartialEq, Eq)]
+pub struct HostJob<'a> {
+    /// The word that names the program to run.
+    pub program: &'a str,
+    /// The word that says where to listen.
+    pub listen: Option<&'a str>,
+    /// How many clients there may be at a time, 1 to 15,000.
+    pub clients: Option<u64>,
+    /// The word that names the file of tokens.
+    pub tokens: Option<&'a str>,
+    /// The origins of pages that may connect beside the host's own, in their order.
+    pub origins: Vec<&'a str>,
+    /// The words that name the peers, in their order.
+    pub peers: Vec<&'a str>,
+    /// The word that names the file of tokens for peers.
+    pub peer_tokens: Option<&'a str>,
+    /// Whether any address may be listened on without tokens.
+    pub is_open: bool,
+    /// Whether the host ends with its standard input.
+    pub until_input_ends: bool,
+    /// The word that names the file of the journal.
+    pub journal: Option<&'a str>,
+    /// The word that says when the journal is brought to the disk.
+    pub sync: Option<&'a str>,
 }
 
 /// What `check` tells beside the line of what is in a program.
@@ -76,7 +112,7 @@ pub struct CheckOptions {
     pub warnings: bool,
 }
 
-const VERSION: &str = "1.1.0";
+const VERSION: &str = "1.2.0";
 
 const ABOUT: &str = "Runs a deterministic reactor program over events that may come late";
 
@@ -92,107 +128,6 @@ Exit status:
   4  the program or the schedule couldn't be read, or a standard stream failed
   5  memory ran out
   6  the server couldn't listen, or couldn't have a further connection or thread";
-
-const RUN_ABOUT: &str = "Answers the lines of standard input on standard output";
-
-const RUN_LONG_ABOUT: &str = "\
-Reads lines on standard input up to its end, and answers each of them with one line on
-standard output, in order.
-
-  event ORIGIN TIME MICROSTEP INPUT VALUE   an event: taken P, or known P
-  withdraw ORIGIN TIME MICROSTEP            no event of this name counts: the same
-  announce ORIGIN TIME MICROSTEP E W        before this tag the origin has E names with an
-                                            event and W withdrawn, and adds none: the same
-  var INDEX                                 a variable: var N VALUE
-  outputs                                   how many outputs there are: outputs N COUNT
-  output INDEX                              output N TIME MICROSTEP PORT VALUE, or none N
-  horizon                                   the tag before which outputs are released:
-                                            horizon N TIME MICROSTEP
-  released                                  how many are released: released N COUNT
-  breach ORIGIN                             whether it broke an announcement of its own:
-                                            breach N 1, or breach N 0
-  lost                                      how much was lost: lost N COUNT
-  log P                                     log N and a record's line, or none N
-  collect                                   executes all that is not done, lets go of what is not
-                                            needed before the horizon: collected N
-  board, row INDEX                          refused: there is no board here
-
-P is a record's place in the log, from 1, and N the length of the log. The name of an event
-is its origin with its time and microstep. A line that is not understood or not allowed is
-answered by refused K, and changes nothing.
-
-PROGRAM is the path of a program file, which docs/FORMATS.md describes, or builtin:twice.
-That stops at time 100. Its variable 0 begins at 0. An event of origin 0 for input 0 doubles
-it and adds the value; an event of origin 1 for input 1 takes the value from it.";
-
-const RUN_NOTES: &str = "\
-Why a line is refused:
-  1  it is no line of these forms, or ends before its line feed
-  2  the program has no such origin
-  3  the tag is past the program's stop
-  4  the program has no such input
-  5  the input belongs to another origin
-  6  the program has no such variable
-  7  the log is full
-  8  there is no memory for it
-  9  it is longer than 128 bytes
- 11  there is no board here
-
-Why a program file is refused (warpd check says where):
-  1  it is no JSON text, or nests too deep
-  2  it has not the shape of a program file
-  3  it goes past a limit
-  4  a name is unknown in its place
-  5  something stands twice
-  6  a link without delay leads back, or reactions wait for each other
-  7  a reaction uses what it doesn't declare
-
-Example:
-  printf 'event 0 5 0 0 3\\nvar 0\\n' | warpd run builtin:twice";
-
-const PLAY_ABOUT: &str = "Plays a schedule over replicas, and prints what each answers in the end";
-
-const PLAY_LONG_ABOUT: &str = "\
-Plays the moves of a schedule file over replicas of the program, then settles each replica
-and prints what it answers. Standard input is not read.
-
-The first line of the file says how many replicas there are, 1 to 16, numbered from 0:
-
-  replicas N
-
-Each further line is a move:
-
-  make R RECORD   a record comes from outside to replica R: the line of an event, a
-                  withdraw or an announce, as `warpd run --help` shows them
-  carry F I R     the record at place I of the log of replica F, from 1, comes to replica R
-  collect R       replica R settles, and lets go of what it needs no more
-  settle R        replica R executes what is not done
-  restart R       replica R starts anew, with an empty log
-
-A move does nothing where the program refuses its record, where the log has that record or
-is full, and where there is no such replica or place.
-
-Of each replica are printed, in order, with N the length of its log:
-
-  replica R
-  horizon N TIME MICROSTEP   the tag before which outputs are released
-  outputs N COUNT            how many outputs there are
-  released N COUNT           how many of them are released
-  lost N COUNT               how much was lost
-  var N VALUE                a line for each variable, from 0";
-
-const PLAY_NOTES: &str = "\
-A schedule is refused where a line is not of this form, is longer than 128 bytes, or has no
-line feed. Nothing is printed then but this, on standard error, for the first such line:
-
-  schedule refused at line K   K counts from 1; 1 too for an empty file, and 0 for a file
-                               of more than 1,048,576 bytes
-
-Why a program file is refused: warpd run --help
-
-Example:
-  printf 'replicas 2\\nmake 0 event 0 5 0 0 3\\ncarry 0 1 1\\n' > two.schedule
-  warpd play builtin:twice two.schedule";
 
 const PROGRAM: &str = "PROGRAM";
 
@@ -224,6 +159,30 @@ const WARN: &str = "warn";
 
 const STEPS: &str = "steps";
 
+const LISTEN: &str = "listen";
+
+const CLIENTS: &str = "clients";
+
+const TOKENS: &str = "tokens";
+
+const ALLOW_ORIGIN: &str = "allow-origin";
+
+const PEER_OPTION: &str = "peer";
+
+const PEER_TOKENS: &str = "peer-tokens";
+
+const OPEN: &str = "open";
+
+const UNTIL_INPUT_ENDS: &str = "until-input-ends";
+
+const JOURNAL_OPTION: &str = "journal";
+
+const SYNC: &str = "sync";
+
+const ACTION: &str = "ACTION";
+
+const FILE: &str = "FILE";
+
 /// The highest port to listen on.
 const LAST_LISTENING_PORT: u64 = 65_535;
 
@@ -232,6 +191,9 @@ const MOST_SESSIONS: u64 = 16;
 
 /// The longest time that a peer may be silent, in seconds: a day.
 const MOST_SECONDS: u64 = 86_400;
+
+/// The most clients of a host at a time.
+const MOST_CLIENTS: u64 = 15_000;
 
 /// What a part of a subcommand is.
 enum PartKind {
@@ -245,6 +207,10 @@ enum PartKind {
     Number { value: &'static str, most: u64 },
     /// The same, which may be left out.
     FurtherNumber { value: &'static str, most: u64 },
+    /// An option for a word, which may be left out; help calls the word `value`.
+    FurtherWord { value: &'static str },
+    /// An option for a word, which may be there any number of times.
+    FurtherWords { value: &'static str },
 }
 
 /// A part of a subcommand: a place for words or an option.
@@ -269,6 +235,8 @@ enum Topic {
     Serve,
     Check,
     Trace,
+    Host,
+    Journal,
 }
 
 /// A subcommand: its name, the topic of its help, and its parts in their order.
@@ -391,7 +359,87 @@ const TRACE: Subcommand = Subcommand {
     ],
 };
 
-const SUBCOMMANDS: &[Subcommand] = &[RUN, PLAY, SERVE, CHECK, TRACE];
+const HOST: Subcommand = Subcommand {
+    name: "host",
+    topic: Topic::Host,
+    parts: &[
+        PROGRAM_PART,
+        Part {
+            name: LISTEN,
+            help: host_help::LISTEN_HELP,
+            kind: PartKind::FurtherWord {
+                value: "ADDRESS:PORT",
+            },
+        },
+        Part {
+            name: CLIENTS,
+            help: host_help::CLIENTS_HELP,
+            kind: PartKind::FurtherNumber {
+                value: "N",
+                most: MOST_CLIENTS,
+            },
+        },
+        Part {
+            name: TOKENS,
+            help: host_help::TOKENS_HELP,
+            kind: PartKind::FurtherWord { value: "FILE" },
+        },
+        Part {
+            name: ALLOW_ORIGIN,
+            help: host_help::ALLOW_ORIGIN_HELP,
+            kind: PartKind::FurtherWords { value: "URL" },
+        },
+        Part {
+            name: PEER_OPTION,
+            help: host_help::PEER_HELP,
+            kind: PartKind::FurtherWords { value: "HOST:PORT" },
+        },
+        Part {
+            name: PEER_TOKENS,
+            help: host_help::PEER_TOKENS_HELP,
+            kind: PartKind::FurtherWord { value: "FILE" },
+        },
+        Part {
+            name: OPEN,
+            help: host_help::OPEN_HELP,
+            kind: PartKind::Flag,
+        },
+        Part {
+            name: UNTIL_INPUT_ENDS,
+            help: host_help::UNTIL_INPUT_ENDS_HELP,
+            kind: PartKind::Flag,
+        },
+        Part {
+            name: JOURNAL_OPTION,
+            help: host_help::JOURNAL_HELP,
+            kind: PartKind::FurtherWord { value: "FILE" },
+        },
+        Part {
+            name: SYNC,
+            help: host_help::SYNC_HELP,
+            kind: PartKind::FurtherWord { value: "WHEN" },
+        },
+    ],
+};
+
+const JOURNAL: Subcommand = Subcommand {
+    name: "journal",
+    topic: Topic::Journal,
+    parts: &[
+        Part {
+            name: ACTION,
+            help: journal_help::ACTION_HELP,
+            kind: PartKind::Word,
+        },
+        Part {
+            name: FILE,
+            help: journal_help::FILE_HELP,
+            kind: PartKind::Word,
+        },
+    ],
+};
+
+const SUBCOMMANDS: &[Subcommand] = &[RUN, PLAY, SERVE, CHECK, TRACE, HOST, JOURNAL];
 
 /// Reads the words of the command line, of which the first is the program's own name.
 /// An error is a mistake in the words, a request for help or the version, or want of memory; its text is for the user.
@@ -436,6 +484,12 @@ fn job_asked<'a>(alloc: Global, matches: &ArgMatches<'a>) -> Result<Option<Job<'
     }
     if let Some(found) = matches.subcommand_matches("trace") {
         return Ok(trace_job(found));
+    }
+    if let Some(found) = matches.subcommand_matches("host") {
+        return host_job(alloc, found);
+    }
+    if let Some(found) = matches.subcommand_matches("journal") {
+        return Ok(journal_job(found));
     }
     Ok(None)
 }
@@ -491,6 +545,15 @@ fn trace_job<'a>(found: &ArgMatches<'a>) -> Option<Job<'a>>
     })
 }
 
+/// What `journal` asks for.
+fn journal_job<'a>(found: &ArgMatches<'a>) -> Option<Job<'a>>
+    ensures { option_map task_of result ≡ journal_task (rows_of (found_of found.now)) }
+{
+    let action = text(found, ACTION)?;
+    let file = text(found, FILE)?;
+    Some(Job::Journal { action, file })
+}
+
 /// Whether the option with this id is there.
 fn is_set(found: &ArgMatches<'_>, id: &str) -> bool
     ensures { result ≡ is_set id.now (rows_of (found_of found.now)) }
@@ -525,6 +588,30 @@ fn serve_job<'a>(alloc: Global, found: &ArgMatches<'a>) -> Result<Option<Job<'a>
         peer_timeout,
         peers,
     }))
+}
+
+/// What `host` asks for.
+fn host_job<'a>(alloc: Global, found: &ArgMatches<'a>) -> Result<Option<Job<'a>>, AllocError>
+    ensures { IfOk result (λ job. option_map task_of job ≡ host_task (rows_of (found_of found.now))) }
+{
+    let Some(program) = text(found, PROGRAM) else {
+        return Ok(None);
+    };
+    let origins = texts(alloc, found, ALLOW_ORIGIN)?;
+    let peers = texts(alloc, found, PEER_OPTION)?;
+    Ok(Some(Job::Host(HostJob {
+        program,
+        listen: text(found, LISTEN),
+        clients: number(found, CLIENTS, MOST_CLIENTS),
+        tokens: text(found, TOKENS),
+        origins,
+        peers,
+        peer_tokens: text(found, PEER_TOKENS),
+        is_open: is_set(found, OPEN),
+        until_input_ends: is_set(found, UNTIL_INPUT_ENDS),
+        journal: text(found, JOURNAL_OPTION),
+        sync: text(found, SYNC),
+    })))
 }
 
 /// The number of the argument with this id, from 1 to `most`.
@@ -633,11 +720,13 @@ fn made<'a>(alloc: Global, subcommand: &'static Subcommand) -> Result<Command<'a
 /// The texts on the topic.
 fn help_on(topic: &Topic) -> Help {
     match topic {
-        Topic::Run => run_help(),
-        Topic::Play => play_help(),
+        Topic::Run => run_help::help(),
+        Topic::Play => play_help::help(),
         Topic::Serve => serve_help::help(),
         Topic::Check => check_help::help(),
         Topic::Trace => trace_help::help(),
+        Topic::Host => host_help::help(),
+        Topic::Journal => journal_help::help(),
     }
 }
 
@@ -647,24 +736,6 @@ fn top_help() -> Help {
         about: ABOUT,
         long_about: LONG_ABOUT,
         notes: STATUSES,
-    }
-}
-
-/// The texts on `run`.
-fn run_help() -> Help {
-    Help {
-        about: RUN_ABOUT,
-        long_about: RUN_LONG_ABOUT,
-        notes: RUN_NOTES,
-    }
-}
-
-/// The texts on `play`.
-fn play_help() -> Help {
-    Help {
-        about: PLAY_ABOUT,
-        long_about: PLAY_LONG_ABOUT,
-        notes: PLAY_NOTES,
     }
 }
 
@@ -700,5 +771,10 @@ fn argument<'a>(alloc: Global, part: &'static Part) -> Arg<'a>
             .long(part.name)
             .value_name(value)
             .value_parser(ValueParser::unsigned(1, most)),
+        PartKind::FurtherWord { value } => argument.long(part.name).value_name(value),
+        PartKind::FurtherWords { value } => argument
+            .long(part.name)
+            .value_name(value)
+            .action(ArgAction::Append),
     }
 }

@@ -3,7 +3,11 @@
 
 mod check_help;
 mod command_line;
+mod host_help;
+mod journal_help;
+mod play_help;
+mod run_help;
 mod serve_help;
 mod trace_help;
 
-pub use command_line::{CheckOptions, Job, words};
+pub use command_line::{CheckOptions, HostJob, Job, words};

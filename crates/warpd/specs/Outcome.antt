@@ -32,7 +32,11 @@ use Rattle.warp_session.specs.Session.{FailsSo, Session}
 use Rattle.warp_session.specs.Stream.{WritesFront}
 use Rattle.warp_world.specs.Play.{PlaysSchedule}
 use Rattle.warp_lanes.specs.Engine.{most_lanes}
-use Rattle.warp_words.specs.Words.{Task, RunProgram, PlaySchedule, ServeProgram, CheckProgram, TraceProgram, task_in, warpd_command}
+use Rattle.warp_host.specs.declared.hosting.HostFault.{HostFault}
+use Rattle.warp_host.specs.declared.hosting.HostFault.TheVariants as host_fault
+use Rattle.warp_host.specs.declared.journal_file.OpenFault.{OpenFault}
+use Rattle.warp_host.specs.declared.journal_file.OpenFault.TheVariants as open_fault
+use Rattle.warp_words.specs.Words.{Task, RunProgram, PlaySchedule, ServeProgram, CheckProgram, TraceProgram, HostProgram, SeeJournal, task_in, warpd_command}
 use Rattle.warp_words.specs.declared.command_line.CheckOptions.{CheckOptions}
 use Rattle.warp_session.specs.declared.door.ServeFault.{ServeFault}
 use Rattle.warp_session.specs.declared.door.ServeFault.TheVariants as serve_fault
@@ -40,15 +44,31 @@ use Rattle.warp_session.specs.declared.desk_session.SessionEnd.{SessionEnd}
 use Rattle.warp_session.specs.declared.desk_session.SessionEnd.TheVariants.{End, ReadFault, WriteFault, TooManyReads, NoMemory}
 use Rattle.warpd.specs.Gathered.{lacks_memory}
 use Rattle.warpd.specs.declared.outcome.Outcome.{Outcome}
-use Rattle.warpd.specs.declared.outcome.Outcome.TheVariants.{Done, Words, TooManyLanes, Program, Schedule, NoProgram, NoSchedule, Input, Output, Memory, Listen, Accept}
+use Rattle.warpd.specs.declared.outcome.Outcome.TheVariants.{Done, Words, TooManyLanes, NoAddress, NotOpen, TooManyPeers, Program, Schedule, ShownTokens, BadTokens, NoTokens, NoAction, NoSync, JournalInUse, NoJournal, OtherJournal, DamagedJournal, RefusedJournal, LostJournal, NoProgram, NoSchedule, Input, Output, Memory, Listen, Accept}
+use Rattle.warpd.specs.declared.outcome.TokenFile.{TokenFile}
+use Rattle.warpd.specs.declared.outcome.TokenFile.TheVariants.{Clients, Peers}
 
 -- the exit status
 abbrev pub status_of : Outcome → ℕ
 status_of Done = 0
 status_of Words = 2
 status_of TooManyLanes = 2
+status_of NoAddress = 2
+status_of NotOpen = 2
+status_of TooManyPeers = 2
 status_of (Program refusal) = 3
 status_of (Schedule line) = 3
+status_of (ShownTokens which) = 3
+status_of (BadTokens which line) = 3
+status_of (NoTokens which) = 4
+status_of NoAction = 2
+status_of NoSync = 2
+status_of JournalInUse = 6
+status_of NoJournal = 4
+status_of OtherJournal = 3
+status_of (DamagedJournal line) = 3
+status_of (RefusedJournal line) = 3
+status_of LostJournal = 4
 status_of NoProgram = 4
 status_of NoSchedule = 4
 status_of Input = 4
@@ -57,13 +77,42 @@ status_of Memory = 5
 status_of Listen = 6
 status_of Accept = 6
 
+-- what is said where others may read this file of tokens
+abbrev pub shown_words : TokenFile → List ℕ
+shown_words Clients = codes "others may read the tokens\n"
+shown_words Peers = codes "others may read the tokens of peers\n"
+
+-- what is said where this file of tokens was refused, in front of the line
+abbrev pub bad_words : TokenFile → List ℕ
+bad_words Clients = codes "tokens refused at line "
+bad_words Peers = codes "tokens of peers refused at line "
+
+-- what is said where this file of tokens couldn't be read
+abbrev pub unread_words : TokenFile → List ℕ
+unread_words Clients = codes "cannot read the tokens\n"
+unread_words Peers = codes "cannot read the tokens of peers\n"
+
 -- the line on standard error with its line feed, or nothing
 abbrev pub told_line : Outcome → List ℕ
 told_line Done = []
 told_line Words = []
 told_line TooManyLanes = codes "too many lanes\n"
+told_line NoAddress = codes "where to listen is ADDRESS:PORT\n"
+told_line NotOpen = codes "listening there wants --tokens, or --open if that is meant\n"
+told_line TooManyPeers = codes "too many peers\n"
+told_line (ShownTokens which) = shown_words which
+told_line (BadTokens which line) = bad_words which ++ decimal line ++ codes "\n"
+told_line (NoTokens which) = unread_words which
 told_line (Program refusal) = codes "program refused " ++ decimal refusal ++ codes "\n"
 told_line (Schedule line) = codes "schedule refused at line " ++ decimal line ++ codes "\n"
+told_line NoAction = codes "a journal is for check or repair\n"
+told_line NoSync = codes "--sync is always, never or MILLISECONDS, 1 to 60000\n"
+told_line JournalInUse = codes "the journal is in use\n"
+told_line NoJournal = codes "cannot use the journal\n"
+told_line OtherJournal = codes "that is no journal of this program\n"
+told_line (DamagedJournal line) = codes "journal damaged at line " ++ decimal line ++ codes "\n"
+told_line (RefusedJournal line) = codes "journal refused at line " ++ decimal line ++ codes "\n"
+told_line LostJournal = codes "cannot write the journal\n"
 told_line NoProgram = codes "cannot read the program\n"
 told_line NoSchedule = codes "cannot read the schedule\n"
 told_line Input = codes "input failed\n"
@@ -231,6 +280,74 @@ ServesInLanes name port lanes before after outcome =
     ((most_lanes < lanes) × (outcome ≡ TooManyLanes) × (after ≡ before))
     ⊎ ((lanes ≤ most_lanes) × ServesNamed name port before after outcome)
 
+-- the outcome where a journal could not be gone on with for this reason
+abbrev pub open_outcome : OpenFault → Outcome
+open_outcome open_fault.InUse = JournalInUse
+open_outcome open_fault.Unusable = NoJournal
+open_outcome open_fault.OtherFirst = OtherJournal
+open_outcome (open_fault.Damaged line) = DamagedJournal line
+open_outcome (open_fault.Refused line) = RefusedJournal line
+open_outcome open_fault.NoMemory = Memory
+
+-- the run ends so before a host begins: for its words, its files of tokens, its journal, or want of memory
+abbrev pub KeepsFromHosting : Outcome → Type 0
+KeepsFromHosting outcome =
+    (outcome ≡ NoAddress) ⊎ (outcome ≡ NotOpen) ⊎ (outcome ≡ TooManyPeers) ⊎ (outcome ≡ NoSync) ⊎ (outcome ≡ Memory)
+    ⊎ ((fault : OpenFault) × (outcome ≡ open_outcome fault))
+    ⊎ ((which : TokenFile) × (outcome ≡ ShownTokens which))
+    ⊎ ((which : TokenFile) × (line : ℕ) × (outcome ≡ BadTokens which line))
+    ⊎ ((which : TokenFile) × (outcome ≡ NoTokens which))
+
+-- the line that is printed once a host listens on this address
+abbrev pub host_line : List ℕ → List ℕ
+host_line address = codes "ready " ++ address ++ codes "\n"
+
+-- the outcome where a host could not go on for this reason
+abbrev pub hosting_outcome : HostFault → Outcome
+hosting_outcome host_fault.System = Accept
+hosting_outcome host_fault.NoMemory = Memory
+hosting_outcome host_fault.Journal = LostJournal
+
+-- a host ends so behind its line: as a server does, or since its journal could not be written any more
+abbrev pub EndsHosting : Outcome → Type 0
+EndsHosting outcome = EndsServing outcome ⊎ (outcome ≡ LostJournal)
+
+-- Hosting ends so: its address can't be listened on, or there is no memory to say so, and nothing is done; or its line, which has
+-- the address that the system tells, can't be written; or that is written, and nothing else, whatever comes behind it. Contracts
+-- say nothing of what a host reads of standard input.
+abbrev pub HostsAt : Seen → Seen → Outcome → Type 0
+HostsAt before after outcome =
+    (((outcome ≡ Listen) ⊎ (outcome ≡ Memory)) × (after ≡ before))
+    ⊎ ((address : List ℕ) × (outcome ≡ Output) × IsPrinted (host_line address) before after Output)
+    ⊎ ((address : List ℕ) × EndsHosting outcome × IsPrinted (host_line address) before after Done)
+
+-- hosting as a plan has it ends so: it is kept from beginning, and nothing is done; or it ends as said
+abbrev pub HostsPlanned : Seen → Seen → Outcome → Type 0
+HostsPlanned before after outcome = (KeepsFromHosting outcome × (after ≡ before)) ⊎ HostsAt before after outcome
+
+-- Hosting the program of this name ends so. Where it is kept from beginning, or there is no such program, nothing is done.
+abbrev pub Hosts : List ℕ → Seen → Seen → Outcome → Type 0
+Hosts name before after outcome =
+    (KeepsFromHosting outcome × (after ≡ before))
+    ⊎ ((P : ReactorProgram) × IsNamed name P × HostsPlanned before after outcome)
+    ⊎ (IsNone name outcome × (after ≡ before))
+
+-- the run ends so where a journal could not be seen: the word says nothing that is done, or for this reason
+abbrev pub IsNoJournal : Outcome → Type 0
+IsNoJournal outcome = (outcome ≡ NoAction) ⊎ ((fault : OpenFault) × (outcome ≡ open_outcome fault))
+
+-- the run ends so where it told what a journal has: done, or damaged at a line
+abbrev pub TellsJournal : Outcome → Type 0
+TellsJournal outcome = (outcome ≡ Done) ⊎ ((line : ℕ) × (outcome ≡ DamagedJournal line))
+
+-- Checking or repairing a journal ends so: it could not be seen, and nothing is printed; or a text is printed, and it ends as what that
+-- tells; or the text can't be written. What the text says, and what is done to the file, no contract says.
+abbrev pub SeesJournal : Seen → Seen → Outcome → Type 0
+SeesJournal before after outcome =
+    (IsNoJournal outcome × (after ≡ before))
+    ⊎ ((text : List ℕ) × TellsJournal outcome × IsPrinted text before after Done)
+    ⊎ ((text : List ℕ) × (outcome ≡ Output) × IsPrinted text before after Output)
+
 -- the names that a trace writes, of the labels of a file
 abbrev pub trace_names : Names → TraceNames
 trace_names labels = record {
@@ -336,6 +453,8 @@ Does (ServeProgram program port sessions tells_pulls peer_timeout peers) before 
     ServesInLanes program port (sessions + length peers) before after outcome
 Does (CheckProgram program options) before after outcome = Checks program options before after outcome
 Does (TraceProgram program with_steps) before after outcome = Traces program with_steps before after outcome
+Does (HostProgram task) before after outcome = Hosts task.program before after outcome
+Does (SeeJournal action file) before after outcome = SeesJournal before after outcome
 
 -- the run whose words are these ends so: words with no fault have what they ask for done, and of others the
 -- parser's text is shown; for want of memory nothing is done

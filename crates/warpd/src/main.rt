@@ -6,6 +6,10 @@ mod closed_streams;
 mod connection;
 mod file_bytes;
 mod gatherer;
+mod host_program;
+mod host_words;
+mod hosting;
+mod journals;
 mod labelled;
 mod outcome;
 mod peers;
@@ -35,6 +39,8 @@ ghost use Rattle.warp_words.specs.Words.{task_of};
 use checking::account_of;
 use clap::error::ErrorKind;
 use closed_streams::take_closed;
+use hosting::host_job;
+use journals::see_journal;
 use labelled::{Labelled, labelled_program};
 use outcome::{Outcome, outcome_of, outcome_of_fault, outcome_of_serving, ready, say, status};
 use program_file::program_named;
@@ -55,7 +61,7 @@ use warp_line::Timeline;
 use warp_run::Warp;
 use warp_session::{SessionEnd, Sink, Source, Stream, run_session, write_all};
 use warp_step::Program;
-use warp_words::{CheckOptions, Job, words};
+use warp_words::{CheckOptions, HostJob, Job, words};
 use warp_world::play_text;
 
 fn main(rt: HostRuntime) -> ExitCode {
@@ -224,6 +230,8 @@ fn carry_out<P: Host + Net<Listener = TcpListener, Stream = TcpStream>, R: Sourc
             program,
             with_steps,
         } => trace(rt, alloc, program, with_steps, streams),
+        Job::Host(job) => host(rt, alloc, &job, streams),
+        Job::Journal { action, file } => see_journal(rt, alloc, action, file, streams),
     }
 }
 
@@ -455,6 +463,18 @@ fn say_ready<R: Source, W: Sink>(port: u16, streams: &mut Streams<R, W>) -> bool
 {
     let line = ready(port);
     matches!(print(line.as_str().as_bytes(), streams), Outcome::Done)
+}
+
+/// Hosts the program that the job names.
+fn host<P: Host + Net<Listener = TcpListener, Stream = TcpStream>, R: Source, W: Sink>(
+    rt: &P,
+    alloc: Global,
+    job: &HostJob<'_>,
+    streams: &mut Streams<R, W>,
+) -> Outcome
+    ensures { Hosts job.now.program.now streams.old streams.new result }
+{
+    host_job::<P, Warp, R, W>(rt, alloc, job, streams)
 }
 
 /// Writes the text to the sink.

@@ -1,15 +1,27 @@
 //! How a run of the program ends: its exit status, and the line that it says on standard error.
 ghost use Rattle.std.specs.Prelude.{◌≡◌, ◌+◌, ◌++◌, ◌≤◌, [], ◌∷◌, MatchResult, decimal, length};
-ghost use Rattle.warpd.specs.Outcome.{EndsServing, end_outcome, fault_outcome, ready_line, serve_outcome};
-ghost use Rattle.warpd.specs.Outcome.{told_line, trace_outcome, status_of};
+ghost use Rattle.warpd.specs.Outcome.{EndsHosting, EndsServing, KeepsFromHosting, end_outcome, fault_outcome};
+ghost use Rattle.warpd.specs.Outcome.{open_outcome, ready_line, serve_outcome};
+ghost use Rattle.warpd.specs.Outcome.{bad_words, hosting_outcome, shown_words, told_line, trace_outcome};
+ghost use Rattle.warpd.specs.Outcome.{status_of, unread_words};
 
 use arrayvec::ArrayString;
 use itoa::Buffer;
+use warp_host::{HostFault, OpenFault};
 use warp_session::{ServeFault, SessionEnd};
 use warp_world::{ScheduleFault, TraceFault};
 
 /// The room for a line, in bytes: none is longer.
 pub const LONGEST_LINE: usize = 64;
+
+/// A file of tokens: of clients, or of peers.
+#[derive(Clone, Copy, PartialEq, Eq)]
+pub enum TokenFile {
+    /// Who may send what.
+    Clients,
+    /// What peers want to be told.
+    Peers,
+}
 
 /// How a run of `warpd` ended.
 #[derive(Clone, Copy)]
@@ -20,10 +32,38 @@ pub enum Outcome {
     Words,
     /// More sessions and peers than there are lanes.
     TooManyLanes,
+    /// The word that says where to listen is no address with a port.
+    NoAddress,
+    /// An address of another kind than this machine's own was to be listened on, without tokens.
+    NotOpen,
+    /// More than 64 peers.
+    TooManyPeers,
     /// The program was read and refused, for the reason with this number, 1 to 7.
     Program(u8),
     /// The schedule was read and refused at this line: from 1, or 0 where it is too long.
     Schedule(u64),
+    /// Others may read this file of tokens.
+    ShownTokens(TokenFile),
+    /// This file of tokens was read and refused at this line, from 1.
+    BadTokens(TokenFile, u64),
+    /// This file of tokens couldn't be read.
+    NoTokens(TokenFile),
+    /// What is to be done with a journal is neither `check` nor `repair`.
+    NoAction,
+    /// The word that says when a journal is brought to the disk is none.
+    NoSync,
+    /// Another process has the journal.
+    JournalInUse,
+    /// The journal can't be opened, read or written.
+    NoJournal,
+    /// The file is no journal, or another program's.
+    OtherJournal,
+    /// The journal was read and refused at this line, from 1.
+    DamagedJournal(u64),
+    /// The program refuses the record of this line of the journal, from 1.
+    RefusedJournal(u64),
+    /// The journal couldn't be written any more.
+    LostJournal,
     /// There is no program of this name, or its file couldn't be read.
     NoProgram,
     /// The file of the schedule couldn't be read.
@@ -47,8 +87,15 @@ pub fn status(outcome: Outcome) -> u8
     match outcome {
         Outcome::Done => 0,
         Outcome::Words | Outcome::TooManyLanes => 2,
+        Outcome::NoAddress | Outcome::NotOpen | Outcome::TooManyPeers => 2,
+        Outcome::NoAction | Outcome::NoSync => 2,
         Outcome::Program(_) | Outcome::Schedule(_) => 3,
-        Outcome::NoProgram | Outcome::NoSchedule | Outcome::Input | Outcome::Output => 4,
+        Outcome::OtherJournal | Outcome::DamagedJournal(_) | Outcome::RefusedJournal(_) => 3,
+        Outcome::NoJournal | Outcome::LostJournal => 4,
+        Outcome::JournalInUse => 6,
+        Outcome::ShownTokens(_) | Outcome::BadTokens(_, _) => 3,
+        Outcome::NoProgram | Outcome::NoSchedule | Outcome::NoTokens(_) => 4,
+        Outcome::Input | Outcome::Output => 4,
         Outcome::Memory => 5,
         Outcome::Listen | Outcome::Accept => 6,
     }
@@ -63,6 +110,20 @@ pub fn say(outcome: Outcome) -> ArrayString<LONGEST_LINE>
         Outcome::TooManyLanes => plain("too many lanes\n"),
         Outcome::Program(refusal) => with_number("program refused ", refusal as u64),
         Outcome::Schedule(line) => with_number("schedule refused at line ", line),
+        Outcome::NoAddress => plain("where to listen is ADDRESS:PORT\n"),
+        Outcome::NotOpen => plain("listening there wants --tokens, or --open if that is meant\n"),
+        Outcome::TooManyPeers => plain("too many peers\n"),
+        Outcome::ShownTokens(which) => plain(shown_words(which)),
+        Outcome::BadTokens(which, line) => with_number(bad_words(which), line),
+        Outcome::NoTokens(which) => plain(unread_words(which)),
+        Outcome::NoAction => plain("a journal is for check or repair\n"),
+        Outcome::NoSync => plain("--sync is always, never or MILLISECONDS, 1 to 60000\n"),
+        Outcome::JournalInUse => plain("the journal is in use\n"),
+        Outcome::NoJournal => plain("cannot use the journal\n"),
+        Outcome::OtherJournal => plain("that is no journal of this program\n"),
+        Outcome::DamagedJournal(line) => with_number("journal damaged at line ", line),
+        Outcome::RefusedJournal(line) => with_number("journal refused at line ", line),
+        Outcome::LostJournal => plain("cannot write the journal\n"),
         Outcome::NoProgram => plain("cannot read the program\n"),
         Outcome::NoSchedule => plain("cannot read the schedule\n"),
         Outcome::Input => plain("input failed\n"),
@@ -70,6 +131,39 @@ pub fn say(outcome: Outcome) -> ArrayString<LONGEST_LINE>
         Outcome::Memory => plain("no memory\n"),
         Outcome::Listen => plain("cannot listen\n"),
         Outcome::Accept => plain("cannot accept\n"),
+    }
+}
+
+/// What is said where others may read this file.
+fn shown_words(which: TokenFile) -> &'static str
+    ensures text { result.now ≡ shown_words which }
+    ensures short { length result.now ≤ 40 }
+{
+    match which {
+        TokenFile::Clients => "others may read the tokens\n",
+        TokenFile::Peers => "others may read the tokens of peers\n",
+    }
+}
+
+/// What is said where this file was refused, in front of the line.
+fn bad_words(which: TokenFile) -> &'static str
+    ensures text { result.now ≡ bad_words which }
+    ensures short { length result.now ≤ 40 }
+{
+    match which {
+        TokenFile::Clients => "tokens refused at line ",
+        TokenFile::Peers => "tokens of peers refused at line ",
+    }
+}
+
+/// What is said where this file couldn't be read.
+fn unread_words(which: TokenFile) -> &'static str
+    ensures text { result.now ≡ unread_words which }
+    ensures short { length result.now ≤ 40 }
+{
+    match which {
+        TokenFile::Clients => "cannot read the tokens\n",
+        TokenFile::Peers => "cannot read the tokens of peers\n",
     }
 }
 
@@ -144,5 +238,33 @@ pub fn outcome_of_serving<T: Drop>(served: Result<T, ServeFault>) -> Outcome
         Ok(_) => Outcome::Done,
         Err(ServeFault::Accept) => Outcome::Accept,
         Err(ServeFault::NoMemory) => Outcome::Memory,
+    }
+}
+
+/// What it makes of the run how hosting ended.
+pub fn outcome_of_hosting(hosted: Result<(), HostFault>) -> Outcome
+    ensures is { MatchResult hosted (λ _. result ≡ Outcome.Done) (λ fault. result ≡ hosting_outcome fault) }
+    ensures ends { EndsHosting result }
+{
+    match hosted {
+        Ok(()) => Outcome::Done,
+        Err(HostFault::System) => Outcome::Accept,
+        Err(HostFault::NoMemory) => Outcome::Memory,
+        Err(HostFault::Journal) => Outcome::LostJournal,
+    }
+}
+
+/// How a run ends that could not go on with its journal for this reason.
+pub fn outcome_of_journal(fault: OpenFault) -> Outcome
+    ensures is { result ≡ open_outcome fault }
+    ensures keeps { KeepsFromHosting result }
+{
+    match fault {
+        OpenFault::InUse => Outcome::JournalInUse,
+        OpenFault::Unusable => Outcome::NoJournal,
+        OpenFault::OtherFirst => Outcome::OtherJournal,
+        OpenFault::Damaged(line) => Outcome::DamagedJournal(line),
+        OpenFault::Refused(line) => Outcome::RefusedJournal(line),
+        OpenFault::NoMemory => Outcome::Memory,
     }
 }

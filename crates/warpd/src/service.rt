@@ -7,9 +7,10 @@ ghost use Rattle.warp_session.specs.declared.pulling.PullEnd.{PullEnd};
 use crate::connection::{Channel, Connection};
 use crate::peers::{reach_all, tell_end, tell_failed};
 use std::alloc::Global;
-use std::fs::Files;
+use std::fs::{File, Files};
 use std::io::{self, Eprint, Print};
 use std::net::{Ipv4Addr, Net, TcpListener, TcpStream};
+use std::random::RandomSource;
 use std::sync::Wait;
 use std::thread::{self, Threads};
 use std::time::{Clock, Duration};
@@ -22,11 +23,18 @@ use warp_step::Program;
 const MOST_LANES: usize = 16;
 
 /// What a run needs of the system beside the network.
-pub(crate) trait Host: Print + Eprint + Files + Threads + Wait + Clock + Sync {}
+pub(crate) trait Host: Print
+    + Eprint
+    + Files<File = File>
+    + Threads
+    + Wait
+    + Clock
+    + RandomSource
+    + Sync {}
 
 impl<X> Host for X
 where
-    X: Print + Eprint + Files + Threads + Wait + Clock + Sync,
+    X: Print + Eprint + Files<File = File> + Threads + Wait + Clock + RandomSource + Sync,
 {}
 
 /// What a server is asked to do.

@@ -20,3 +20,9 @@ returns-in-Check g c = rw c.in-Check.is c.check.ensures
 
 pub returns-in-Trace : goal.returns-in-Trace
 returns-in-Trace g c = rw c.in-Trace.is c.trace.ensures
+
+pub returns-in-Host : goal.returns-in-Host
+returns-in-Host g c = rw c.in-Host.is c.host.ensures
+
+pub returns-in-Journal : goal.returns-in-Journal
+returns-in-Journal g c = rw c.in-Journal.is c.see_journal.ensures

@@ -8,7 +8,7 @@ use Rattle.clap.specs.Walk.{Row, Text}
 use Rattle.clap.specs.Simple.{App, argument_words, built, help_shape, subcommand_of}
 use Rattle.clap.specs.Faults.{fault_of}
 use Rattle.clap.specs.ValueTests.{is_unsigned_in}
-use Rattle.warp_words.specs.Words.{IsInRange, Task, last_listening_port, most_seconds, most_sessions, number_up_to, task_found, task_of, warpd_command}
+use Rattle.warp_words.specs.Words.{IsInRange, Task, last_listening_port, most_clients, most_seconds, most_sessions, number_up_to, task_found, task_of, warpd_command}
 use Rattle.warp_words.specs.Words.{PlaySchedule, RunProgram, ServeProgram}
 use Rattle.clap.specs.Words.{first_of, subcommand_rows_of}
 use Rattle.warp_words.proofs.GivenArguments.{Gives, entered_gives, level_given}
@@ -62,10 +62,18 @@ check_gives words e = one_word _ _ ((level_given (slice_index_or whole.subs 3 he
 trace_gives : Gives whole HasTask (codes "trace")
 trace_gives words e = one_word _ _ ((level_given (slice_index_or whole.subs 4 help_shape) (refl, refl) words e).0.there refl)
 
+host_gives : Gives whole HasTask (codes "host")
+host_gives words e = one_word _ _ ((level_given (slice_index_or whole.subs 5 help_shape) (refl, refl) words e).0.there refl)
+
+journal_gives : Gives whole HasTask (codes "journal")
+journal_gives words e =
+    let given = level_given (slice_index_or whole.subs 6 help_shape) (refl, refl) words e in
+    two_words _ _ _ (given.0.there refl) (given.1.0.there refl)
+
 has_task : (words : List Text) → fault_of warpd_command words ≡ [] → HasTask (subcommand_of warpd_command words)
 has_task words e =
     entered_gives whole HasTask refl
-    (λ _. run_gives, (λ _. play_gives, (λ _. serve_gives, (λ _. check_gives, (λ _. trace_gives, (λ help. cc, tt))))))
+    (λ _. run_gives, (λ _. play_gives, (λ _. serve_gives, (λ _. check_gives, (λ _. trace_gives, (λ _. host_gives, (λ _. journal_gives, (λ help. cc, tt))))))))
     (argument_words warpd_command words) e
 
 pub unreachable-requires : goal.unreachable-requires
@@ -120,7 +128,11 @@ found_in (Some (name, rows)) =
     (served_in _ _ _ (number_in most_seconds (first_of (codes "peer-timeout") rows)) (first_of (codes "PROGRAM") rows) _ _
     (number_in last_listening_port (first_of (codes "port") rows)) (number_in most_sessions (first_of (codes "sessions") rows)))
     (either (bytes_eq name (codes "check")) _ _ (by_one _ (λ word. tt) (first_of (codes "PROGRAM") rows))
-    (either (bytes_eq name (codes "trace")) _ _ (by_one _ (λ word. tt) (first_of (codes "PROGRAM") rows)) tt))))
+    (either (bytes_eq name (codes "trace")) _ _ (by_one _ (λ word. tt) (first_of (codes "PROGRAM") rows))
+    (either (bytes_eq name (codes "host")) _ _
+    (by_one _ (λ word. number_in most_clients (first_of (codes "clients") rows)) (first_of (codes "PROGRAM") rows))
+    (either (bytes_eq name (codes "journal")) _ _
+    (by_two _ (λ one other. tt) (first_of (codes "ACTION") rows) (first_of (codes "FILE") rows)) tt))))))
 
 pub returns-clause-range : goal.returns-clause-range
 returns-clause-range c =

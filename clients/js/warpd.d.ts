@@ -1,0 +1,151 @@
+/** Values of events, variables and outputs have 64 bits, and are BigInt; a number will do where one is given. */
+export type Value = bigint
+export type GivenValue = bigint | number
+
+export interface Tag {
+  time: number
+  micro: number
+}
+
+export interface EventRecord extends Tag {
+  kind: "event"
+  origin: number
+  input: number
+  value: Value
+}
+
+export interface WithdrawRecord extends Tag {
+  kind: "withdraw"
+  origin: number
+}
+
+export interface AnnounceRecord extends Tag {
+  kind: "announce"
+  origin: number
+  events: number
+  withdrawn: number
+}
+
+export type LogRecord = EventRecord | WithdrawRecord | AnnounceRecord
+
+/** Where the record stands in the log, from 1, and whether it was new there. */
+export interface Taken {
+  place: number
+  isNew: boolean
+}
+
+export interface Row extends Tag {
+  output: number
+  value: Value
+}
+
+export interface Counted {
+  log: number
+  count: number
+}
+
+export interface Releases extends Counted {
+  frozen: boolean
+}
+
+export interface Pushes {
+  log: { place: number; record: LogRecord }
+  released: ({ index: number; frozen?: undefined } & Row) | { frozen: true }
+  vars: { log: number; values: Value[] }
+  horizon: { log: number } & Tag
+  breach: { log: number; origins: number[] }
+}
+
+/** A line that was refused: its number, what that means, and the line. Nothing was changed. */
+export class Refused extends Error {
+  readonly number: number
+  readonly meaning: string
+  readonly line: string
+}
+
+/** The client was closed, or the host says what is no reply: what was sent last may have been taken or not. */
+export class Ended extends Error {}
+
+/** What the numbers of a program stand for: a number is the place in its list. */
+export class Names {
+  constructor(names?: { vars?: string[]; inputs?: [number, string][]; outputs?: string[] })
+  readonly vars: string[]
+  readonly inputs: { origin: number; name: string }[]
+  readonly outputs: string[]
+  var(name: string | number): number
+  input(name: string | number): number
+  owner(input: number): number
+}
+
+export interface Watch<Push> extends AsyncIterable<Push> {
+  readonly what: string
+  /** The place or number that comes next; null where there is none. */
+  readonly next: number | null
+  /** Resolved once the host answered that it is watched. */
+  readonly started: Promise<{ count: number }>
+  stop(): Promise<void>
+}
+
+export interface ClientOptions {
+  /** Who this is, where the host wants to know. */
+  token?: string
+  /** Whether to connect again after a lost connection; true where it is left out. */
+  reconnect?: boolean
+  /** The class to take where there is none, as that of the package ws in Node 20. */
+  WebSocket?: unknown
+}
+
+/** Lines to one host, and their answers. A refusal is rejected as `Refused`. */
+export class Client {
+  constructor(url: string, options?: ClientOptions)
+  readonly url: string
+  /** The variables by name, as a watch of "vars" keeps them. */
+  readonly vars: Record<string, Value>
+  readonly names: Names
+  readonly state: "connecting" | "open" | "closed"
+  onstate: ((state: "connecting" | "open" | "closed") => void) | null
+  readonly connections: number
+  /** Resolved once the host told its names. */
+  readonly ready: Promise<Client>
+  ask(line: string): Promise<unknown>
+  many(lines: Iterable<string>): Promise<unknown[]>
+  event(input: string | number, event: { time: number; value: GivenValue; micro?: number; origin?: number }): Promise<Taken>
+  withdraw(origin: number, tag: { time: number; micro?: number }): Promise<Taken>
+  announce(origin: number, word: { time: number; micro?: number; events: number; withdrawn?: number }): Promise<Taken>
+  var(name: string | number): Promise<{ log: number; value: Value }>
+  readVars(): Promise<{ log: number; values: Record<string, Value> }>
+  outputs(): Promise<Counted>
+  output(index: number): Promise<({ log: number } & Row) | null>
+  horizon(): Promise<{ log: number } & Tag>
+  released(): Promise<Counted>
+  releases(): Promise<Releases>
+  release(index: number): Promise<({ log: number } & Row) | null>
+  breach(origin: number): Promise<{ log: number; broken: boolean }>
+  lost(): Promise<Counted>
+  log(place: number): Promise<{ log: number; record: LogRecord } | null>
+  collect(): Promise<{ log: number }>
+  program(): Promise<{ version: number; fingerprint: string }>
+  watch<What extends keyof Pushes>(
+    what: What,
+    callback?: ((push: Pushes[What]) => void) | null,
+    options?: { from?: number },
+  ): Watch<Pushes[What]>
+  unwatch(watch: Watch<unknown>): Promise<void>
+  /** Calls back whenever a lost connection was made again, and the host told its names. */
+  onReopened(callback: () => void): void
+  close(): void
+}
+
+/**
+ * Sends the events and withdrawals of one origin, and keeps their counts, so that its announcements are true. No other
+ * may send for this origin. What would break an announcement is a RangeError, and not sent.
+ */
+export class Announcer {
+  constructor(client: Client, origin: number)
+  event(input: string | number, event: { time: number; value: GivenValue; micro?: number }): Promise<Taken>
+  withdraw(tag: { time: number; micro?: number }): Promise<Taken>
+  announce(tag: { time: number; micro?: number }): Promise<Taken>
+}
+
+/** The value that a reply stands for: a `Refused` where it refuses, null for `none`. */
+export function replyOf(text: string, line: string): unknown

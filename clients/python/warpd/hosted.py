@@ -1,0 +1,206 @@
+"""A client of `warpd host`: the lines of any server, the words of a host, and what it pushes.
+
+    with warpd.HostClient("127.0.0.1", 7070) as client:
+        client.event(time=5, input="r.a", value=3)        # names are those that the host tells
+        for push in client.watch("released"):             # as they come, for as long as they come
+            print(push.index, push.tag, push.value)
+"""
+
+from __future__ import annotations
+
+import json
+from collections import deque
+from collections.abc import Iterator
+from typing import NamedTuple, Optional, Union
+
+from . import Client, Ended, Horizon, Names, Output, Record, Refused, Tag, record_of, reply_of
+
+# What can be watched, and where it begins where no place is given.
+SUBJECTS = {"log": 1, "released": 0, "vars": None, "horizon": None, "breach": None}
+
+
+class Program(NamedTuple):
+    """The version of program files, and the fingerprint of the host's program."""
+
+    version: int
+    fingerprint: str
+
+
+class Variables(NamedTuple):
+    """All variables after the last tag, in the order of their numbers, at one length of the log."""
+
+    log: int
+    values: tuple[int, ...]
+
+
+class Releases(NamedTuple):
+    """How many released outputs are shown, and whether they are frozen: an origin broke its word, and no more is shown."""
+
+    log: int
+    count: int
+    frozen: bool
+
+
+class Logged(NamedTuple):
+    """A push: the record at this place of the log."""
+
+    place: int
+    record: Record
+
+
+class Released(NamedTuple):
+    """A push: the released output of this number."""
+
+    index: int
+    tag: Tag
+    port: int
+    value: int
+
+
+class Frozen(NamedTuple):
+    """A push: a released output was taken back, and no more is pushed."""
+
+
+class Broken(NamedTuple):
+    """A push: the broken origins."""
+
+    log: int
+    origins: tuple[int, ...]
+
+
+Push = Union[Logged, Released, Frozen, Variables, Horizon, Broken]
+
+
+def _subject(what: str) -> str:
+    """The same; a ValueError where it is nothing that can be watched."""
+    if what not in SUBJECTS:
+        raise ValueError(f"{what!r} is nothing to watch; there are: {', '.join(SUBJECTS)}")
+    return what
+
+
+def _push_of(text: str) -> Optional[tuple[str, Push]]:
+    """What is watched and its push; None for a farewell."""
+    kind, *words = text.split(" ")
+    if kind == "log":
+        return kind, Logged(int(words[0]), record_of(words[1:]))
+    numbers = [int(it) for it in words if kind in SUBJECTS]
+    if kind == "released":
+        return kind, Released(numbers[0], Tag(*numbers[1:3]), *numbers[3:])
+    if kind == "frozen":
+        return "released", Frozen()
+    if kind == "vars":
+        return kind, Variables(numbers[0], tuple(numbers[1:]))
+    if kind == "horizon":
+        return kind, Horizon(numbers[0], Tag(*numbers[1:]))
+    if kind == "breach":
+        return kind, Broken(numbers[0], tuple(numbers[1:]))
+    return None
+
+
+class HostClient(Client):
+    """Lines to one host, and their answers, as of any `Client`. Names are those that the host tells."""
+
+    def __init__(self, host: str, port: int, timeout: Optional[float] = 10.0, token: Optional[str] = None):
+        """Connects, says the token, if there is one, and asks for the names. A refused token is a `Refused`."""
+        self._token = token
+        self._waiting: dict[str, deque[Push]] = {}
+        self._next: dict[str, Optional[int]] = {}
+        super().__init__(host, port, timeout)
+
+    def _connect(self) -> None:
+        super()._connect()
+        try:
+            if self._token is not None:
+                self._word(f"token {self._token}")
+            told = json.loads(self._word("names").partition(" ")[2])
+            self.names = Names(told["vars"], [(origin, name) for origin, name in told["inputs"]], told["outputs"])
+            for what, place in self._next.items():
+                self._word(f"watch {what}" if place is None else f"watch {what} {place}")
+        except BaseException:
+            self.close()
+            raise
+
+    def _text(self, line: str) -> str:
+        """The next reply; pushes in front of it are kept for who watches."""
+        while (text := super()._text(line)).startswith("* "):
+            self._keep(text[2:])
+        return text
+
+    def _keep(self, text: str) -> None:
+        found = _push_of(text)
+        if found is None:
+            return
+        what, push = found
+        if what in self._waiting:
+            self._waiting[what].append(push)
+            if isinstance(push, (Logged, Released)):
+                self._next[what] = push[0] + 1
+
+    def _word(self, line: str) -> str:
+        """The text of the reply to one line; a refusal is raised."""
+        text = self.say(line)
+        if text.startswith("refused "):
+            raise reply_of(text, line)
+        return text
+
+    def _numbers(self, line: str) -> list[int]:
+        return [int(it) for it in self._word(line).split(" ")[1:]]
+
+    def program(self) -> Program:
+        _, version, fingerprint = self._word("program").split(" ")
+        return Program(int(version), fingerprint)
+
+    def vars(self) -> Variables:
+        log, *values = self._numbers("vars")
+        return Variables(log, tuple(values))
+
+    def releases(self) -> Releases:
+        log, count, frozen = self._numbers("releases")
+        return Releases(log, count, bool(frozen))
+
+    def release(self, index: int) -> Optional[Output]:
+        """The released output of this number, from 0."""
+        text = self._word(f"release {index}")
+        return None if text.startswith("none ") else reply_of(text.replace("release", "output", 1), "release")
+
+    def watch(self, what: str, start: Optional[int] = None) -> Iterator[Push]:
+        """Watches "log" or "released" (from `start` on, or from the first), "vars", "horizon" or "breach", and gives each
+        push. The next one is waited for without an end; `pushed` has what came without waiting. What is not taken waits
+        in memory, up to `unwatch`. Watching the same again begins anew."""
+        place = SUBJECTS[_subject(what)] if start is None else start
+        self._waiting[what], self._next[what] = deque(), place
+        try:
+            self._word(f"watch {what}" if place is None else f"watch {what} {place}")
+        except Refused:
+            del self._waiting[what], self._next[what]
+            raise
+        return self._pushes(what, self._waiting[what])
+
+    def _pushes(self, what: str, waiting: deque[Push]) -> Iterator[Push]:
+        while self._waiting.get(what) is waiting:
+            if waiting:
+                yield waiting.popleft()
+                continue
+            self._socket.settimeout(None)
+            try:
+                text = super()._text(f"watch {what}")
+            finally:
+                self._socket.settimeout(self._timeout)
+            if not text.startswith("* "):
+                raise Ended(f"no push: {text!r}")
+            self._keep(text[2:])
+
+    def pushed(self, what: str) -> list[Push]:
+        """What was pushed of a thing that is watched, and not taken yet, up to now: the host is asked once, and nothing
+        is waited for. So a loop of a game looks at what is new."""
+        self.horizon()
+        waiting = self._waiting[_subject(what)]
+        found = list(waiting)
+        waiting.clear()
+        return found
+
+    def unwatch(self, what: str) -> None:
+        """Watches it, by its name, no more."""
+        self._word(f"unwatch {_subject(what)}")
+        self._waiting.pop(what, None)
+        self._next.pop(what, None)

@@ -1,0 +1,117 @@
+//! Following the log of a peer. Each line is a call, and what it said to the peer and handed to the hub is told behind it:
+//!
+//! - `connect` and `connect TOKEN` begin a connection, `lose` ends it, `again` asks a `serve` again after a pause;
+//! - `peer TEXT` is a line of the peer, `part TEXT` bytes of it without a line feed;
+//! - `hub TEXT` is an answer of the hub to a line that it was handed.
+use crate::lines::word_of;
+use crate::mark::{begin, end};
+use crate::transcript::{NO_MEMORY, Transcript};
+use std::alloc::{AllocError, Global};
+use warp_hub::{Follower, PeerEvent};
+use warp_tag::Form;
+
+/// The line that tells the own program.
+const PROGRAM: &[u8] = b"program 1 here";
+
+/// What a follower said and handed on.
+#[derive(Drop)]
+struct Sides {
+    said: Vec<u8>,
+    handed: Vec<u8>,
+}
+
+/// Makes the calls of the lines over a new follower.
+pub(crate) fn perform(alloc: Global, out: &mut Transcript, lines: &str) {
+    let Ok(program) = Vec::from_slice(alloc, PROGRAM) else {
+        return out.fail(NO_MEMORY);
+    };
+    let mut follower = Follower::new(Form::One, program);
+    let mut sides = Sides {
+        said: Vec::new(alloc),
+        handed: Vec::new(alloc),
+    };
+    for line in lines.lines() {
+        make_call(alloc, out, &mut follower, &mut sides, line);
+        out.say_text(&sides.said);
+        out.say_text(&sides.handed);
+        sides.said.clear();
+        sides.handed.clear();
+    }
+}
+
+/// Makes the call of a line.
+fn make_call(
+    alloc: Global,
+    out: &mut Transcript,
+    follower: &mut Follower,
+    sides: &mut Sides,
+    line: &str,
+) {
+    let (word, rest) = word_of(line);
+    begin(alloc);
+    match word {
+        "connect" => {
+            let token = if rest.is_empty() {
+                None
+            } else {
+                Some(rest.as_bytes())
+            };
+            say_done(out, follower.connect(token, &mut sides.said));
+        }
+        "lose" => follower.lose(),
+        "again" => say_done(out, follower.ask_again(&mut sides.said)),
+        "peer" => {
+            take(out, follower, sides, rest.as_bytes());
+            take(out, follower, sides, b"\n");
+        }
+        "part" => take(out, follower, sides, rest.as_bytes()),
+        "hub" => {
+            answer(out, follower, rest.as_bytes());
+            answer(out, follower, b"\n");
+        }
+        _ => out.fail("no call"),
+    }
+    end(alloc);
+    if follower.is_over() {
+        out.say("over");
+    }
+    if follower.is_level() {
+        out.say("level");
+    }
+}
+
+/// Tells that there was no memory for a call, where that is so.
+fn say_done(out: &mut Transcript, done: Result<(), AllocError>) {
+    if done.is_err() {
+        out.say(NO_MEMORY);
+    }
+}
+
+/// Takes bytes of the peer, which have one line feed at most, at their end.
+fn take(out: &mut Transcript, follower: &mut Follower, sides: &mut Sides, bytes: &[u8]) {
+    let (_count, event) = follower.take(bytes, &mut sides.said, &mut sides.handed);
+    say_event(out, event);
+}
+
+/// Takes bytes of the hub's answers, likewise.
+fn answer(out: &mut Transcript, follower: &mut Follower, bytes: &[u8]) {
+    let (_count, event) = follower.take_answers(bytes);
+    say_event(out, event);
+}
+
+/// Tells what is to be told of the peer.
+fn say_event(out: &mut Transcript, event: Option<PeerEvent>) {
+    match event {
+        None => {}
+        Some(PeerEvent::Found { place, is_host }) => {
+            out.say(format_args!("found at {place}, {is_host}"));
+        }
+        Some(PeerEvent::OtherProgram) => out.say("another program"),
+        Some(PeerEvent::NotAllowed) => out.say("not allowed"),
+        Some(PeerEvent::Strange) => out.say("strange"),
+        Some(PeerEvent::NoMemory) => out.say(NO_MEMORY),
+        Some(PeerEvent::Refused { place, refusal }) => {
+            out.say(format_args!("refused {} at {place}", refusal.number()));
+        }
+    }
+}

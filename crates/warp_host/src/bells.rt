@@ -1,0 +1,107 @@
+//! How the two threads of a host wake each other.
+//!
+//! Who is about to sleep says so first, and looks once more. Who did something for the other wakes it where it says that
+//! it sleeps: so no work waits for a sleeper, and a busy thread costs the other no call of the system.
+
+use mio::Waker;
+use std::sync::Wait;
+use std::sync::atomic::{AtomicBool, AtomicU64, Ordering};
+use std::thread::Parker;
+use std::time::Duration;
+
+/// The longest sleep of the executor, in milliseconds.
+const LONGEST_SLEEP: u64 = 100;
+
+/// What the threads of a host share beside the rings.
+#[derive(Drop)]
+pub(crate) struct Bells {
+    waker: Waker,
+    parker: Parker,
+    loop_sleeps: AtomicBool,
+    executor_sleeps: AtomicBool,
+    is_over: AtomicBool,
+    horizon_time: AtomicU64,
+    horizon_microstep: AtomicU64,
+}
+
+impl Bells {
+    /// Both threads are awake. The waker is that of the loop.
+    pub(crate) fn new(waker: Waker) -> Bells {
+        Bells {
+            waker,
+            parker: Parker::new(),
+            loop_sleeps: AtomicBool::new(false),
+            executor_sleeps: AtomicBool::new(false),
+            is_over: AtomicBool::new(false),
+            horizon_time: AtomicU64::new(0),
+            horizon_microstep: AtomicU64::new(0),
+        }
+    }
+
+    /// The loop is about to wait for sockets: what is made for it from now on wakes it.
+    pub(crate) fn loop_sleeps(&self) {
+        self.loop_sleeps.store(true, Ordering::SeqCst);
+    }
+
+    /// The loop is awake.
+    pub(crate) fn loop_wakes(&self) {
+        self.loop_sleeps.store(false, Ordering::SeqCst);
+    }
+
+    /// Wakes the loop where it sleeps.
+    pub(crate) fn wake_loop(&self) {
+        if self.loop_sleeps.swap(false, Ordering::SeqCst) {
+            let _ = self.waker.wake();
+        }
+    }
+
+    /// Wakes the executor where it sleeps.
+    pub(crate) fn wake_executor(&self) {
+        if self.executor_sleeps.swap(false, Ordering::SeqCst) {
+            self.parker.unpark();
+        }
+    }
+
+    /// The executor is about to sleep: what is sent to it from now on wakes it.
+    pub(crate) fn executor_sleeps(&self) {
+        self.executor_sleeps.store(true, Ordering::SeqCst);
+    }
+
+    /// The executor is awake.
+    pub(crate) fn executor_wakes(&self) {
+        self.executor_sleeps.store(false, Ordering::SeqCst);
+    }
+
+    /// Sleeps until the executor is woken, for a tenth of a second at most.
+    pub(crate) fn sleep<X: Wait>(&self, rt: &X) {
+        self.parker
+            .park_timeout(rt, Duration::from_millis(LONGEST_SLEEP));
+        self.executor_wakes();
+    }
+
+    /// The executor is to end, once it finds no work.
+    pub(crate) fn end(&self) {
+        self.is_over.store(true, Ordering::SeqCst);
+        self.parker.unpark();
+    }
+
+    /// Whether the executor is to end.
+    pub(crate) fn is_over(&self) -> bool {
+        self.is_over.load(Ordering::SeqCst)
+    }
+
+    /// Notes the horizon, for who looks on.
+    pub(crate) fn note_horizon(&self, time: u64, microstep: u32) {
+        self.horizon_time.store(time, Ordering::SeqCst);
+        self.horizon_microstep
+            .store(u64::from(microstep), Ordering::SeqCst);
+    }
+
+    /// The horizon as it was noted last: a time and a microstep, each of them as it was at some moment.
+    pub(crate) fn horizon(&self) -> (u64, u64) {
+        (
+            self.horizon_time.load(Ordering::SeqCst),
+            self.horizon_microstep.load(Ordering::SeqCst),
+        )
+    }
+}

@@ -1,0 +1,151 @@
+//! The thread that holds the replica: it serves the lanes, publishes what is released, and tells what is asked.
+
+ghost use Rattle.std.specs.Prelude.{◌≡◌};
+
+use crate::bells::Bells;
+use crate::handing::Handing;
+use rtrb::{Consumer, Producer};
+use std::alloc::Global;
+use std::sync::Wait;
+use std::thread;
+use std::time::Clock;
+use warp_board::Board;
+use warp_lanes::{Engine, Turn};
+use warp_line::Timeline;
+use warp_record::{Query, Reply};
+use warp_tag::OutOfMemory;
+use warp_watch::{Question, Shown, Told, tell};
+
+/// How many looks at the lanes find nothing before the executor sleeps: they take some tens of microseconds.
+const LOOKS: u32 = 256;
+
+/// How many questions are answered before the lanes are looked at again.
+const MOST_QUESTIONS: u32 = 64;
+
+/// An engine, what was shown of its replica, and the rings of what it is asked and of what it tells.
+#[derive(Drop)]
+pub(crate) struct Executor<'a, T: Timeline> {
+    pub(crate) alloc: Global,
+    pub(crate) engine: Engine<T>,
+    pub(crate) board: &'a Board,
+    pub(crate) shown: Shown,
+    pub(crate) questions: Consumer<Question>,
+    pub(crate) told: Producer<Result<Told, OutOfMemory>>,
+    pub(crate) bells: &'a Bells,
+    /// The way to the journal's thread, if there is one.
+    pub(crate) handing: Option<Handing<'a>>,
+    pub(crate) ghost same: { engine.writer.board ≡ board.now },
+}
+
+impl<'a, T: Timeline> Executor<'a, T> {
+    /// Visits a lane, if there is one of this number; whether a command was found.
+    fn visit(&mut self, lane: usize) -> bool {
+        if lane >= self.engine.lane_count() {
+            return false;
+        }
+        matches!(
+            self.engine.visit(self.alloc, lane, self.board),
+            Turn::Served
+        )
+    }
+
+    /// One visit at each lane; whether a command was found.
+    fn visit_all(&mut self) -> bool {
+        let mut found = false;
+        for lane in 0..self.engine.lane_count() {
+            found |= self.visit(lane);
+        }
+        found
+    }
+
+    /// What is told to this question.
+    fn answer(&mut self, question: Question) -> Result<Told, OutOfMemory> {
+        self.engine.settle(self.alloc)?;
+        self.shown.update(self.engine.replica())?;
+        tell(self.alloc, self.engine.replica(), &self.shown, question)
+    }
+
+    /// Tells what was asked, as far as there is room; whether anything was.
+    fn tell_all(&mut self) -> bool {
+        let mut found = false;
+        for _ in 0..MOST_QUESTIONS {
+            if self.told.is_full() {
+                break;
+            }
+            let Ok(question) = self.questions.pop() else {
+                break;
+            };
+            let told = self.answer(question);
+            let _ = self.told.push(told);
+            found = true;
+        }
+        found
+    }
+
+    /// Does what there is to do, and wakes the loop if that was anything; whether it was.
+    fn work(&mut self) -> bool {
+        let served = self.visit_all();
+        let told = self.tell_all();
+        let handed = self.hand_over();
+        if served || told {
+            self.bells.wake_loop();
+        }
+        served || told || handed
+    }
+
+    /// Hands the records that are new to the journal's thread; whether there were any.
+    fn hand_over(&mut self) -> bool {
+        match &mut self.handing {
+            Some(handing) => handing.hand(self.engine.replica()),
+            None => false,
+        }
+    }
+
+    /// Whether all records were handed to the journal's thread.
+    fn is_handed_over(&self) -> bool {
+        match &self.handing {
+            Some(handing) => handing.is_done(self.engine.replica()),
+            None => true,
+        }
+    }
+
+    /// Notes the horizon for who looks on.
+    fn note(&self) {
+        if !self.engine.replica().is_settled() {
+            return;
+        }
+        if let Reply::Horizon { tag, .. } = self.engine.replica().answer(Query::Horizon) {
+            self.bells.note_horizon(tag.time(), tag.micro());
+        }
+    }
+
+    /// Sleeps, unless there is something to do.
+    fn rest<X: Wait + Clock>(&mut self, rt: &X) {
+        self.note();
+        self.bells.executor_sleeps();
+        if self.work() {
+            self.bells.executor_wakes();
+            return;
+        }
+        self.bells.sleep(rt);
+    }
+
+    /// Serves until the host is over and no work is left.
+    pub(crate) fn run<X: Wait + Clock>(mut self, rt: &X) {
+        let mut looks = 0;
+        for _ in rt.forever() {
+            // What was sent before it was set is found by the work behind this look.
+            let last = self.bells.is_over();
+            if self.work() {
+                looks = 0;
+            } else if last && self.is_handed_over() {
+                break;
+            } else if looks < LOOKS {
+                looks += 1;
+                thread::yield_now();
+            } else {
+                self.rest(rt);
+            }
+        }
+    }
+}

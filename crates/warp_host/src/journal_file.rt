@@ -1,0 +1,328 @@
+//! The file of a journal: it is locked, read and mended before a host begins.
+
+use std::alloc::{AllocError, Global};
+use std::fs::{File, Files, OpenOptions, TryLockError};
+use std::io::{self, Eprint, ErrorKind, Read, Write};
+use std::path::Path;
+use std::time::Duration;
+use warp_journal::{Disk, Ending, Failed, Fault, Found, Journal, Keeper, NotRead, read_journal};
+use warp_line::Timeline;
+use warp_record::{Record, Refusal};
+use warp_replica::{Replica, Took};
+
+/// When a journal is brought to the disk.
+#[derive(Clone, Copy, Debug, PartialEq, Eq)]
+pub enum SyncWhen {
+    /// Before it is told of.
+    Always,
+    /// So many milliseconds after it came.
+    Every(u64),
+    /// When the system does it.
+    Never,
+}
+
+impl SyncWhen {
+    /// How long a record may wait to be brought to the disk by this thread.
+    pub(crate) fn interval(self) -> Duration {
+        match self {
+            SyncWhen::Always => Duration::from_millis(0),
+            SyncWhen::Every(milliseconds) => Duration::from_millis(milliseconds),
+            SyncWhen::Never => Duration::MAX,
+        }
+    }
+}
+
+/// A file of a journal that is written to.
+#[derive(Drop)]
+pub struct JournalFile {
+    file: File,
+    fault: Option<ErrorKind>,
+}
+
+impl Disk for JournalFile {
+    ghost use Rattle.std.specs.Prelude.{None};
+
+    ghost written = { λ _. None };
+
+    ghost synced = { λ _. None };
+
+    fn append(&mut self, bytes: &[u8]) -> Result<(), Failed> {
+        match self.file.write_all(bytes) {
+            Ok(()) => Ok(()),
+            Err(error) => {
+                self.fault = Some(error.kind());
+                Err(Failed)
+            }
+        }
+    }
+
+    fn sync(&mut self) -> Result<(), Failed> {
+        match self.file.sync_data() {
+            Ok(()) => Ok(()),
+            Err(error) => {
+                self.fault = Some(error.kind());
+                Err(Failed)
+            }
+        }
+    }
+}
+
+impl JournalFile {
+    /// Tells that the journal could not be written, and why.
+    pub(crate) fn tell<X: Eprint>(&self, rt: &X) {
+        let _ = match self.fault {
+            Some(kind) => eprintln!(rt; "journal: it cannot be written: {kind}; the host ends"),
+            None => rt.eprintln("journal: no memory to write it; the host ends"),
+        };
+    }
+}
+
+/// The journal of a host that begins.
+#[derive(Drop)]
+pub struct OpenJournal {
+    pub(crate) keeper: Keeper<JournalFile>,
+    pub(crate) when: SyncWhen,
+    pub(crate) lock: File,
+}
+
+/// Why a journal can't be gone on with.
+#[derive(Clone, Copy, Debug, PartialEq, Eq)]
+pub enum OpenFault {
+    /// Another process has it.
+    InUse,
+    /// It can't be opened, read or written.
+    Unusable,
+    /// Its first line is that of another program, or none.
+    OtherFirst,
+    /// This line, from 1, does not go on with it, and others stand behind it.
+    Damaged(u64),
+    /// The program refuses the record of this line, from 1, or it stands there twice.
+    Refused(u64),
+    /// No memory was to be had.
+    NoMemory,
+}
+
+impl From<AllocError> for OpenFault {
+    fn from(_refused: AllocError) -> OpenFault {
+        OpenFault::NoMemory
+    }
+}
+
+impl From<io::Error> for OpenFault {
+    fn from(error: io::Error) -> OpenFault {
+        match error.kind() {
+            ErrorKind::OutOfMemory => OpenFault::NoMemory,
+            _ => OpenFault::Unusable,
+        }
+    }
+}
+
+/// Takes the lock of the journal at this path.
+pub fn lock_journal<F: Files<File = File>>(
+    files: &F,
+    alloc: Global,
+    path: &str,
+) -> Result<File, OpenFault> {
+    let mut name = String::from_str(alloc, path)?;
+    name.push_str(".lock")?;
+    let lock = OpenOptions::new()
+        .write(true)
+        .create(true)
+        .open(files, name.as_str())?;
+    match lock.try_lock() {
+        Ok(()) => Ok(lock),
+        Err(TryLockError::WouldBlock) => Err(OpenFault::InUse),
+        Err(TryLockError::Error(_)) => Err(OpenFault::Unusable),
+    }
+}
+
+/// Brings the name of the file at this path to the disk.
+pub fn sync_folder<F: Files<File = File>>(files: &F, path: &str) -> Result<(), OpenFault> {
+    let folder = match Path::new(path).parent() {
+        Some(folder) if !folder.as_str().is_empty() => File::open(files, folder)?,
+        _ => File::open(files, ".")?,
+    };
+    folder.sync_all()?;
+    Ok(())
+}
+
+/// The number of the line, from 1, that begins behind so many bytes.
+fn line_behind(bytes: &[u8], kept: usize) -> u64 {
+    let front = bytes.get(..kept).unwrap_or(bytes);
+    let mut number = 1u64;
+    for byte in front {
+        if *byte == b'\n' {
+            number = number.saturating_add(1);
+        }
+    }
+    number
+}
+
+/// The number of the line, from 1, that has the record at this place, from 0.
+fn line_of_record(bytes: &[u8], place: usize) -> u64 {
+    let mut number = 0u64;
+    let mut records = 0usize;
+    for line in bytes.split(|byte| *byte == b'\n') {
+        number = number.saturating_add(1);
+        if number == 1 || line.starts_with(b"= ") {
+            continue;
+        }
+        if records == place {
+            break;
+        }
+        records = records.saturating_add(1);
+    }
+    number
+}
+
+/// What is said of a line that does not go on with a journal.
+pub fn words_of(fault: Fault) -> &'static str {
+    match fault {
+        Fault::NoRecord => "is no record of this program's form, and no sum",
+        Fault::WrongSum => "is not the sum of what stands before it",
+        Fault::TooMany => "is one record too many",
+        Fault::NoMemory => "found no memory",
+    }
+}
+
+/// What is damaged in a journal that ends so, of which nothing may be cut off unasked: there is a later batch, or a
+/// whole line of a sum that is not of what stands before it, which no loss of power leaves.
+pub fn damage_in(ending: Ending) -> Option<Fault> {
+    match ending {
+        Ending::Damaged(fault) => Some(fault),
+        Ending::Cut(Fault::WrongSum) => Some(Fault::WrongSum),
+        Ending::Whole | Ending::Torn | Ending::Cut(_) => None,
+    }
+}
+
+/// Tells that this line is damaged, and what to do.
+fn tell_damage<X: Eprint>(rt: &X, fault: Fault, line: u64) {
+    let why = words_of(fault);
+    let _ = eprintln!(rt;
+        "journal: line {line} {why}; `warpd journal repair FILE` keeps what is in front of it"
+    );
+}
+
+/// Tells what is at the end of a journal that was read, and how many bytes of it are cut off.
+fn tell_ending<X: Eprint>(rt: &X, ending: Ending, line: u64, cut: usize) {
+    let _ = match ending {
+        Ending::Whole => Ok(()),
+        Ending::Torn => { eprintln!(rt; "journal: line {line} is torn; {cut} bytes are cut off") }
+        Ending::Cut(fault) | Ending::Damaged(fault) => {
+            let why = words_of(fault);
+            eprintln!(rt; "journal: line {line} {why}; {cut} bytes are cut off")
+        }
+    };
+}
+
+/// Has the replica take these records, all of which are new to it; else the place of the first that is not, from 0.
+fn replay<T: Timeline>(
+    alloc: Global,
+    replica: &mut Replica<T>,
+    records: &[Record],
+) -> Result<(), (usize, Option<Refusal>)> {
+    let mut place = 0usize;
+    for record in records {
+        match replica.take(alloc, record) {
+            Ok(Took::New(_)) => {}
+            Ok(Took::Known(_)) => return Err((place, None)),
+            Err(refusal) => return Err((place, Some(refusal))),
+        }
+        place = place.saturating_add(1);
+    }
+    Ok(())
+}
+
+/// Tells which record a replica did not take.
+fn tell_refused<X: Eprint>(rt: &X, line: u64, refusal: Option<Refusal>) {
+    let _ = match refusal {
+        Some(refusal) => {
+            let number = refusal.number();
+            eprintln!(rt; "journal: the record of line {line} is refused {number}")
+        }
+        None => eprintln!(rt; "journal: the record of line {line} stands in front of it too"),
+    };
+}
+
+/// Begins a journal in this file, which has nothing but a front of its first line.
+fn begin(alloc: Global, file: &mut File, first: &[u8]) -> Result<Journal, OpenFault> {
+    let mut line = Vec::from_slice(alloc, first)?;
+    line.extend_from_slice(b"\n")?;
+    file.set_len(0)?;
+    file.write_all(&line)?;
+    Ok(Journal::begin(first))
+}
+
+/// Reads the journal that these bytes of the file are, cuts off what is torn, and has the replica take its records.
+fn go_on<X: Eprint, T: Timeline>(
+    rt: &X,
+    alloc: Global,
+    file: &File,
+    bytes: &[u8],
+    first: &[u8],
+    replica: &mut Replica<T>,
+) -> Result<Journal, OpenFault> {
+    let found = match read_journal(alloc, replica.program().form(), first, bytes) {
+        Ok(found) => found,
+        Err(NotRead::OtherFirst) => return Err(OpenFault::OtherFirst),
+        Err(NotRead::NoMemory) => return Err(OpenFault::NoMemory),
+    };
+    let Found {
+        kept,
+        records,
+        journal,
+        ending,
+    } = found;
+    let line = line_behind(bytes, kept);
+    if let Some(fault) = damage_in(ending) {
+        tell_damage(rt, fault, line);
+        return Err(OpenFault::Damaged(line));
+    }
+    tell_ending(rt, ending, line, bytes.len().saturating_sub(kept));
+    if let Err((place, refusal)) = replay(alloc, replica, &records) {
+        if refusal == Some(Refusal::NoMemory) {
+            return Err(OpenFault::NoMemory);
+        }
+        let line = line_of_record(bytes, place);
+        tell_refused(rt, line, refusal);
+        return Err(OpenFault::Refused(line));
+    }
+    if ending != Ending::Whole {
+        file.set_len(kept as u64)?;
+    }
+    Ok(journal)
+}
+
+/// Opens the journal at this path, whose first line this is, without its line feed, or begins it; and has the replica
+/// take its records. What is torn or cut at its end is cut off, which is told on standard error.
+pub fn open_journal<X: Files<File = File> + Eprint, T: Timeline>(
+    rt: &X,
+    alloc: Global,
+    path: &str,
+    when: SyncWhen,
+    first: &[u8],
+    replica: &mut Replica<T>,
+) -> Result<OpenJournal, OpenFault> {
+    let lock = lock_journal(rt, alloc, path)?;
+    let mut file = OpenOptions::new()
+        .read(true)
+        .append(true)
+        .create(true)
+        .open(rt, path)?;
+    let mut bytes = Vec::new(alloc);
+    file.read_to_end(&mut bytes)?;
+    let journal = if first.starts_with(&bytes) {
+        begin(alloc, &mut file, first)?
+    } else {
+        go_on(rt, alloc, &file, &bytes, first, replica)?
+    };
+    // What was read may not be on the disk yet, and is told from now on.
+    file.sync_all()?;
+    sync_folder(rt, path)?;
+    let disk = JournalFile { file, fault: None };
+    Ok(OpenJournal {
+        keeper: Keeper::new(alloc, disk, journal),
+        when,
+        lock,
+    })
+}

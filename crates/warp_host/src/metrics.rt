@@ -1,0 +1,244 @@
+//! What is measured, as text for Prometheus.
+
+use crate::histogram::{BOUNDS, Histogram};
+use itoa::Buffer;
+use std::alloc::{AllocError, Global};
+
+/// What is measured of a host, as it is at some moment.
+#[derive(Clone, Copy)]
+pub(crate) struct Seen {
+    pub(crate) clients: u64,
+    pub(crate) most_clients: u64,
+    pub(crate) lines: u64,
+    pub(crate) replies: u64,
+    pub(crate) pushes: u64,
+    pub(crate) refused: u64,
+    pub(crate) log: u64,
+    pub(crate) horizon_time: u64,
+    pub(crate) horizon_microstep: u64,
+    pub(crate) peers: u64,
+    pub(crate) peers_connected: u64,
+    pub(crate) clients_refused: u64,
+    pub(crate) histogram: Histogram,
+}
+
+impl Seen {
+    /// Nothing happened yet.
+    pub(crate) fn nothing(most_clients: u64) -> Seen {
+        Seen {
+            clients: 0,
+            most_clients,
+            lines: 0,
+            replies: 0,
+            pushes: 0,
+            refused: 0,
+            log: 0,
+            horizon_time: 0,
+            horizon_microstep: 0,
+            peers: 0,
+            peers_connected: 0,
+            clients_refused: 0,
+            histogram: Histogram::new(),
+        }
+    }
+}
+
+/// The most records of a log.
+const MOST_RECORDS: u64 = 100_000;
+
+/// A number that is told.
+#[derive(Clone, Copy)]
+struct Row<'a> {
+    name: &'a [u8],
+    kind: &'a [u8],
+    help: &'a [u8],
+    value: u64,
+}
+
+const GAUGE: &[u8] = b"gauge";
+
+const COUNTER: &[u8] = b"counter";
+
+/// The number as it is.
+fn number<'a>(name: &'a [u8], kind: &'a [u8], help: &'a [u8], value: u64) -> Row<'a> {
+    Row {
+        name,
+        kind,
+        help,
+        value,
+    }
+}
+
+/// Writes the head of a number: what it is, and of what kind.
+fn write_head(text: &mut Vec<u8>, name: &[u8], kind: &[u8], help: &[u8]) -> Result<(), AllocError> {
+    for piece in [
+        b"# HELP ".as_slice(),
+        name,
+        b" ",
+        help,
+        b"\n# TYPE ",
+        name,
+        b" ",
+        kind,
+        b"\n",
+    ] {
+        text.extend_from_slice(piece)?;
+    }
+    Ok(())
+}
+
+/// Writes a line: a name with its labels, and a number.
+fn write_value(text: &mut Vec<u8>, name: &[u8], value: u64) -> Result<(), AllocError> {
+    let mut digits = Buffer::new();
+    text.extend_from_slice(name)?;
+    text.extend_from_slice(b" ")?;
+    text.extend_from_slice(digits.format(value).as_bytes())?;
+    text.extend_from_slice(b"\n")
+}
+
+/// Writes a number with its head.
+fn write_row(text: &mut Vec<u8>, row: &Row<'_>) -> Result<(), AllocError> {
+    write_head(text, row.name, row.kind, row.help)?;
+    write_value(text, row.name, row.value)
+}
+
+/// Writes a number of microseconds as seconds with six places.
+fn write_seconds(text: &mut Vec<u8>, micros: u64) -> Result<(), AllocError> {
+    let mut digits = Buffer::new();
+    text.extend_from_slice(digits.format(micros / 1_000_000).as_bytes())?;
+    text.extend_from_slice(b".")?;
+    let mut rest = Buffer::new();
+    // One more digit in front keeps the zeros.
+    let places = rest.format(micros % 1_000_000 + 1_000_000).as_bytes();
+    text.extend_from_slice(places.get(1..).unwrap_or(b""))
+}
+
+/// Writes the histogram of how long lines take.
+fn write_histogram(text: &mut Vec<u8>, histogram: &Histogram) -> Result<(), AllocError> {
+    write_head(
+        text,
+        b"warpd_line_seconds",
+        b"histogram",
+        b"How long lines took from their taking to their answer.",
+    )?;
+    let mut so_far = 0u64;
+    for (bound, count) in BOUNDS.iter().zip(histogram.counts.iter()) {
+        so_far = so_far.saturating_add(*count);
+        text.extend_from_slice(b"warpd_line_seconds_bucket{le=\"")?;
+        write_seconds(text, *bound)?;
+        write_value(text, b"\"}", so_far)?;
+    }
+    so_far = so_far.saturating_add(histogram.counts[12]);
+    write_value(text, b"warpd_line_seconds_bucket{le=\"+Inf\"}", so_far)?;
+    text.extend_from_slice(b"warpd_line_seconds_sum ")?;
+    write_seconds(text, micros_of(histogram))?;
+    text.extend_from_slice(b"\n")?;
+    write_value(text, b"warpd_line_seconds_count", so_far)
+}
+
+/// What all lines took together, in microseconds.
+fn micros_of(histogram: &Histogram) -> u64 {
+    u64::try_from(histogram.sum.as_micros()).unwrap_or(u64::MAX)
+}
+
+/// The numbers of clients and lines.
+fn traffic(seen: &Seen) -> [Row<'static>; 7] {
+    [
+        number(
+            b"warpd_clients",
+            GAUGE,
+            b"Connections of clients.",
+            seen.clients,
+        ),
+        number(
+            b"warpd_clients_limit",
+            GAUGE,
+            b"The most connections of clients at a time.",
+            seen.most_clients,
+        ),
+        number(
+            b"warpd_clients_refused_total",
+            COUNTER,
+            b"Connections that were refused for want of room.",
+            seen.clients_refused,
+        ),
+        number(
+            b"warpd_lines_total",
+            COUNTER,
+            b"Lines that were taken of clients.",
+            seen.lines,
+        ),
+        number(
+            b"warpd_replies_total",
+            COUNTER,
+            b"Replies to lines.",
+            seen.replies,
+        ),
+        number(
+            b"warpd_pushes_total",
+            COUNTER,
+            b"Lines that were pushed to who watches.",
+            seen.pushes,
+        ),
+        number(
+            b"warpd_refused_total",
+            COUNTER,
+            b"Replies that refuse a line.",
+            seen.refused,
+        ),
+    ]
+}
+
+/// The numbers of the replica and of peers.
+fn state(seen: &Seen) -> [Row<'static>; 6] {
+    [
+        number(
+            b"warpd_log_records",
+            GAUGE,
+            b"Records of the log, as the last reply told.",
+            seen.log,
+        ),
+        number(
+            b"warpd_log_records_limit",
+            GAUGE,
+            b"The most records of the log.",
+            MOST_RECORDS,
+        ),
+        number(
+            b"warpd_horizon_time",
+            GAUGE,
+            b"The time of the horizon.",
+            seen.horizon_time,
+        ),
+        number(
+            b"warpd_horizon_microstep",
+            GAUGE,
+            b"The microstep of the horizon.",
+            seen.horizon_microstep,
+        ),
+        number(b"warpd_peers", GAUGE, b"Peers to follow.", seen.peers),
+        number(
+            b"warpd_peers_connected",
+            GAUGE,
+            b"Peers that are followed now.",
+            seen.peers_connected,
+        ),
+    ]
+}
+
+/// All that is measured, in the text format of Prometheus.
+pub(crate) fn metrics_text(alloc: Global, seen: &Seen) -> Result<Vec<u8>, AllocError> {
+    let mut text = Vec::new(alloc);
+    for row in &traffic(seen) {
+        write_row(&mut text, row)?;
+    }
+    for row in &state(seen) {
+        write_row(&mut text, row)?;
+    }
+    text.extend_from_slice(NOT_TOLD)?;
+    write_histogram(&mut text, &seen.histogram)?;
+    Ok(text)
+}
+
+/// What the replica doesn't tell.
+const NOT_TOLD: &[u8] = b"# Rollbacks and rows executed again are not counted.\n";

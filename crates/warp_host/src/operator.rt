@@ -1,0 +1,73 @@
+//! What an operator is told, on standard error.
+
+use std::io::Eprint;
+use warp_hub::PeerEvent;
+
+/// Tells that the host has begun, with so many clients at most.
+pub(crate) fn tell_start<X: Eprint>(rt: &X, clients: u32, wanted: u32) {
+    let _ = if clients < wanted {
+        eprintln!(rt;
+            "started: {clients} clients at a time, since there are descriptors for no more ({wanted} were asked for)"
+        )
+    } else {
+        eprintln!(rt; "started: {clients} clients at a time")
+    };
+}
+
+/// Tells that so many connections were refused since there are as many clients as there may be.
+pub(crate) fn tell_full<X: Eprint>(rt: &X, refused: u64, most: u32) {
+    let _ = eprintln!(rt; "clients refused: {refused}, there are {most} already");
+}
+
+/// Tells that so many connections were refused since there were no descriptors.
+pub(crate) fn tell_no_descriptor<X: Eprint>(rt: &X, refused: u64) {
+    let _ = eprintln!(rt; "clients refused: {refused}, there are no descriptors left");
+}
+
+/// Tells that so many clients were too slow.
+pub(crate) fn tell_slow<X: Eprint>(rt: &X, slow: u64) {
+    let _ = eprintln!(rt; "clients closed: {slow}, they read too slowly");
+}
+
+/// Tells that the log is full.
+pub(crate) fn tell_log_full<X: Eprint>(rt: &X) {
+    let _ = rt.eprintln("the log is full: no further record is taken");
+}
+
+/// Tells that the host ends with its input.
+pub(crate) fn tell_end<X: Eprint>(rt: &X) {
+    let _ = rt.eprintln("standard input ended: the host ends");
+}
+
+/// Tells what came of a peer.
+pub(crate) fn tell_peer<X: Eprint>(rt: &X, name: &str, event: PeerEvent) {
+    let _ = match event {
+        PeerEvent::Found { place, is_host } => {
+            let what = if is_host {
+                "a host of the same program"
+            } else {
+                "a server, which tells no program: nothing was compared"
+            };
+            eprintln!(rt; "peer {name} found: {what}; its log is followed from place {place} on")
+        }
+        PeerEvent::Refused { place, refusal } => {
+            let number = refusal.number();
+            eprintln!(rt; "peer {name}: its record at place {place} was refused {number}")
+        }
+        PeerEvent::OtherProgram => eprintln!(rt; "peer {name} refused: it runs another program"),
+        PeerEvent::NotAllowed => eprintln!(rt; "peer {name} refused: it wants a token, or another"),
+        PeerEvent::Strange => eprintln!(rt; "peer {name} lost: it said what answers no question"),
+        PeerEvent::NoMemory => eprintln!(rt;
+            "peer {name} lost: there was no memory for its records"
+        ),
+    };
+}
+
+/// Tells that the connection to a peer was lost, or could not be made.
+pub(crate) fn tell_peer_lost<X: Eprint>(rt: &X, name: &str, was_found: bool) {
+    let _ = if was_found {
+        eprintln!(rt; "peer {name} lost: it is tried again")
+    } else {
+        eprintln!(rt; "peer {name} can't be reached: it is tried again")
+    };
+}

@@ -1,0 +1,46 @@
+//! What a host is asked to do.
+
+ghost use Rattle.std.specs.Prelude.{◌≡◌, ◌||◌};
+
+use crate::journal_file::OpenJournal;
+use std::net::IpAddr;
+use warp_hub::Tokens;
+
+/// The most clients at a time, where no number is given.
+pub const DEFAULT_CLIENTS: u32 = 1_024;
+
+/// The most clients at a time that can be asked for.
+pub const MOST_CLIENTS: u32 = 15_000;
+
+/// The most peers.
+pub const MOST_PEERS: usize = 64;
+
+/// A peer: where it is, and what it is told.
+#[derive(Drop)]
+pub struct PeerAt {
+    /// `HOST:PORT`.
+    pub address: String,
+    /// The token that it wants, if it wants one.
+    pub token: Option<Vec<u8>>,
+}
+
+/// What a host is asked to do, beside its program and the texts on it.
+#[derive(Drop)]
+pub struct Options {
+    /// How many clients there may be at a time, 1 to 15,000.
+    pub clients: u32,
+    /// Who may use HTTP; without tokens everybody may.
+    pub tokens: Option<Tokens>,
+    /// The peers, at most 64.
+    pub peers: Vec<PeerAt>,
+    /// Whether the host ends with its standard input.
+    pub until_input_ends: bool,
+    /// The journal, whose records the replica has taken.
+    pub journal: Option<OpenJournal>,
+}
+
+/// Whether a host may listen on this address: on another than that of its own machine only with tokens, or where it was
+/// said that this is meant.
+pub fn may_listen(address: IpAddr, has_tokens: bool, is_meant: bool) -> bool {
+    has_tokens || is_meant || address.is_loopback()
+}

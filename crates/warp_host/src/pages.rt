@@ -1,0 +1,354 @@
+//! What is answered over HTTP, and the way to WebSocket.
+
+ghost use Rattle.std.specs.Prelude.{◌≡◌};
+
+use crate::metrics::{Seen, metrics_text};
+use crate::names::Names;
+use crate::query::token_of;
+use bytes::Bytes;
+use http::{HeaderMap, HeaderName, HeaderValue, Method, Request, StatusCode};
+use http_server::{Response, Service};
+use std::alloc::{AllocError, Global};
+use warp_hub::{Rights, Tokens};
+use websocket::handshake::server::accept_key;
+
+/// The page.
+const PAGE: &[u8] = br#"<!doctype html>
+<html lang="en"><meta charset="utf-8"><title>warpd</title>
+<h1>warpd</h1>
+<p>This is a host of warpd: it runs a deterministic program over events that may come late.</p>
+<ul>
+<li>Lines: over TCP at this port, or as text messages of a WebSocket at <code>/ws</code>.</li>
+<li><a href="/program.json">/program.json</a>: the program that runs.</li>
+<li><a href="/names.json">/names.json</a>: the names of its variables, inputs and outputs, by number.</li>
+<li><a href="/metrics">/metrics</a>: what is measured, for Prometheus.</li>
+<li><a href="/healthz">/healthz</a>: whether it is there.</li>
+</ul>
+</html>
+"#;
+
+const HTML: &str = "text/html; charset=utf-8";
+
+const PLAIN: &str = "text/plain; charset=utf-8";
+
+const JSON: &str = "application/json";
+
+const METRICS: &str = "text/plain; version=0.0.4; charset=utf-8";
+
+/// Answers requests.
+#[derive(Drop)]
+pub(crate) struct Pages {
+    pub(crate) alloc: Global,
+    pub(crate) names: Names,
+    pub(crate) tokens: Option<Tokens>,
+    pub(crate) program: Bytes,
+    pub(crate) names_json: Bytes,
+    pub(crate) seen: Seen,
+    /// How many requests were answered.
+    pub(crate) answered: u64,
+    /// The rights of a connection that was just upgraded: those of the token that it brought, if it brought one.
+    pub(crate) upgraded: Option<Option<Rights>>,
+}
+
+/// What an answer did beside being filled.
+#[derive(Drop)]
+enum Answered {
+    /// Nothing.
+    Plain,
+    /// The connection is upgraded, with the rights of the token that it brought, if it brought one.
+    Upgraded(Option<Rights>),
+}
+
+/// What is asked for.
+#[derive(Clone, Copy)]
+enum Place {
+    Page,
+    Health,
+    Web,
+    Program,
+    Names,
+    Metrics,
+    Unknown,
+}
+
+/// The place of this path.
+fn place_of(path: &str) -> Place {
+    match path {
+        "/" => Place::Page,
+        "/healthz" => Place::Health,
+        "/ws" => Place::Web,
+        "/program.json" => Place::Program,
+        "/names.json" => Place::Names,
+        "/metrics" => Place::Metrics,
+        _ => Place::Unknown,
+    }
+}
+
+/// Whether each value of these headers passes.
+fn are_allowed<F: Fn(&str) -> bool>(headers: &HeaderMap, name: &str, is_allowed: F) -> bool
+    requires { F.IsAlwaysCallable is_allowed }
+{
+    for value in headers.get_all(name).iter() {
+        let Ok(text) = value.to_str() else {
+            return false;
+        };
+        if !is_allowed(text) {
+            return false;
+        }
+    }
+    true
+}
+
+/// Fills the answer with a text of this kind.
+fn fill(response: &mut Response, kind: HeaderValue, body: Bytes) -> Result<Answered, AllocError> {
+    response.body.push(body)?;
+    add_last(response, HeaderName::from_static("content-type"), kind)
+}
+
+/// Adds the last header of an answer.
+fn add_last(
+    response: &mut Response,
+    name: HeaderName,
+    value: HeaderValue,
+) -> Result<Answered, AllocError> {
+    response.add_header(name, value)?;
+    Ok(Answered::Plain)
+}
+
+/// Fills the answer that a request is refused so.
+fn refuse(response: &mut Response, status: StatusCode) -> Answered {
+    response.status = status;
+    Answered::Plain
+}
+
+/// Fills the answer that a request should be one for an upgrade.
+fn ask_for_upgrade(response: &mut Response) -> Result<Answered, AllocError> {
+    refuse(response, StatusCode::UPGRADE_REQUIRED);
+    response.add_header(
+        HeaderName::from_static("upgrade"),
+        HeaderValue::from_static("websocket"),
+    )?;
+    add_last(
+        response,
+        HeaderName::from_static("sec-websocket-version"),
+        HeaderValue::from_static("13"),
+    )
+}
+
+/// Fills the answer that a connection is upgraded.
+fn accept_upgrade(alloc: Global, response: &mut Response, accept: &[u8]) -> Result<(), AllocError> {
+    let Ok(value) = HeaderValue::from_bytes(alloc, accept) else {
+        return Err(AllocError);
+    };
+    response.status = StatusCode::SWITCHING_PROTOCOLS;
+    response.add_header(
+        HeaderName::from_static("connection"),
+        HeaderValue::from_static("Upgrade"),
+    )?;
+    response.add_header(
+        HeaderName::from_static("upgrade"),
+        HeaderValue::from_static("websocket"),
+    )?;
+    response.add_header(HeaderName::from_static("sec-websocket-accept"), value)
+}
+
+impl Pages {
+    /// Whether the request is one to this host, of a page that may reach it.
+    fn is_allowed(&self, request: &Request<Bytes>) -> bool {
+        let headers = request.headers();
+        let names = &self.names;
+        headers.contains_key("host")
+            && are_allowed(headers, "host", |name| names.is_host_allowed(name))
+            && are_allowed(headers, "origin", |origin| names.is_origin_allowed(origin))
+            && match request.uri().authority() {
+                Some(authority) => names.is_host_allowed(authority.as_str()),
+                None => true,
+            }
+    }
+
+    /// The rights of this token; `None` where there is no such token.
+    fn rights_of(&self, token: &[u8]) -> Option<Rights> {
+        self.tokens.as_ref()?.find(token)
+    }
+
+    /// Whether the request may have what only those with a token may have.
+    fn is_known(&self, request: &Request<Bytes>) -> bool {
+        self.tokens.is_none() || self.bearer(request).is_some()
+    }
+
+    /// The rights of the token that the request's `Authorization` has.
+    fn bearer(&self, request: &Request<Bytes>) -> Option<Rights> {
+        let value = request.headers().get("authorization")?;
+        let text = value.to_str().ok()?;
+        self.rights_of(text.strip_prefix("Bearer ")?.as_bytes())
+    }
+
+    /// The rights of the token that a request for an upgrade brings: `Ok(None)` where it brings none.
+    fn web_rights(&self, request: &Request<Bytes>) -> Result<Option<Rights>, StatusCode> {
+        if self.tokens.is_none() {
+            return Ok(None);
+        }
+        if request.headers().contains_key("authorization") {
+            return match self.bearer(request) {
+                Some(rights) => Ok(Some(rights)),
+                None => Err(StatusCode::UNAUTHORIZED),
+            };
+        }
+        let Some(token) = token_of(request.uri().query().unwrap_or("").as_bytes()) else {
+            return Ok(None);
+        };
+        match self.rights_of(token.as_slice()) {
+            Some(rights) => Ok(Some(rights)),
+            None => Err(StatusCode::UNAUTHORIZED),
+        }
+    }
+
+    /// Fills the answer to a request for an upgrade.
+    fn upgrade(
+        &self,
+        request: &Request<Bytes>,
+        response: &mut Response,
+    ) -> Result<Answered, AllocError> {
+        let headers = request.headers();
+        if !is_upgrade(headers) || request.method().as_str() != "GET" {
+            return ask_for_upgrade(response);
+        }
+        let Some(accept) = accept_of(headers) else {
+            return Ok(refuse(response, StatusCode::BAD_REQUEST));
+        };
+        match self.web_rights(request) {
+            Ok(rights) => {
+                accept_upgrade(self.alloc, response, &accept)?;
+                Ok(Answered::Upgraded(rights))
+            }
+            Err(status) => Ok(refuse(response, status)),
+        }
+    }
+
+    /// Fills the answer to a request for this place.
+    fn answer(
+        &self,
+        place: Place,
+        request: &Request<Bytes>,
+        response: &mut Response,
+    ) -> Result<Answered, AllocError> {
+        match place {
+            Place::Page => fill(
+                response,
+                HeaderValue::from_static(HTML),
+                Bytes::from_static(PAGE),
+            ),
+            Place::Health => fill(
+                response,
+                HeaderValue::from_static(PLAIN),
+                Bytes::from_static(b"ok\n"),
+            ),
+            Place::Web => self.upgrade(request, response),
+            Place::Program => fill(
+                response,
+                HeaderValue::from_static(JSON),
+                self.program.clone()?,
+            ),
+            Place::Names => fill(
+                response,
+                HeaderValue::from_static(JSON),
+                self.names_json.clone()?,
+            ),
+            Place::Metrics => {
+                let text = metrics_text(self.alloc, &self.seen)?;
+                fill(
+                    response,
+                    HeaderValue::from_static(METRICS),
+                    Bytes::from_vec(text)?,
+                )
+            }
+            Place::Unknown => Ok(refuse(response, StatusCode::NOT_FOUND)),
+        }
+    }
+
+    /// Fills the answer to a request.
+    fn serve(
+        &self,
+        request: &Request<Bytes>,
+        response: &mut Response,
+    ) -> Result<Answered, AllocError> {
+        if !self.is_allowed(request) {
+            return Ok(refuse(response, StatusCode::FORBIDDEN));
+        }
+        let method = request.method();
+        if method.as_str() != "GET" && method.as_str() != "HEAD" {
+            refuse(response, StatusCode::METHOD_NOT_ALLOWED);
+            return add_last(
+                response,
+                HeaderName::from_static("allow"),
+                HeaderValue::from_static("GET, HEAD"),
+            );
+        }
+        let place = place_of(request.uri().path());
+        let is_open = matches!(place, Place::Page | Place::Health | Place::Web);
+        if !is_open && !self.is_known(request) {
+            refuse(response, StatusCode::UNAUTHORIZED);
+            return add_last(
+                response,
+                HeaderName::from_static("www-authenticate"),
+                HeaderValue::from_static("Bearer"),
+            );
+        }
+        self.answer(place, request, response)
+    }
+}
+
+/// Whether the request asks for WebSocket, in the version that there is.
+fn is_upgrade(headers: &HeaderMap) -> bool {
+    has(headers, "upgrade", "websocket")
+        && has(headers, "connection", "upgrade")
+        && has(headers, "sec-websocket-version", "13")
+}
+
+/// Whether one of the words of this header, parted by commas, is this one, in letters of either size.
+fn has(headers: &HeaderMap, name: &str, word: &str) -> bool {
+    for value in headers.get_all(name).iter() {
+        let Ok(text) = value.to_str() else {
+            return false;
+        };
+        for part in text.split(',') {
+            if part.trim().eq_ignore_ascii_case(word) {
+                return true;
+            }
+        }
+    }
+    false
+}
+
+/// What answers the key of a request for an upgrade.
+fn accept_of(headers: &HeaderMap) -> Option<[u8; 28]> {
+    let key = headers.get("sec-websocket-key")?;
+    accept_key(key.as_bytes()).ok()
+}
+
+/// The rights of a connection that is upgraded.
+fn rights_in(answered: Answered) -> Option<Option<Rights>> {
+    match answered {
+        Answered::Plain => None,
+        Answered::Upgraded(rights) => Some(rights),
+    }
+}
+
+impl Service for Pages {
+    ghost answers = { λ _ _ _ _. Unit {0} };
+
+    fn call(
+        &mut self,
+        request: &Request<Bytes>,
+        response: &mut Response,
+    ) -> Result<(), AllocError> {
+        match self.serve(request, response) {
+            Ok(answered) => {
+                self.answered = self.answered.wrapping_add(1);
+                self.upgraded = rights_in(answered);
+                Ok(())
+            }
+            Err(error) => Err(error),
+        }
+    }
+}

@@ -1,0 +1,92 @@
+//! The hub with the board that its looks are at: what the loop calls of it.
+
+ghost use Rattle.std.specs.Prelude.{◌≡◌, ◌≤◌, length};
+
+use warp_board::Board;
+use warp_hub::{ClientId, Counts, Hub, Rights, Unjoined};
+use warp_tag::OutOfMemory;
+use warp_watch::{Question, Told};
+
+/// The hub, and the board of its reader.
+#[derive(Drop)]
+pub(crate) struct Post<'a> {
+    hub: Hub,
+    board: &'a Board,
+    ghost same: { hub.board ≡ board.now },
+}
+
+impl<'a> Post<'a> {
+    /// The hub with this board.
+    pub(crate) fn new(hub: Hub, board: &'a Board) -> Post<'a>
+        requires { hub.board ≡ board.now }
+    {
+        Post { hub, board }
+    }
+
+    /// What was counted.
+    pub(crate) fn counts(&self) -> Counts {
+        self.hub.counts()
+    }
+
+    /// A client has come, with these rights, or those that it has without a token.
+    pub(crate) fn join(&mut self, rights: Option<Rights>) -> Result<ClientId, Unjoined> {
+        self.hub.join(rights)
+    }
+
+    /// A client has gone.
+    pub(crate) fn leave(&mut self, client: ClientId) {
+        self.hub.leave(client);
+    }
+
+    /// Takes lines of a client off these bytes: how many bytes it took.
+    pub(crate) fn take(&mut self, client: ClientId, bytes: &[u8]) -> usize
+        ensures { result ≤ length bytes.now }
+    {
+        self.hub.take(client, bytes, self.board)
+    }
+
+    /// A client's bytes have ended.
+    pub(crate) fn end(&mut self, client: ClientId) {
+        self.hub.end(client);
+    }
+
+    /// Fetches the answers that are there, of a log that is no longer than this.
+    pub(crate) fn fetch(&mut self, durable: u32) {
+        self.hub.fetch(durable, self.board);
+    }
+
+    /// The next question for the executor.
+    pub(crate) fn question(&mut self) -> Option<Question> {
+        self.hub.question()
+    }
+
+    /// What the executor told to the first question on its way.
+    pub(crate) fn told(&mut self, told: Result<Told, OutOfMemory>) {
+        self.hub.told(told);
+    }
+
+    /// The next client for which there is something to do.
+    pub(crate) fn changed(&mut self) -> Option<ClientId> {
+        self.hub.changed()
+    }
+
+    /// The bytes to be written to a client.
+    pub(crate) fn output(&self, client: ClientId) -> &[u8] {
+        self.hub.output(client)
+    }
+
+    /// So many of these were written.
+    pub(crate) fn written(&mut self, client: ClientId, count: usize) {
+        self.hub.written(client, count);
+    }
+
+    /// Whether a line of this client would be taken now.
+    pub(crate) fn may_take(&self, client: ClientId) -> bool {
+        self.hub.may_take(client)
+    }
+
+    /// Whether the client is to be closed once its output is written.
+    pub(crate) fn is_over(&self, client: ClientId) -> bool {
+        self.hub.is_over(client)
+    }
+}

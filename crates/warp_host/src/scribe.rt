@@ -1,0 +1,133 @@
+//! The thread that writes the journal: neither the loop nor the executor waits for a disk.
+
+use crate::bells::Bells;
+use crate::durable::Durable;
+use crate::handing::PLACES;
+use crate::journal_file::{JournalFile, SyncWhen};
+use rtrb::Consumer;
+use std::fs::File;
+use std::io::Eprint;
+use std::sync::Wait;
+use std::time::{Clock, Duration};
+use warp_journal::{Failed, Keeper};
+use warp_record::Record;
+
+/// The longest sleep of the journal's thread, in milliseconds.
+const LONGEST_SLEEP: u64 = 100;
+
+/// Where nothing is brought to the disk, a sum stands behind each so many records.
+const BATCH: u32 = 1_024;
+
+/// What the journal's thread holds.
+#[derive(Drop)]
+pub(crate) struct Scribe<'a> {
+    pub(crate) keeper: Keeper<JournalFile>,
+    pub(crate) when: SyncWhen,
+    pub(crate) handed: Consumer<Record>,
+    pub(crate) durable: &'a Durable,
+    pub(crate) bells: &'a Bells,
+    /// Since when records wait to be brought to the disk, if any do.
+    pub(crate) behind_since: Option<Duration>,
+    /// Held as long as this thread runs.
+    pub(crate) lock: File,
+}
+
+impl<'a> Scribe<'a> {
+    /// Takes what was handed; how many records that was.
+    fn take_all(&mut self) -> Result<usize, Failed> {
+        let mut count = 0;
+        while count < PLACES {
+            let Ok(record) = self.handed.pop() else {
+                break;
+            };
+            self.keeper.take(&record)?;
+            if self.when == SyncWhen::Never && self.keeper.len() % BATCH == 0 {
+                self.keeper.take_sum()?;
+            }
+            count += 1;
+        }
+        Ok(count)
+    }
+
+    /// Brings all to the disk, and lets it be told.
+    fn sync(&mut self) -> Result<(), Failed> {
+        let count = self.keeper.sync()?;
+        self.durable.note_synced(count);
+        self.bells.wake_loop();
+        self.behind_since = None;
+        Ok(())
+    }
+
+    /// Whether what waits for the disk has waited long enough.
+    fn is_due(&self, now: Duration) -> bool {
+        match self.behind_since {
+            Some(since) => now.saturating_sub(since) >= self.when.interval(),
+            None => false,
+        }
+    }
+
+    /// Writes what was handed, and brings it to the disk where that is due; whether there was anything.
+    fn work<X: Clock>(&mut self, rt: &X) -> Result<bool, Failed> {
+        let taken = self.take_all()?;
+        if taken >= PLACES {
+            // The executor may have found no room.
+            self.bells.wake_executor();
+        }
+        let now = rt.monotonic().unwrap_or(Duration::MAX);
+        if taken > 0 {
+            self.behind_since = Some(self.behind_since.unwrap_or(now));
+        }
+        if self.when != SyncWhen::Never && self.is_due(now) {
+            self.sync()?;
+            return Ok(true);
+        }
+        if taken > 0 {
+            self.keeper.write()?;
+        }
+        Ok(taken > 0)
+    }
+
+    /// Sleeps, unless something was handed.
+    fn rest<X: Wait>(&mut self, rt: &X) {
+        self.durable.scribe_sleeps();
+        if !self.handed.is_empty() {
+            self.durable.scribe_wakes();
+            return;
+        }
+        let longest = Duration::from_millis(LONGEST_SLEEP);
+        self.durable.sleep(rt, longest.min(self.when.interval()));
+    }
+
+    /// Ends the journal with a sum, and brings it to the disk.
+    fn end(&mut self) -> Result<(), Failed> {
+        if self.behind_since.is_none() {
+            return Ok(());
+        }
+        self.sync()
+    }
+
+    /// Writes until it is to end, or the disk fails.
+    fn write_on<X: Wait + Clock>(&mut self, rt: &X) -> Result<(), Failed> {
+        for _ in rt.forever() {
+            // What was handed before it was set is found by the work behind this look.
+            let last = self.durable.is_over();
+            if self.work(rt)? {
+                continue;
+            }
+            if last {
+                break;
+            }
+            self.rest(rt);
+        }
+        self.end()
+    }
+
+    /// Writes until it is to end. Where the disk fails that is said, and the host ends.
+    pub(crate) fn run<X: Wait + Clock + Eprint>(mut self, rt: &X) {
+        if self.write_on(rt).is_err() {
+            self.keeper.disk().tell(rt);
+            self.durable.fail();
+            self.bells.wake_loop();
+        }
+    }
+}

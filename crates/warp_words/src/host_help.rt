@@ -1,0 +1,85 @@
+//! The texts that `warpd host --help` shows.
+
+use crate::command_line::Help;
+
+const ABOUT: &str = "Hosts a program: a service that stays up, over lines, HTTP and WebSocket";
+
+const LONG_ABOUT: &str = "\
+Listens on one port, prints the line `ready ADDRESS:PORT` on standard output, and serves clients
+as they come and go, until it is stopped. Who sends lines is answered as `warpd serve` answers;
+who speaks HTTP gets pages, and a WebSocket at /ws, whose text messages are lines.
+
+All clients share one replica, as in `warpd serve`. Beside its lines a host knows these:
+
+  program             which program it runs: program VERSION FINGERPRINT
+  names               the names of variables, inputs and outputs: names JSON
+  vars                all variables at once: vars N v0 v1 ..
+  releases            how many released outputs are shown, and whether they are frozen
+  release INDEX       a released output: release N TIME MICROSTEP PORT VALUE, or none N
+  watch log P         the records from place P on, those that are there and those that come
+  watch released I    the released outputs from I on, likewise
+  watch vars, watch horizon, watch breach
+                      what is now, and each change
+  unwatch WHAT        no more of it: watching K, as a watch is answered too
+  token T             who may send what: may *, may read, or may ORIGIN ..
+
+What is watched is pushed in lines that begin with `* `. A client for which more than a mebibyte
+waits is told `* gone slow` and closed.
+
+Over HTTP: / (a page), /program.json, /names.json, /healthz, and /metrics for Prometheus. A page
+of a browser has to be the host's own, or be allowed by --allow-origin.
+
+With --journal the log is kept in a file, which is text, and read again at the next start. With
+--sync always nothing is told of a record before it is on the disk; with a number of MILLISECONDS,
+1 to 60000, the last of so long may be lost, and with never what the system had not written.
+Without --journal nothing is stored on disk.
+
+Each PEER, another host or server, is followed for as long as the
+host runs: its records come in here. A host that runs another program is refused.";
+
+const NOTES: &str = "\
+With --tokens each line of the file is `TOKEN *`, `TOKEN read` or `TOKEN ORIGIN[,ORIGIN]..`, and
+a client says `token T` first, or connects to /ws?token=T; HTTP but / and /healthz wants the
+header `Authorization: Bearer T`. A record for another origin is `refused 13`. The file must not
+be one that others may read. Without tokens only an address of this machine may be listened on,
+unless --open says that another is meant. TLS is for a proxy in front.
+
+Standard error tells what an operator wants to know: that it started, clients that were refused,
+peers that were lost and found, that the log is full.
+
+Why a program file is refused: warpd run --help
+
+Example:
+  warpd host builtin:twice &
+  printf 'event 0 5 0 0 3\\nvar 0\\n' | nc -N 127.0.0.1 7070
+  curl http://127.0.0.1:7070/names.json";
+
+pub(crate) const LISTEN_HELP: &str = "Where to listen, 127.0.0.1:7070 if not given";
+
+pub(crate) const CLIENTS_HELP: &str = "How many clients at a time, 1 to 15000, 1024 if not given";
+
+pub(crate) const TOKENS_HELP: &str = "The file that says who may send what";
+
+pub(crate) const ALLOW_ORIGIN_HELP: &str = "A page of this origin may connect too; may be repeated";
+
+pub(crate) const PEER_HELP: &str = "Follow this host or server; may be repeated";
+
+pub(crate) const PEER_TOKENS_HELP: &str = "The file of tokens for peers: lines HOST:PORT TOKEN";
+
+pub(crate) const OPEN_HELP: &str = "Listen on any address without tokens: everybody may send";
+
+pub(crate) const UNTIL_INPUT_ENDS_HELP: &str = "End in order when standard input ends";
+
+pub(crate) const JOURNAL_HELP: &str = "Keep the log in this file: nothing that was told is lost";
+
+pub(crate) const SYNC_HELP: &str =
+    "When the journal is brought to the disk: always (if not given), never or MILLISECONDS";
+
+/// The texts on `host`.
+pub(crate) fn help() -> Help {
+    Help {
+        about: ABOUT,
+        long_about: LONG_ABOUT,
+        notes: NOTES,
+    }
+}

@@ -1,0 +1,174 @@
+//! The program that a host runs, and what it tells of it.
+ghost use Rattle.std.specs.Prelude.{◌≡◌, ◌⊎◌, ◌+◌, ℕ, IfErr, IfOk, List};
+ghost use Rattle.warp_prog.specs.Load.{IsLoaded, IsRefused};
+ghost use Rattle.warp_prog.specs.Reading.{longest_file};
+ghost use Rattle.warp_prog.specs.declared.error.LoadError.{LoadError};
+ghost use Rattle.warp_step.specs.Twice.{twice};
+ghost use Rattle.warpd.specs.Outcome.{IsFrontOf, IsNamed, IsNone, refused_outcome};
+
+use crate::file_bytes::{first_bytes, without_file};
+use crate::outcome::Outcome;
+use crate::program_file::{ENOUGH, TWICE, built_in, refused};
+use itoa::Buffer;
+use std::alloc::{AllocError, Global};
+use std::fs::{self, Files};
+use std::io::Read;
+use warp_prog::{NamedProgram, fingerprint, load_named, names_line};
+use warp_step::Program;
+use warp_tag::Form;
+
+/// A program, the bytes of its file, and what is told of it.
+#[derive(Drop)]
+pub(crate) struct HostedProgram {
+    pub(crate) program: Program,
+    pub(crate) bytes: Vec<u8>,
+    /// The answers to `program` and `names`, without their line feeds, and the latter's JSON alone.
+    pub(crate) identity: Vec<u8>,
+    pub(crate) names: Vec<u8>,
+    pub(crate) names_json: Vec<u8>,
+}
+
+/// What is told of a program.
+#[derive(Drop)]
+struct Told {
+    identity: Vec<u8>,
+    names: Vec<u8>,
+    names_json: Vec<u8>,
+}
+
+/// The program of this name: `builtin:twice`, or that of the file at this path.
+pub(crate) fn hosted_program<F: Files>(
+    files: &F,
+    alloc: Global,
+    name: &str,
+) -> Result<HostedProgram, Outcome>
+    ensures ok { IfOk result (λ h. IsNamed name.now h.program) }
+    ensures err { IfErr result (IsNone name.now) }
+{
+    if name == "builtin:twice" {
+        return built_in_hosted(alloc);
+    }
+    match fs::open(files, name) {
+        Ok(file) => file_hosted(alloc, file),
+        Err(error) => Err(without_file(&error, Outcome::NoProgram)),
+    }
+}
+
+/// The program `twice`, with what its file tells.
+fn built_in_hosted(alloc: Global) -> Result<HostedProgram, Outcome>
+    ensures ok { IfOk result (λ h. h.program ≡ twice) }
+    ensures err { IfErr result (λ outcome. outcome ≡ Outcome.Memory) }
+{
+    let program = built_in(alloc)?;
+    let Ok(bytes) = Vec::from_slice(alloc, TWICE.as_bytes()) else {
+        return Err(Outcome::Memory);
+    };
+    let Ok(named) = load_named(alloc, TWICE.as_bytes()) else {
+        return Err(Outcome::Memory);
+    };
+    match told_of(alloc, &named) {
+        Ok(told) => Ok(with_told(program, bytes, told)),
+        Err(_) => Err(Outcome::Memory),
+    }
+}
+
+/// The program that a reader's bytes spell, with what they tell: all of them, or where there are more than a program
+/// file may have, so many that it is seen.
+fn file_hosted<R: Read + Drop>(alloc: Global, reader: R) -> Result<HostedProgram, Outcome>
+    ensures ok { IfOk result
+        (λ h. (bytes : List ℕ) × IsFrontOf (longest_file + 1) (R.remaining reader) bytes × IsLoaded bytes h.program) }
+    ensures err { IfErr result (λ outcome. (outcome ≡ Outcome.NoProgram) ⊎ (outcome ≡ Outcome.Memory)
+        ⊎ ((bytes : List ℕ) × IsFrontOf (longest_file + 1) (R.remaining reader) bytes
+        × ((error : LoadError) × IsRefused bytes error × (outcome ≡ refused_outcome error)))) }
+{
+    let bytes = first_bytes(alloc, reader, ENOUGH, Outcome::NoProgram)?;
+    let hosted = bytes_hosted(alloc, bytes)?;
+    Ok(hosted)
+}
+
+/// The program that these bytes spell, with what they tell.
+fn bytes_hosted(alloc: Global, bytes: Vec<u8>) -> Result<HostedProgram, Outcome>
+    ensures ok { IfOk result (λ h. IsLoaded bytes.items h.program) }
+    ensures err { IfErr result (λ outcome. (outcome ≡ Outcome.Memory)
+        ⊎ ((error : LoadError) × IsRefused bytes.items error × (outcome ≡ refused_outcome error))) }
+{
+    match load_named(alloc, &bytes) {
+        Ok(named) => with_file(alloc, named, bytes),
+        Err(error) => Err(refused(error)),
+    }
+}
+
+/// A program with the bytes of its file.
+fn with_file(alloc: Global, named: NamedProgram, bytes: Vec<u8>) -> Result<HostedProgram, Outcome>
+    ensures ok { IfOk result (λ h. h.program ≡ named.program) }
+    ensures err { IfErr result (λ outcome. outcome ≡ Outcome.Memory) }
+{
+    let told = told_of(alloc, &named);
+    let NamedProgram { program, .. } = named;
+    match told {
+        Ok(told) => Ok(with_told(program, bytes, told)),
+        Err(_) => Err(Outcome::Memory),
+    }
+}
+
+/// A program with the bytes of its file and what is told of it.
+fn with_told(program: Program, bytes: Vec<u8>, told: Told) -> HostedProgram
+    ensures { result.program ≡ program }
+{
+    let Told {
+        identity,
+        names,
+        names_json,
+    } = told;
+    HostedProgram {
+        program,
+        bytes,
+        identity,
+        names,
+        names_json,
+    }
+}
+
+/// What is told of a program.
+fn told_of(alloc: Global, named: &NamedProgram) -> Result<Told, AllocError> {
+    let json = names_line(alloc, &named.program, &named.labels)?;
+    let names = text_of(alloc, b"names ", json.as_str().as_bytes())?;
+    let names_json = Vec::from_slice(alloc, json.as_str().as_bytes())?;
+    let identity = identity_of(alloc, named)?;
+    Ok(Told {
+        identity,
+        names,
+        names_json,
+    })
+}
+
+/// `program V X`: the version of program files, and the fingerprint.
+fn identity_of(alloc: Global, named: &NamedProgram) -> Result<Vec<u8>, AllocError> {
+    let mut digits = Buffer::new();
+    let version = digits.format(version_of(named.program.form()));
+    let mut text = text_of(alloc, b"program ", version.as_bytes())?;
+    let digest = fingerprint(alloc, named.canonical.as_str())?;
+    text.extend_from_slice(b" ")?;
+    text.extend_from_slice(digest.as_str().as_bytes())?;
+    Ok(text)
+}
+
+/// The fingerprint in the answer to `program`, behind the word and the version.
+pub(crate) fn fingerprint_in(identity: &[u8]) -> &[u8] {
+    identity.get(10..).unwrap_or(b"")
+}
+
+/// The version of program files of this form.
+pub(crate) fn version_of(form: Form) -> u32 {
+    match form {
+        Form::One => 1,
+        Form::Two => 2,
+    }
+}
+
+/// These two pieces.
+fn text_of(alloc: Global, front: &[u8], rest: &[u8]) -> Result<Vec<u8>, AllocError> {
+    let mut text = Vec::from_slice(alloc, front)?;
+    text.extend_from_slice(rest)?;
+    Ok(text)
+}

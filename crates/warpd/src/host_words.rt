@@ -1,0 +1,254 @@
+//! What the words and the files of a host say, before its program is looked at.
+ghost use Rattle.std.specs.Prelude.{IfErr};
+ghost use Rattle.warpd.specs.Outcome.{KeepsFromHosting};
+
+use crate::outcome::{Outcome, TokenFile};
+use std::alloc::{AllocError, Global};
+use std::fs::{self, Files, OpenFile};
+use std::io::Read;
+use std::net::{Ipv4Addr, SocketAddr};
+use std::os::unix::fs::PermissionsExt;
+use warp_host::{DEFAULT_CLIENTS, MOST_PEERS, PeerAt, SyncWhen, may_listen};
+use warp_words::HostJob;
+
+/// The port that is listened on where none is given.
+const DEFAULT_PORT: u16 = 7_070;
+
+/// The longest that a record may wait to be brought to the disk, in milliseconds.
+const LONGEST_WAIT: u64 = 60_000;
+
+/// The most bytes of a file of tokens.
+const LONGEST_TOKENS: u64 = 1_048_576;
+
+/// The bits of a file's mode that let the group or others read it.
+const OTHERS_READ: u32 = 0o044;
+
+/// What a host is asked for, as its words and files say it.
+#[derive(Drop)]
+pub(crate) struct HostPlan {
+    /// Where to listen.
+    pub(crate) address: SocketAddr,
+    /// How many clients there may be at a time.
+    pub(crate) clients: u32,
+    /// The text of the file of tokens, if there is one.
+    pub(crate) tokens: Option<Vec<u8>>,
+    /// The origins of pages that may connect beside the host's own.
+    pub(crate) origins: Vec<String>,
+    /// The peers.
+    pub(crate) peers: Vec<PeerAt>,
+    /// Whether the host ends with its standard input.
+    pub(crate) until_input_ends: bool,
+    /// The path of the journal, if there is to be one.
+    pub(crate) journal: Option<String>,
+    /// When it is brought to the disk.
+    pub(crate) sync: SyncWhen,
+}
+
+/// The address that the word names.
+fn address_of(word: Option<&str>) -> Result<SocketAddr, Outcome>
+    ensures { IfErr result KeepsFromHosting }
+{
+    let Some(word) = word else {
+        return Ok(SocketAddr::from((Ipv4Addr::LOCALHOST, DEFAULT_PORT)));
+    };
+    match word.parse::<SocketAddr>() {
+        Ok(address) => Ok(address),
+        Err(_) => Err(Outcome::NoAddress),
+    }
+}
+
+/// All bytes of a file of tokens, which others may not read.
+fn token_bytes<F: Files>(
+    files: &F,
+    alloc: Global,
+    name: &str,
+    which: TokenFile,
+) -> Result<Vec<u8>, Outcome>
+    ensures { IfErr result KeepsFromHosting }
+{
+    let unread = Outcome::NoTokens(which);
+    let Ok(file) = fs::open(files, name) else {
+        return Err(unread);
+    };
+    let Ok(about) = file.metadata() else {
+        return Err(unread);
+    };
+    if about.permissions().mode() & OTHERS_READ != 0 {
+        return Err(Outcome::ShownTokens(which));
+    }
+    let mut bytes = Vec::new(alloc);
+    // One more, so that a longer file is seen to be longer.
+    let mut front = file.take(LONGEST_TOKENS + 1);
+    match front.read_to_end(&mut bytes) {
+        Ok(_) if bytes.len() as u64 <= LONGEST_TOKENS => Ok(bytes),
+        _ => Err(unread),
+    }
+}
+
+/// All bytes of the file of tokens that this word names, if there is such a word.
+fn tokens_of<F: Files>(
+    files: &F,
+    alloc: Global,
+    word: Option<&str>,
+    which: TokenFile,
+) -> Result<Option<Vec<u8>>, Outcome>
+    ensures { IfErr result KeepsFromHosting }
+{
+    let Some(name) = word else {
+        return Ok(None);
+    };
+    match token_bytes(files, alloc, name, which) {
+        Ok(bytes) => Ok(Some(bytes)),
+        Err(outcome) => Err(outcome),
+    }
+}
+
+/// The peer and the token that a line of the peers' tokens has.
+fn peer_token(line: &[u8]) -> Option<(&[u8], &[u8])> {
+    let space = line.iter().position(|byte| *byte == b' ')?;
+    let token = &line[space + 1..];
+    if space == 0 || token.is_empty() || !token.iter().all(|byte| byte.is_ascii_graphic()) {
+        return None;
+    }
+    Some((&line[..space], token))
+}
+
+/// The line, from 1, of the peers' tokens that is none, if one is.
+fn bad_peer_line(text: &[u8]) -> Option<u64> {
+    let mut number = 0u64;
+    for line in text.split(|byte| *byte == b'\n') {
+        number = number.saturating_add(1);
+        let is_silent = line.is_empty() || line[0] == b'#';
+        if !is_silent && peer_token(line).is_none() {
+            return Some(number);
+        }
+    }
+    None
+}
+
+/// The token of this peer in the peers' tokens, if it has one.
+fn token_for(alloc: Global, text: &[u8], peer: &str) -> Result<Option<Vec<u8>>, AllocError> {
+    for line in text.split(|byte| *byte == b'\n') {
+        if let Some((name, token)) = peer_token(line) {
+            if name == peer.as_bytes() {
+                return Ok(Some(Vec::from_slice(alloc, token)?));
+            }
+        }
+    }
+    Ok(None)
+}
+
+/// The peers that these words name, each with its token.
+fn peers_of(alloc: Global, words: &[&str], text: &[u8]) -> Result<Vec<PeerAt>, AllocError> {
+    let mut peers = Vec::new(alloc);
+    for word in words {
+        let address = String::from_str(alloc, *word)?;
+        let token = token_for(alloc, text, *word)?;
+        peers.push(PeerAt { address, token })?;
+    }
+    Ok(peers)
+}
+
+/// These texts.
+fn origins_of(alloc: Global, words: &[&str]) -> Result<Vec<String>, AllocError> {
+    let mut origins = Vec::new(alloc);
+    for word in words {
+        origins.push(String::from_str(alloc, *word)?)?;
+    }
+    Ok(origins)
+}
+
+/// The same, or that there was no memory.
+fn or_memory<T: Drop>(made: Result<T, AllocError>) -> Result<T, Outcome>
+    ensures { IfErr result KeepsFromHosting }
+{
+    match made {
+        Ok(made) => Ok(made),
+        Err(_) => Err(Outcome::Memory),
+    }
+}
+
+/// The peers, with their tokens.
+fn peers_with_tokens<F: Files>(
+    files: &F,
+    alloc: Global,
+    job: &HostJob<'_>,
+) -> Result<Vec<PeerAt>, Outcome>
+    ensures { IfErr result KeepsFromHosting }
+{
+    if job.peers.len() > MOST_PEERS {
+        return Err(Outcome::TooManyPeers);
+    }
+    let text = tokens_of(files, alloc, job.peer_tokens, TokenFile::Peers)?;
+    let text = text.unwrap_or(Vec::new(alloc));
+    if let Some(line) = bad_peer_line(&text) {
+        return Err(Outcome::BadTokens(TokenFile::Peers, line));
+    }
+    or_memory(peers_of(alloc, &job.peers, &text))
+}
+
+/// When a journal is brought to the disk.
+fn sync_of(word: Option<&str>) -> Result<SyncWhen, Outcome>
+    ensures { IfErr result KeepsFromHosting }
+{
+    let Some(word) = word else {
+        return Ok(SyncWhen::Always);
+    };
+    if word == "always" {
+        return Ok(SyncWhen::Always);
+    }
+    if word == "never" {
+        return Ok(SyncWhen::Never);
+    }
+    match word.parse::<u64>() {
+        Ok(milliseconds) if 1 <= milliseconds && milliseconds <= LONGEST_WAIT => {
+            Ok(SyncWhen::Every(milliseconds))
+        }
+        _ => Err(Outcome::NoSync),
+    }
+}
+
+/// This path.
+fn path_of(alloc: Global, word: Option<&str>) -> Result<Option<String>, AllocError> {
+    match word {
+        Some(word) => Ok(Some(String::from_str(alloc, word)?)),
+        None => Ok(None),
+    }
+}
+
+/// What the words and the files of a host say.
+pub(crate) fn host_plan<F: Files>(
+    files: &F,
+    alloc: Global,
+    job: &HostJob<'_>,
+) -> Result<HostPlan, Outcome>
+    ensures { IfErr result KeepsFromHosting }
+{
+    let address = address_of(job.listen)?;
+    if !may_listen(address.ip(), job.tokens.is_some(), job.is_open) {
+        return Err(Outcome::NotOpen);
+    }
+    let tokens = tokens_of(files, alloc, job.tokens, TokenFile::Clients)?;
+    let peers = peers_with_tokens(files, alloc, job)?;
+    let origins = or_memory(origins_of(alloc, &job.origins))?;
+    let sync = sync_of(job.sync)?;
+    let journal = or_memory(path_of(alloc, job.journal))?;
+    Ok(HostPlan {
+        address,
+        clients: clients_of(job.clients),
+        tokens,
+        origins,
+        peers,
+        until_input_ends: job.until_input_ends,
+        journal,
+        sync,
+    })
+}
+
+/// How many clients there may be.
+fn clients_of(asked: Option<u64>) -> u32 {
+    match asked {
+        Some(clients) => u32::try_from(clients).unwrap_or(DEFAULT_CLIENTS),
+        None => DEFAULT_CLIENTS,
+    }
+}

@@ -1,0 +1,275 @@
+//! Hosting a program.
+ghost use Rattle.std.specs.Prelude.{◌≡◌, ℕ, IfErr, IfOk, List, MatchBool, OnErr, string_bytes};
+ghost use Rattle.warpd.specs.Outcome.{EndsHosting, Hosts, HostsAt, HostsPlanned, IsPrinted, KeepsFromHosting, host_line};
+
+use crate::host_program::{HostedProgram, fingerprint_in, hosted_program, version_of};
+use crate::host_words::{HostPlan, host_plan};
+use crate::outcome::{Outcome, TokenFile, outcome_of_hosting, outcome_of_journal};
+use crate::service::Host;
+use crate::streams::Streams;
+use arrayvec::ArrayString;
+use mio::net::TcpListener;
+use std::alloc::{AllocError, Global};
+use std::net::{self, IpAddr, Net, SocketAddr};
+use warp_host::{Names, OpenJournal, Options, Served, host, open_journal};
+use warp_hub::{Facts, Tokens, TokensFault};
+use warp_journal::first_line;
+use warp_line::Timeline;
+use warp_replica::Replica;
+use warp_session::{Sink, Source, write_all};
+use warp_tag::Form;
+use warp_words::HostJob;
+
+/// All that a host needs before it listens.
+#[derive(Drop)]
+struct Prepared<T: Timeline> {
+    replica: Replica<T>,
+    facts: Facts,
+    options: Options,
+    bytes: Vec<u8>,
+    names_json: Vec<u8>,
+    origins: Vec<String>,
+    address: SocketAddr,
+}
+
+/// Hosts the program that the job names.
+pub(crate) fn host_job<
+    P: Host + Net<Listener = net::TcpListener, Stream = net::TcpStream>,
+    T: Timeline + Send + Drop,
+    R: Source,
+    W: Sink,
+>(rt: &P, alloc: Global, job: &HostJob<'_>, streams: &mut Streams<R, W>) -> Outcome
+    ensures { Hosts job.now.program.now streams.old streams.new result }
+{
+    match host_plan(rt, alloc, job) {
+        Ok(plan) => host_named::<P, T, R, W>(rt, alloc, job.program, plan, streams),
+        Err(outcome) => outcome,
+    }
+}
+
+/// Hosts the program of this name, as the plan has it.
+fn host_named<
+    P: Host + Net<Listener = net::TcpListener, Stream = net::TcpStream>,
+    T: Timeline + Send + Drop,
+    R: Source,
+    W: Sink,
+>(rt: &P, alloc: Global, name: &str, plan: HostPlan, streams: &mut Streams<R, W>) -> Outcome
+    ensures { Hosts name.now streams.old streams.new result }
+{
+    match hosted_program(rt, alloc, name) {
+        Ok(hosted) => host_planned::<P, T, R, W>(rt, alloc, hosted, plan, streams),
+        Err(outcome) => outcome,
+    }
+}
+
+/// Hosts this program, as the plan has it.
+fn host_planned<
+    P: Host + Net<Listener = net::TcpListener, Stream = net::TcpStream>,
+    T: Timeline + Send + Drop,
+    R: Source,
+    W: Sink,
+>(
+    rt: &P,
+    alloc: Global,
+    hosted: HostedProgram,
+    plan: HostPlan,
+    streams: &mut Streams<R, W>,
+) -> Outcome
+    ensures { HostsPlanned streams.old streams.new result }
+{
+    match prepare::<P, T>(rt, alloc, hosted, plan) {
+        Ok(prepared) => host_at::<P, T, R, W>(rt, alloc, prepared, streams),
+        Err(outcome) => outcome,
+    }
+}
+
+/// The tokens in the text of the file of tokens, if there is one.
+fn tokens_in(alloc: Global, form: Form, text: &Option<Vec<u8>>) -> Result<Option<Tokens>, Outcome>
+    ensures { IfErr result KeepsFromHosting }
+{
+    let Some(text) = text else {
+        return Ok(None);
+    };
+    match Tokens::read(alloc, form, text) {
+        Ok(tokens) => Ok(Some(tokens)),
+        Err(TokensFault::Line(line) | TokensFault::Twice(line)) => {
+            Err(Outcome::BadTokens(TokenFile::Clients, u64::from(line)))
+        }
+        Err(TokensFault::NoMemory) => Err(Outcome::Memory),
+    }
+}
+
+/// The journal of the plan, if there is to be one, whose records the replica has taken.
+fn journal_of<P: Host, T: Timeline>(
+    rt: &P,
+    alloc: Global,
+    identity: &[u8],
+    plan: &HostPlan,
+    replica: &mut Replica<T>,
+) -> Result<Option<OpenJournal>, Outcome>
+    ensures { IfErr result KeepsFromHosting }
+{
+    let Some(path) = &plan.journal else {
+        return Ok(None);
+    };
+    let version = version_of(replica.program().form());
+    let Ok(first) = first_line(alloc, version, fingerprint_in(identity)) else {
+        return Err(Outcome::Memory);
+    };
+    match open_journal(rt, alloc, path.as_str(), plan.sync, &first, replica) {
+        Ok(journal) => Ok(Some(journal)),
+        Err(fault) => Err(outcome_of_journal(fault)),
+    }
+}
+
+/// All that a host needs of its program and its plan.
+fn prepare<P: Host, T: Timeline>(
+    rt: &P,
+    alloc: Global,
+    hosted: HostedProgram,
+    plan: HostPlan,
+) -> Result<Prepared<T>, Outcome>
+    ensures { IfErr result KeepsFromHosting }
+{
+    let form = hosted.program.form();
+    // One for the lines of clients, one for HTTP.
+    let tokens = tokens_in(alloc, form, &plan.tokens)?;
+    let again = tokens_in(alloc, form, &plan.tokens)?;
+    let HostedProgram {
+        program,
+        bytes,
+        identity,
+        names,
+        names_json,
+    } = hosted;
+    let most_clients = plan.clients.saturating_add(plan.peers.len() as u32);
+    let Ok(mut replica) = Replica::new(alloc, program) else {
+        return Err(Outcome::Memory);
+    };
+    let journal = journal_of(rt, alloc, &identity, &plan, &mut replica)?;
+    Ok(Prepared {
+        replica,
+        facts: Facts {
+            form,
+            program: identity,
+            names,
+            most_clients,
+            tokens,
+        },
+        bytes,
+        names_json,
+        address: plan.address,
+        origins: plan.origins,
+        options: Options {
+            clients: plan.clients,
+            tokens: again,
+            peers: plan.peers,
+            until_input_ends: plan.until_input_ends,
+            journal,
+        },
+    })
+}
+
+/// The line that says where is listened.
+fn host_line(alloc: Global, address: &str) -> Result<String, AllocError>
+    ensures { IfOk result (λ line. string_bytes line ≡ host_line address.now) }
+{
+    let mut line = String::from_str(alloc, "ready ")?;
+    line.push_str(address)?;
+    line.push_str("\n")?;
+    Ok(line)
+}
+
+/// Says where is listened, and answers whether that could be written; `Err` for want of memory, and nothing was.
+fn say_host<R: Source, W: Sink>(
+    alloc: Global,
+    address: SocketAddr,
+    streams: &mut Streams<R, W>,
+) -> Result<bool, AllocError>
+    ensures ok { IfOk result (λ written. (text : List ℕ) × MatchBool written
+        (IsPrinted (host_line text) streams.old streams.new Outcome.Done)
+        (IsPrinted (host_line text) streams.old streams.new Outcome.Output)) }
+    ensures err { OnErr result (streams.new ≡ streams.old) }
+{
+    let text = address.to_string(alloc)?;
+    let line = host_line(alloc, text.as_str())?;
+    match write_all(&mut streams.sink, line.as_str().as_bytes()) {
+        Ok(()) => Ok(true),
+        Err(_) => Ok(false),
+    }
+}
+
+/// Listens, says so, and hosts.
+fn host_at<
+    P: Host + Net<Listener = net::TcpListener, Stream = net::TcpStream>,
+    T: Timeline + Send + Drop,
+    R: Source,
+    W: Sink,
+>(rt: &P, alloc: Global, prepared: Prepared<T>, streams: &mut Streams<R, W>) -> Outcome
+    ensures { HostsAt streams.old streams.new result }
+{
+    let Ok(listener) = TcpListener::bind(rt, prepared.address) else {
+        return Outcome::Listen;
+    };
+    let Ok(address) = listener.local_addr() else {
+        return Outcome::Listen;
+    };
+    match say_host(alloc, address, streams) {
+        Ok(true) => host_on::<P, T>(rt, alloc, prepared, listener, address),
+        Ok(false) => Outcome::Output,
+        Err(_) => Outcome::Memory,
+    }
+}
+
+/// Hosts at this listener.
+fn host_on<
+    P: Host + Net<Listener = net::TcpListener, Stream = net::TcpStream>,
+    T: Timeline + Send + Drop,
+>(
+    rt: &P,
+    alloc: Global,
+    prepared: Prepared<T>,
+    listener: TcpListener,
+    address: SocketAddr,
+) -> Outcome
+    ensures { EndsHosting result }
+{
+    let Prepared {
+        replica,
+        facts,
+        options,
+        bytes,
+        names_json,
+        origins,
+        ..
+    } = prepared;
+    let Ok(own) = own_name(alloc, address.ip()) else {
+        return Outcome::Memory;
+    };
+    let served = Served {
+        program: bytes,
+        names_json,
+        names: Names::new(own, address.port(), origins),
+    };
+    outcome_of_hosting(host::<P, T>(rt, alloc, replica, facts, served, listener, options))
+}
+
+/// The address as a page names it: an IPv6 address stands in brackets.
+fn own_name(alloc: Global, address: IpAddr) -> Result<ArrayString<64>, AllocError> {
+    let text = address.to_string(alloc)?;
+    let mut name = ArrayString::new();
+    let is_short = match address {
+        IpAddr::V4(_) => name.try_push_str(text.as_str()).is_ok(),
+        IpAddr::V6(_) => {
+            name.try_push_str("[").is_ok()
+                && name.try_push_str(text.as_str()).is_ok()
+                && name.try_push_str("]").is_ok()
+        }
+    };
+    // A longer one than any is names nothing.
+    if is_short {
+        Ok(name)
+    } else {
+        Ok(ArrayString::new())
+    }
+}
