@@ -32,6 +32,7 @@ use rtrb::{Consumer, Producer, RingBuffer};
 use slab::Slab;
 use std::alloc::{AllocError, Global};
 use std::collections::VecDeque;
+use std::fs::{File, Files};
 use std::hash::RandomState;
 use std::io::{self, Eprint};
 use std::net::{self, Net};
@@ -99,11 +100,11 @@ pub struct Served {
 }
 
 /// What a host needs of the system.
-pub trait Machine: Eprint + Threads + Wait + Clock + RandomSource + Sync {}
+pub trait Machine: Eprint + Files<File = File> + Threads + Wait + Clock + RandomSource + Sync {}
 
 impl<X> Machine for X
 where
-    X: Eprint + Threads + Wait + Clock + RandomSource + Sync,
+    X: Eprint + Files<File = File> + Threads + Wait + Clock + RandomSource + Sync,
 {}
 
 /// Adds a lane: its port, and its other end.
@@ -348,7 +349,7 @@ fn run_beside<'s, E, X, T: Timeline + Send + Drop + 's>(
 ) -> Result<(), HostFault>
 where
     X: Net<Listener = net::TcpListener, Stream = net::TcpStream> + 's,
-    X: Eprint + Threads + Wait + Clock + Sync,
+    X: Eprint + Files<File = File> + Threads + Wait + Clock + Sync,
 {
     let Shared { bells, durable } = shared;
     let Ok(running) = start_executor(scope, rt, executor) else {

@@ -1,7 +1,7 @@
 //! The file of a journal: it is locked, read and mended before a host begins.
 
 use std::alloc::{AllocError, Global};
-use std::fs::{File, Files, OpenOptions, TryLockError};
+use std::fs::{self, File, Files, OpenOptions, TryLockError};
 use std::io::{self, Eprint, ErrorKind, Read, Write};
 use std::path::Path;
 use std::time::Duration;
@@ -68,19 +68,24 @@ impl Disk for JournalFile {
 }
 
 impl JournalFile {
-    /// Tells that the journal could not be written, and why.
-    pub(crate) fn tell<X: Eprint>(&self, rt: &X) {
-        let _ = match self.fault {
-            Some(kind) => eprintln!(rt; "journal: it cannot be written: {kind}; the host ends"),
-            None => rt.eprintln("journal: no memory to write it; the host ends"),
-        };
+    /// Why it could not be written, if the system said so.
+    pub(crate) fn fault(&self) -> Option<ErrorKind> {
+        self.fault
     }
+}
+
+/// Where a journal stands, and its first line, without its line feed.
+#[derive(Drop)]
+pub(crate) struct JournalPlace {
+    pub(crate) path: String,
+    pub(crate) first: Vec<u8>,
 }
 
 /// The journal of a host that begins.
 #[derive(Drop)]
 pub struct OpenJournal {
     pub(crate) keeper: Keeper<JournalFile>,
+    pub(crate) place: JournalPlace,
     pub(crate) when: SyncWhen,
     pub(crate) lock: File,
 }
@@ -253,6 +258,40 @@ fn begin(alloc: Global, file: &mut File, first: &[u8]) -> Result<Journal, OpenFa
     Ok(Journal::begin(first))
 }
 
+/// The path of the fresh file beside the journal at this path.
+fn path_beside(alloc: Global, path: &str) -> Result<String, AllocError> {
+    let mut name = String::from_str(alloc, path)?;
+    name.push_str(".new")?;
+    Ok(name)
+}
+
+/// Begins a journal with the same first line in a fresh file beside this one.
+pub(crate) fn begin_beside<F: Files<File = File>>(
+    files: &F,
+    alloc: Global,
+    place: &JournalPlace,
+) -> Result<JournalFile, OpenFault> {
+    let name = path_beside(alloc, place.path.as_str())?;
+    let mut file = OpenOptions::new()
+        .write(true)
+        .create(true)
+        .truncate(true)
+        .open(files, name.as_str())?;
+    begin(alloc, &mut file, &place.first)?;
+    Ok(JournalFile { file, fault: None })
+}
+
+/// Has the fresh file beside the journal take its place, on the disk too.
+pub(crate) fn take_place<F: Files<File = File>>(
+    files: &F,
+    alloc: Global,
+    place: &JournalPlace,
+) -> Result<(), OpenFault> {
+    let name = path_beside(alloc, place.path.as_str())?;
+    fs::rename(files, name.as_str(), place.path.as_str())?;
+    sync_folder(files, place.path.as_str())
+}
+
 /// Reads the journal that these bytes of the file are, cuts off what is torn, and has the replica take its records.
 fn go_on<X: Eprint, T: Timeline>(
     rt: &X,
@@ -320,8 +359,13 @@ pub fn open_journal<X: Files<File = File> + Eprint, T: Timeline>(
     file.sync_all()?;
     sync_folder(rt, path)?;
     let disk = JournalFile { file, fault: None };
+    let place = JournalPlace {
+        path: String::from_str(alloc, path)?,
+        first: Vec::from_slice(alloc, first)?,
+    };
     Ok(OpenJournal {
         keeper: Keeper::new(alloc, disk, journal),
+        place,
         when,
         lock,
     })

@@ -30,6 +30,7 @@ mod peer;
 mod peers;
 mod post;
 mod query;
+mod renewal;
 mod scribe;
 mod serving;
 mod socket;

@@ -1,16 +1,18 @@
 //! The thread that writes the journal: neither the loop nor the executor waits for a disk.
+//!
+//! Where the disk fails, nothing behind the last synced place is trusted: the log is written anew (`renewal`).
 
 use crate::bells::Bells;
 use crate::durable::Durable;
-use crate::handing::PLACES;
-use crate::journal_file::{JournalFile, SyncWhen};
+use crate::handing::{Handed, PLACES};
+use crate::journal_file::{JournalFile, JournalPlace, SyncWhen};
 use rtrb::Consumer;
-use std::fs::File;
+use std::alloc::Global;
+use std::fs::{File, Files};
 use std::io::Eprint;
 use std::sync::Wait;
 use std::time::{Clock, Duration};
 use warp_journal::{Failed, Keeper};
-use warp_record::Record;
 
 /// The longest sleep of the journal's thread, in milliseconds.
 const LONGEST_SLEEP: u64 = 100;
@@ -21,13 +23,17 @@ const BATCH: u32 = 1_024;
 /// What the journal's thread holds.
 #[derive(Drop)]
 pub(crate) struct Scribe<'a> {
+    pub(crate) alloc: Global,
     pub(crate) keeper: Keeper<JournalFile>,
+    pub(crate) place: JournalPlace,
     pub(crate) when: SyncWhen,
-    pub(crate) handed: Consumer<Record>,
+    pub(crate) handed: Consumer<Handed>,
     pub(crate) durable: &'a Durable,
     pub(crate) bells: &'a Bells,
     /// Since when records wait to be brought to the disk, if any do.
     pub(crate) behind_since: Option<Duration>,
+    /// How many times the log was asked for from its beginning.
+    pub(crate) beginnings: u32,
     /// Held as long as this thread runs.
     pub(crate) lock: File,
 }
@@ -37,8 +43,12 @@ impl<'a> Scribe<'a> {
     fn take_all(&mut self) -> Result<usize, Failed> {
         let mut count = 0;
         while count < PLACES {
-            let Ok(record) = self.handed.pop() else {
+            let Ok(handed) = self.handed.pop() else {
                 break;
+            };
+            // The log comes from its beginning only where `renewal` asked for it, and takes it.
+            let Handed::Record(record) = handed else {
+                continue;
             };
             self.keeper.take(&record)?;
             if self.when == SyncWhen::Never && self.keeper.len() % BATCH == 0 {
@@ -122,12 +132,17 @@ impl<'a> Scribe<'a> {
         self.end()
     }
 
-    /// Writes until it is to end. Where the disk fails that is said, and the host ends.
-    pub(crate) fn run<X: Wait + Clock + Eprint>(mut self, rt: &X) {
-        if self.write_on(rt).is_err() {
-            self.keeper.disk().tell(rt);
-            self.durable.fail();
-            self.bells.wake_loop();
+    /// Writes until it is to end. Where the disk fails that is said, and the journal is written anew.
+    pub(crate) fn run<X: Wait + Clock + Eprint + Files<File = File>>(mut self, rt: &X) {
+        for _ in rt.forever() {
+            if self.write_on(rt).is_ok() {
+                return;
+            }
+            if !self.renew(rt) {
+                break;
+            }
         }
+        self.durable.fail();
+        self.bells.wake_loop();
     }
 }

@@ -190,9 +190,14 @@ impl<'a> Serving<'a> {
 
     /// Does what there is to do.
     fn round<X: System>(&mut self, rt: &X) {
+        let refuses = self.durable.is_failing();
+        self.common.post.refuse_records(refuses);
         self.accept_some();
         self.serve_queue();
-        self.peers.turn(rt, &self.poll, &mut self.common);
+        // A peer's records are not refused: they wait.
+        if !refuses {
+            self.peers.turn(rt, &self.poll, &mut self.common);
+        }
         self.send_off();
         // What the executor answers from now on wakes the loop.
         self.bells.loop_sleeps();

@@ -8,6 +8,7 @@ use crate::journal_file::{OpenJournal, SyncWhen};
 use crate::scribe::Scribe;
 use rtrb::RingBuffer;
 use std::alloc::{AllocError, Global};
+use std::fs::{File, Files};
 use std::io::Eprint;
 use std::sync::Wait;
 use std::thread::{JoinHandle, Scope, Threads};
@@ -38,23 +39,31 @@ pub(crate) fn make_scribe<'a>(
     let Some(journal) = journal else {
         return Ok((None, None));
     };
-    let OpenJournal { keeper, when, lock } = journal;
+    let OpenJournal {
+        keeper,
+        place,
+        when,
+        lock,
+    } = journal;
     let (ring, handed) = RingBuffer::new(alloc, PLACES)?;
     let handing = Handing::new(ring, durable, keeper.len());
     let scribe = Scribe {
+        alloc,
         keeper,
+        place,
         when,
         handed,
         durable,
         bells,
         behind_since: None,
+        beginnings: 0,
         lock,
     };
     Ok((Some(handing), Some(scribe)))
 }
 
 /// Starts the journal's thread, if there is a journal.
-pub(crate) fn start_writing<'s, E, X: Eprint + Wait + Clock + Sync + 's>(
+pub(crate) fn start_writing<'s, E, X: Eprint + Files<File = File> + Wait + Clock + Sync + 's>(
     scope: &'s Scope<'s, E>,
     rt: &'s X,
     scribe: Option<Scribe<'s>>,

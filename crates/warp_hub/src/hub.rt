@@ -98,6 +98,7 @@ impl Hub {
                 facts,
                 reader,
                 counts: NO_COUNTS,
+                refuses_records: false,
             },
             gates,
             places: Vec::new(alloc),
@@ -114,6 +115,13 @@ impl Hub {
     /// What was counted.
     pub fn counts(&self) -> Counts {
         self.commons.counts
+    }
+
+    /// Whether records that come from now on are refused 14, since the journal can't be written.
+    pub fn refuse_records(&mut self, refuses: bool)
+        ensures { self.new ≡ self.old }
+    {
+        self.commons.refuses_records = refuses;
     }
 
     /// A client has come, with these rights; with `None` it has all rights where the host has no tokens, and else none

@@ -1,0 +1,112 @@
+//! A journal that could not be written is written anew: the whole log, to a fresh file that takes the old one's place.
+//!
+//! A sync that answers well proves nothing of what failed before it, so nothing of the old file is used again. The
+//! executor hands the log from its beginning. Until the fresh file is on the disk nothing is told of more of the log than
+//! the old one was synced for, and clients' records are refused.
+
+use crate::handing::Handed;
+use crate::journal_file::{JournalFile, begin_beside, take_place};
+use crate::operator;
+use crate::scribe::Scribe;
+use std::fs::{File, Files};
+use std::io::Eprint;
+use std::sync::Wait;
+use std::time::Duration;
+use warp_journal::{Failed, Journal, Keeper};
+use warp_record::Record;
+
+/// How long it waits before it tries, in milliseconds.
+const PAUSE: u64 = 1_000;
+
+/// How long it waits for the executor, in milliseconds, before it looks again at what was handed.
+const MOMENT: u64 = 1;
+
+/// So many records are written at once.
+const BATCH: u32 = 1_024;
+
+impl<'a> Scribe<'a> {
+    /// Tries each second to write the journal anew, until that is done; whether it is, before this thread is to end.
+    pub(crate) fn renew<X: Wait + Eprint + Files<File = File>>(&mut self, rt: &X) -> bool {
+        let fault = self.keeper.disk().fault();
+        operator::tell_journal_fails(rt, fault);
+        self.durable.note_failing(true);
+        self.bells.wake_loop();
+        let least = self.keeper.len();
+        for _ in rt.forever() {
+            if self.durable.is_over() {
+                return false;
+            }
+            self.durable.sleep(rt, Duration::from_millis(PAUSE));
+            if self.write_anew(rt, least).is_ok() {
+                break;
+            }
+        }
+        operator::tell_journal_renewed(rt, self.keeper.len());
+        self.durable.note_failing(false);
+        self.bells.wake_loop();
+        true
+    }
+
+    /// Writes the log, of which there are so many records at least, to a fresh file, brings it to the disk, and has it
+    /// take the journal's place.
+    fn write_anew<X: Wait + Files<File = File>>(
+        &mut self,
+        rt: &X,
+        least: u32,
+    ) -> Result<(), Failed> {
+        let Ok(disk) = begin_beside(rt, self.alloc, &self.place) else {
+            return Err(Failed);
+        };
+        let mut fresh = Keeper::new(self.alloc, disk, Journal::begin(&self.place.first));
+        self.beginnings = self.beginnings.wrapping_add(1);
+        self.durable.ask_for_all(self.beginnings);
+        self.take_from_beginning(rt, &mut fresh, least)?;
+        let count = fresh.sync()?;
+        if take_place(rt, self.alloc, &self.place).is_err() {
+            return Err(Failed);
+        }
+        self.keeper = fresh;
+        self.behind_since = None;
+        self.durable.note_synced(count);
+        Ok(())
+    }
+
+    /// Takes the log from its beginning, as far as it was handed, and so many records at least.
+    fn take_from_beginning<X: Wait>(
+        &mut self,
+        rt: &X,
+        fresh: &mut Keeper<JournalFile>,
+        least: u32,
+    ) -> Result<(), Failed> {
+        let mut has_begun = false;
+        for _ in rt.forever() {
+            match self.handed.pop() {
+                Ok(Handed::Beginning(number)) => has_begun = number == self.beginnings,
+                Ok(Handed::Record(record)) if has_begun => take_in_batches(fresh, &record)?,
+                Ok(Handed::Record(_)) => {}
+                Err(_) if has_begun && fresh.len() >= least => return Ok(()),
+                Err(_) => self.wait_for_executor(rt)?,
+            }
+        }
+        Ok(())
+    }
+
+    /// Waits a moment for the executor. `Err` where this thread is to end.
+    fn wait_for_executor<X: Wait>(&mut self, rt: &X) -> Result<(), Failed> {
+        if self.durable.is_over() {
+            return Err(Failed);
+        }
+        self.bells.wake_executor();
+        self.durable.sleep(rt, Duration::from_millis(MOMENT));
+        Ok(())
+    }
+}
+
+/// Takes a record, and writes those that wait where they are many.
+fn take_in_batches(fresh: &mut Keeper<JournalFile>, record: &Record) -> Result<(), Failed> {
+    fresh.take(record)?;
+    if fresh.len() % BATCH == 0 {
+        fresh.write()?;
+    }
+    Ok(())
+}
