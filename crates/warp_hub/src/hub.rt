@@ -258,7 +258,7 @@ impl Hub {
     pub fn fetch(&mut self, durable: u32, board: &Board)
         requires { self.old.board ≡ board.now }
         ensures board { self.new.board ≡ self.old.board }
-        ensures lanes { LanesRun IsHandedOn self.old.lanes self.new.lanes }
+        ensures lanes { LanesRun (IsHandedOn durable) self.old.lanes self.new.lanes }
     {
         for lane in 0..self.gates.len() {
             self.fetch_from(lane, durable, board);
@@ -269,7 +269,7 @@ impl Hub {
     fn fetch_from(&mut self, lane: usize, durable: u32, board: &Board)
         requires { self.old.board ≡ board.now }
         ensures board { self.new.board ≡ self.old.board }
-        ensures lanes { LanesRun IsHandedOn self.old.lanes self.new.lanes }
+        ensures lanes { LanesRun (IsHandedOn durable) self.old.lanes self.new.lanes }
     {
         for _ in 0..MOST_FETCHED {
             if !self.fetch_one(lane, durable, board) {
@@ -283,7 +283,7 @@ impl Hub {
     fn fetch_one(&mut self, lane: usize, durable: u32, board: &Board) -> bool
         requires { self.old.board ≡ board.now }
         ensures board { self.new.board ≡ self.old.board }
-        ensures lanes { LanesRun IsHandedOn self.old.lanes self.new.lanes }
+        ensures lanes { LanesRun (IsHandedOn durable) self.old.lanes self.new.lanes }
     {
         let Some((asker, answer)) = next_answer(&mut self.gates, lane, durable) else {
             return false;
