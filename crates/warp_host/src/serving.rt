@@ -124,6 +124,10 @@ impl<'a> Serving<'a> {
         }
         let since = self.common.now.saturating_sub(self.ticked);
         let tick = Duration::from_millis(TICK).saturating_sub(since);
+        if self.durable.is_failing() {
+            // Peers wait until the journal can be written.
+            return tick;
+        }
         self.peers.timeout(self.common.now).min(tick)
     }
 
