@@ -7,6 +7,7 @@ use crate::host_words::{HostPlan, host_plan};
 use crate::outcome::{Outcome, TokenFile, outcome_of_hosting, outcome_of_journal};
 use crate::service::Host;
 use crate::streams::Streams;
+use crate::telling::tell_listen;
 use arrayvec::ArrayString;
 use mio::net::TcpListener;
 use std::alloc::{AllocError, Global};
@@ -208,8 +209,12 @@ fn host_at<
 >(rt: &P, alloc: Global, prepared: Prepared<T>, streams: &mut Streams<R, W>) -> Outcome
     ensures { HostsAt streams.old streams.new result }
 {
-    let Ok(listener) = TcpListener::bind(rt, prepared.address) else {
-        return Outcome::Listen;
+    let listener = match TcpListener::bind(rt, prepared.address) {
+        Ok(listener) => listener,
+        Err(error) => {
+            tell_listen(rt, &prepared.address, &error);
+            return Outcome::Listen;
+        }
     };
     let Ok(address) = listener.local_addr() else {
         return Outcome::Listen;

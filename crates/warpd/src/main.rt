@@ -20,6 +20,7 @@ mod service;
 mod stack;
 mod stepping;
 mod streams;
+mod telling;
 mod tracing;
 
 ghost use Rattle.std.specs.Prelude.{◌≡◌, ◌≢◌, ◌+◌, ◌<◌, ◌≤◌, ◌⊎◌, IfErr, IfOk, MatchBool, MatchResult, OnOk};
