@@ -158,6 +158,7 @@ fn make_pages(alloc: Global, served: Served, options: &mut Options) -> Result<Pa
         names_json: Bytes::from_vec(names_json)?,
         seen: Seen::nothing(u64::from(options.clients)),
         answered: 0,
+        unauthorized: 0,
         upgraded: None,
     })
 }

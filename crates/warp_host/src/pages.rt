@@ -35,6 +35,9 @@ const JSON: &str = "application/json";
 
 const METRICS: &str = "text/plain; version=0.0.4; charset=utf-8";
 
+/// The status of an answer to a request that wants a token.
+const UNAUTHORIZED: u16 = 401;
+
 /// Answers requests.
 #[derive(Drop)]
 pub(crate) struct Pages {
@@ -46,6 +49,8 @@ pub(crate) struct Pages {
     pub(crate) seen: Seen,
     /// How many requests were answered.
     pub(crate) answered: u64,
+    /// How many of them wanted a token, and brought none or a wrong one.
+    pub(crate) unauthorized: u64,
     /// The rights of a connection that was just upgraded: those of the token that it brought, if it brought one.
     pub(crate) upgraded: Option<Option<Rights>>,
 }
@@ -345,6 +350,9 @@ impl Service for Pages {
         match self.serve(request, response) {
             Ok(answered) => {
                 self.answered = self.answered.wrapping_add(1);
+                if response.status.as_u16() == UNAUTHORIZED {
+                    self.unauthorized = self.unauthorized.wrapping_add(1);
+                }
                 self.upgraded = rights_in(answered);
                 Ok(())
             }
