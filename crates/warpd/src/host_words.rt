@@ -24,6 +24,13 @@ const LONGEST_TOKENS: u64 = 1_048_576;
 /// The bits of a file's mode that let the group or others read it.
 const OTHERS_READ: u32 = 0o044;
 
+/// A file of tokens.
+#[derive(Drop)]
+pub(crate) struct TokenText {
+    pub(crate) path: String,
+    pub(crate) text: Vec<u8>,
+}
+
 /// What a host is asked for, as its words and files say it.
 #[derive(Drop)]
 pub(crate) struct HostPlan {
@@ -31,8 +38,8 @@ pub(crate) struct HostPlan {
     pub(crate) address: SocketAddr,
     /// How many clients there may be at a time.
     pub(crate) clients: u32,
-    /// The text of the file of tokens, if there is one.
-    pub(crate) tokens: Option<Vec<u8>>,
+    /// The file of tokens, if there is one.
+    pub(crate) tokens: Option<TokenText>,
     /// The origins of pages that may connect beside the host's own.
     pub(crate) origins: Vec<String>,
     /// The peers.
@@ -111,20 +118,21 @@ fn file_bytes<X: Eprint, O: OpenFile + Read + Drop>(
     Err(Outcome::NoTokens(which))
 }
 
-/// All bytes of the file of tokens that this word names, if there is such a word.
+/// The file of tokens that this word names, if there is such a word.
 fn tokens_of<X: Files + Eprint>(
     rt: &X,
     alloc: Global,
     word: Option<&str>,
     which: TokenFile,
-) -> Result<Option<Vec<u8>>, Outcome>
+) -> Result<Option<TokenText>, Outcome>
     ensures { IfErr result KeepsFromHosting }
 {
     let Some(name) = word else {
         return Ok(None);
     };
+    let path = or_memory(String::from_str(alloc, name))?;
     match token_bytes(rt, alloc, name, which) {
-        Ok(bytes) => Ok(Some(bytes)),
+        Ok(text) => Ok(Some(TokenText { path, text })),
         Err(outcome) => Err(outcome),
     }
 }
@@ -206,8 +214,10 @@ fn peers_with_tokens<X: Files + Eprint>(
         tell_peers(rt, job.peers.len(), MOST_PEERS);
         return Err(Outcome::TooManyPeers);
     }
-    let text = tokens_of(rt, alloc, job.peer_tokens, TokenFile::Peers)?;
-    let text = text.unwrap_or(Vec::new(alloc));
+    let text = match tokens_of(rt, alloc, job.peer_tokens, TokenFile::Peers)? {
+        Some(file) => file.text,
+        None => Vec::new(alloc),
+    };
     if let Some(line) = bad_peer_line(&text) {
         tell_line(
             rt,

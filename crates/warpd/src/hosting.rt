@@ -2,9 +2,10 @@
 ghost use Rattle.std.specs.Prelude.{◌≡◌, ℕ, IfErr, IfOk, List, MatchBool, OnErr, string_bytes};
 ghost use Rattle.warpd.specs.Outcome.{EndsHosting, Hosts, HostsAt, HostsPlanned, IsPrinted, KeepsFromHosting, host_line};
 
+use crate::client_tokens::tokens_in;
 use crate::host_program::{HostedProgram, fingerprint_in, hosted_program, version_of};
 use crate::host_words::{HostPlan, host_plan};
-use crate::outcome::{Outcome, TokenFile, outcome_of_hosting, outcome_of_journal};
+use crate::outcome::{Outcome, outcome_of_hosting, outcome_of_journal};
 use crate::service::Host;
 use crate::streams::Streams;
 use crate::telling::tell_listen;
@@ -13,12 +14,11 @@ use mio::net::TcpListener;
 use std::alloc::{AllocError, Global};
 use std::net::{self, IpAddr, Net, SocketAddr};
 use warp_host::{Names, OpenJournal, Options, Served, host, open_journal};
-use warp_hub::{Facts, Tokens, TokensFault};
+use warp_hub::Facts;
 use warp_journal::first_line;
 use warp_line::Timeline;
 use warp_replica::Replica;
 use warp_session::{Sink, Source, write_all};
-use warp_tag::Form;
 use warp_words::HostJob;
 
 /// All that a host needs before it listens.
@@ -84,22 +84,6 @@ fn host_planned<
     }
 }
 
-/// The tokens in the text of the file of tokens, if there is one.
-fn tokens_in(alloc: Global, form: Form, text: &Option<Vec<u8>>) -> Result<Option<Tokens>, Outcome>
-    ensures { IfErr result KeepsFromHosting }
-{
-    let Some(text) = text else {
-        return Ok(None);
-    };
-    match Tokens::read(alloc, form, text) {
-        Ok(tokens) => Ok(Some(tokens)),
-        Err(TokensFault::Line(line) | TokensFault::Twice(line)) => {
-            Err(Outcome::BadTokens(TokenFile::Clients, u64::from(line)))
-        }
-        Err(TokensFault::NoMemory) => Err(Outcome::Memory),
-    }
-}
-
 /// The journal of the plan, if there is to be one, whose records the replica has taken.
 fn journal_of<P: Host, T: Timeline>(
     rt: &P,
@@ -134,8 +118,8 @@ fn prepare<P: Host, T: Timeline>(
 {
     let form = hosted.program.form();
     // One for the lines of clients, one for HTTP.
-    let tokens = tokens_in(alloc, form, &plan.tokens)?;
-    let again = tokens_in(alloc, form, &plan.tokens)?;
+    let tokens = tokens_in(rt, alloc, &hosted.program, &plan.tokens)?;
+    let again = tokens_in(rt, alloc, &hosted.program, &plan.tokens)?;
     let HostedProgram {
         program,
         bytes,
