@@ -21,6 +21,9 @@ use warp_replica::Replica;
 use warp_session::{Sink, Source, write_all};
 use warp_words::HostJob;
 
+/// The version that an operator is told: what `--version` prints.
+const VERSION: &str = "1.2.0";
+
 /// All that a host needs before it listens.
 #[derive(Drop)]
 struct Prepared<T: Timeline> {
@@ -146,6 +149,7 @@ fn prepare<P: Host, T: Timeline>(
         address: plan.address,
         origins: plan.origins,
         options: Options {
+            version: VERSION,
             clients: plan.clients,
             tokens: again,
             peers: plan.peers,
