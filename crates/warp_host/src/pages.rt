@@ -140,6 +140,21 @@ fn ask_for_upgrade(response: &mut Response) -> Result<Answered, AllocError> {
     )
 }
 
+/// Lets the page that asked read the answer, where it said its origin, which is one that may.
+fn allow_origin(request: &Request<Bytes>, response: &mut Response) -> Result<(), AllocError> {
+    let Some(origin) = request.headers().get("origin") else {
+        return Ok(());
+    };
+    response.add_header(
+        HeaderName::from_static("access-control-allow-origin"),
+        origin.clone()?,
+    )?;
+    response.add_header(
+        HeaderName::from_static("vary"),
+        HeaderValue::from_static("Origin"),
+    )
+}
+
 /// Fills the answer that a connection is upgraded.
 fn accept_upgrade(alloc: Global, response: &mut Response, accept: &[u8]) -> Result<(), AllocError> {
     let Ok(value) = HeaderValue::from_bytes(alloc, accept) else {
@@ -280,6 +295,7 @@ impl Pages {
         if !self.is_allowed(request) {
             return Ok(refuse(response, StatusCode::FORBIDDEN));
         }
+        allow_origin(request, response)?;
         let method = request.method();
         if method.as_str() != "GET" && method.as_str() != "HEAD" {
             refuse(response, StatusCode::METHOD_NOT_ALLOWED);
