@@ -16,7 +16,7 @@ use crate::input_end::InputEnd;
 use crate::lookup::{Found, Lookup, Sought};
 use crate::metrics::Seen;
 use crate::names::Names;
-use crate::operator;
+use crate::operator::{self, Begun};
 use crate::options::{MOST_PEERS, Options, PeerAt};
 use crate::pages::Pages;
 use crate::peer::Peer;
@@ -159,6 +159,7 @@ fn make_pages(alloc: Global, served: Served, options: &mut Options) -> Result<Pa
         names_json: Bytes::from_vec(names_json)?,
         seen: Seen::nothing(u64::from(options.clients)),
         answered: 0,
+        unauthorized: 0,
         upgraded: None,
     })
 }
@@ -245,6 +246,18 @@ struct Start<'a> {
     options: Options,
 }
 
+/// Tells an operator that the host begins, and gives how many clients there may be.
+fn begin<X: Eprint>(rt: &X, common: &Common<'_>, options: &Options, identity: &[u8]) -> u32 {
+    let most_clients = clients_within(options.clients, options.peers.len());
+    let begun = Begun {
+        version: options.version,
+        program: str::from_utf8(identity).unwrap_or(""),
+        has_tokens: common.pages.tokens.is_some(),
+    };
+    operator::tell_start(rt, most_clients, options.clients, begun);
+    most_clients
+}
+
 /// The loop, and whether some peer's name has to be looked up.
 fn make_serving<'a, X: System>(rt: &X, start: Start<'a>) -> Result<(Serving<'a>, bool), HostFault> {
     let Start {
@@ -261,8 +274,7 @@ fn make_serving<'a, X: System>(rt: &X, start: Start<'a>) -> Result<(Serving<'a>,
     poll.registry()
         .register(&mut listener, LISTENER, Interest::READABLE)?;
     let alloc = common.alloc;
-    let most_clients = clients_within(options.clients, options.peers.len());
-    operator::tell_start(rt, most_clients, options.clients);
+    let most_clients = begin(rt, &common, &options, &identity);
     let places = (options.clients as usize).saturating_add(options.peers.len());
     let mut seats = vec![in alloc; usize::MAX; places]?;
     let input = InputEnd::new(&poll, options.until_input_ends);

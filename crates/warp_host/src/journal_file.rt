@@ -107,12 +107,6 @@ pub enum OpenFault {
     NoMemory,
 }
 
-impl From<AllocError> for OpenFault {
-    fn from(_refused: AllocError) -> OpenFault {
-        OpenFault::NoMemory
-    }
-}
-
 impl From<io::Error> for OpenFault {
     fn from(error: io::Error) -> OpenFault {
         match error.kind() {
@@ -122,12 +116,65 @@ impl From<io::Error> for OpenFault {
     }
 }
 
+/// Why a step with the file of a journal failed.
+#[derive(Clone, Copy)]
+pub enum FileFault {
+    /// For this reason.
+    Open(OpenFault),
+    /// The system says this.
+    System(io::Error),
+}
+
+impl From<OpenFault> for FileFault {
+    fn from(fault: OpenFault) -> FileFault {
+        FileFault::Open(fault)
+    }
+}
+
+impl From<AllocError> for FileFault {
+    fn from(_refused: AllocError) -> FileFault {
+        FileFault::Open(OpenFault::NoMemory)
+    }
+}
+
+impl From<io::Error> for FileFault {
+    fn from(error: io::Error) -> FileFault {
+        FileFault::System(error)
+    }
+}
+
+/// Tells on standard error what is wrong with the journal at this path, and gives it without what the system says.
+pub fn tell_file_fault<X: Eprint>(rt: &X, path: &str, fault: FileFault) -> OpenFault {
+    match fault {
+        FileFault::Open(fault) => {
+            tell_open_fault(rt, path, fault);
+            fault
+        }
+        FileFault::System(error) => {
+            let _ = eprintln!(rt; "journal {path}: {error}");
+            OpenFault::from(error)
+        }
+    }
+}
+
+/// Tells this of the journal at this path, unless it is told already, or is no fault of the journal.
+fn tell_open_fault<X: Eprint>(rt: &X, path: &str, fault: OpenFault) {
+    let _ = match fault {
+        OpenFault::InUse => eprintln!(rt; "journal {path}: another process has it"),
+        OpenFault::OtherFirst => eprintln!(rt;
+            "journal {path}: its first line is none, or another program's"
+        ),
+        OpenFault::Damaged(_) | OpenFault::Refused(_) => Ok(()),
+        OpenFault::Unusable | OpenFault::NoMemory => Ok(()),
+    };
+}
+
 /// Takes the lock of the journal at this path.
 pub fn lock_journal<F: Files<File = File>>(
     files: &F,
     alloc: Global,
     path: &str,
-) -> Result<File, OpenFault> {
+) -> Result<File, FileFault> {
     let mut name = String::from_str(alloc, path)?;
     name.push_str(".lock")?;
     let lock = OpenOptions::new()
@@ -136,13 +183,13 @@ pub fn lock_journal<F: Files<File = File>>(
         .open(files, name.as_str())?;
     match lock.try_lock() {
         Ok(()) => Ok(lock),
-        Err(TryLockError::WouldBlock) => Err(OpenFault::InUse),
-        Err(TryLockError::Error(_)) => Err(OpenFault::Unusable),
+        Err(TryLockError::WouldBlock) => Err(FileFault::Open(OpenFault::InUse)),
+        Err(TryLockError::Error(error)) => Err(FileFault::System(error)),
     }
 }
 
 /// Brings the name of the file at this path to the disk.
-pub fn sync_folder<F: Files<File = File>>(files: &F, path: &str) -> Result<(), OpenFault> {
+pub fn sync_folder<F: Files<File = File>>(files: &F, path: &str) -> Result<(), FileFault> {
     let folder = match Path::new(path).parent() {
         Some(folder) if !folder.as_str().is_empty() => File::open(files, folder)?,
         _ => File::open(files, ".")?,
@@ -250,7 +297,7 @@ fn tell_refused<X: Eprint>(rt: &X, line: u64, refusal: Option<Refusal>) {
 }
 
 /// Begins a journal in this file, which has nothing but a front of its first line.
-fn begin(alloc: Global, file: &mut File, first: &[u8]) -> Result<Journal, OpenFault> {
+fn begin(alloc: Global, file: &mut File, first: &[u8]) -> Result<Journal, FileFault> {
     let mut line = Vec::from_slice(alloc, first)?;
     line.extend_from_slice(b"\n")?;
     file.set_len(0)?;
@@ -300,11 +347,11 @@ fn go_on<X: Eprint, T: Timeline>(
     bytes: &[u8],
     first: &[u8],
     replica: &mut Replica<T>,
-) -> Result<Journal, OpenFault> {
+) -> Result<Journal, FileFault> {
     let found = match read_journal(alloc, replica.program().form(), first, bytes) {
         Ok(found) => found,
-        Err(NotRead::OtherFirst) => return Err(OpenFault::OtherFirst),
-        Err(NotRead::NoMemory) => return Err(OpenFault::NoMemory),
+        Err(NotRead::OtherFirst) => return Err(FileFault::Open(OpenFault::OtherFirst)),
+        Err(NotRead::NoMemory) => return Err(FileFault::Open(OpenFault::NoMemory)),
     };
     let Found {
         kept,
@@ -315,16 +362,16 @@ fn go_on<X: Eprint, T: Timeline>(
     let line = line_behind(bytes, kept);
     if let Some(fault) = damage_in(ending) {
         tell_damage(rt, fault, line);
-        return Err(OpenFault::Damaged(line));
+        return Err(FileFault::Open(OpenFault::Damaged(line)));
     }
     tell_ending(rt, ending, line, bytes.len().saturating_sub(kept));
     if let Err((place, refusal)) = replay(alloc, replica, &records) {
         if refusal == Some(Refusal::NoMemory) {
-            return Err(OpenFault::NoMemory);
+            return Err(FileFault::Open(OpenFault::NoMemory));
         }
         let line = line_of_record(bytes, place);
         tell_refused(rt, line, refusal);
-        return Err(OpenFault::Refused(line));
+        return Err(FileFault::Open(OpenFault::Refused(line)));
     }
     if ending != Ending::Whole {
         file.set_len(kept as u64)?;
@@ -333,7 +380,8 @@ fn go_on<X: Eprint, T: Timeline>(
 }
 
 /// Opens the journal at this path, whose first line this is, without its line feed, or begins it; and has the replica
-/// take its records. What is torn or cut at its end is cut off, which is told on standard error.
+/// take its records. What is torn or cut at its end is cut off. That is told on standard error, and why it can't be
+/// opened.
 pub fn open_journal<X: Files<File = File> + Eprint, T: Timeline>(
     rt: &X,
     alloc: Global,
@@ -342,6 +390,21 @@ pub fn open_journal<X: Files<File = File> + Eprint, T: Timeline>(
     first: &[u8],
     replica: &mut Replica<T>,
 ) -> Result<OpenJournal, OpenFault> {
+    match opened(rt, alloc, path, when, first, replica) {
+        Ok(journal) => Ok(journal),
+        Err(fault) => Err(tell_file_fault(rt, path, fault)),
+    }
+}
+
+/// The journal at this path, as said above.
+fn opened<X: Files<File = File> + Eprint, T: Timeline>(
+    rt: &X,
+    alloc: Global,
+    path: &str,
+    when: SyncWhen,
+    first: &[u8],
+    replica: &mut Replica<T>,
+) -> Result<OpenJournal, FileFault> {
     let lock = lock_journal(rt, alloc, path)?;
     let mut file = OpenOptions::new()
         .read(true)

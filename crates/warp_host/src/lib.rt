@@ -40,7 +40,8 @@ mod writing;
 
 pub use hosting::{HostFault, Machine, Served, host};
 pub use journal_file::{
-    OpenFault, OpenJournal, SyncWhen, damage_in, lock_journal, open_journal, sync_folder, words_of,
+    FileFault, OpenFault, OpenJournal, SyncWhen, damage_in, lock_journal, open_journal,
+    sync_folder, tell_file_fault, words_of,
 };
 pub use names::Names;
 pub use options::{DEFAULT_CLIENTS, MOST_CLIENTS, MOST_PEERS, Options, PeerAt, may_listen};

@@ -19,6 +19,7 @@ pub(crate) struct Seen {
     pub(crate) peers: u64,
     pub(crate) peers_connected: u64,
     pub(crate) clients_refused: u64,
+    pub(crate) unauthorized: u64,
     pub(crate) histogram: Histogram,
 }
 
@@ -38,6 +39,7 @@ impl Seen {
             peers: 0,
             peers_connected: 0,
             clients_refused: 0,
+            unauthorized: 0,
             histogram: Histogram::new(),
         }
     }
@@ -142,7 +144,7 @@ fn micros_of(histogram: &Histogram) -> u64 {
 }
 
 /// The numbers of clients and lines.
-fn traffic(seen: &Seen) -> [Row<'static>; 7] {
+fn traffic(seen: &Seen) -> [Row<'static>; 8] {
     [
         number(
             b"warpd_clients",
@@ -185,6 +187,12 @@ fn traffic(seen: &Seen) -> [Row<'static>; 7] {
             COUNTER,
             b"Replies that refuse a line.",
             seen.refused,
+        ),
+        number(
+            b"warpd_http_unauthorized_total",
+            COUNTER,
+            b"Requests over HTTP that brought no token, or a wrong one, where one is wanted.",
+            seen.unauthorized,
         ),
     ]
 }

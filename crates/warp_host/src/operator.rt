@@ -3,14 +3,34 @@
 use std::io::{Eprint, ErrorKind};
 use warp_hub::PeerEvent;
 
+/// What begins.
+#[derive(Clone, Copy)]
+pub(crate) struct Begun<'a> {
+    /// The version of the program that hosts.
+    pub(crate) version: &'static str,
+    /// `program V X`: what it hosts.
+    pub(crate) program: &'a str,
+    pub(crate) has_tokens: bool,
+}
+
 /// Tells that the host has begun, with so many clients at most.
-pub(crate) fn tell_start<X: Eprint>(rt: &X, clients: u32, wanted: u32) {
+pub(crate) fn tell_start<X: Eprint>(rt: &X, clients: u32, wanted: u32, begun: Begun<'_>) {
+    let Begun {
+        version,
+        program,
+        has_tokens,
+    } = begun;
+    let tokens = if has_tokens {
+        "tokens are wanted"
+    } else {
+        "no tokens are wanted"
+    };
     let _ = if clients < wanted {
         eprintln!(rt;
-            "started: {clients} clients at a time, since there are descriptors for no more ({wanted} were asked for)"
+            "started: {clients} clients at a time, since there are descriptors for no more ({wanted} were asked for); warpd {version}; {program}; {tokens}"
         )
     } else {
-        eprintln!(rt; "started: {clients} clients at a time")
+        eprintln!(rt; "started: {clients} clients at a time; warpd {version}; {program}; {tokens}")
     };
 }
 

@@ -27,6 +27,8 @@ pub struct PeerAt {
 /// What a host is asked to do, beside its program and the texts on it.
 #[derive(Drop)]
 pub struct Options {
+    /// The version of the program that hosts, which an operator is told.
+    pub version: &'static str,
     /// How many clients there may be at a time, 1 to 15,000.
     pub clients: u32,
     /// Who may use HTTP; without tokens everybody may.

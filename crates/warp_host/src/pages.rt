@@ -35,6 +35,9 @@ const JSON: &str = "application/json";
 
 const METRICS: &str = "text/plain; version=0.0.4; charset=utf-8";
 
+/// The status of an answer to a request that wants a token.
+const UNAUTHORIZED: u16 = 401;
+
 /// Answers requests.
 #[derive(Drop)]
 pub(crate) struct Pages {
@@ -46,6 +49,8 @@ pub(crate) struct Pages {
     pub(crate) seen: Seen,
     /// How many requests were answered.
     pub(crate) answered: u64,
+    /// How many of them wanted a token, and brought none or a wrong one.
+    pub(crate) unauthorized: u64,
     /// The rights of a connection that was just upgraded: those of the token that it brought, if it brought one.
     pub(crate) upgraded: Option<Option<Rights>>,
 }
@@ -132,6 +137,21 @@ fn ask_for_upgrade(response: &mut Response) -> Result<Answered, AllocError> {
         response,
         HeaderName::from_static("sec-websocket-version"),
         HeaderValue::from_static("13"),
+    )
+}
+
+/// Lets the page that asked read the answer, where it said its origin, which is one that may.
+fn allow_origin(request: &Request<Bytes>, response: &mut Response) -> Result<(), AllocError> {
+    let Some(origin) = request.headers().get("origin") else {
+        return Ok(());
+    };
+    response.add_header(
+        HeaderName::from_static("access-control-allow-origin"),
+        origin.clone()?,
+    )?;
+    response.add_header(
+        HeaderName::from_static("vary"),
+        HeaderValue::from_static("Origin"),
     )
 }
 
@@ -275,6 +295,7 @@ impl Pages {
         if !self.is_allowed(request) {
             return Ok(refuse(response, StatusCode::FORBIDDEN));
         }
+        allow_origin(request, response)?;
         let method = request.method();
         if method.as_str() != "GET" && method.as_str() != "HEAD" {
             refuse(response, StatusCode::METHOD_NOT_ALLOWED);
@@ -345,6 +366,9 @@ impl Service for Pages {
         match self.serve(request, response) {
             Ok(answered) => {
                 self.answered = self.answered.wrapping_add(1);
+                if response.status.as_u16() == UNAUTHORIZED {
+                    self.unauthorized = self.unauthorized.wrapping_add(1);
+                }
                 self.upgraded = rights_in(answered);
                 Ok(())
             }

@@ -450,6 +450,7 @@ impl<'a> Serving<'a> {
                 Some(entrance) => entrance.refused,
                 None => 0,
             },
+            unauthorized: self.common.pages.unauthorized,
             histogram: self.stopwatch.histogram,
         };
     }

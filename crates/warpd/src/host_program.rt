@@ -9,11 +9,12 @@ ghost use Rattle.warpd.specs.Outcome.{IsFrontOf, IsNamed, IsNone, refused_outcom
 use crate::file_bytes::{first_bytes, without_file};
 use crate::outcome::Outcome;
 use crate::program_file::{ENOUGH, TWICE, built_in, refused};
+use crate::telling::{tell_file, tell_of_file};
 use itoa::Buffer;
 use std::alloc::{AllocError, Global};
 use std::fs::{self, Files};
-use std::io::Read;
-use warp_prog::{NamedProgram, fingerprint, load_named, names_line};
+use std::io::{Eprint, Read};
+use warp_prog::{LoadError, NamedProgram, explanation, fingerprint, load_named, names_line};
 use warp_step::Program;
 use warp_tag::Form;
 
@@ -36,9 +37,10 @@ struct Told {
     names_json: Vec<u8>,
 }
 
-/// The program of this name: `builtin:twice`, or that of the file at this path.
-pub(crate) fn hosted_program<F: Files>(
-    files: &F,
+/// The program of this name: `builtin:twice`, or that of the file at this path. Why there is none is told on standard
+/// error.
+pub(crate) fn hosted_program<X: Files + Eprint>(
+    rt: &X,
     alloc: Global,
     name: &str,
 ) -> Result<HostedProgram, Outcome>
@@ -48,9 +50,12 @@ pub(crate) fn hosted_program<F: Files>(
     if name == "builtin:twice" {
         return built_in_hosted(alloc);
     }
-    match fs::open(files, name) {
-        Ok(file) => file_hosted(alloc, file),
-        Err(error) => Err(without_file(&error, Outcome::NoProgram)),
+    match fs::open(rt, name) {
+        Ok(file) => file_hosted(rt, alloc, name, file),
+        Err(error) => {
+            tell_file(rt, name, &error);
+            Err(without_file(&error, Outcome::NoProgram))
+        }
     }
 }
 
@@ -74,27 +79,56 @@ fn built_in_hosted(alloc: Global) -> Result<HostedProgram, Outcome>
 
 /// The program that a reader's bytes spell, with what they tell: all of them, or where there are more than a program
 /// file may have, so many that it is seen.
-fn file_hosted<R: Read + Drop>(alloc: Global, reader: R) -> Result<HostedProgram, Outcome>
+fn file_hosted<X: Eprint, R: Read + Drop>(
+    rt: &X,
+    alloc: Global,
+    name: &str,
+    reader: R,
+) -> Result<HostedProgram, Outcome>
     ensures ok { IfOk result
         (λ h. (bytes : List ℕ) × IsFrontOf (longest_file + 1) (R.remaining reader) bytes × IsLoaded bytes h.program) }
     ensures err { IfErr result (λ outcome. (outcome ≡ Outcome.NoProgram) ⊎ (outcome ≡ Outcome.Memory)
         ⊎ ((bytes : List ℕ) × IsFrontOf (longest_file + 1) (R.remaining reader) bytes
         × ((error : LoadError) × IsRefused bytes error × (outcome ≡ refused_outcome error)))) }
 {
-    let bytes = first_bytes(alloc, reader, ENOUGH, Outcome::NoProgram)?;
-    let hosted = bytes_hosted(alloc, bytes)?;
+    let bytes = match first_bytes(alloc, reader, ENOUGH, Outcome::NoProgram) {
+        Ok(bytes) => bytes,
+        Err(outcome) => {
+            tell_of_file(rt, name, "it cannot be read");
+            return Err(outcome);
+        }
+    };
+    let hosted = bytes_hosted(rt, alloc, name, bytes)?;
     Ok(hosted)
 }
 
 /// The program that these bytes spell, with what they tell.
-fn bytes_hosted(alloc: Global, bytes: Vec<u8>) -> Result<HostedProgram, Outcome>
+fn bytes_hosted<X: Eprint>(
+    rt: &X,
+    alloc: Global,
+    name: &str,
+    bytes: Vec<u8>,
+) -> Result<HostedProgram, Outcome>
     ensures ok { IfOk result (λ h. IsLoaded bytes.items h.program) }
     ensures err { IfErr result (λ outcome. (outcome ≡ Outcome.Memory)
         ⊎ ((error : LoadError) × IsRefused bytes.items error × (outcome ≡ refused_outcome error))) }
 {
     match load_named(alloc, &bytes) {
         Ok(named) => with_file(alloc, named, bytes),
-        Err(error) => Err(refused(error)),
+        Err(error) => {
+            tell_why(rt, alloc, name, &bytes, error);
+            Err(refused(error))
+        }
+    }
+}
+
+/// Tells where and why these bytes of the file with this name were refused, if there is memory for it.
+fn tell_why<X: Eprint>(rt: &X, alloc: Global, name: &str, bytes: &[u8], error: LoadError) {
+    if matches!(error, LoadError::Memory) {
+        return;
+    }
+    if let Ok(text) = explanation(alloc, bytes, error) {
+        tell_of_file(rt, name, text.as_str().trim_end());
     }
 }
 

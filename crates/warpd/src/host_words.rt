@@ -3,9 +3,10 @@ ghost use Rattle.std.specs.Prelude.{IfErr};
 ghost use Rattle.warpd.specs.Outcome.{KeepsFromHosting};
 
 use crate::outcome::{Outcome, TokenFile};
+use crate::telling::{tell_file, tell_line, tell_of_file, tell_peers, tell_shown, tell_word};
 use std::alloc::{AllocError, Global};
 use std::fs::{self, Files, OpenFile};
-use std::io::Read;
+use std::io::{Eprint, Read};
 use std::net::{Ipv4Addr, SocketAddr};
 use std::os::unix::fs::PermissionsExt;
 use warp_host::{DEFAULT_CLIENTS, MOST_PEERS, PeerAt, SyncWhen, may_listen};
@@ -23,6 +24,13 @@ const LONGEST_TOKENS: u64 = 1_048_576;
 /// The bits of a file's mode that let the group or others read it.
 const OTHERS_READ: u32 = 0o044;
 
+/// A file of tokens.
+#[derive(Drop)]
+pub(crate) struct TokenText {
+    pub(crate) path: String,
+    pub(crate) text: Vec<u8>,
+}
+
 /// What a host is asked for, as its words and files say it.
 #[derive(Drop)]
 pub(crate) struct HostPlan {
@@ -30,8 +38,8 @@ pub(crate) struct HostPlan {
     pub(crate) address: SocketAddr,
     /// How many clients there may be at a time.
     pub(crate) clients: u32,
-    /// The text of the file of tokens, if there is one.
-    pub(crate) tokens: Option<Vec<u8>>,
+    /// The file of tokens, if there is one.
+    pub(crate) tokens: Option<TokenText>,
     /// The origins of pages that may connect beside the host's own.
     pub(crate) origins: Vec<String>,
     /// The peers.
@@ -45,7 +53,7 @@ pub(crate) struct HostPlan {
 }
 
 /// The address that the word names.
-fn address_of(word: Option<&str>) -> Result<SocketAddr, Outcome>
+fn address_of<X: Eprint>(rt: &X, word: Option<&str>) -> Result<SocketAddr, Outcome>
     ensures { IfErr result KeepsFromHosting }
 {
     let Some(word) = word else {
@@ -53,52 +61,78 @@ fn address_of(word: Option<&str>) -> Result<SocketAddr, Outcome>
     };
     match word.parse::<SocketAddr>() {
         Ok(address) => Ok(address),
-        Err(_) => Err(Outcome::NoAddress),
+        Err(_) => {
+            tell_word(rt, "--listen", word, "no address in numbers with a port");
+            Err(Outcome::NoAddress)
+        }
     }
 }
 
 /// All bytes of a file of tokens, which others may not read.
-fn token_bytes<F: Files>(
-    files: &F,
+fn token_bytes<X: Files + Eprint>(
+    rt: &X,
     alloc: Global,
     name: &str,
     which: TokenFile,
 ) -> Result<Vec<u8>, Outcome>
     ensures { IfErr result KeepsFromHosting }
 {
-    let unread = Outcome::NoTokens(which);
-    let Ok(file) = fs::open(files, name) else {
-        return Err(unread);
+    match fs::open(rt, name) {
+        Ok(file) => file_bytes(rt, alloc, name, which, file),
+        Err(error) => {
+            tell_file(rt, name, &error);
+            Err(Outcome::NoTokens(which))
+        }
+    }
+}
+
+/// All bytes of this file of tokens, which has this name.
+fn file_bytes<X: Eprint, O: OpenFile + Read + Drop>(
+    rt: &X,
+    alloc: Global,
+    name: &str,
+    which: TokenFile,
+    file: O,
+) -> Result<Vec<u8>, Outcome>
+    ensures { IfErr result KeepsFromHosting }
+{
+    let mode = match file.metadata() {
+        Ok(about) => about.permissions().mode(),
+        Err(error) => {
+            tell_file(rt, name, &error);
+            return Err(Outcome::NoTokens(which));
+        }
     };
-    let Ok(about) = file.metadata() else {
-        return Err(unread);
-    };
-    if about.permissions().mode() & OTHERS_READ != 0 {
+    if mode & OTHERS_READ != 0 {
+        tell_shown(rt, name, mode);
         return Err(Outcome::ShownTokens(which));
     }
     let mut bytes = Vec::new(alloc);
     // One more, so that a longer file is seen to be longer.
     let mut front = file.take(LONGEST_TOKENS + 1);
     match front.read_to_end(&mut bytes) {
-        Ok(_) if bytes.len() as u64 <= LONGEST_TOKENS => Ok(bytes),
-        _ => Err(unread),
+        Ok(_) if bytes.len() as u64 <= LONGEST_TOKENS => return Ok(bytes),
+        Ok(_) => tell_of_file(rt, name, "it has more than 1,048,576 bytes"),
+        Err(error) => tell_file(rt, name, &error),
     }
+    Err(Outcome::NoTokens(which))
 }
 
-/// All bytes of the file of tokens that this word names, if there is such a word.
-fn tokens_of<F: Files>(
-    files: &F,
+/// The file of tokens that this word names, if there is such a word.
+fn tokens_of<X: Files + Eprint>(
+    rt: &X,
     alloc: Global,
     word: Option<&str>,
     which: TokenFile,
-) -> Result<Option<Vec<u8>>, Outcome>
+) -> Result<Option<TokenText>, Outcome>
     ensures { IfErr result KeepsFromHosting }
 {
     let Some(name) = word else {
         return Ok(None);
     };
-    match token_bytes(files, alloc, name, which) {
-        Ok(bytes) => Ok(Some(bytes)),
+    let path = or_memory(String::from_str(alloc, name))?;
+    match token_bytes(rt, alloc, name, which) {
+        Ok(text) => Ok(Some(TokenText { path, text })),
         Err(outcome) => Err(outcome),
     }
 }
@@ -169,26 +203,35 @@ fn or_memory<T: Drop>(made: Result<T, AllocError>) -> Result<T, Outcome>
 }
 
 /// The peers, with their tokens.
-fn peers_with_tokens<F: Files>(
-    files: &F,
+fn peers_with_tokens<X: Files + Eprint>(
+    rt: &X,
     alloc: Global,
     job: &HostJob<'_>,
 ) -> Result<Vec<PeerAt>, Outcome>
     ensures { IfErr result KeepsFromHosting }
 {
     if job.peers.len() > MOST_PEERS {
+        tell_peers(rt, job.peers.len(), MOST_PEERS);
         return Err(Outcome::TooManyPeers);
     }
-    let text = tokens_of(files, alloc, job.peer_tokens, TokenFile::Peers)?;
-    let text = text.unwrap_or(Vec::new(alloc));
+    let text = match tokens_of(rt, alloc, job.peer_tokens, TokenFile::Peers)? {
+        Some(file) => file.text,
+        None => Vec::new(alloc),
+    };
     if let Some(line) = bad_peer_line(&text) {
+        tell_line(
+            rt,
+            job.peer_tokens.unwrap_or(""),
+            line,
+            "not HOST:PORT TOKEN",
+        );
         return Err(Outcome::BadTokens(TokenFile::Peers, line));
     }
     or_memory(peers_of(alloc, &job.peers, &text))
 }
 
 /// When a journal is brought to the disk.
-fn sync_of(word: Option<&str>) -> Result<SyncWhen, Outcome>
+fn sync_of<X: Eprint>(rt: &X, word: Option<&str>) -> Result<SyncWhen, Outcome>
     ensures { IfErr result KeepsFromHosting }
 {
     let Some(word) = word else {
@@ -204,7 +247,10 @@ fn sync_of(word: Option<&str>) -> Result<SyncWhen, Outcome>
         Ok(milliseconds) if 1 <= milliseconds && milliseconds <= LONGEST_WAIT => {
             Ok(SyncWhen::Every(milliseconds))
         }
-        _ => Err(Outcome::NoSync),
+        _ => {
+            tell_word(rt, "--sync", word, "no such time");
+            Err(Outcome::NoSync)
+        }
     }
 }
 
@@ -217,21 +263,27 @@ fn path_of(alloc: Global, word: Option<&str>) -> Result<Option<String>, AllocErr
 }
 
 /// What the words and the files of a host say.
-pub(crate) fn host_plan<F: Files>(
-    files: &F,
+pub(crate) fn host_plan<X: Files + Eprint>(
+    rt: &X,
     alloc: Global,
     job: &HostJob<'_>,
 ) -> Result<HostPlan, Outcome>
     ensures { IfErr result KeepsFromHosting }
 {
-    let address = address_of(job.listen)?;
+    let address = address_of(rt, job.listen)?;
     if !may_listen(address.ip(), job.tokens.is_some(), job.is_open) {
+        tell_word(
+            rt,
+            "--listen",
+            job.listen.unwrap_or(""),
+            "other machines may reach it",
+        );
         return Err(Outcome::NotOpen);
     }
-    let tokens = tokens_of(files, alloc, job.tokens, TokenFile::Clients)?;
-    let peers = peers_with_tokens(files, alloc, job)?;
+    let tokens = tokens_of(rt, alloc, job.tokens, TokenFile::Clients)?;
+    let peers = peers_with_tokens(rt, alloc, job)?;
     let origins = or_memory(origins_of(alloc, &job.origins))?;
-    let sync = sync_of(job.sync)?;
+    let sync = sync_of(rt, job.sync)?;
     let journal = or_memory(path_of(alloc, job.journal))?;
     Ok(HostPlan {
         address,

@@ -2,23 +2,27 @@
 ghost use Rattle.std.specs.Prelude.{◌≡◌, ℕ, IfErr, IfOk, List, MatchBool, OnErr, string_bytes};
 ghost use Rattle.warpd.specs.Outcome.{EndsHosting, Hosts, HostsAt, HostsPlanned, IsPrinted, KeepsFromHosting, host_line};
 
+use crate::client_tokens::tokens_in;
 use crate::host_program::{HostedProgram, fingerprint_in, hosted_program, version_of};
 use crate::host_words::{HostPlan, host_plan};
-use crate::outcome::{Outcome, TokenFile, outcome_of_hosting, outcome_of_journal};
+use crate::outcome::{Outcome, outcome_of_hosting, outcome_of_journal};
 use crate::service::Host;
 use crate::streams::Streams;
+use crate::telling::tell_listen;
 use arrayvec::ArrayString;
 use mio::net::TcpListener;
 use std::alloc::{AllocError, Global};
 use std::net::{self, IpAddr, Net, SocketAddr};
 use warp_host::{Names, OpenJournal, Options, Served, host, open_journal};
-use warp_hub::{Facts, Tokens, TokensFault};
+use warp_hub::Facts;
 use warp_journal::first_line;
 use warp_line::Timeline;
 use warp_replica::Replica;
 use warp_session::{Sink, Source, write_all};
-use warp_tag::Form;
 use warp_words::HostJob;
+
+/// The version that an operator is told: what `--version` prints.
+const VERSION: &str = "1.2.0";
 
 /// All that a host needs before it listens.
 #[derive(Drop)]
@@ -83,22 +87,6 @@ fn host_planned<
     }
 }
 
-/// The tokens in the text of the file of tokens, if there is one.
-fn tokens_in(alloc: Global, form: Form, text: &Option<Vec<u8>>) -> Result<Option<Tokens>, Outcome>
-    ensures { IfErr result KeepsFromHosting }
-{
-    let Some(text) = text else {
-        return Ok(None);
-    };
-    match Tokens::read(alloc, form, text) {
-        Ok(tokens) => Ok(Some(tokens)),
-        Err(TokensFault::Line(line) | TokensFault::Twice(line)) => {
-            Err(Outcome::BadTokens(TokenFile::Clients, u64::from(line)))
-        }
-        Err(TokensFault::NoMemory) => Err(Outcome::Memory),
-    }
-}
-
 /// The journal of the plan, if there is to be one, whose records the replica has taken.
 fn journal_of<P: Host, T: Timeline>(
     rt: &P,
@@ -133,8 +121,8 @@ fn prepare<P: Host, T: Timeline>(
 {
     let form = hosted.program.form();
     // One for the lines of clients, one for HTTP.
-    let tokens = tokens_in(alloc, form, &plan.tokens)?;
-    let again = tokens_in(alloc, form, &plan.tokens)?;
+    let tokens = tokens_in(rt, alloc, &hosted.program, &plan.tokens)?;
+    let again = tokens_in(rt, alloc, &hosted.program, &plan.tokens)?;
     let HostedProgram {
         program,
         bytes,
@@ -161,6 +149,7 @@ fn prepare<P: Host, T: Timeline>(
         address: plan.address,
         origins: plan.origins,
         options: Options {
+            version: VERSION,
             clients: plan.clients,
             tokens: again,
             peers: plan.peers,
@@ -208,8 +197,12 @@ fn host_at<
 >(rt: &P, alloc: Global, prepared: Prepared<T>, streams: &mut Streams<R, W>) -> Outcome
     ensures { HostsAt streams.old streams.new result }
 {
-    let Ok(listener) = TcpListener::bind(rt, prepared.address) else {
-        return Outcome::Listen;
+    let listener = match TcpListener::bind(rt, prepared.address) {
+        Ok(listener) => listener,
+        Err(error) => {
+            tell_listen(rt, &prepared.address, &error);
+            return Outcome::Listen;
+        }
     };
     let Ok(address) = listener.local_addr() else {
         return Outcome::Listen;

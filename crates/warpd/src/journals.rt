@@ -9,7 +9,9 @@ use crate::streams::Streams;
 use std::alloc::{AllocError, Global};
 use std::fs::{File, Files, OpenOptions};
 use std::io::{Read, Write};
-use warp_host::{OpenFault, damage_in, lock_journal, sync_folder, words_of};
+use warp_host::{
+    FileFault, OpenFault, damage_in, lock_journal, sync_folder, tell_file_fault, words_of,
+};
 use warp_journal::{Ending, Fault, Found, NotRead, read_journal};
 use warp_session::{Sink, Source};
 use warp_tag::Form;
@@ -80,7 +82,7 @@ fn account_of<P: Host>(rt: &P, alloc: Global, action: &str, path: &str) -> Resul
     };
     match told {
         Ok(account) => Ok(account),
-        Err(fault) => Err(outcome_of_journal(fault)),
+        Err(fault) => Err(outcome_of_journal(tell_file_fault(rt, path, fault))),
     }
 }
 
@@ -101,20 +103,20 @@ fn form_of(first: &[u8]) -> Option<Form> {
 }
 
 /// Reads the journal in this file.
-fn see_all(alloc: Global, mut file: File) -> Result<Seen, OpenFault> {
+fn see_all(alloc: Global, mut file: File) -> Result<Seen, FileFault> {
     let mut bytes = Vec::new(alloc);
     file.read_to_end(&mut bytes)?;
     let Some(end) = bytes.iter().position(|byte| *byte == b'\n') else {
-        return Err(OpenFault::OtherFirst);
+        return Err(FileFault::Open(OpenFault::OtherFirst));
     };
     let first = &bytes[..end];
     let Some(form) = form_of(first) else {
-        return Err(OpenFault::OtherFirst);
+        return Err(FileFault::Open(OpenFault::OtherFirst));
     };
     match read_journal(alloc, form, first, &bytes) {
         Ok(found) => Ok(Seen { bytes, found }),
-        Err(NotRead::OtherFirst) => Err(OpenFault::OtherFirst),
-        Err(NotRead::NoMemory) => Err(OpenFault::NoMemory),
+        Err(NotRead::OtherFirst) => Err(FileFault::Open(OpenFault::OtherFirst)),
+        Err(NotRead::NoMemory) => Err(FileFault::Open(OpenFault::NoMemory)),
     }
 }
 
@@ -183,7 +185,7 @@ fn ascii(alloc: Global, bytes: &[u8]) -> Result<String, AllocError> {
 }
 
 /// Tells what the journal at this path has.
-fn checked<P: Host>(rt: &P, alloc: Global, path: &str) -> Result<Account, OpenFault> {
+fn checked<P: Host>(rt: &P, alloc: Global, path: &str) -> Result<Account, FileFault> {
     let file = File::open(rt, path)?;
     let seen = see_all(alloc, file)?;
     let mut text = seen.head(alloc)?;
@@ -196,7 +198,7 @@ fn checked<P: Host>(rt: &P, alloc: Global, path: &str) -> Result<Account, OpenFa
 }
 
 /// Keeps what is whole in front of the journal at this path, moves the rest to a file beside it, and tells so.
-fn repaired<P: Host>(rt: &P, alloc: Global, path: &str) -> Result<Account, OpenFault> {
+fn repaired<P: Host>(rt: &P, alloc: Global, path: &str) -> Result<Account, FileFault> {
     let _lock = lock_journal(rt, alloc, path)?;
     let file = File::open(rt, path)?;
     let seen = see_all(alloc, file)?;
@@ -222,7 +224,7 @@ fn move_rest<F: Files<File = File>>(
     path: &str,
     aside: &str,
     seen: &Seen,
-) -> Result<(), OpenFault> {
+) -> Result<(), FileFault> {
     let rest = seen.bytes.get(seen.found.kept..).unwrap_or(b"");
     let mut other = OpenOptions::new()
         .append(true)

@@ -2,6 +2,7 @@
 #![tactic(auto)]
 
 mod checking;
+mod client_tokens;
 mod closed_streams;
 mod connection;
 mod file_bytes;
@@ -20,6 +21,7 @@ mod service;
 mod stack;
 mod stepping;
 mod streams;
+mod telling;
 mod tracing;
 
 ghost use Rattle.std.specs.Prelude.{◌≡◌, ◌≢◌, ◌+◌, ◌<◌, ◌≤◌, ◌⊎◌, IfErr, IfOk, MatchBool, MatchResult, OnOk};
