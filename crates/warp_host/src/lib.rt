@@ -25,6 +25,7 @@ mod metrics;
 mod names;
 mod operator;
 mod options;
+mod page;
 mod pages;
 mod peer;
 mod peers;
