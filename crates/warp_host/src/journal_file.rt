@@ -317,7 +317,7 @@ pub(crate) fn begin_beside<F: Files<File = File>>(
     files: &F,
     alloc: Global,
     place: &JournalPlace,
-) -> Result<JournalFile, OpenFault> {
+) -> Result<JournalFile, FileFault> {
     let name = path_beside(alloc, place.path.as_str())?;
     let mut file = OpenOptions::new()
         .write(true)
@@ -333,7 +333,7 @@ pub(crate) fn take_place<F: Files<File = File>>(
     files: &F,
     alloc: Global,
     place: &JournalPlace,
-) -> Result<(), OpenFault> {
+) -> Result<(), FileFault> {
     let name = path_beside(alloc, place.path.as_str())?;
     fs::rename(files, name.as_str(), place.path.as_str())?;
     sync_folder(files, place.path.as_str())
