@@ -1,5 +1,5 @@
 -- Pulling: what a reply of another replica, which was asked for the next place of its log, leads to.
-use Rattle.std.specs.Prelude.{◌≡◌, ℕ, ◌+◌, ◌==◌, nat_lt, Option, Some, MatchBool, Unit, ⊥, if◌then◌else◌}
+use Rattle.std.specs.Prelude.{◌≡◌, ℕ, ◌+◌, ◌==◌, nat_lt, Option, Some, MatchBool, if◌then◌else◌}
 use Rattle.warp_record.specs.declared.line.Line.{Line}
 use Rattle.warp_record.specs.declared.line.Line.TheVariants.{Put}
 use Rattle.warp_record.specs.declared.reply.Refusal.{Refusal}

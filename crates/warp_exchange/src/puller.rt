@@ -1,5 +1,5 @@
 //! Pulling the log of another replica, place by place.
-ghost use Rattle.std.specs.Prelude.{◌≡◌, ◌≤◌, ◌+◌, IfSome, MatchBool, ⊥};
+ghost use Rattle.std.specs.Prelude.{◌≡◌, ◌≤◌, ◌+◌, IfSome, MatchBool};
 ghost use Rattle.warp_tag.specs.Limits.{most_records, widest};
 ghost use Rattle.warp_record.specs.declared.line.Query.{Query};
 ghost use Rattle.warp_record.specs.declared.line.Line.{Line};
