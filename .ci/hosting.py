@@ -12,7 +12,10 @@ from pathlib import Path
 
 from loopback import HOST, SECONDS, Talk, Wrong, excerpt, free_port, holds, same, wait_for
 
-STARTED = "started: "
+ROOT = Path(__file__).resolve().parent.parent
+# The program that cases try, unless another is given.
+PROGRAM = ROOT / "crates" / "warpd" / "out" / "warpd"
+TWICE = "builtin:twice"
 
 
 class Hosted:
@@ -33,7 +36,7 @@ class Hosted:
             self.process = subprocess.Popen([str(it).format(port=self.port) for it in command], stdin=subprocess.PIPE,
                                             stdout=self.files[0], stderr=self.files[1], preexec_fn=prepare)
             wait_for(lambda: "\n" in self.printed(0) or self.process.poll() is not None, "the line ready")
-            if self.printed(1) != "cannot listen\n":
+            if not self.printed(1).endswith("cannot listen\n"):
                 break
         if self.printed(0) != f"ready {HOST}:{self.port}\n":
             self.kill()
@@ -94,6 +97,11 @@ class Hosted:
                 self.finish()
         finally:
             self.kill()
+
+
+def begun(*words, program=TWICE, **more):
+    """A host of the program that cases try."""
+    return Hosted(PROGRAM, program, *words, **more)
 
 
 def frame(opcode, payload, is_last=True, is_masked=True, length=None):

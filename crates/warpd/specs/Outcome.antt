@@ -44,7 +44,7 @@ use Rattle.warp_session.specs.declared.desk_session.SessionEnd.{SessionEnd}
 use Rattle.warp_session.specs.declared.desk_session.SessionEnd.TheVariants.{End, ReadFault, WriteFault, TooManyReads, NoMemory}
 use Rattle.warpd.specs.Gathered.{lacks_memory}
 use Rattle.warpd.specs.declared.outcome.Outcome.{Outcome}
-use Rattle.warpd.specs.declared.outcome.Outcome.TheVariants.{Done, Words, TooManyLanes, NoAddress, NotOpen, TooManyPeers, Program, Schedule, ShownTokens, BadTokens, NoTokens, NoAction, NoSync, JournalInUse, NoJournal, OtherJournal, DamagedJournal, RefusedJournal, LostJournal, NoProgram, NoSchedule, Input, Output, Memory, Listen, Accept}
+use Rattle.warpd.specs.declared.outcome.Outcome.TheVariants.{Done, Words, TooManyLanes, NoAddress, NotOpen, TooManyPeers, NoOrigin, Program, Schedule, ShownTokens, BadTokens, NoTokens, NoAction, NoSync, JournalInUse, NoJournal, OtherJournal, DamagedJournal, RefusedJournal, LostJournal, NoProgram, NoSchedule, Input, Output, Memory, Listen, Accept}
 use Rattle.warpd.specs.declared.outcome.TokenFile.{TokenFile}
 use Rattle.warpd.specs.declared.outcome.TokenFile.TheVariants.{Clients, Peers}
 
@@ -56,6 +56,7 @@ status_of TooManyLanes = 2
 status_of NoAddress = 2
 status_of NotOpen = 2
 status_of TooManyPeers = 2
+status_of NoOrigin = 2
 status_of (Program refusal) = 3
 status_of (Schedule line) = 3
 status_of (ShownTokens which) = 3
@@ -100,6 +101,7 @@ told_line TooManyLanes = codes "too many lanes\n"
 told_line NoAddress = codes "where to listen is ADDRESS:PORT\n"
 told_line NotOpen = codes "listening there wants --tokens, or --open if that is meant\n"
 told_line TooManyPeers = codes "too many peers\n"
+told_line NoOrigin = codes "--allow-origin is http://HOST[:PORT] or https://HOST[:PORT]\n"
 told_line (ShownTokens which) = shown_words which
 told_line (BadTokens which line) = bad_words which ++ decimal line ++ codes "\n"
 told_line (NoTokens which) = unread_words which
@@ -292,7 +294,7 @@ open_outcome open_fault.NoMemory = Memory
 -- the run ends so before a host begins: for its words, its files of tokens, its journal, or want of memory
 abbrev pub KeepsFromHosting : Outcome → Type 0
 KeepsFromHosting outcome =
-    (outcome ≡ NoAddress) ⊎ (outcome ≡ NotOpen) ⊎ (outcome ≡ TooManyPeers) ⊎ (outcome ≡ NoSync) ⊎ (outcome ≡ Memory)
+    (outcome ≡ NoAddress) ⊎ (outcome ≡ NotOpen) ⊎ (outcome ≡ TooManyPeers) ⊎ (outcome ≡ NoOrigin) ⊎ (outcome ≡ NoSync) ⊎ (outcome ≡ Memory)
     ⊎ ((fault : OpenFault) × (outcome ≡ open_outcome fault))
     ⊎ ((which : TokenFile) × (outcome ≡ ShownTokens which))
     ⊎ ((which : TokenFile) × (line : ℕ) × (outcome ≡ BadTokens which line))

@@ -2,6 +2,7 @@
 ghost use Rattle.std.specs.Prelude.{IfErr};
 ghost use Rattle.warpd.specs.Outcome.{KeepsFromHosting};
 
+use crate::origins::is_origin;
 use crate::outcome::{Outcome, TokenFile};
 use crate::telling::{tell_file, tell_line, tell_of_file, tell_peers, tell_shown, tell_word};
 use std::alloc::{AllocError, Global};
@@ -184,12 +185,33 @@ fn peers_of(alloc: Global, words: &[&str], text: &[u8]) -> Result<Vec<PeerAt>, A
 }
 
 /// These texts.
-fn origins_of(alloc: Global, words: &[&str]) -> Result<Vec<String>, AllocError> {
-    let mut origins = Vec::new(alloc);
+fn texts_of(alloc: Global, words: &[&str]) -> Result<Vec<String>, AllocError> {
+    let mut texts = Vec::new(alloc);
     for word in words {
-        origins.push(String::from_str(alloc, *word)?)?;
+        texts.push(String::from_str(alloc, *word)?)?;
     }
-    Ok(origins)
+    Ok(texts)
+}
+
+/// Whether one of these words is no origin of a page. The first is told.
+fn has_no_origin<X: Eprint>(rt: &X, words: &[&str]) -> bool {
+    for word in words {
+        if !is_origin((*word).as_bytes()) {
+            tell_word(rt, "--allow-origin", *word, "no origin of a page");
+            return true;
+        }
+    }
+    false
+}
+
+/// The origins that these words are.
+fn origins_of<X: Eprint>(rt: &X, alloc: Global, words: &[&str]) -> Result<Vec<String>, Outcome>
+    ensures { IfErr result KeepsFromHosting }
+{
+    if has_no_origin(rt, words) {
+        return Err(Outcome::NoOrigin);
+    }
+    or_memory(texts_of(alloc, words))
 }
 
 /// The same, or that there was no memory.
@@ -282,7 +304,7 @@ pub(crate) fn host_plan<X: Files + Eprint>(
     }
     let tokens = tokens_of(rt, alloc, job.tokens, TokenFile::Clients)?;
     let peers = peers_with_tokens(rt, alloc, job)?;
-    let origins = or_memory(origins_of(alloc, &job.origins))?;
+    let origins = origins_of(rt, alloc, &job.origins)?;
     let sync = sync_of(rt, job.sync)?;
     let journal = or_memory(path_of(alloc, job.journal))?;
     Ok(HostPlan {

@@ -12,6 +12,7 @@ mod host_words;
 mod hosting;
 mod journals;
 mod labelled;
+mod origins;
 mod outcome;
 mod peers;
 mod program_file;

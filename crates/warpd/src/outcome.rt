@@ -38,6 +38,8 @@ pub enum Outcome {
     NotOpen,
     /// More than 64 peers.
     TooManyPeers,
+    /// What is to be allowed as the origin of pages is none.
+    NoOrigin,
     /// The program was read and refused, for the reason with this number, 1 to 7.
     Program(u8),
     /// The schedule was read and refused at this line: from 1, or 0 where it is too long.
@@ -88,7 +90,7 @@ pub fn status(outcome: Outcome) -> u8
         Outcome::Done => 0,
         Outcome::Words | Outcome::TooManyLanes => 2,
         Outcome::NoAddress | Outcome::NotOpen | Outcome::TooManyPeers => 2,
-        Outcome::NoAction | Outcome::NoSync => 2,
+        Outcome::NoOrigin | Outcome::NoAction | Outcome::NoSync => 2,
         Outcome::Program(_) | Outcome::Schedule(_) => 3,
         Outcome::OtherJournal | Outcome::DamagedJournal(_) | Outcome::RefusedJournal(_) => 3,
         Outcome::NoJournal | Outcome::LostJournal => 4,
@@ -113,6 +115,9 @@ pub fn say(outcome: Outcome) -> ArrayString<LONGEST_LINE>
         Outcome::NoAddress => plain("where to listen is ADDRESS:PORT\n"),
         Outcome::NotOpen => plain("listening there wants --tokens, or --open if that is meant\n"),
         Outcome::TooManyPeers => plain("too many peers\n"),
+        Outcome::NoOrigin => {
+            plain("--allow-origin is http://HOST[:PORT] or https://HOST[:PORT]\n")
+        }
         Outcome::ShownTokens(which) => plain(shown_words(which)),
         Outcome::BadTokens(which, line) => with_number(bad_words(which), line),
         Outcome::NoTokens(which) => plain(unread_words(which)),

@@ -1,0 +1,150 @@
+"""Cases of `.ci/host` on how a host starts: what keeps it from that, who may send what, and which pages may read what it answers."""
+
+import errno
+import os
+import socket
+import subprocess
+import tempfile
+from pathlib import Path
+
+import hosting
+from hosting import TWICE, get
+from hosting import begun as Hosted
+from loopback import HOST, same, wait_for
+
+
+def ended(*words, status, error, output="", mode=None):
+    """A run with these words ends so, where a file or folder has this mode."""
+    if mode:
+        os.chmod(*mode)
+    run = subprocess.run([str(hosting.PROGRAM), *map(str, words)], stdin=subprocess.DEVNULL, capture_output=True, text=True, timeout=60)
+    same((run.returncode, run.stdout, run.stderr), (status, output, error), f"{words}")
+
+
+def in_system_words(number):
+    return f"{os.strerror(number)} (os error {number})"
+
+
+def refused_starts():
+    """What keeps a host from beginning is told, with its status: the particulars, and behind them the line for the status."""
+    absent, is_folder = in_system_words(errno.ENOENT), in_system_words(errno.EISDIR)
+    with tempfile.TemporaryDirectory() as folder:
+        none = Path(folder, "none")
+        ended("host", none, status=4, error=f"{none}: {absent}\ncannot read the program\n")
+        ended("host", folder, status=4, error=f"{folder}: it cannot be read\ncannot read the program\n")
+        bad = Path(folder, "bad.json")
+        bad.write_text("{")
+        ended("host", bad, status=3, error=f"{bad}: line 1, column 1: the JSON text ends too early\nprogram refused 1\n")
+        for which, words in (("", "--tokens"), (" of peers", "--peer-tokens")):
+            ended("host", TWICE, words, none, status=4, error=f"{none}: {absent}\ncannot read the tokens{which}\n")
+            ended("host", TWICE, words, folder, status=3, error=f"{folder}: others may read it (mode 755; chmod 600 {folder})\n"
+                  f"others may read the tokens{which}\n", mode=(folder, 0o755))
+            ended("host", TWICE, words, folder, status=4, error=f"{folder}: {is_folder}\ncannot read the tokens{which}\n", mode=(folder, 0o700))
+        ended("host", TWICE, "--listen", "0.0.0.0:0", status=2,
+              error="--listen 0.0.0.0:0: other machines may reach it\nlistening there wants --tokens, or --open if that is meant\n")
+        for word in ("nowhere", "localhost:7070", "127.0.0.1", "127.0.0.1:65536", ":7070"):
+            ended("host", TWICE, "--listen", word, status=2,
+                  error=f"--listen {word}: no address in numbers with a port\nwhere to listen is ADDRESS:PORT\n")
+        ended("host", TWICE, *["--peer", "127.0.0.1:1"] * 65, status=2, error="--peer: 65 of them, of at most 64\ntoo many peers\n")
+        ended("host", TWICE, "--sync", "soon", status=2,
+              error="--sync soon: no such time\n--sync is always, never or MILLISECONDS, 1 to 60000\n")
+        with socket.create_server((HOST, 0)) as taken:
+            port = taken.getsockname()[1]
+            ended("host", TWICE, "--listen", f"{HOST}:{port}", status=6,
+                  error=f"listen {HOST}:{port}: {in_system_words(errno.EADDRINUSE)}\ncannot listen\n")
+        ended("host", TWICE, "--listen", "203.0.113.1:7070", "--open", status=6,
+              error=f"listen 203.0.113.1:7070: {in_system_words(errno.EADDRNOTAVAIL)}\ncannot listen\n")
+
+
+def refused_tokens():
+    """Which line of a file of tokens is refused is told, and why."""
+    rights = "behind the token is neither * nor read nor ORIGIN[,ORIGIN].."
+    characters = "a token is 1 to 128 characters from ! to ~"
+    nothing = "there is nothing behind the token"
+    with tempfile.TemporaryDirectory() as folder:
+        file = Path(folder, "tokens")
+        file.touch(0o600)
+        for text, line, why in (
+                ("all *\nnone\n", 2, f"line 2: {nothing}"), ("# x\n\nall *\none 0,2\n", 4, "line 4: no such origin 2"),
+                ("one 9", 1, "line 1: no such origin 9"), ("one 32\n", 1, "line 1: no such origin 32"),
+                ("one 4294967296\n", 1, f"line 1: {rights}"), ("one 0,\n", 1, f"line 1: {rights}"), ("one 00\n", 1, f"line 1: {rights}"),
+                ("one  0\n", 1, f"line 1: {rights}"), ("one all\n", 1, f"line 1: {rights}"), ("one *\r\n", 1, "line 1: it ends with a carriage return"),
+                (" *\n", 1, f"line 1: {characters}"), (" 9\n", 1, f"line 1: {characters}"), ("x" * 129 + " *\n", 1, f"line 1: {characters}"),
+                ("ä *\n", 1, f"line 1: {characters}"), ("one *\ntwo 0\n#\none read\n", 4, "line 4: its token stands in a line in front of it too"),
+                ("", 1, "it has no token"), ("# nothing\n\n", 1, "it has no token")):
+            file.write_text(text)
+            ended("host", TWICE, "--tokens", file, status=3, error=f"{file}: {why}\ntokens refused at line {line}\n")
+        for text, line in (("a:1 x\nb:1\n", 2), ("# x\n x\n", 2), ("a:1 \n", 1), ("a:1 x y\n", 1)):
+            file.write_text(text)
+            ended("host", TWICE, "--peer-tokens", file, status=3, error=f"{file}: line {line}: not HOST:PORT TOKEN\ntokens of peers refused at line {line}\n")
+        file.write_bytes(b"#" * 1_048_577)
+        for which, words in (("", "--tokens"), (" of peers", "--peer-tokens")):
+            ended("host", TWICE, words, file, status=4, error=f"{file}: it has more than 1,048,576 bytes\ncannot read the tokens{which}\n")
+        # The longest token, and what is passed over.
+        file.write_text("#\n\n" + "x" * 128 + " 0,1,1\none read")
+        with Hosted("--tokens", file) as host:
+            same(host.talk().ask("token one"), "may read", "a token")
+
+
+def allowed_origins():
+    """What is no origin of a page is refused at the start; what is one may be one of several."""
+    said = "--allow-origin is http://HOST[:PORT] or https://HOST[:PORT]\n"
+    for word in ("nonsense", "*", "null", "game.example", "ftp://game.example", "https://", "http://:80", "https://game.example/", "https://game.example:",
+                 "https://game.example:port", "https://game.example:65536", "https://game.example:08", "https://[::1", "https://[]", "https://[::g]",
+                 "https://[::1]x", "https://a b", "https://a@b", "HTTPS://game.example", "https://a:1:2", "https://spiel.büro"):
+        ended("host", TWICE, "--allow-origin", "https://good.example", "--allow-origin", word, status=2,
+              error=f"--allow-origin {word}: no origin of a page\n{said}")
+    good = ["https://game.example", "http://game.example:8080", "https://a-b_c.Example:65535", "http://192.0.2.1", "https://[2001:db8::1]:443", "http://[::1]"]
+    with Hosted(*(it for origin in good for it in ("--allow-origin", origin))) as host:
+        for origin in [*good, f"http://localhost:{host.port}"]:
+            for path, status in (("/", 200), ("/names.json", 200), ("/none", 404), ("/ws", 426)):
+                fields = same_status(host, path, origin, status)
+                same((fields.get("access-control-allow-origin"), fields.get("vary")), (origin, "Origin"), f"{path} for {origin}")
+        for headers in ((), ("Origin: https://evil.example",), ("Origin: https://game.example:443",)):
+            status, fields, _ = get(host.address, "/names.json", *headers)
+            same((status, fields.get("access-control-allow-origin"), fields.get("vary")), (403 if headers else 200, None, None), f"{headers}")
+
+
+def same_status(host, path, origin, status):
+    found, fields, _ = get(host.address, path, f"Origin: {origin}")
+    same(found, status, f"{path} for {origin}")
+    return fields
+
+
+def started():
+    """The first line for an operator: how many clients, which version and program, and whether tokens are wanted."""
+    version = subprocess.run([hosting.PROGRAM, "--version"], capture_output=True, text=True, timeout=60, check=True).stdout.strip()
+    with tempfile.TemporaryDirectory() as folder:
+        file = Path(folder, "tokens")
+        file.write_text("one *\n")
+        file.chmod(0o600)
+        for words, clients, wanted in (((), 1_024, "no tokens are wanted"), (("--clients", "7", "--tokens", file), 7, "tokens are wanted")):
+            with Hosted(*words) as host:
+                talk = host.talk()
+                talk.ask("token one")
+                wait_for(lambda: "\n" in host.printed(1), "the line on the start")
+                same(host.printed(1), f"started: {clients} clients at a time; {version}; {talk.ask('program')}; {wanted}\n", "the start")
+
+
+def wrong_tokens():
+    """Requests that bring no token, or a wrong one, are counted."""
+    with tempfile.TemporaryDirectory() as folder:
+        file = Path(folder, "tokens")
+        file.write_text("one *\n")
+        file.chmod(0o600)
+        with Hosted("--tokens", file) as host:
+            for _ in range(3):
+                same(get(host.address, "/metrics", "Authorization: Bearer two")[0], 401, "a wrong token")
+                same(get(host.address, "/names.json")[0], 401, "no token")
+            same(host.web("/ws?token=two").status, 401, "a wrong token at /ws")
+            same(get(host.address, "/healthz")[0], 200, "what is open")
+            same(host.talk().ask("token two"), "refused 13", "a wrong token over lines")
+
+            def counted():
+                text = get(host.address, "/metrics", "Authorization: Bearer one")[2]
+                return b"\nwarpd_http_unauthorized_total 7\n" in text and b"\nwarpd_refused_total 1\n" in text
+
+            wait_for(counted, "the counts", 30)
+
+
+CASES = [refused_starts, refused_tokens, allowed_origins, started, wrong_tokens]
