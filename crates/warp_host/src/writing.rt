@@ -3,7 +3,7 @@
 use crate::bells::Bells;
 use crate::durable::Durable;
 use crate::handing::{Handing, PLACES};
-use crate::hosting::HostFault;
+use crate::hosting::{HostFault, started};
 use crate::journal_file::{OpenJournal, SyncWhen};
 use crate::scribe::Scribe;
 use rtrb::RingBuffer;
@@ -71,10 +71,8 @@ pub(crate) fn start_writing<'s, E, X: Eprint + Files<File = File> + Wait + Clock
     let Some(scribe) = scribe else {
         return Ok(None);
     };
-    match scope.spawn(move || scribe.run(rt)) {
-        Ok(writing) => Ok(Some(writing)),
-        Err(_) => Err(HostFault::System),
-    }
+    let writing = started(scope.spawn(move || scribe.run(rt)))?;
+    Ok(Some(writing))
 }
 
 /// Ends the journal's thread, once all that was handed to it is written. `Err` where the journal could not be written.
