@@ -41,20 +41,19 @@ pub(crate) struct Scribe<'a> {
 impl<'a> Scribe<'a> {
     /// Takes what was handed; how many records that was.
     fn take_all(&mut self) -> Result<usize, Failed> {
-        let mut count = 0;
-        while count < PLACES {
-            let Ok(handed) = self.handed.pop() else {
-                break;
-            };
-            // The log comes from its beginning only where `renewal` asked for it, and takes it.
-            let Handed::Record(record) = handed else {
-                continue;
+        let mut count = 0usize;
+        for _ in 0..PLACES {
+            let record = match self.handed.pop() {
+                Ok(Handed::Record(record)) => record,
+                // The log comes from its beginning only where `renewal` asked for it, and takes it.
+                Ok(Handed::Beginning(_)) => continue,
+                Err(_) => break,
             };
             self.keeper.take(&record)?;
             if self.when == SyncWhen::Never && self.keeper.len() % BATCH == 0 {
                 self.keeper.take_sum()?;
             }
-            count += 1;
+            count = count.saturating_add(1);
         }
         Ok(count)
     }
