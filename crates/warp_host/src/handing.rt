@@ -72,8 +72,16 @@ impl<'a> Handing<'a> {
         found
     }
 
-    /// Whether all of the log was handed, or the journal can't be written.
+    /// At the end of the host: whether nothing more is to be handed. That is so where all of the log was, and where the
+    /// journal can't be written: then it is noted as failed, though it may be written anew without the rest.
     pub(crate) fn is_done<T: Timeline>(&self, replica: &Replica<T>) -> bool {
-        self.count >= replica.len() || self.durable.is_failing()
+        if self.count >= replica.len() {
+            return true;
+        }
+        if self.durable.is_failing() {
+            self.durable.fail();
+            return true;
+        }
+        false
     }
 }
