@@ -81,6 +81,22 @@ pub(crate) struct JournalPlace {
     pub(crate) first: Vec<u8>,
 }
 
+/// Why a journal can't be written: what the system says, or `None` where no memory was to be had.
+#[derive(Clone, Copy, Debug, PartialEq, Eq)]
+pub(crate) struct Unwritten(pub(crate) Option<ErrorKind>);
+
+impl From<AllocError> for Unwritten {
+    fn from(_refused: AllocError) -> Unwritten {
+        Unwritten(None)
+    }
+}
+
+impl From<io::Error> for Unwritten {
+    fn from(error: io::Error) -> Unwritten {
+        Unwritten(Some(error.kind()))
+    }
+}
+
 /// The journal of a host that begins.
 #[derive(Drop)]
 pub struct OpenJournal {
@@ -122,6 +138,15 @@ impl From<io::Error> for OpenFault {
     }
 }
 
+impl From<Unwritten> for OpenFault {
+    fn from(unwritten: Unwritten) -> OpenFault {
+        match unwritten {
+            Unwritten(None) | Unwritten(Some(ErrorKind::OutOfMemory)) => OpenFault::NoMemory,
+            Unwritten(Some(_)) => OpenFault::Unusable,
+        }
+    }
+}
+
 /// Takes the lock of the journal at this path.
 pub fn lock_journal<F: Files<File = File>>(
     files: &F,
@@ -142,12 +167,17 @@ pub fn lock_journal<F: Files<File = File>>(
 }
 
 /// Brings the name of the file at this path to the disk.
-pub fn sync_folder<F: Files<File = File>>(files: &F, path: &str) -> Result<(), OpenFault> {
+fn bring_name<F: Files<File = File>>(files: &F, path: &str) -> io::Result<()> {
     let folder = match Path::new(path).parent() {
         Some(folder) if !folder.as_str().is_empty() => File::open(files, folder)?,
         _ => File::open(files, ".")?,
     };
-    folder.sync_all()?;
+    folder.sync_all()
+}
+
+/// Brings the name of the file at this path to the disk.
+pub fn sync_folder<F: Files<File = File>>(files: &F, path: &str) -> Result<(), OpenFault> {
+    bring_name(files, path)?;
     Ok(())
 }
 
@@ -249,8 +279,16 @@ fn tell_refused<X: Eprint>(rt: &X, line: u64, refusal: Option<Refusal>) {
     };
 }
 
+/// Tells why a journal is not written anew.
+pub(crate) fn tell_not_renewed<X: Eprint>(rt: &X, fault: Option<ErrorKind>) {
+    let _ = match fault {
+        Some(kind) => eprintln!(rt; "journal: it can't be written anew: {kind}"),
+        None => rt.eprintln("journal: no memory to write it anew"),
+    };
+}
+
 /// Begins a journal in this file, which has nothing but a front of its first line.
-fn begin(alloc: Global, file: &mut File, first: &[u8]) -> Result<Journal, OpenFault> {
+fn begin(alloc: Global, file: &mut File, first: &[u8]) -> Result<Journal, Unwritten> {
     let mut line = Vec::from_slice(alloc, first)?;
     line.extend_from_slice(b"\n")?;
     file.set_len(0)?;
@@ -270,7 +308,7 @@ pub(crate) fn begin_beside<F: Files<File = File>>(
     files: &F,
     alloc: Global,
     place: &JournalPlace,
-) -> Result<JournalFile, OpenFault> {
+) -> Result<JournalFile, Unwritten> {
     let name = path_beside(alloc, place.path.as_str())?;
     let mut file = OpenOptions::new()
         .write(true)
@@ -286,10 +324,11 @@ pub(crate) fn take_place<F: Files<File = File>>(
     files: &F,
     alloc: Global,
     place: &JournalPlace,
-) -> Result<(), OpenFault> {
+) -> Result<(), Unwritten> {
     let name = path_beside(alloc, place.path.as_str())?;
     fs::rename(files, name.as_str(), place.path.as_str())?;
-    sync_folder(files, place.path.as_str())
+    bring_name(files, place.path.as_str())?;
+    Ok(())
 }
 
 /// Reads the journal that these bytes of the file are, cuts off what is torn, and has the replica take its records.
@@ -355,14 +394,14 @@ pub fn open_journal<X: Files<File = File> + Eprint, T: Timeline>(
     } else {
         go_on(rt, alloc, &file, &bytes, first, replica)?
     };
-    // What was read may not be on the disk yet, and is told from now on.
-    file.sync_all()?;
-    sync_folder(rt, path)?;
-    let disk = JournalFile { file, fault: None };
     let place = JournalPlace {
         path: String::from_str(alloc, path)?,
         first: Vec::from_slice(alloc, first)?,
     };
+    // What was read may not be on the disk yet, and is told from now on.
+    file.sync_all()?;
+    bring_name(rt, place.path.as_str())?;
+    let disk = JournalFile { file, fault: None };
     Ok(OpenJournal {
         keeper: Keeper::new(alloc, disk, journal),
         place,
