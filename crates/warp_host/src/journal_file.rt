@@ -303,6 +303,22 @@ fn path_beside(alloc: Global, path: &str) -> Result<String, AllocError> {
     Ok(name)
 }
 
+/// Lets those read and write the fresh file who may read and write the file at this path, if there is one.
+fn keep_permissions<F: Files<File = File>>(
+    files: &F,
+    fresh: &File,
+    path: &str,
+) -> Result<(), Unwritten> {
+    let Ok(about) = fs::metadata(files, path) else {
+        return Ok(());
+    };
+    let permissions = about.permissions();
+    if fresh.metadata()?.permissions() != permissions {
+        fresh.set_permissions(permissions)?;
+    }
+    Ok(())
+}
+
 /// Begins a journal with the same first line in a fresh file beside this one.
 pub(crate) fn begin_beside<F: Files<File = File>>(
     files: &F,
@@ -315,6 +331,7 @@ pub(crate) fn begin_beside<F: Files<File = File>>(
         .create(true)
         .truncate(true)
         .open(files, name.as_str())?;
+    keep_permissions(files, &file, place.path.as_str())?;
     begin(alloc, &mut file, &place.first)?;
     Ok(JournalFile { file, fault: None })
 }
