@@ -147,13 +147,26 @@ impl From<Unwritten> for OpenFault {
     }
 }
 
-/// Takes the lock of the journal at this path.
+/// The path that this one leads to, behind symbolic links; this one itself where nothing is there, or its name is too
+/// long.
+fn real_path<F: Files<File = File>>(
+    files: &F,
+    alloc: Global,
+    path: &str,
+) -> Result<String, AllocError> {
+    match files.canonicalize(alloc, path) {
+        Ok(real) => Ok(real.into_string()),
+        Err(_) => String::from_str(alloc, path),
+    }
+}
+
+/// Takes the lock of the journal at this path. All paths that lead to the journal have one lock.
 pub fn lock_journal<F: Files<File = File>>(
     files: &F,
     alloc: Global,
     path: &str,
 ) -> Result<File, OpenFault> {
-    let mut name = String::from_str(alloc, path)?;
+    let mut name = real_path(files, alloc, path)?;
     name.push_str(".lock")?;
     let lock = OpenOptions::new()
         .write(true)
@@ -412,7 +425,7 @@ pub fn open_journal<X: Files<File = File> + Eprint, T: Timeline>(
         go_on(rt, alloc, &file, &bytes, first, replica)?
     };
     let place = JournalPlace {
-        path: String::from_str(alloc, path)?,
+        path: real_path(rt, alloc, path)?,
         first: Vec::from_slice(alloc, first)?,
     };
     // What was read may not be on the disk yet, and is told from now on.
