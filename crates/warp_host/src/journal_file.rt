@@ -361,7 +361,37 @@ pub(crate) fn take_place<F: Files<File = File>>(
     Ok(())
 }
 
-/// Reads the journal that these bytes of the file are, cuts off what is torn, and has the replica take its records.
+/// Whether a host ended while this journal could not be written: it left the fresh file.
+fn is_left<F: Files<File = File>>(
+    files: &F,
+    alloc: Global,
+    place: &JournalPlace,
+) -> Result<bool, AllocError> {
+    let name = path_beside(alloc, place.path.as_str())?;
+    match fs::metadata(files, name.as_str()) {
+        Ok(about) => Ok(about.is_file()),
+        Err(_) => Ok(false),
+    }
+}
+
+/// Writes a journal anew, whose lines behind the first these are: what was read of the old file may not be on the disk,
+/// where a sync of it failed.
+fn write_again<X: Files<File = File> + Eprint>(
+    rt: &X,
+    alloc: Global,
+    place: &JournalPlace,
+    lines: &[u8],
+) -> Result<JournalFile, Unwritten> {
+    let mut disk = begin_beside(rt, alloc, place)?;
+    disk.file.write_all(lines)?;
+    disk.file.sync_all()?;
+    take_place(rt, alloc, place)?;
+    let _ = rt.eprintln("journal: it could not be written when a host ended; it was written anew");
+    Ok(disk)
+}
+
+/// Reads the journal that these bytes of the file are, cuts off what is torn, and has the replica take its records. How
+/// many bytes are kept.
 fn go_on<X: Eprint, T: Timeline>(
     rt: &X,
     alloc: Global,
@@ -369,7 +399,7 @@ fn go_on<X: Eprint, T: Timeline>(
     bytes: &[u8],
     first: &[u8],
     replica: &mut Replica<T>,
-) -> Result<Journal, OpenFault> {
+) -> Result<(Journal, usize), OpenFault> {
     let found = match read_journal(alloc, replica.program().form(), first, bytes) {
         Ok(found) => found,
         Err(NotRead::OtherFirst) => return Err(OpenFault::OtherFirst),
@@ -398,7 +428,48 @@ fn go_on<X: Eprint, T: Timeline>(
     if ending != Ending::Whole {
         file.set_len(kept as u64)?;
     }
-    Ok(journal)
+    Ok((journal, kept))
+}
+
+/// The file at this path, which is made where none is there, and its bytes.
+fn read_file<F: Files<File = File>>(
+    files: &F,
+    alloc: Global,
+    path: &str,
+) -> Result<(File, Vec<u8>), OpenFault> {
+    let mut file = OpenOptions::new()
+        .read(true)
+        .append(true)
+        .create(true)
+        .open(files, path)?;
+    let mut bytes = Vec::new(alloc);
+    file.read_to_end(&mut bytes)?;
+    Ok((file, bytes))
+}
+
+/// Brings what was read of a journal's file to the disk, where it may not be yet: it is told from now on. The file to go
+/// on with.
+fn keep_on<X: Files<File = File> + Eprint>(
+    rt: &X,
+    alloc: Global,
+    file: File,
+    place: &JournalPlace,
+    kept: &[u8],
+) -> Result<JournalFile, OpenFault> {
+    if is_left(rt, alloc, place)? {
+        let behind = place.first.len().saturating_add(1);
+        let lines = kept.get(behind..).unwrap_or(b"");
+        return match write_again(rt, alloc, place, lines) {
+            Ok(disk) => Ok(disk),
+            Err(unwritten) => {
+                tell_not_renewed(rt, unwritten.0);
+                Err(OpenFault::from(unwritten))
+            }
+        };
+    }
+    file.sync_all()?;
+    bring_name(rt, place.path.as_str())?;
+    Ok(JournalFile { file, fault: None })
 }
 
 /// Opens the journal at this path, whose first line this is, without its line feed, or begins it; and has the replica
@@ -412,15 +483,9 @@ pub fn open_journal<X: Files<File = File> + Eprint, T: Timeline>(
     replica: &mut Replica<T>,
 ) -> Result<OpenJournal, OpenFault> {
     let lock = lock_journal(rt, alloc, path)?;
-    let mut file = OpenOptions::new()
-        .read(true)
-        .append(true)
-        .create(true)
-        .open(rt, path)?;
-    let mut bytes = Vec::new(alloc);
-    file.read_to_end(&mut bytes)?;
-    let journal = if first.starts_with(&bytes) {
-        begin(alloc, &mut file, first)?
+    let (mut file, bytes) = read_file(rt, alloc, path)?;
+    let (journal, kept) = if first.starts_with(&bytes) {
+        (begin(alloc, &mut file, first)?, 0)
     } else {
         go_on(rt, alloc, &file, &bytes, first, replica)?
     };
@@ -428,10 +493,8 @@ pub fn open_journal<X: Files<File = File> + Eprint, T: Timeline>(
         path: real_path(rt, alloc, path)?,
         first: Vec::from_slice(alloc, first)?,
     };
-    // What was read may not be on the disk yet, and is told from now on.
-    file.sync_all()?;
-    bring_name(rt, place.path.as_str())?;
-    let disk = JournalFile { file, fault: None };
+    let kept = bytes.get(..kept).unwrap_or(&bytes);
+    let disk = keep_on(rt, alloc, file, &place, kept)?;
     Ok(OpenJournal {
         keeper: Keeper::new(alloc, disk, journal),
         place,

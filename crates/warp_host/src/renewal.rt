@@ -31,6 +31,8 @@ impl<'a> Scribe<'a> {
         self.bells.wake_loop();
         let mut told = self.keeper.disk().fault();
         operator::tell_journal_fails(rt, told);
+        // The fresh file stays while this goes on: a host that begins beside it trusts the old one no more.
+        let _ = begin_beside(rt, self.alloc, &self.place);
         let least = self.keeper.len();
         for _ in rt.forever() {
             if self.durable.is_over() {
