@@ -7,7 +7,7 @@ use warp_record::Record;
 use warp_replica::Replica;
 
 /// The places of the ring of what is handed.
-pub(crate) const PLACES: usize = 4_096;
+pub(crate) const RING_ROOM: usize = 4_096;
 
 /// What is handed to the journal's thread.
 #[derive(Clone, Copy)]
@@ -55,7 +55,7 @@ impl<'a> Handing<'a> {
     /// there were any.
     pub(crate) fn hand<T: Timeline>(&mut self, replica: &Replica<T>) -> bool {
         let mut found = self.begin_anew();
-        for _ in 0..PLACES {
+        for _ in 0..RING_ROOM {
             if self.ring.is_full() {
                 break;
             }
@@ -72,8 +72,16 @@ impl<'a> Handing<'a> {
         found
     }
 
-    /// Whether all of the log was handed, or the journal can't be written.
+    /// At the end of the host: whether nothing more is to be handed. That is so where all of the log was, and where the
+    /// journal can't be written: then it is noted as failed, though it may be written anew without the rest.
     pub(crate) fn is_done<T: Timeline>(&self, replica: &Replica<T>) -> bool {
-        self.count >= replica.len() || self.durable.is_failing()
+        if self.count >= replica.len() {
+            return true;
+        }
+        if self.durable.is_failing() {
+            self.durable.fail();
+            return true;
+        }
+        false
     }
 }

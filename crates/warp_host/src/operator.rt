@@ -104,6 +104,14 @@ pub(crate) fn tell_journal_fails<X: Eprint>(rt: &X, fault: Option<ErrorKind>) {
     };
 }
 
+/// Tells why the journal is not written anew.
+pub(crate) fn tell_journal_not_renewed<X: Eprint>(rt: &X, fault: Option<ErrorKind>) {
+    let _ = match fault {
+        Some(kind) => eprintln!(rt; "journal: it can't be written anew: {kind}"),
+        None => rt.eprintln("journal: no memory to write it anew"),
+    };
+}
+
 /// Tells that the journal was written anew, with so many records.
 pub(crate) fn tell_journal_renewed<X: Eprint>(rt: &X, count: u32) {
     let _ = eprintln!(rt; "journal: written anew, with {count} records");

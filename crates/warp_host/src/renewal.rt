@@ -4,12 +4,14 @@
 //! executor hands the log from its beginning. Until the fresh file is on the disk nothing is told of more of the log than
 //! the old one was synced for, and clients' records are refused.
 
+use crate::fresh_file::{begin_beside, take_place};
 use crate::handing::Handed;
-use crate::journal_file::{JournalFile, begin_beside, take_place};
+use crate::journal_faults::Unwritten;
+use crate::journal_file::JournalFile;
 use crate::operator;
 use crate::scribe::Scribe;
 use std::fs::{File, Files};
-use std::io::Eprint;
+use std::io::{Eprint, ErrorKind};
 use std::sync::Wait;
 use std::time::Duration;
 use warp_journal::{Failed, Journal, Keeper};
@@ -27,24 +29,41 @@ const BATCH: u32 = 1_024;
 impl<'a> Scribe<'a> {
     /// Tries each second to write the journal anew, until that is done; whether it is, before this thread is to end.
     pub(crate) fn renew<X: Wait + Eprint + Files<File = File>>(&mut self, rt: &X) -> bool {
-        let fault = self.keeper.disk().fault();
-        operator::tell_journal_fails(rt, fault);
         self.durable.note_failing(true);
         self.bells.wake_loop();
+        let mut told = self.keeper.disk().fault();
+        operator::tell_journal_fails(rt, told);
+        // The fresh file stays while this goes on: a host that begins beside it trusts the old one no more.
+        let _ = begin_beside(rt, self.alloc, &self.place);
         let least = self.keeper.len();
         for _ in rt.forever() {
             if self.durable.is_over() {
                 return false;
             }
             self.durable.sleep(rt, Duration::from_millis(PAUSE));
-            if self.write_anew(rt, least).is_ok() {
-                break;
+            match self.write_anew(rt, least) {
+                Ok(()) => break,
+                Err(Unwritten(fault)) => self.tell_change(rt, &mut told, fault),
             }
         }
-        operator::tell_journal_renewed(rt, self.keeper.len());
         self.durable.note_failing(false);
         self.bells.wake_loop();
+        operator::tell_journal_renewed(rt, self.keeper.len());
         true
+    }
+
+    /// Tells why the journal was not written anew, where that is not what was told last.
+    fn tell_change<X: Eprint>(
+        &self,
+        rt: &X,
+        told: &mut Option<ErrorKind>,
+        fault: Option<ErrorKind>,
+    ) {
+        if fault == *told || self.durable.is_over() {
+            return;
+        }
+        operator::tell_journal_not_renewed(rt, fault);
+        *told = fault;
     }
 
     /// Writes the log, of which there are so many records at least, to a fresh file, brings it to the disk, and has it
@@ -53,22 +72,31 @@ impl<'a> Scribe<'a> {
         &mut self,
         rt: &X,
         least: u32,
-    ) -> Result<(), Failed> {
-        let Ok(disk) = begin_beside(rt, self.alloc, &self.place) else {
-            return Err(Failed);
-        };
+    ) -> Result<(), Unwritten> {
+        let disk = begin_beside(rt, self.alloc, &self.place)?;
         let mut fresh = Keeper::new(self.alloc, disk, Journal::begin(&self.place.first));
         self.beginnings = self.beginnings.wrapping_add(1);
         self.durable.ask_for_all(self.beginnings);
-        self.take_from_beginning(rt, &mut fresh, least)?;
-        let count = fresh.sync()?;
-        if take_place(rt, self.alloc, &self.place).is_err() {
-            return Err(Failed);
-        }
+        let Ok(count) = self.fill(rt, &mut fresh, least) else {
+            return Err(Unwritten(fresh.disk().fault()));
+        };
+        take_place(rt, self.alloc, &self.place)?;
         self.keeper = fresh;
         self.behind_since = None;
         self.durable.note_synced(count);
         Ok(())
+    }
+
+    /// Takes the log from its beginning, of which there are so many records at least, and brings it to the disk. How
+    /// many records there are then.
+    fn fill<X: Wait>(
+        &mut self,
+        rt: &X,
+        fresh: &mut Keeper<JournalFile>,
+        least: u32,
+    ) -> Result<u32, Failed> {
+        self.take_from_beginning(rt, fresh, least)?;
+        fresh.sync()
     }
 
     /// Takes the log from its beginning, as far as it was handed, and so many records at least.

@@ -4,8 +4,9 @@
 
 use crate::bells::Bells;
 use crate::durable::Durable;
-use crate::handing::{Handed, PLACES};
-use crate::journal_file::{JournalFile, JournalPlace, SyncWhen};
+use crate::fresh_file::JournalPlace;
+use crate::handing::{Handed, RING_ROOM};
+use crate::journal_file::{JournalFile, SyncWhen};
 use rtrb::Consumer;
 use std::alloc::Global;
 use std::fs::{File, Files};
@@ -41,20 +42,19 @@ pub(crate) struct Scribe<'a> {
 impl<'a> Scribe<'a> {
     /// Takes what was handed; how many records that was.
     fn take_all(&mut self) -> Result<usize, Failed> {
-        let mut count = 0;
-        while count < PLACES {
-            let Ok(handed) = self.handed.pop() else {
-                break;
-            };
-            // The log comes from its beginning only where `renewal` asked for it, and takes it.
-            let Handed::Record(record) = handed else {
-                continue;
+        let mut count = 0usize;
+        for _ in 0..RING_ROOM {
+            let record = match self.handed.pop() {
+                Ok(Handed::Record(record)) => record,
+                // The log comes from its beginning only where `renewal` asked for it, and takes it.
+                Ok(Handed::Beginning(_)) => continue,
+                Err(_) => break,
             };
             self.keeper.take(&record)?;
             if self.when == SyncWhen::Never && self.keeper.len() % BATCH == 0 {
                 self.keeper.take_sum()?;
             }
-            count += 1;
+            count = count.saturating_add(1);
         }
         Ok(count)
     }
@@ -79,7 +79,7 @@ impl<'a> Scribe<'a> {
     /// Writes what was handed, and brings it to the disk where that is due; whether there was anything.
     fn work<X: Clock>(&mut self, rt: &X) -> Result<bool, Failed> {
         let taken = self.take_all()?;
-        if taken >= PLACES {
+        if taken >= RING_ROOM {
             // The executor may have found no room.
             self.bells.wake_executor();
         }

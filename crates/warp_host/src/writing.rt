@@ -2,7 +2,7 @@
 
 use crate::bells::Bells;
 use crate::durable::Durable;
-use crate::handing::{Handing, PLACES};
+use crate::handing::{Handing, RING_ROOM};
 use crate::hosting::{HostFault, started};
 use crate::journal_file::{OpenJournal, SyncWhen};
 use crate::scribe::Scribe;
@@ -45,7 +45,7 @@ pub(crate) fn make_scribe<'a>(
         when,
         lock,
     } = journal;
-    let (ring, handed) = RingBuffer::new(alloc, PLACES)?;
+    let (ring, handed) = RingBuffer::new(alloc, RING_ROOM)?;
     let handing = Handing::new(ring, durable, keeper.len());
     let scribe = Scribe {
         alloc,
