@@ -10,7 +10,7 @@ use warp_journal::Journal;
 
 /// Where a journal stands, and its first line, without its line feed.
 #[derive(Drop)]
-pub(crate) struct JournalPlace {
+pub struct JournalPlace {
     pub(crate) path: String,
     pub(crate) first: Vec<u8>,
 }
@@ -71,7 +71,7 @@ fn keep_permissions<F: Files<File = File>>(
 }
 
 /// Begins a journal with the same first line in a fresh file beside this one.
-pub(crate) fn begin_beside<F: Files<File = File>>(
+fn begin_beside<F: Files<File = File>>(
     files: &F,
     alloc: Global,
     place: &JournalPlace,
@@ -88,7 +88,7 @@ pub(crate) fn begin_beside<F: Files<File = File>>(
 }
 
 /// Has the fresh file beside the journal take its place, on the disk too.
-pub(crate) fn take_place<F: Files<File = File>>(
+fn take_place<F: Files<File = File>>(
     files: &F,
     alloc: Global,
     place: &JournalPlace,
@@ -125,4 +125,24 @@ pub(crate) fn write_again<X: Files<File = File> + Eprint>(
     take_place(rt, alloc, place)?;
     let _ = rt.eprintln("journal: it could not be written when a host ended; it was written anew");
     Ok(disk)
+}
+
+/// What the journal's thread needs of the system's files. It is a trait of its own, since `Files` has a type of folders
+/// that none can name, and so goes to no other thread.
+pub trait FreshFiles {
+    /// Begins a journal with the same first line in a fresh file beside this one.
+    fn begin_fresh(&self, alloc: Global, place: &JournalPlace) -> Result<JournalFile, FileFault>;
+
+    /// Has the fresh file beside the journal take its place, on the disk too.
+    fn replace_by_fresh(&self, alloc: Global, place: &JournalPlace) -> Result<(), FileFault>;
+}
+
+impl<X: Files<File = File>> FreshFiles for X {
+    fn begin_fresh(&self, alloc: Global, place: &JournalPlace) -> Result<JournalFile, FileFault> {
+        begin_beside(self, alloc, place)
+    }
+
+    fn replace_by_fresh(&self, alloc: Global, place: &JournalPlace) -> Result<(), FileFault> {
+        take_place(self, alloc, place)
+    }
 }

@@ -10,6 +10,7 @@ use crate::descriptors::clients_within;
 use crate::durable::Durable;
 use crate::entrance::Entrance;
 use crate::executor::Executor;
+use crate::fresh_file::FreshFiles;
 use crate::handing::Handing;
 use crate::histogram::Stopwatch;
 use crate::input_end::InputEnd;
@@ -32,7 +33,6 @@ use rtrb::{Consumer, Producer, RingBuffer};
 use slab::Slab;
 use std::alloc::{AllocError, Global};
 use std::collections::VecDeque;
-use std::fs::{File, Files};
 use std::hash::RandomState;
 use std::io::{self, Eprint};
 use std::net::{self, Net};
@@ -100,11 +100,11 @@ pub struct Served {
 }
 
 /// What a host needs of the system.
-pub trait Machine: Eprint + Files<File = File> + Threads + Wait + Clock + RandomSource + Sync {}
+pub trait Machine: Eprint + FreshFiles + Threads + Wait + Clock + RandomSource + Sync {}
 
 impl<X> Machine for X
 where
-    X: Eprint + Files<File = File> + Threads + Wait + Clock + RandomSource + Sync,
+    X: Eprint + FreshFiles + Threads + Wait + Clock + RandomSource + Sync,
 {}
 
 /// Adds a lane: its port, and its other end.
@@ -364,7 +364,7 @@ fn run_beside<'s, E, X, T: Timeline + Send + Drop + 's>(
 ) -> Result<(), HostFault>
 where
     X: Net<Listener = net::TcpListener, Stream = net::TcpStream> + 's,
-    X: Eprint + Files<File = File> + Threads + Wait + Clock + Sync,
+    X: Eprint + FreshFiles + Threads + Wait + Clock + Sync,
 {
     let Shared { bells, durable } = shared;
     let Ok(running) = start_executor(scope, rt, executor) else {

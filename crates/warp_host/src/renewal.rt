@@ -4,13 +4,12 @@
 //! executor hands the log from its beginning. Until the fresh file is on the disk nothing is told of more of the log than
 //! the old one was synced for, and clients' records are refused.
 
-use crate::fresh_file::{begin_beside, take_place};
+use crate::fresh_file::FreshFiles;
 use crate::handing::Handed;
 use crate::journal_faults::Unwritten;
 use crate::journal_file::JournalFile;
 use crate::operator;
 use crate::scribe::Scribe;
-use std::fs::{File, Files};
 use std::io::{Eprint, ErrorKind};
 use std::sync::Wait;
 use std::time::Duration;
@@ -28,13 +27,13 @@ const BATCH: u32 = 1_024;
 
 impl<'a> Scribe<'a> {
     /// Tries each second to write the journal anew, until that is done; whether it is, before this thread is to end.
-    pub(crate) fn renew<X: Wait + Eprint + Files<File = File>>(&mut self, rt: &X) -> bool {
+    pub(crate) fn renew<X: Wait + Eprint + FreshFiles>(&mut self, rt: &X) -> bool {
         self.durable.note_failing(true);
         self.bells.wake_loop();
         let mut told = self.keeper.disk().fault();
         operator::tell_journal_fails(rt, told);
         // The fresh file stays while this goes on: a host that begins beside it trusts the old one no more.
-        let _ = begin_beside(rt, self.alloc, &self.place);
+        let _ = rt.begin_fresh(self.alloc, &self.place);
         let least = self.keeper.len();
         for _ in rt.forever() {
             if self.durable.is_over() {
@@ -68,19 +67,15 @@ impl<'a> Scribe<'a> {
 
     /// Writes the log, of which there are so many records at least, to a fresh file, brings it to the disk, and has it
     /// take the journal's place.
-    fn write_anew<X: Wait + Files<File = File>>(
-        &mut self,
-        rt: &X,
-        least: u32,
-    ) -> Result<(), Unwritten> {
-        let disk = begin_beside(rt, self.alloc, &self.place)?;
+    fn write_anew<X: Wait + FreshFiles>(&mut self, rt: &X, least: u32) -> Result<(), Unwritten> {
+        let disk = rt.begin_fresh(self.alloc, &self.place)?;
         let mut fresh = Keeper::new(self.alloc, disk, Journal::begin(&self.place.first));
         self.beginnings = self.beginnings.wrapping_add(1);
         self.durable.ask_for_all(self.beginnings);
         let Ok(count) = self.fill(rt, &mut fresh, least) else {
             return Err(Unwritten(fresh.disk().fault()));
         };
-        take_place(rt, self.alloc, &self.place)?;
+        rt.replace_by_fresh(self.alloc, &self.place)?;
         self.keeper = fresh;
         self.behind_since = None;
         self.durable.note_synced(count);

@@ -4,12 +4,12 @@
 
 use crate::bells::Bells;
 use crate::durable::Durable;
-use crate::fresh_file::JournalPlace;
+use crate::fresh_file::{FreshFiles, JournalPlace};
 use crate::handing::{Handed, RING_ROOM};
 use crate::journal_file::{JournalFile, SyncWhen};
 use rtrb::Consumer;
 use std::alloc::Global;
-use std::fs::{File, Files};
+use std::fs::File;
 use std::io::Eprint;
 use std::sync::Wait;
 use std::time::{Clock, Duration};
@@ -133,7 +133,7 @@ impl<'a> Scribe<'a> {
     }
 
     /// Writes until it is to end. Where the disk fails that is said, and the journal is written anew.
-    pub(crate) fn run<X: Wait + Clock + Eprint + Files<File = File>>(mut self, rt: &X) {
+    pub(crate) fn run<X: Wait + Clock + Eprint + FreshFiles>(mut self, rt: &X) {
         for _ in rt.forever() {
             if self.write_on(rt).is_ok() {
                 return;

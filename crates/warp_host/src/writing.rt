@@ -2,13 +2,13 @@
 
 use crate::bells::Bells;
 use crate::durable::Durable;
+use crate::fresh_file::FreshFiles;
 use crate::handing::{Handing, RING_ROOM};
 use crate::hosting::{HostFault, started};
 use crate::journal_file::{OpenJournal, SyncWhen};
 use crate::scribe::Scribe;
 use rtrb::RingBuffer;
 use std::alloc::{AllocError, Global};
-use std::fs::{File, Files};
 use std::io::Eprint;
 use std::sync::Wait;
 use std::thread::{JoinHandle, Scope, Threads};
@@ -63,7 +63,7 @@ pub(crate) fn make_scribe<'a>(
 }
 
 /// Starts the journal's thread, if there is a journal.
-pub(crate) fn start_writing<'s, E, X: Eprint + Files<File = File> + Wait + Clock + Sync + 's>(
+pub(crate) fn start_writing<'s, E, X: Eprint + FreshFiles + Wait + Clock + Sync + 's>(
     scope: &'s Scope<'s, E>,
     rt: &'s X,
     scribe: Option<Scribe<'s>>,
