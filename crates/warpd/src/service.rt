@@ -14,6 +14,7 @@ use std::random::RandomSource;
 use std::sync::Wait;
 use std::thread::{self, Threads};
 use std::time::{Clock, Duration};
+use warp_host::FreshFiles;
 use warp_lanes::Engine;
 use warp_line::Timeline;
 use warp_session::{Door, DoorFault, Open, Peer, PullEnd, ServeFault, serve_sessions};
@@ -26,6 +27,7 @@ const MOST_LANES: usize = 16;
 pub(crate) trait Host: Print
     + Eprint
     + Files<File = File>
+    + FreshFiles
     + Threads
     + Wait
     + Clock
@@ -34,7 +36,15 @@ pub(crate) trait Host: Print
 
 impl<X> Host for X
 where
-    X: Print + Eprint + Files<File = File> + Threads + Wait + Clock + RandomSource + Sync,
+    X: Print
+        + Eprint
+        + Files<File = File>
+        + FreshFiles
+        + Threads
+        + Wait
+        + Clock
+        + RandomSource
+        + Sync,
 {}
 
 /// What a server is asked to do.
