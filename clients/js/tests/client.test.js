@@ -1,4 +1,4 @@
-// Tries the client over a real host, which it starts, stops and starts again: `WARPD=PROGRAM node --test tests/`.
+// Tries the client over real hosts, which are started, stopped and started again: `WARPD=PROGRAM node --test tests/`.
 // WebSocket is that of the package ws (Debian's node-ws) where this Node has none.
 
 import assert from "node:assert/strict"
@@ -8,17 +8,14 @@ import { createRequire } from "node:module"
 import { createServer } from "node:net"
 import { tmpdir } from "node:os"
 import { join } from "node:path"
-import { after, test } from "node:test"
-import { setTimeout as sleep } from "node:timers/promises"
-import { Announcer, Client, Ended, Refused } from "../warpd.js"
+import { test } from "node:test"
+import { Client } from "../warpd.js"
+import { CASES } from "./cases.js"
 
 const PROGRAM = process.env.WARPD ?? new URL("../../../crates/warpd/out/warpd", import.meta.url).pathname
 const require = createRequire(import.meta.url)
 const WebSocket = globalThis.WebSocket ?? require(process.env.WS ?? "/usr/share/nodejs/ws")
 const SECONDS = 20_000
-const started = new Set()
-
-after(() => started.forEach(host => host.kill()))
 
 async function freePort() {
   const server = createServer()
@@ -28,146 +25,54 @@ async function freePort() {
   return port
 }
 
-/** Starts a host, and gives it once it is ready. */
-async function start(port, ...words) {
-  const host = spawn(PROGRAM, ["host", "builtin:twice", "--listen", `127.0.0.1:${port}`, ...words])
-  started.add(host)
-  await new Promise((resolve, reject) => {
-    host.stdout.once("data", resolve)
-    host.once("exit", status => reject(new Error(`the host ended with ${status}`)))
-  })
-  return host
+function wordsOf(tokens) {
+  if (!tokens) return []
+  const file = join(mkdtempSync(join(tmpdir(), "warpd-js-")), "tokens")
+  writeFileSync(file, tokens, { mode: 0o600 })
+  return ["--tokens", file]
 }
 
-async function stop(host) {
-  const ended = new Promise(resolve => host.once("exit", resolve))
-  host.kill("SIGKILL")
-  await ended
-  started.delete(host)
+/** A process `warpd host` at one port. */
+class Host {
+  #process
+
+  constructor(port, words) {
+    Object.assign(this, { port, words })
+  }
+
+  /** Starts it, and waits until it is ready. */
+  async start() {
+    const started = spawn(PROGRAM, ["host", "builtin:twice", "--listen", `127.0.0.1:${this.port}`, ...this.words])
+    await new Promise((resolve, reject) => {
+      started.stdout.once("data", resolve)
+      started.once("error", reject)
+      started.once("exit", status => reject(new Error(`the host ended with ${status}`)))
+    })
+    this.#process = started
+  }
+
+  async stop() {
+    const process = this.#process
+    if (!process) return
+    this.#process = null
+    const ended = new Promise(resolve => process.once("exit", resolve))
+    process.kill("SIGKILL")
+    await ended
+  }
 }
 
-/** Runs a test over a host of its own with a client of it. */
-function hosted(name, body, { words = [], ...options } = {}) {
+for (const { name, body, tokens, options } of CASES) {
   test(name, { timeout: SECONDS }, async () => {
-    const port = await freePort()
-    const host = await start(port, ...words)
-    const client = new Client(`ws://127.0.0.1:${port}/ws`, { WebSocket, ...options })
+    const host = new Host(await freePort(), wordsOf(tokens))
+    await host.start()
+    const connect = more => new Client(`ws://127.0.0.1:${host.port}/ws`, { WebSocket, ...more })
+    const client = connect(options)
     try {
       await client.ready
-      await body({ client, port, host })
+      await body({ assert, client, connect, host })
     } finally {
       client.close()
-      if (started.has(host)) await stop(host)
+      await host.stop()
     }
   })
 }
-
-async function until(holds) {
-  for (let turn = 0; turn < 1_000; turn += 1) {
-    if (holds()) return
-    await sleep(10)
-  }
-  assert.fail(`it never came to ${holds}`)
-}
-
-hosted("lines have answers as values, and names stand for numbers", async ({ client }) => {
-  assert.deepEqual(client.names.vars, ["r.total"])
-  assert.deepEqual(client.names.inputs, [{ origin: 0, name: "r.a" }, { origin: 1, name: "r.b" }])
-  assert.deepEqual(await client.event("r.a", { time: 5, value: 3 }), { place: 1, isNew: true })
-  assert.deepEqual(await client.event("r.a", { time: 5, value: 3 }), { place: 1, isNew: false })
-  assert.deepEqual(await client.var("r.total"), { log: 1, value: 3n })
-  assert.deepEqual(await client.readVars(), { log: 1, values: { "r.total": 3n } })
-  assert.deepEqual(await client.output(0), { log: 1, time: 5, micro: 0, output: 0, value: 3n })
-  assert.equal(await client.output(1), null)
-  assert.deepEqual(await client.horizon(), { log: 1, time: 0, micro: 0 })
-  assert.deepEqual(await client.log(1), {
-    log: 1,
-    record: { kind: "event", origin: 0, time: 5, micro: 0, input: 0, value: 3n },
-  })
-  assert.deepEqual(await client.withdraw(0, { time: 5 }), { place: 2, isNew: true })
-  assert.deepEqual(await client.var(0), { log: 2, value: 0n })
-  assert.match((await client.program()).fingerprint, /^[0-9a-f]{64}$/)
-})
-
-hosted("a refusal has its number and meaning, and lines behind it go on", async ({ client }) => {
-  const refused = client.event(0, { time: 101, value: 1 })
-  const next = client.released()
-  await assert.rejects(refused, error => error instanceof Refused && error.number === 3 && error.meaning === "past the program's stop")
-  assert.deepEqual(await next, { log: 0, count: 0 })
-  const answers = await client.many(["nonsense", "lost"])
-  assert.equal(answers[0].number, 1)
-  assert.deepEqual(answers[1], { log: 0, count: 0 })
-  await assert.rejects(client.ask("lost\nlost"), RangeError)
-  await assert.rejects(client.event("r.c", { time: 1, value: 1 }), RangeError)
-})
-
-hosted("values have 64 bits", async ({ client }) => {
-  const most = 2n ** 63n - 1n
-  await client.event("r.a", { time: 1, value: most })
-  assert.equal((await client.readVars()).values["r.total"], most)
-})
-
-hosted("what is watched is pushed in order", async ({ client }) => {
-  const places = []
-  await client.watch("log", push => places.push(push.place)).started
-  await client.watch("vars").started
-  const released = client.watch("released")
-  const [first, second] = [new Announcer(client, 0), new Announcer(client, 1)]
-  await first.event("r.a", { time: 5, value: 3 })
-  await first.event("r.a", { time: 6, value: 4 })
-  await Promise.all([first.announce({ time: 10 }), second.announce({ time: 10 })])
-  const rows = []
-  for await (const row of released) {
-    rows.push([row.index, row.time, row.value])
-    if (rows.length === 2) break
-  }
-  // The program's total is twice what it was, and the event's value.
-  assert.deepEqual(rows, [[0, 5, 3n], [1, 6, 10n]])
-  await until(() => places.length === 4 && client.vars["r.total"] === 10n)
-  assert.deepEqual(places, [1, 2, 3, 4])
-})
-
-hosted("an announcer keeps to its word", async ({ client }) => {
-  const announcer = new Announcer(client, 0)
-  await announcer.event("r.a", { time: 5, value: 3 })
-  await assert.rejects(announcer.event("r.a", { time: 5, value: 4 }), RangeError)
-  await announcer.announce({ time: 6 })
-  await assert.rejects(announcer.event("r.a", { time: 2, value: 4 }), RangeError)
-  assert.deepEqual(await client.breach(0), { log: 2, broken: false })
-})
-
-hosted("a host that begins anew gets all again, and is watched on", async ({ client, port, host }) => {
-  const announcer = new Announcer(client, 0)
-  const states = []
-  client.onstate = state => states.push(state)
-  const horizons = []
-  client.watch("horizon", push => horizons.push(push.time))
-  await announcer.event("r.a", { time: 5, value: 3 })
-  await stop(host)
-  await until(() => client.state === "connecting")
-  const asked = client.var("r.total")
-  const again = await start(port)
-  assert.deepEqual(await asked, { log: 0, value: 0n })
-  const had = async () => (await client.horizon()).log
-  while (await had() < 1) await sleep(10)
-  await announcer.announce({ time: 10 })
-  await client.announce(1, { time: 10, events: 0 })
-  await until(() => horizons.at(-1) === 10)
-  assert.deepEqual(await client.var("r.total"), { log: 3, value: 3n })
-  assert.deepEqual(states, ["connecting", "open"])
-  client.close()
-  await assert.rejects(client.lost(), Ended)
-  await stop(again)
-})
-
-const folder = mkdtempSync(join(tmpdir(), "warpd-js-"))
-const tokens = join(folder, "tokens")
-writeFileSync(tokens, "alpha 0\nreader read\n", { mode: 0o600 })
-
-hosted("a token says for whom a client may send", async ({ client, port }) => {
-  await client.event("r.a", { time: 5, value: 3 })
-  await assert.rejects(client.event("r.b", { time: 5, value: 3 }), error => error.number === 13)
-  const other = new Client(`ws://127.0.0.1:${port}/ws`, { WebSocket, token: "beta", reconnect: false })
-  await assert.rejects(other.ready)
-  other.close()
-}, { words: ["--tokens", tokens], token: "alpha" })

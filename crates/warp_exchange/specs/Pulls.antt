@@ -2,6 +2,7 @@
 use Rattle.std.specs.Prelude.{◌≡◌, ℕ, ◌+◌, ◌==◌, nat_lt, Option, Some, MatchBool, if◌then◌else◌}
 use Rattle.warp_record.specs.declared.line.Line.{Line}
 use Rattle.warp_record.specs.declared.line.Line.TheVariants.{Put}
+use Rattle.warp_record.specs.declared.reply.Refusal.{Refusal}
 use Rattle.warp_record.specs.declared.reply.Refusal.TheVariants.{NoMemory, Busy}
 use Rattle.warp_record.specs.declared.reply.Reply.{Reply}
 use Rattle.warp_record.specs.declared.reply.Reply.TheVariants as reply
@@ -38,3 +39,9 @@ Pulls gives s next (Some (reply.Refused Busy)) turned s' = (turned ≡ stays nex
 Pulls gives s next (Some (reply.Nothing log)) turned s' =
     (turned ≡ stays next (if log + 1 == next then Level else Strange)) × (s' ≡ s)
 Pulls gives s next other turned s' = (turned ≡ stays next Strange) × (s' ≡ s)
+
+-- a refusal that passes: there was no memory, or the one that was asked was busy
+abbrev pub passes : Refusal → Type 0
+passes NoMemory = Unit {0}
+passes Busy = Unit {0}
+passes other = ⊥

@@ -10,4 +10,4 @@ mod desk;
 mod puller;
 
 pub use desk::{Desk, MOST_LINES};
-pub use puller::{Pulled, Puller};
+pub use puller::{Pulled, Puller, is_passing};

@@ -1,5 +1,5 @@
 //! Pulling the log of another replica, place by place.
-ghost use Rattle.std.specs.Prelude.{◌≡◌, ◌⊎◌, ◌↔◌, ◌≤◌, ◌+◌, IfSome, IsTrue};
+ghost use Rattle.std.specs.Prelude.{◌≡◌, ◌≤◌, ◌+◌, IfSome, MatchBool};
 ghost use Rattle.warp_tag.specs.Limits.{most_records, widest};
 ghost use Rattle.warp_record.specs.declared.line.Query.{Query};
 ghost use Rattle.warp_record.specs.declared.line.Line.{Line};
@@ -7,7 +7,7 @@ ghost use Rattle.warp_record.specs.declared.reply.Reply.{Reply};
 ghost use Rattle.warp_record.specs.declared.reply.Refusal.{Refusal};
 ghost use Rattle.warp_record.specs.Record.{IsRecord};
 ghost use Rattle.warp_record.specs.Reply.{IsReply};
-ghost use Rattle.warp_exchange.specs.Pulls.{Pulls, after_put};
+ghost use Rattle.warp_exchange.specs.Pulls.{Pulls, after_put, passes};
 
 use crate::desk::Desk;
 use std::marker::Model;
@@ -99,12 +99,9 @@ impl Puller {
     }
 }
 
-/// Whether a refusal of another replica's passes: it had no memory for the answer, or is busy.
-fn is_passing(refusal: Refusal) -> bool
-    ensures { IsTrue result ↔ ((refusal ≡ Refusal.NoMemory) ⊎ (refusal ≡ Refusal.Busy)) }
+/// Whether a refusal passes: there was no memory, or the one that was asked was busy.
+pub fn is_passing(refusal: Refusal) -> bool
+    ensures { MatchBool result (passes refusal) (passes refusal → ⊥) }
 {
-    match refusal {
-        Refusal::NoMemory | Refusal::Busy => true,
-        _ => false,
-    }
+    matches!(refusal, Refusal::NoMemory | Refusal::Busy)
 }

@@ -14,7 +14,10 @@ pub(crate) struct Durable {
     parker: Parker,
     scribe_sleeps: AtomicBool,
     is_over: AtomicBool,
+    is_failing: AtomicBool,
     has_failed: AtomicBool,
+    // From how many beginnings on the log was asked for.
+    beginnings: AtomicU32,
 }
 
 impl Durable {
@@ -26,7 +29,9 @@ impl Durable {
             parker: Parker::new(),
             scribe_sleeps: AtomicBool::new(false),
             is_over: AtomicBool::new(false),
+            is_failing: AtomicBool::new(false),
             has_failed: AtomicBool::new(false),
+            beginnings: AtomicU32::new(0),
         }
     }
 
@@ -78,13 +83,33 @@ impl Durable {
         self.is_over.load(Ordering::SeqCst)
     }
 
-    /// The disk has failed: nothing more is written.
+    /// The journal can't be written now, or it can again.
+    pub(crate) fn note_failing(&self, is_failing: bool) {
+        self.is_failing.store(is_failing, Ordering::SeqCst);
+    }
+
+    /// Whether the journal can't be written now.
+    pub(crate) fn is_failing(&self) -> bool {
+        self.is_failing.load(Ordering::SeqCst)
+    }
+
+    /// The journal could not be written until the end.
     pub(crate) fn fail(&self) {
         self.has_failed.store(true, Ordering::SeqCst);
     }
 
-    /// Whether the disk has failed.
+    /// Whether the journal could not be written until the end.
     pub(crate) fn has_failed(&self) -> bool {
         self.has_failed.load(Ordering::SeqCst)
+    }
+
+    /// Asks for the log from its beginning, for the so-manieth time.
+    pub(crate) fn ask_for_all(&self, beginning: u32) {
+        self.beginnings.store(beginning, Ordering::SeqCst);
+    }
+
+    /// How many times the log was asked for from its beginning.
+    pub(crate) fn beginnings(&self) -> u32 {
+        self.beginnings.load(Ordering::SeqCst)
     }
 }

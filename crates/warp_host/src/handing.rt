@@ -6,51 +6,82 @@ use warp_line::Timeline;
 use warp_record::Record;
 use warp_replica::Replica;
 
-/// The places of the ring of records.
-pub(crate) const PLACES: usize = 4_096;
+/// The places of the ring of what is handed.
+pub(crate) const RING_ROOM: usize = 4_096;
+
+/// What is handed to the journal's thread.
+#[derive(Clone, Copy)]
+pub(crate) enum Handed {
+    /// The next record of the log.
+    Record(Record),
+    /// The log comes from its beginning now, since that was asked for the so-manieth time.
+    Beginning(u32),
+}
 
 /// Where records are handed to the journal's thread, in the order of the log.
 #[derive(Drop)]
 pub(crate) struct Handing<'a> {
-    ring: Producer<Record>,
+    ring: Producer<Handed>,
     durable: &'a Durable,
     // How many records of the log the journal has, or was handed.
     count: u32,
+    // How many times the log was handed from its beginning, because that was asked for.
+    beginnings: u32,
 }
 
 impl<'a> Handing<'a> {
     /// Of the log so many records need not be handed.
-    pub(crate) fn new(ring: Producer<Record>, durable: &'a Durable, count: u32) -> Handing<'a> {
+    pub(crate) fn new(ring: Producer<Handed>, durable: &'a Durable, count: u32) -> Handing<'a> {
         Handing {
             ring,
             durable,
             count,
+            beginnings: 0,
         }
+    }
+
+    /// Begins anew where that is asked for, as soon as there is room to say so; whether it did.
+    fn begin_anew(&mut self) -> bool {
+        let wanted = self.durable.beginnings();
+        if wanted == self.beginnings || self.ring.push(Handed::Beginning(wanted)).is_err() {
+            return false;
+        }
+        self.beginnings = wanted;
+        self.count = 0;
+        true
     }
 
     /// Hands the records of the log that are new, as far as there is room, and wakes the journal's thread; whether
     /// there were any.
     pub(crate) fn hand<T: Timeline>(&mut self, replica: &Replica<T>) -> bool {
-        let before = self.count;
-        for _ in 0..PLACES {
+        let mut found = self.begin_anew();
+        for _ in 0..RING_ROOM {
             if self.ring.is_full() {
                 break;
             }
             let Some(record) = replica.entry(self.count.saturating_add(1)) else {
                 break;
             };
-            let _ = self.ring.push(record);
+            let _ = self.ring.push(Handed::Record(record));
             self.count = self.count.saturating_add(1);
+            found = true;
         }
-        if self.count == before {
-            return false;
+        if found {
+            self.durable.wake_scribe();
         }
-        self.durable.wake_scribe();
-        true
+        found
     }
 
-    /// Whether all of the log was handed, or the disk has failed.
+    /// At the end of the host: whether nothing more is to be handed. That is so where all of the log was, and where the
+    /// journal can't be written: then it is noted as failed, though it may be written anew without the rest.
     pub(crate) fn is_done<T: Timeline>(&self, replica: &Replica<T>) -> bool {
-        self.count >= replica.len() || self.durable.has_failed()
+        if self.count >= replica.len() {
+            return true;
+        }
+        if self.durable.is_failing() {
+            self.durable.fail();
+            return true;
+        }
+        false
     }
 }

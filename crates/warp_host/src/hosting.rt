@@ -10,6 +10,7 @@ use crate::descriptors::clients_within;
 use crate::durable::Durable;
 use crate::entrance::Entrance;
 use crate::executor::Executor;
+use crate::fresh_file::FreshFiles;
 use crate::handing::Handing;
 use crate::histogram::Stopwatch;
 use crate::input_end::InputEnd;
@@ -53,7 +54,7 @@ use warp_watch::{Question, Shown, Told};
 const LANES: usize = 16;
 
 /// The places of the rings of questions and of what is told.
-const PLACES: usize = 64;
+const RING_ROOM: usize = 64;
 
 /// So many events are taken at once.
 const EVENTS: usize = 1_024;
@@ -99,11 +100,11 @@ pub struct Served {
 }
 
 /// What a host needs of the system.
-pub trait Machine: Eprint + Threads + Wait + Clock + RandomSource + Sync {}
+pub trait Machine: Eprint + FreshFiles + Threads + Wait + Clock + RandomSource + Sync {}
 
 impl<X> Machine for X
 where
-    X: Eprint + Threads + Wait + Clock + RandomSource + Sync,
+    X: Eprint + FreshFiles + Threads + Wait + Clock + RandomSource + Sync,
 {}
 
 /// Adds a lane: its port, and its other end.
@@ -316,16 +317,21 @@ fn make_serving<'a, X: System>(rt: &X, start: Start<'a>) -> Result<(Serving<'a>,
     Ok((serving, wants_lookup))
 }
 
+/// The handle of a thread, if it could be started.
+pub(crate) fn started<H, E: Drop>(running: Result<H, E>) -> Result<H, HostFault> {
+    match running {
+        Ok(handle) => Ok(handle),
+        Err(_) => Err(HostFault::System),
+    }
+}
+
 /// Starts the executor in a thread of its own.
 fn start_executor<'s, E, X: Wait + Clock + Sync + 's, T: Timeline + Send + Drop + 's>(
     scope: &'s Scope<'s, E>,
     rt: &'s X,
     executor: Executor<'s, T>,
 ) -> Result<JoinHandle<()>, HostFault> {
-    match scope.spawn(move || executor.run(rt)) {
-        Ok(running) => Ok(running),
-        Err(_) => Err(HostFault::System),
-    }
+    started(scope.spawn(move || executor.run(rt)))
 }
 
 /// Starts the lookup in a thread of its own, where there is one.
@@ -340,10 +346,8 @@ where
     let Some(lookup) = lookup else {
         return Ok(());
     };
-    match scope.spawn(move || lookup.run(rt)) {
-        Ok(_) => Ok(()),
-        Err(_) => Err(HostFault::System),
-    }
+    started(scope.spawn(move || lookup.run(rt)))?;
+    Ok(())
 }
 
 /// Runs the loop beside the executor, beside the journal's thread where there is a journal, and beside the lookup where
@@ -360,7 +364,7 @@ fn run_beside<'s, E, X, T: Timeline + Send + Drop + 's>(
 ) -> Result<(), HostFault>
 where
     X: Net<Listener = net::TcpListener, Stream = net::TcpStream> + 's,
-    X: Eprint + Threads + Wait + Clock + Sync,
+    X: Eprint + FreshFiles + Threads + Wait + Clock + Sync,
 {
     let Shared { bells, durable } = shared;
     let Ok(running) = start_executor(scope, rt, executor) else {
@@ -436,8 +440,8 @@ struct AllRings<'a> {
 
 /// New rings.
 fn make_rings<'a>(alloc: Global, durable: &'a Durable) -> Result<AllRings<'a>, AllocError> {
-    let (asking, questions) = RingBuffer::new(alloc, PLACES)?;
-    let (telling, told) = RingBuffer::new(alloc, PLACES)?;
+    let (asking, questions) = RingBuffer::new(alloc, RING_ROOM)?;
+    let (telling, told) = RingBuffer::new(alloc, RING_ROOM)?;
     let (seeking, sought) = RingBuffer::new(alloc, MOST_PEERS)?;
     let (finding, found) = RingBuffer::new(alloc, MOST_PEERS)?;
     Ok(AllRings {

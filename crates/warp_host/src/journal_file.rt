@@ -1,9 +1,10 @@
 //! The file of a journal: it is locked, read and mended before a host begins.
 
-use std::alloc::{AllocError, Global};
+use crate::fresh_file::{JournalPlace, begin, is_left, real_path, sync_folder, write_again};
+use crate::journal_faults::{FileFault, OpenFault, tell_file_fault};
+use std::alloc::Global;
 use std::fs::{File, Files, OpenOptions, TryLockError};
-use std::io::{self, Eprint, ErrorKind, Read, Write};
-use std::path::Path;
+use std::io::{Eprint, ErrorKind, Read, Write};
 use std::time::Duration;
 use warp_journal::{Disk, Ending, Failed, Fault, Found, Journal, Keeper, NotRead, read_journal};
 use warp_line::Timeline;
@@ -35,8 +36,8 @@ impl SyncWhen {
 /// A file of a journal that is written to.
 #[derive(Drop)]
 pub struct JournalFile {
-    file: File,
-    fault: Option<ErrorKind>,
+    pub(crate) file: File,
+    pub(crate) fault: Option<ErrorKind>,
 }
 
 impl Disk for JournalFile {
@@ -68,12 +69,9 @@ impl Disk for JournalFile {
 }
 
 impl JournalFile {
-    /// Tells that the journal could not be written, and why.
-    pub(crate) fn tell<X: Eprint>(&self, rt: &X) {
-        let _ = match self.fault {
-            Some(kind) => eprintln!(rt; "journal: it cannot be written: {kind}; the host ends"),
-            None => rt.eprintln("journal: no memory to write it; the host ends"),
-        };
+    /// Why it could not be written, if the system said so.
+    pub(crate) fn fault(&self) -> Option<ErrorKind> {
+        self.fault
     }
 }
 
@@ -81,96 +79,18 @@ impl JournalFile {
 #[derive(Drop)]
 pub struct OpenJournal {
     pub(crate) keeper: Keeper<JournalFile>,
+    pub(crate) place: JournalPlace,
     pub(crate) when: SyncWhen,
     pub(crate) lock: File,
 }
 
-/// Why a journal can't be gone on with.
-#[derive(Clone, Copy, Debug, PartialEq, Eq)]
-pub enum OpenFault {
-    /// Another process has it.
-    InUse,
-    /// It can't be opened, read or written.
-    Unusable,
-    /// Its first line is that of another program, or none.
-    OtherFirst,
-    /// This line, from 1, does not go on with it, and others stand behind it.
-    Damaged(u64),
-    /// The program refuses the record of this line, from 1, or it stands there twice.
-    Refused(u64),
-    /// No memory was to be had.
-    NoMemory,
-}
-
-impl From<io::Error> for OpenFault {
-    fn from(error: io::Error) -> OpenFault {
-        match error.kind() {
-            ErrorKind::OutOfMemory => OpenFault::NoMemory,
-            _ => OpenFault::Unusable,
-        }
-    }
-}
-
-/// Why a step with the file of a journal failed.
-#[derive(Clone, Copy)]
-pub enum FileFault {
-    /// For this reason.
-    Open(OpenFault),
-    /// The system says this.
-    System(io::Error),
-}
-
-impl From<OpenFault> for FileFault {
-    fn from(fault: OpenFault) -> FileFault {
-        FileFault::Open(fault)
-    }
-}
-
-impl From<AllocError> for FileFault {
-    fn from(_refused: AllocError) -> FileFault {
-        FileFault::Open(OpenFault::NoMemory)
-    }
-}
-
-impl From<io::Error> for FileFault {
-    fn from(error: io::Error) -> FileFault {
-        FileFault::System(error)
-    }
-}
-
-/// Tells on standard error what is wrong with the journal at this path, and gives it without what the system says.
-pub fn tell_file_fault<X: Eprint>(rt: &X, path: &str, fault: FileFault) -> OpenFault {
-    match fault {
-        FileFault::Open(fault) => {
-            tell_open_fault(rt, path, fault);
-            fault
-        }
-        FileFault::System(error) => {
-            let _ = eprintln!(rt; "journal {path}: {error}");
-            OpenFault::from(error)
-        }
-    }
-}
-
-/// Tells this of the journal at this path, unless it is told already, or is no fault of the journal.
-fn tell_open_fault<X: Eprint>(rt: &X, path: &str, fault: OpenFault) {
-    let _ = match fault {
-        OpenFault::InUse => eprintln!(rt; "journal {path}: another process has it"),
-        OpenFault::OtherFirst => eprintln!(rt;
-            "journal {path}: its first line is none, or another program's"
-        ),
-        OpenFault::Damaged(_) | OpenFault::Refused(_) => Ok(()),
-        OpenFault::Unusable | OpenFault::NoMemory => Ok(()),
-    };
-}
-
-/// Takes the lock of the journal at this path.
+/// Takes the lock of the journal at this path. All paths that lead to the journal have one lock.
 pub fn lock_journal<F: Files<File = File>>(
     files: &F,
     alloc: Global,
     path: &str,
 ) -> Result<File, FileFault> {
-    let mut name = String::from_str(alloc, path)?;
+    let mut name = real_path(files, alloc, path)?;
     name.push_str(".lock")?;
     let lock = OpenOptions::new()
         .write(true)
@@ -181,16 +101,6 @@ pub fn lock_journal<F: Files<File = File>>(
         Err(TryLockError::WouldBlock) => Err(FileFault::Open(OpenFault::InUse)),
         Err(TryLockError::Error(error)) => Err(FileFault::System(error)),
     }
-}
-
-/// Brings the name of the file at this path to the disk.
-pub fn sync_folder<F: Files<File = File>>(files: &F, path: &str) -> Result<(), FileFault> {
-    let folder = match Path::new(path).parent() {
-        Some(folder) if !folder.as_str().is_empty() => File::open(files, folder)?,
-        _ => File::open(files, ".")?,
-    };
-    folder.sync_all()?;
-    Ok(())
 }
 
 /// The number of the line, from 1, that begins behind so many bytes.
@@ -291,16 +201,8 @@ fn tell_refused<X: Eprint>(rt: &X, line: u64, refusal: Option<Refusal>) {
     };
 }
 
-/// Begins a journal in this file, which has nothing but a front of its first line.
-fn begin(alloc: Global, file: &mut File, first: &[u8]) -> Result<Journal, FileFault> {
-    let mut line = Vec::from_slice(alloc, first)?;
-    line.extend_from_slice(b"\n")?;
-    file.set_len(0)?;
-    file.write_all(&line)?;
-    Ok(Journal::begin(first))
-}
-
-/// Reads the journal that these bytes of the file are, cuts off what is torn, and has the replica take its records.
+/// Reads the journal that these bytes of the file are, cuts off what is torn, and has the replica take its records. How
+/// many bytes are kept.
 fn go_on<X: Eprint, T: Timeline>(
     rt: &X,
     alloc: Global,
@@ -308,7 +210,7 @@ fn go_on<X: Eprint, T: Timeline>(
     bytes: &[u8],
     first: &[u8],
     replica: &mut Replica<T>,
-) -> Result<Journal, FileFault> {
+) -> Result<(Journal, usize), FileFault> {
     let found = match read_journal(alloc, replica.program().form(), first, bytes) {
         Ok(found) => found,
         Err(NotRead::OtherFirst) => return Err(FileFault::Open(OpenFault::OtherFirst)),
@@ -337,7 +239,42 @@ fn go_on<X: Eprint, T: Timeline>(
     if ending != Ending::Whole {
         file.set_len(kept as u64)?;
     }
-    Ok(journal)
+    Ok((journal, kept))
+}
+
+/// The file at this path, which is made where none is there, and its bytes.
+fn read_file<F: Files<File = File>>(
+    files: &F,
+    alloc: Global,
+    path: &str,
+) -> Result<(File, Vec<u8>), FileFault> {
+    let mut file = OpenOptions::new()
+        .read(true)
+        .append(true)
+        .create(true)
+        .open(files, path)?;
+    let mut bytes = Vec::new(alloc);
+    file.read_to_end(&mut bytes)?;
+    Ok((file, bytes))
+}
+
+/// Brings what was read of a journal's file to the disk, where it may not be yet: it is told from now on. The file to go
+/// on with.
+fn keep_on<X: Files<File = File> + Eprint>(
+    rt: &X,
+    alloc: Global,
+    file: File,
+    place: &JournalPlace,
+    kept: &[u8],
+) -> Result<JournalFile, FileFault> {
+    if is_left(rt, alloc, place)? {
+        let behind = place.first.len().saturating_add(1);
+        let lines = kept.get(behind..).unwrap_or(b"");
+        return write_again(rt, alloc, place, lines);
+    }
+    file.sync_all()?;
+    sync_folder(rt, place.path.as_str())?;
+    Ok(JournalFile { file, fault: None })
 }
 
 /// Opens the journal at this path, whose first line this is, without its line feed, or begins it; and has the replica
@@ -367,24 +304,21 @@ fn opened<X: Files<File = File> + Eprint, T: Timeline>(
     replica: &mut Replica<T>,
 ) -> Result<OpenJournal, FileFault> {
     let lock = lock_journal(rt, alloc, path)?;
-    let mut file = OpenOptions::new()
-        .read(true)
-        .append(true)
-        .create(true)
-        .open(rt, path)?;
-    let mut bytes = Vec::new(alloc);
-    file.read_to_end(&mut bytes)?;
-    let journal = if first.starts_with(&bytes) {
-        begin(alloc, &mut file, first)?
+    let (mut file, bytes) = read_file(rt, alloc, path)?;
+    let (journal, kept) = if first.starts_with(&bytes) {
+        (begin(alloc, &mut file, first)?, 0)
     } else {
         go_on(rt, alloc, &file, &bytes, first, replica)?
     };
-    // What was read may not be on the disk yet, and is told from now on.
-    file.sync_all()?;
-    sync_folder(rt, path)?;
-    let disk = JournalFile { file, fault: None };
+    let place = JournalPlace {
+        path: real_path(rt, alloc, path)?,
+        first: Vec::from_slice(alloc, first)?,
+    };
+    let kept = bytes.get(..kept).unwrap_or(&bytes);
+    let disk = keep_on(rt, alloc, file, &place, kept)?;
     Ok(OpenJournal {
         keeper: Keeper::new(alloc, disk, journal),
+        place,
         when,
         lock,
     })

@@ -13,11 +13,13 @@ mod durable;
 mod entrance;
 mod executor;
 mod frames;
+mod fresh_file;
 mod handing;
 mod histogram;
 mod hosting;
 mod http_client;
 mod input_end;
+mod journal_faults;
 mod journal_file;
 mod lines;
 mod lookup;
@@ -25,11 +27,13 @@ mod metrics;
 mod names;
 mod operator;
 mod options;
+mod page;
 mod pages;
 mod peer;
 mod peers;
 mod post;
 mod query;
+mod renewal;
 mod scribe;
 mod serving;
 mod socket;
@@ -37,10 +41,9 @@ mod speech;
 mod web;
 mod writing;
 
+pub use fresh_file::{FreshFiles, JournalPlace, sync_folder};
 pub use hosting::{HostFault, Machine, Served, host};
-pub use journal_file::{
-    FileFault, OpenFault, OpenJournal, SyncWhen, damage_in, lock_journal, open_journal,
-    sync_folder, tell_file_fault, words_of,
-};
+pub use journal_faults::{FileFault, OpenFault, tell_file_fault};
+pub use journal_file::{OpenJournal, SyncWhen, damage_in, lock_journal, open_journal, words_of};
 pub use names::Names;
 pub use options::{DEFAULT_CLIENTS, MOST_CLIENTS, MOST_PEERS, Options, PeerAt, may_listen};

@@ -1,6 +1,6 @@
 //! What an operator is told, on standard error.
 
-use std::io::Eprint;
+use std::io::{Eprint, ErrorKind};
 use warp_hub::PeerEvent;
 
 /// What begins.
@@ -90,4 +90,29 @@ pub(crate) fn tell_peer_lost<X: Eprint>(rt: &X, name: &str, was_found: bool) {
     } else {
         eprintln!(rt; "peer {name} can't be reached: it is tried again")
     };
+}
+
+/// Tells that the journal can't be written, and why, if the system said so.
+pub(crate) fn tell_journal_fails<X: Eprint>(rt: &X, fault: Option<ErrorKind>) {
+    let _ = match fault {
+        Some(kind) => eprintln!(rt;
+            "journal: it can't be written: {kind}; records are refused 14 until it is written anew, which is tried each second"
+        ),
+        None => rt.eprintln(
+            "journal: no memory to write it; records are refused 14 until it is written anew, which is tried each second",
+        ),
+    };
+}
+
+/// Tells why the journal is not written anew.
+pub(crate) fn tell_journal_not_renewed<X: Eprint>(rt: &X, fault: Option<ErrorKind>) {
+    let _ = match fault {
+        Some(kind) => eprintln!(rt; "journal: it can't be written anew: {kind}"),
+        None => rt.eprintln("journal: no memory to write it anew"),
+    };
+}
+
+/// Tells that the journal was written anew, with so many records.
+pub(crate) fn tell_journal_renewed<X: Eprint>(rt: &X, count: u32) {
+    let _ = eprintln!(rt; "journal: written anew, with {count} records");
 }

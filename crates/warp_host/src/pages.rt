@@ -4,6 +4,7 @@ ghost use Rattle.std.specs.Prelude.{◌≡◌};
 
 use crate::metrics::{Seen, metrics_text};
 use crate::names::Names;
+use crate::page::{page, policy};
 use crate::query::token_of;
 use bytes::Bytes;
 use http::{HeaderMap, HeaderName, HeaderValue, Method, Request, StatusCode};
@@ -11,21 +12,6 @@ use http_server::{Response, Service};
 use std::alloc::{AllocError, Global};
 use warp_hub::{Rights, Tokens};
 use websocket::handshake::server::accept_key;
-
-/// The page.
-const PAGE: &[u8] = br#"<!doctype html>
-<html lang="en"><meta charset="utf-8"><title>warpd</title>
-<h1>warpd</h1>
-<p>This is a host of warpd: it runs a deterministic program over events that may come late.</p>
-<ul>
-<li>Lines: over TCP at this port, or as text messages of a WebSocket at <code>/ws</code>.</li>
-<li><a href="/program.json">/program.json</a>: the program that runs.</li>
-<li><a href="/names.json">/names.json</a>: the names of its variables, inputs and outputs, by number.</li>
-<li><a href="/metrics">/metrics</a>: what is measured, for Prometheus.</li>
-<li><a href="/healthz">/healthz</a>: whether it is there.</li>
-</ul>
-</html>
-"#;
 
 const HTML: &str = "text/html; charset=utf-8";
 
@@ -108,6 +94,20 @@ fn are_allowed<F: Fn(&str) -> bool>(headers: &HeaderMap, name: &str, is_allowed:
 fn fill(response: &mut Response, kind: HeaderValue, body: Bytes) -> Result<Answered, AllocError> {
     response.body.push(body)?;
     add_last(response, HeaderName::from_static("content-type"), kind)
+}
+
+/// Fills the answer with the page, and what it may do in a browser.
+fn fill_page(response: &mut Response) -> Result<Answered, AllocError> {
+    response.add_header(HeaderName::from_static("content-security-policy"), policy())?;
+    response.add_header(
+        HeaderName::from_static("x-content-type-options"),
+        HeaderValue::from_static("nosniff"),
+    )?;
+    fill(
+        response,
+        HeaderValue::from_static(HTML),
+        Bytes::from_static(page()),
+    )
 }
 
 /// Adds the last header of an answer.
@@ -253,11 +253,7 @@ impl Pages {
         response: &mut Response,
     ) -> Result<Answered, AllocError> {
         match place {
-            Place::Page => fill(
-                response,
-                HeaderValue::from_static(HTML),
-                Bytes::from_static(PAGE),
-            ),
+            Place::Page => fill_page(response),
             Place::Health => fill(
                 response,
                 HeaderValue::from_static(PLAIN),

@@ -28,6 +28,11 @@ impl<'a> Post<'a> {
         self.hub.counts()
     }
 
+    /// Whether records that come from now on are refused, since the journal can't be written.
+    pub(crate) fn refuse_records(&mut self, refuses: bool) {
+        self.hub.refuse_records(refuses);
+    }
+
     /// A client has come, with these rights, or those that it has without a token.
     pub(crate) fn join(&mut self, rights: Option<Rights>) -> Result<ClientId, Unjoined> {
         self.hub.join(rights)

@@ -1,16 +1,19 @@
 //! The thread that writes the journal: neither the loop nor the executor waits for a disk.
+//!
+//! Where the disk fails, nothing behind the last synced place is trusted: the log is written anew (`renewal`).
 
 use crate::bells::Bells;
 use crate::durable::Durable;
-use crate::handing::PLACES;
+use crate::fresh_file::{FreshFiles, JournalPlace};
+use crate::handing::{Handed, RING_ROOM};
 use crate::journal_file::{JournalFile, SyncWhen};
 use rtrb::Consumer;
+use std::alloc::Global;
 use std::fs::File;
 use std::io::Eprint;
 use std::sync::Wait;
 use std::time::{Clock, Duration};
 use warp_journal::{Failed, Keeper};
-use warp_record::Record;
 
 /// The longest sleep of the journal's thread, in milliseconds.
 const LONGEST_SLEEP: u64 = 100;
@@ -21,13 +24,17 @@ const BATCH: u32 = 1_024;
 /// What the journal's thread holds.
 #[derive(Drop)]
 pub(crate) struct Scribe<'a> {
+    pub(crate) alloc: Global,
     pub(crate) keeper: Keeper<JournalFile>,
+    pub(crate) place: JournalPlace,
     pub(crate) when: SyncWhen,
-    pub(crate) handed: Consumer<Record>,
+    pub(crate) handed: Consumer<Handed>,
     pub(crate) durable: &'a Durable,
     pub(crate) bells: &'a Bells,
     /// Since when records wait to be brought to the disk, if any do.
     pub(crate) behind_since: Option<Duration>,
+    /// How many times the log was asked for from its beginning.
+    pub(crate) beginnings: u32,
     /// Held as long as this thread runs.
     pub(crate) lock: File,
 }
@@ -35,16 +42,19 @@ pub(crate) struct Scribe<'a> {
 impl<'a> Scribe<'a> {
     /// Takes what was handed; how many records that was.
     fn take_all(&mut self) -> Result<usize, Failed> {
-        let mut count = 0;
-        while count < PLACES {
-            let Ok(record) = self.handed.pop() else {
-                break;
+        let mut count = 0usize;
+        for _ in 0..RING_ROOM {
+            let record = match self.handed.pop() {
+                Ok(Handed::Record(record)) => record,
+                // The log comes from its beginning only where `renewal` asked for it, and takes it.
+                Ok(Handed::Beginning(_)) => continue,
+                Err(_) => break,
             };
             self.keeper.take(&record)?;
             if self.when == SyncWhen::Never && self.keeper.len() % BATCH == 0 {
                 self.keeper.take_sum()?;
             }
-            count += 1;
+            count = count.saturating_add(1);
         }
         Ok(count)
     }
@@ -69,7 +79,7 @@ impl<'a> Scribe<'a> {
     /// Writes what was handed, and brings it to the disk where that is due; whether there was anything.
     fn work<X: Clock>(&mut self, rt: &X) -> Result<bool, Failed> {
         let taken = self.take_all()?;
-        if taken >= PLACES {
+        if taken >= RING_ROOM {
             // The executor may have found no room.
             self.bells.wake_executor();
         }
@@ -122,12 +132,17 @@ impl<'a> Scribe<'a> {
         self.end()
     }
 
-    /// Writes until it is to end. Where the disk fails that is said, and the host ends.
-    pub(crate) fn run<X: Wait + Clock + Eprint>(mut self, rt: &X) {
-        if self.write_on(rt).is_err() {
-            self.keeper.disk().tell(rt);
-            self.durable.fail();
-            self.bells.wake_loop();
+    /// Writes until it is to end. Where the disk fails that is said, and the journal is written anew.
+    pub(crate) fn run<X: Wait + Clock + Eprint + FreshFiles>(mut self, rt: &X) {
+        for _ in rt.forever() {
+            if self.write_on(rt).is_ok() {
+                return;
+            }
+            if !self.renew(rt) {
+                break;
+            }
         }
+        self.durable.fail();
+        self.bells.wake_loop();
     }
 }

@@ -124,6 +124,10 @@ impl<'a> Serving<'a> {
         }
         let since = self.common.now.saturating_sub(self.ticked);
         let tick = Duration::from_millis(TICK).saturating_sub(since);
+        if self.durable.is_failing() {
+            // Peers wait until the journal can be written.
+            return tick;
+        }
         self.peers.timeout(self.common.now).min(tick)
     }
 
@@ -190,9 +194,14 @@ impl<'a> Serving<'a> {
 
     /// Does what there is to do.
     fn round<X: System>(&mut self, rt: &X) {
+        let refuses = self.durable.is_failing();
+        self.common.post.refuse_records(refuses);
         self.accept_some();
         self.serve_queue();
-        self.peers.turn(rt, &self.poll, &mut self.common);
+        // A peer's records are not refused: they wait.
+        if !refuses {
+            self.peers.turn(rt, &self.poll, &mut self.common);
+        }
         self.send_off();
         // What the executor answers from now on wakes the loop.
         self.bells.loop_sleeps();

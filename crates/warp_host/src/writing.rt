@@ -2,8 +2,9 @@
 
 use crate::bells::Bells;
 use crate::durable::Durable;
-use crate::handing::{Handing, PLACES};
-use crate::hosting::HostFault;
+use crate::fresh_file::FreshFiles;
+use crate::handing::{Handing, RING_ROOM};
+use crate::hosting::{HostFault, started};
 use crate::journal_file::{OpenJournal, SyncWhen};
 use crate::scribe::Scribe;
 use rtrb::RingBuffer;
@@ -38,23 +39,31 @@ pub(crate) fn make_scribe<'a>(
     let Some(journal) = journal else {
         return Ok((None, None));
     };
-    let OpenJournal { keeper, when, lock } = journal;
-    let (ring, handed) = RingBuffer::new(alloc, PLACES)?;
+    let OpenJournal {
+        keeper,
+        place,
+        when,
+        lock,
+    } = journal;
+    let (ring, handed) = RingBuffer::new(alloc, RING_ROOM)?;
     let handing = Handing::new(ring, durable, keeper.len());
     let scribe = Scribe {
+        alloc,
         keeper,
+        place,
         when,
         handed,
         durable,
         bells,
         behind_since: None,
+        beginnings: 0,
         lock,
     };
     Ok((Some(handing), Some(scribe)))
 }
 
 /// Starts the journal's thread, if there is a journal.
-pub(crate) fn start_writing<'s, E, X: Eprint + Wait + Clock + Sync + 's>(
+pub(crate) fn start_writing<'s, E, X: Eprint + FreshFiles + Wait + Clock + Sync + 's>(
     scope: &'s Scope<'s, E>,
     rt: &'s X,
     scribe: Option<Scribe<'s>>,
@@ -62,10 +71,8 @@ pub(crate) fn start_writing<'s, E, X: Eprint + Wait + Clock + Sync + 's>(
     let Some(scribe) = scribe else {
         return Ok(None);
     };
-    match scope.spawn(move || scribe.run(rt)) {
-        Ok(writing) => Ok(Some(writing)),
-        Err(_) => Err(HostFault::System),
-    }
+    let writing = started(scope.spawn(move || scribe.run(rt)))?;
+    Ok(Some(writing))
 }
 
 /// Ends the journal's thread, once all that was handed to it is written. `Err` where the journal could not be written.

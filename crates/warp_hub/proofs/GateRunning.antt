@@ -47,17 +47,17 @@ pub lane_sends : (rights : Rights) (who : ClientId) (said : Line) (old new : Gat
     → IsTrue (may_send rights said) → LaneRuns (IsSentWith rights who) old new
 lane_sends rights who said old new does may = lane_steps (IsSentWith rights who) (Sent who said) old new (refl, may) does
 
--- an answer is handed on
-pub lane_hands : (who : ClientId) (answer : Answer) (old new : GateState) → GateDoes (Handed who answer) old new
-    → LaneRuns IsHandedOn old new
-lane_hands who answer old new does = lane_steps IsHandedOn (Handed who answer) old new tt does
+-- an answer of a log that is no longer than this is handed on
+pub lane_hands : (who : ClientId) (answer : Answer) (most : ℕ) (old new : GateState) → GateDoes (Handed who answer) old new
+    → answer.len ≤ most → LaneRuns (IsHandedOn most) old new
+lane_hands who answer most old new does is = lane_steps (IsHandedOn most) (Handed who answer) old new is does
 
 -- so of the next answer, if there is one
 pub next_runs : (next : Option (ClientId × Answer)) (durable : ℕ) (old new : GateState)
     → IfSome next (λ (h : ClientId × Answer). GateDoes (Handed h.0 h.1) old new × (h.1.len ≤ durable)) → IfNone next (new ≡ old)
-    → LaneRuns IsHandedOn old new
-next_runs None durable old new some none = lane_stays IsHandedOn old new none
-next_runs (Some h) durable old new some none = lane_hands h.0 h.1 old new some.0
+    → LaneRuns (IsHandedOn durable) old new
+next_runs None durable old new some none = lane_stays (IsHandedOn durable) old new none
+next_runs (Some h) durable old new some none = lane_hands h.0 h.1 durable old new some.0 some.1
 
 pub lanes_stay : (P : GateStep → Type 0) (lanes : List GateState) → LanesRun P lanes lanes
 lanes_stay P [] = tt

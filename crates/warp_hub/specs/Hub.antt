@@ -27,10 +27,10 @@ pub record HubState : Type 0 where
 abbrev pub IsAny : GateStep → Type 0
 IsAny step = Unit {0}
 
--- a step that hands on an answer
-abbrev pub IsHandedOn : GateStep → Type 0
-IsHandedOn (Sent asker said) = ⊥
-IsHandedOn (Handed asker answer) = Unit {0}
+-- a step that hands on an answer of a log that is no longer than this
+abbrev pub IsHandedOn : ℕ → GateStep → Type 0
+IsHandedOn most (Sent asker said) = ⊥
+IsHandedOn most (Handed asker answer) = answer.len ≤ most
 
 -- a step that sends a line of this client, which may be sent with these rights
 abbrev pub IsSentWith : Rights → ClientId → GateStep → Type 0

@@ -31,6 +31,9 @@ pub(crate) const MOST_UNREAD: usize = 65_536;
 /// The answer to what may not be sent.
 const NOT_ALLOWED: &[u8] = b"refused 13\n";
 
+/// The answer to a record while the journal can't be written.
+const NOT_DURABLE: &[u8] = b"refused 14\n";
+
 /// The answer to a word for which the executor had no memory.
 const NO_MEMORY: &[u8] = b"refused 8\n";
 
@@ -47,6 +50,8 @@ pub(crate) enum Saying {
     Refuse(Refusal),
     /// A line that may not be sent.
     NotAllowed,
+    /// A record, while the journal can't be written.
+    NotDurable,
 }
 
 /// What a line was read to be.
@@ -319,6 +324,10 @@ impl Client {
             self.say(commons, board, Saying::NotAllowed);
             return;
         }
+        if commons.refuses_records && matches!(line, Line::Put(_)) {
+            self.say(commons, board, Saying::NotDurable);
+            return;
+        }
         if let Line::Look(look) = line {
             self.say(commons, board, Saying::Look(look));
             return;
@@ -376,7 +385,8 @@ impl Client {
             Saying::Word(word) => self.answer_word(commons, word),
             Saying::Look(look) => self.answer_look(commons, board, look),
             Saying::Refuse(refusal) => self.refuse(commons, refusal),
-            Saying::NotAllowed => self.refuse_rights(commons),
+            Saying::NotAllowed => self.refuse_with(commons, NOT_ALLOWED),
+            Saying::NotDurable => self.refuse_with(commons, NOT_DURABLE),
         }
     }
 
@@ -389,9 +399,10 @@ impl Client {
             Saying::Word(word) => self.answer_word(commons, word),
             Saying::Look(look) => self.answer_look(commons, board, look),
             Saying::Token(Some(rights)) => self.grant(commons, rights),
-            Saying::Token(None) => self.refuse_rights(commons),
+            Saying::Token(None) => self.refuse_with(commons, NOT_ALLOWED),
             Saying::Refuse(refusal) => self.refuse(commons, refusal),
-            Saying::NotAllowed => self.refuse_rights(commons),
+            Saying::NotAllowed => self.refuse_with(commons, NOT_ALLOWED),
+            Saying::NotDurable => self.refuse_with(commons, NOT_DURABLE),
         }
     }
 
@@ -415,13 +426,13 @@ impl Client {
         self.write_reply(&Reply::Refused(refusal));
     }
 
-    /// Answers what may not be sent.
-    fn refuse_rights(&mut self, commons: &mut Commons)
+    /// Answers a line with a refusal of the hub's own, which has this text.
+    fn refuse_with(&mut self, commons: &mut Commons, refusal: &[u8])
         ensures board { commons.new.reader ≡ commons.old.reader }
         ensures rights { self.new.rights ≡ self.old.rights }
     {
         commons.count_refusal();
-        self.write(NOT_ALLOWED);
+        self.write(refusal);
     }
 
     /// Takes on these rights, and tells them.

@@ -79,6 +79,8 @@ pub(crate) struct Commons {
     pub(crate) facts: Facts,
     pub(crate) reader: Reader,
     pub(crate) counts: Counts,
+    /// Whether clients' records are refused: the journal can't be written.
+    pub(crate) refuses_records: bool,
 }
 
 impl Commons {

@@ -98,6 +98,7 @@ impl Hub {
                 facts,
                 reader,
                 counts: NO_COUNTS,
+                refuses_records: false,
             },
             gates,
             places: Vec::new(alloc),
@@ -114,6 +115,13 @@ impl Hub {
     /// What was counted.
     pub fn counts(&self) -> Counts {
         self.commons.counts
+    }
+
+    /// Whether records that come from now on are refused 14, since the journal can't be written.
+    pub fn refuse_records(&mut self, refuses: bool)
+        ensures { self.new ≡ self.old }
+    {
+        self.commons.refuses_records = refuses;
     }
 
     /// A client has come, with these rights; with `None` it has all rights where the host has no tokens, and else none
@@ -250,7 +258,7 @@ impl Hub {
     pub fn fetch(&mut self, durable: u32, board: &Board)
         requires { self.old.board ≡ board.now }
         ensures board { self.new.board ≡ self.old.board }
-        ensures lanes { LanesRun IsHandedOn self.old.lanes self.new.lanes }
+        ensures lanes { LanesRun (IsHandedOn durable) self.old.lanes self.new.lanes }
     {
         for lane in 0..self.gates.len() {
             self.fetch_from(lane, durable, board);
@@ -261,7 +269,7 @@ impl Hub {
     fn fetch_from(&mut self, lane: usize, durable: u32, board: &Board)
         requires { self.old.board ≡ board.now }
         ensures board { self.new.board ≡ self.old.board }
-        ensures lanes { LanesRun IsHandedOn self.old.lanes self.new.lanes }
+        ensures lanes { LanesRun (IsHandedOn durable) self.old.lanes self.new.lanes }
     {
         for _ in 0..MOST_FETCHED {
             if !self.fetch_one(lane, durable, board) {
@@ -275,7 +283,7 @@ impl Hub {
     fn fetch_one(&mut self, lane: usize, durable: u32, board: &Board) -> bool
         requires { self.old.board ≡ board.now }
         ensures board { self.new.board ≡ self.old.board }
-        ensures lanes { LanesRun IsHandedOn self.old.lanes self.new.lanes }
+        ensures lanes { LanesRun (IsHandedOn durable) self.old.lanes self.new.lanes }
     {
         let Some((asker, answer)) = next_answer(&mut self.gates, lane, durable) else {
             return false;

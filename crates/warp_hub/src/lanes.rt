@@ -42,7 +42,7 @@ pub(crate) fn next_answer(
     lane: usize,
     durable: u32,
 ) -> Option<(ClientId, Answer)>
-    ensures { LanesRun IsHandedOn gates.old gates.new }
+    ensures { LanesRun (IsHandedOn durable) gates.old gates.new }
 {
     if lane >= gates.len() {
         return None;

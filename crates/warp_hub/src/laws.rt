@@ -13,7 +13,8 @@ pub fn answers_go_to_their_askers()
         AllByRecursion IsMatchedLane lanes }
     ensures joined { (first second third : List GateState) →
         LanesRun IsAny first second → LanesRun IsAny second third → LanesRun IsAny first third }
-    ensures answers { (old new : List GateState) → LanesRun IsHandedOn old new → LanesRun IsAny old new }
+    ensures answers { (most : ℕ) (old new : List GateState) →
+        LanesRun (IsHandedOn most) old new → LanesRun IsAny old new }
     ensures lines { (places : List PlaceState) (lane : ℕ) (old new : List GateState) →
         MayRun (IsAllowedIn places) lane old new → LanesRun IsAny old new }
 {}

@@ -6,7 +6,7 @@ use Rattle.warp_body.proofs.expr.Expr.TheLaws.TheKnot as expr
 use Rattle.warp_body.proofs.stmt.Stmt.TheLaws.TheKnot as stmt
 use Rattle.warp_body.specs.contracts.divisor.Divisor as divisor
 use Rattle.warp_body.specs.contracts.instruction.Operand as operand
-use Rattle.warp_body.specs.contracts.instruction.Place as place
+use Rattle.warp_body.specs.contracts.instruction.Destination as destination
 use Rattle.warp_body.specs.contracts.instruction.Instruction as instruction
 use Rattle.warp_body.specs.contracts.code.Code as code
 use Rattle.warp_step.specs.contracts.one_step.Scratch as scratch
@@ -20,15 +20,15 @@ use Rattle.warp_run.specs.contracts.warp.Warp as warp
 operand_send : IsSend operand.the_row
 operand_send = search sendable depth 60
 
-place_send : IsSend place.the_row
-place_send = search sendable depth 60
+destination_send : IsSend destination.the_row
+destination_send = search sendable depth 60
 
 divisor_send : IsSend divisor.the_row
 divisor_send = search sendable depth 60
 
 -- an instruction, variant after variant
 instruction_send : IsSend instruction.the_row
-instruction_send = variants_send instruction.enum ((place_send, (operand_send, tt)), ((place_send, (search sendable depth 60, tt)), ((place_send, (search sendable depth 60, tt)), ((search sendable depth 60, (place_send, (operand_send, tt))), ((search sendable depth 60, (place_send, (operand_send, (operand_send, tt)))), ((place_send, (operand_send, (search sendable, tt))), ((place_send, (operand_send, (divisor_send, tt))), ((place_send, (operand_send, (divisor_send, tt))), ((place_send, (operand_send, (operand_send, (operand_send, tt)))), ((search sendable, (search sendable, (search sendable, (operand_send, tt)))), ((search sendable, (search sendable, (search sendable, (search sendable, tt)))), ((search sendable, (search sendable, (search sendable, tt))), ((search sendable, (search sendable, (operand_send, tt))), ((search sendable, (search sendable, (search sendable, tt))), ((search sendable, (search sendable, (operand_send, tt))), ((search sendable, (search sendable, (search sendable, tt))), ((search sendable, (search sendable, (search sendable, (operand_send, tt)))), ((search sendable, (search sendable, (search sendable, (search sendable, tt)))), ((search sendable, (search sendable, tt)), ((search sendable, (search sendable, (operand_send, tt))), ((search sendable, (search sendable, (operand_send, (divisor_send, tt)))), ((search sendable, tt), ((search sendable, tt), ((operand_send, (search sendable, (search sendable, tt))), ((search sendable, (search sendable, (search sendable, tt))), ((operand_send, (search sendable, (search sendable, (search sendable, tt)))), ((operand_send, (divisor_send, (search sendable, (search sendable, (search sendable, tt))))), ((operand_send, (operand_send, (search sendable, (search sendable, tt)))), ((operand_send, (operand_send, (search sendable, (search sendable, tt)))), ((operand_send, (search sendable, (search sendable, (search sendable, tt)))), ((search sendable, (search sendable, (search sendable, (search sendable, tt)))), ((search sendable, (search sendable, (search sendable, (search sendable, tt)))), tt))))))))))))))))))))))))))))))))
+instruction_send = variants_send instruction.enum ((destination_send, (operand_send, tt)), ((destination_send, (search sendable depth 60, tt)), ((destination_send, (search sendable depth 60, tt)), ((search sendable depth 60, (destination_send, (operand_send, tt))), ((search sendable depth 60, (destination_send, (operand_send, (operand_send, tt)))), ((destination_send, (operand_send, (search sendable, tt))), ((destination_send, (operand_send, (divisor_send, tt))), ((destination_send, (operand_send, (divisor_send, tt))), ((destination_send, (operand_send, (operand_send, (operand_send, tt)))), ((search sendable, (search sendable, (search sendable, (operand_send, tt)))), ((search sendable, (search sendable, (search sendable, (search sendable, tt)))), ((search sendable, (search sendable, (search sendable, tt))), ((search sendable, (search sendable, (operand_send, tt))), ((search sendable, (search sendable, (search sendable, tt))), ((search sendable, (search sendable, (operand_send, tt))), ((search sendable, (search sendable, (search sendable, tt))), ((search sendable, (search sendable, (search sendable, (operand_send, tt)))), ((search sendable, (search sendable, (search sendable, (search sendable, tt)))), ((search sendable, (search sendable, tt)), ((search sendable, (search sendable, (operand_send, tt))), ((search sendable, (search sendable, (operand_send, (divisor_send, tt)))), ((search sendable, tt), ((search sendable, tt), ((operand_send, (search sendable, (search sendable, tt))), ((search sendable, (search sendable, (search sendable, tt))), ((operand_send, (search sendable, (search sendable, (search sendable, tt)))), ((operand_send, (divisor_send, (search sendable, (search sendable, (search sendable, tt))))), ((operand_send, (operand_send, (search sendable, (search sendable, tt)))), ((operand_send, (operand_send, (search sendable, (search sendable, tt)))), ((operand_send, (search sendable, (search sendable, (search sendable, tt)))), ((search sendable, (search sendable, (search sendable, (search sendable, tt)))), ((search sendable, (search sendable, (search sendable, (search sendable, tt)))), tt))))))))))))))))))))))))))))))))
 
 -- and a body's code holds its statements
 code_send : IsSend code.the_row

@@ -9,13 +9,12 @@ use Rattle.warp_record.specs.declared.line.Line.TheVariants.{Ask}
 use Rattle.warp_record.specs.declared.line.Query.TheVariants.{Log}
 use Rattle.warp_record.specs.declared.reply.Reply.{Reply}
 use Rattle.warp_record.specs.declared.reply.Refusal.{Refusal}
-use Rattle.warp_record.specs.declared.reply.Refusal.TheVariants.{NoMemory, Busy}
 use Rattle.warp_record.specs.Line.{spelling}
 use Rattle.warp_record.specs.Lines.{Piece, Whole, Long, Torn, IsOneLine, lines_of}
 use Rattle.warp_record.specs.Reply.{IsReply, reply_spelling}
 use Rattle.warp_exchange.specs.declared.puller.Pulled.{Pulled}
 use Rattle.warp_exchange.specs.declared.puller.Pulled.TheVariants as pulled
-use Rattle.warp_exchange.specs.Pulls.{Pulls}
+use Rattle.warp_exchange.specs.Pulls.{Pulls, passes}
 use Rattle.warp_session.specs.declared.pulling.PullEnd.{PullEnd}
 use Rattle.warp_session.specs.declared.pulling.PullEnd.TheVariants as end
 use Rattle.warp_session.specs.Session.{AreWholeLines}
@@ -49,12 +48,6 @@ levels_with count other = 0
 abbrev pub last_levels : ℕ → List Heard → ℕ
 last_levels count [] = count
 last_levels count (heard ∷ rest) = last_levels (levels_with count heard.pulled) rest
-
--- a refusal that passes: the other replica or the desk had no memory, or was busy
-abbrev pub passes : Refusal → Type 0
-passes NoMemory = Unit {0}
-passes Busy = Unit {0}
-passes other = ⊥
 
 -- pulling goes on behind this outcome, with which so many of the last ones are Level, fewer than were asked for
 abbrev pub GoesOn : ℕ → ℕ → Pulled → Type 0

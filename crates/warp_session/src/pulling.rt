@@ -8,7 +8,7 @@ ghost use Rattle.warp_record.specs.Lines.{piece_of};
 ghost use Rattle.warp_record.specs.declared.reply.Reply.{Reply};
 ghost use Rattle.warp_record.specs.Reply.{IsReply};
 ghost use Rattle.warp_exchange.specs.Pulls.{Pulls};
-ghost use Rattle.warp_session.specs.Pull.{GoesOn, IsBegun, PullFails, PullsTo, SpellsReply, levels_with, passes};
+ghost use Rattle.warp_session.specs.Pull.{GoesOn, IsBegun, PullFails, PullsTo, SpellsReply, levels_with};
 ghost use Rattle.warp_session.specs.Pull.{question};
 ghost use Rattle.warp_session.specs.Stream.{CountsFailures, reads_more};
 ghost use Rattle.warp_session.specs.inner.Inbox.{CutsMore, InboxState, Moves, empty_inbox, pending, waiting};
@@ -21,7 +21,7 @@ use itoa::Buffer;
 use std::alloc::{AllocError, Global};
 use std::thread;
 use std::time::{Clock, Duration};
-use warp_exchange::{Desk, Pulled, Puller};
+use warp_exchange::{Desk, Pulled, Puller, is_passing};
 use warp_record::{Fed, Refusal, Reply, read_reply};
 use warp_tag::Form;
 
@@ -56,13 +56,6 @@ fn reply_of(form: Form, fed: &Fed) -> Option<Reply>
         Fed::Text(bytes) => read_reply(form, bytes),
         _ => None,
     }
-}
-
-/// Whether a refusal passes: there was no memory, or the server was busy.
-fn is_passing(refusal: Refusal) -> bool
-    ensures { MatchBool result (passes refusal) (passes refusal → ⊥) }
-{
-    matches!(refusal, Refusal::NoMemory | Refusal::Busy)
 }
 
 /// The most bytes of a question.

@@ -11,7 +11,7 @@ use Rattle.warp_body.specs.Presence.{is_target, target_fits}
 use Rattle.warp_body.specs.declared.place.Target.{Target}
 use Rattle.warp_body.specs.declared.place.Target.TheVariants as to
 use Rattle.warp_step.specs.inner.Marks.{first_reaction, with_mark}
-use Rattle.warp_step.specs.inner.Plan.{first_heeding, first_row, heeded, heeded_in_turn, heeds, in_turn, is_numbered, marks_of, marks_of_places, most_places, numbered_place, place_number, place_numbers, place_of, reaction_heeds, rule_numbered, with_heeding, with_watchers}
+use Rattle.warp_step.specs.inner.Plan.{first_heeding, first_flagged, heeded, heeded_in_turn, heeds, in_turn, is_numbered, marks_of, marks_of_places, most_places, numbered_place, place_number, place_numbers, place_of, reaction_heeds, rule_numbered, with_heeding, with_watchers}
 use Rattle.warp_step.specs.Program.{Program, Rule}
 use Rattle.warp_step.specs.Step.{sources_of}
 use Rattle.warp_step.specs.Valid.{is_valid, program_places}
@@ -56,23 +56,23 @@ numbered_apart n place other = elim (cases_Bool (is_target (numbered_place n) pl
   | inr apart ↦ apart
 ]
 
--- a row of flags with one more is that of a test that passes one number more
-row_more : (f g : ℕ → Bool) (count k : ℕ) → k < count → g k ≡ true → ((n : ℕ) → n ≢ k → g n ≡ f n)
+-- a list of flags with one more is that of a test that passes one number more
+flags_more : (f g : ℕ → Bool) (count k : ℕ) → k < count → g k ≡ true → ((n : ℕ) → n ≢ k → g n ≡ f n)
     → slice_set (map f (range_with_len 0 count)) k true ≡ map g (range_with_len 0 count)
-row_more f g count k lt here others =
-    let row = map f (range_with_len 0 count) in
-    let len : length row ≡ count = length-map-range_with_len f 0 count in
-    let set_len : length (slice_set row k true) ≡ length row = length-set row k true in
+flags_more f g count k lt here others =
+    let flags = map f (range_with_len 0 count) in
+    let len : length flags ≡ count = length-map-range_with_len f 0 count in
+    let set_len : length (slice_set flags k true) ≡ length flags = length-set flags k true in
     let new_len : length (map g (range_with_len 0 count)) ≡ count = length-map-range_with_len g 0 count in
     same_lists _ _ (omega (arith, len, set_len, new_len)) (λ j d within.
     let below : j < count = omega (arith, within, set_len, len) in
     let new = get_or-map-range_with_len g 0 count j j d below (omega arith) in
     elim (cases_eq j k) [
       | inl same ↦
-          ap (λ (i : ℕ). get_or (slice_set row k true) i d) same ∙ get_or-set_same row k true d (omega (arith, lt, len))
+          ap (λ (i : ℕ). get_or (slice_set flags k true) i d) same ∙ get_or-set_same flags k true d (omega (arith, lt, len))
           ∙ sym (new ∙ ap g same ∙ here)
       | inr other ↦
-          get_or-set_other row k j true d other ∙ get_or-map-range_with_len f 0 count j j d below (omega arith) ∙ sym (new ∙ others j other)
+          get_or-set_other flags k j true d other ∙ get_or-map-range_with_len f 0 count j j d below (omega arith) ∙ sym (new ∙ others j other)
     ])
 
 -- nothing is heeded before the first trigger
@@ -99,51 +99,51 @@ heeded_more sources triggers i trigger lt is numbered =
     let more : (n : ℕ) → after n ≡ (before n || is_target (numbered_place n) place) =
     λ n. list_any_more (λ (t : Target). is_target (numbered_place n) (place_of sources t)) triggers i to.Startup lt
     ∙ ap (λ (t : Target). before n || is_target (numbered_place n) (place_of sources t)) (sym is) in
-    row_more before after most_places (place_number place) (ltb-true (place_number place) most_places both.0)
+    flags_more before after most_places (place_number place) (ltb-true (place_number place) most_places both.0)
     (more (place_number place) ∙ or_right (before (place_number place)) (is_target (numbered_place (place_number place)) place) both.1)
     (λ n other. more n ∙ ap (λ (b : Bool). before n || b) (numbered_apart n place other) ∙ or-false (before n))
 
--- a row says for each place what the triggers say
-pub row_says : (sources : List ℕ) (triggers : List Target) (n : ℕ) → n < most_places
+-- a list of flags says for each place what the triggers say
+pub flags_say : (sources : List ℕ) (triggers : List Target) (n : ℕ) → n < most_places
     → slice_index_or (heeded sources triggers) n false ≡ heeds sources triggers (numbered_place n)
 unfolding place_numbers
-row_says sources triggers n lt = get_or-map-range_with_len (λ (k : ℕ). heeds sources triggers (numbered_place k)) 0 most_places n n false lt (omega arith)
+flags_say sources triggers n lt = get_or-map-range_with_len (λ (k : ℕ). heeds sources triggers (numbered_place k)) 0 most_places n n false lt (omega arith)
 
--- and so rows mark whom a place concerns, and tell the first one
+-- and so lists of flags mark whom a place concerns, and tell the first one
 here : (n : ℕ) → n ≡ first_reaction + n
 here n = omega arith
 
 module _ (sources : List ℕ) (number : ℕ) (lt : number < most_places) where
-  rows_mark : (n : ℕ) (rules : List Rule) (word : ℕ)
+  flags_mark : (n : ℕ) (rules : List Rule) (word : ℕ)
       → with_heeding number n (map (λ rule. heeded sources rule.triggers) rules) word ≡ with_watchers reaction_heeds first_reaction sources (numbered_place number) n rules word
-  rows_mark n [] word = refl
-  rows_mark n (rule ∷ rules) word =
+  flags_mark n [] word = refl
+  flags_mark n (rule ∷ rules) word =
       ap (λ (b : Bool). with_heeding number (n + 1) (map (λ rule. heeded sources rule.triggers) rules) (if b then with_mark n word else word))
-      (row_says sources rule.triggers number lt)
+      (flags_say sources rule.triggers number lt)
       ∙ ap (λ (k : ℕ). with_heeding number (n + 1) (map (λ rule. heeded sources rule.triggers) rules)
       (if heeds sources rule.triggers (numbered_place number) then with_mark k word else word)) (here n)
-      ∙ rows_mark (n + 1) rules (if heeds sources rule.triggers (numbered_place number) then with_mark (first_reaction + n) word else word)
+      ∙ flags_mark (n + 1) rules (if heeds sources rule.triggers (numbered_place number) then with_mark (first_reaction + n) word else word)
 
-  rows_first : (n : ℕ) (rules : List Rule)
-      → first_row number n (map (λ rule. heeded sources rule.triggers) rules) ≡ first_heeding sources (numbered_place number) n rules
-  rows_first n [] = refl
-  rows_first n (rule ∷ rules) =
-      ap (λ (b : Bool). if b then n else first_row number (n + 1) (map (λ rule. heeded sources rule.triggers) rules)) (row_says sources rule.triggers number lt)
-      ∙ ap (λ (k : ℕ). if heeds sources rule.triggers (numbered_place number) then n else k) (rows_first (n + 1) rules)
+  flags_first : (n : ℕ) (rules : List Rule)
+      → first_flagged number n (map (λ rule. heeded sources rule.triggers) rules) ≡ first_heeding sources (numbered_place number) n rules
+  flags_first n [] = refl
+  flags_first n (rule ∷ rules) =
+      ap (λ (b : Bool). if b then n else first_flagged number (n + 1) (map (λ rule. heeded sources rule.triggers) rules)) (flags_say sources rule.triggers number lt)
+      ∙ ap (λ (k : ℕ). if heeds sources rule.triggers (numbered_place number) then n else k) (flags_first (n + 1) rules)
 
--- the rows of a program's reactions, in their turns
-rows_in_turn : (P : Program) → heeded_in_turn P ≡ map (λ rule. heeded (sources_of P) rule.triggers) (in_turn P)
-rows_in_turn P = told_twice (λ (rule : Rule). heeded (sources_of P) rule.triggers) (rule_numbered P.reactions) P.order
+-- the lists of flags of a program's reactions, in their turns
+flags_in_turn : (P : Program) → heeded_in_turn P ≡ map (λ rule. heeded (sources_of P) rule.triggers) (in_turn P)
+flags_in_turn P = told_twice (λ (rule : Rule). heeded (sources_of P) rule.triggers) (rule_numbered P.reactions) P.order
 
-pub marked_by_rows : (P : Program) (rows : List (List Bool)) (number word : ℕ) → number < most_places → rows ≡ heeded_in_turn P
-    → with_heeding number 0 rows word ≡ with_watchers reaction_heeds first_reaction (sources_of P) (numbered_place number) 0 (in_turn P) word
-marked_by_rows P rows number word lt are =
-    ap (λ (rs : List (List Bool)). with_heeding number 0 rs word) (are ∙ rows_in_turn P) ∙ rows_mark (sources_of P) number lt 0 (in_turn P) word
+pub marked_by_flags : (P : Program) (flag_lists : List (List Bool)) (number word : ℕ) → number < most_places → flag_lists ≡ heeded_in_turn P
+    → with_heeding number 0 flag_lists word ≡ with_watchers reaction_heeds first_reaction (sources_of P) (numbered_place number) 0 (in_turn P) word
+marked_by_flags P flag_lists number word lt are =
+    ap (λ (rs : List (List Bool)). with_heeding number 0 rs word) (are ∙ flags_in_turn P) ∙ flags_mark (sources_of P) number lt 0 (in_turn P) word
 
-pub first_by_rows : (P : Program) (rows : List (List Bool)) (number : ℕ) → number < most_places → rows ≡ heeded_in_turn P
-    → first_row number 0 rows ≡ first_heeding (sources_of P) (numbered_place number) 0 (in_turn P)
-first_by_rows P rows number lt are =
-    ap (λ (rs : List (List Bool)). first_row number 0 rs) (are ∙ rows_in_turn P) ∙ rows_first (sources_of P) number lt 0 (in_turn P)
+pub first_by_flags : (P : Program) (flag_lists : List (List Bool)) (number : ℕ) → number < most_places → flag_lists ≡ heeded_in_turn P
+    → first_flagged number 0 flag_lists ≡ first_heeding (sources_of P) (numbered_place number) 0 (in_turn P)
+first_by_flags P flag_lists number lt are =
+    ap (λ (rs : List (List Bool)). first_flagged number 0 rs) (are ∙ flags_in_turn P) ∙ flags_first (sources_of P) number lt 0 (in_turn P)
 
 -- the place of a target of the program is one, and that of its number
 source_fits : (P : Program) (t : Target) → IsTrue (is_valid P) → IsTrue (target_fits (program_places P) t) → IsTrue (target_fits (program_places P) (place_of (sources_of P) t))

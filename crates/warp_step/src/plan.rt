@@ -6,7 +6,7 @@ ghost use Rattle.warp_tag.specs.Limits.{most_reactions};
 ghost use Rattle.warp_body.specs.declared.place.Target.{Target};
 ghost use Rattle.warp_body.specs.declared.place.Target.TheVariants as to;
 ghost use Rattle.warp_step.specs.inner.Marks.{first_link, first_output, marks_from, most_marks, no_marks, with_mark};
-ghost use Rattle.warp_step.specs.inner.Plan.{first_heeding, first_row, heeded, heeded_in_turn, heeds, in_turn};
+ghost use Rattle.warp_step.specs.inner.Plan.{first_flagged, first_heeding, heeded, heeded_in_turn, heeds, in_turn};
 ghost use Rattle.warp_step.specs.inner.Plan.{is_numbered, link_heeds, marks_of, marks_of_places, most_places};
 ghost use Rattle.warp_step.specs.inner.Plan.{numbered_place, output_heeds, place_number, place_numbers, place_of};
 ghost use Rattle.warp_step.specs.inner.Plan.{plan_of, ready_turn, rule_numbered, shared_period, turn_plan};
@@ -68,13 +68,13 @@ fn triggers_of(reactions: &[Reaction], number: u32) -> &[Target]
 /// it has.
 fn heeded(alloc: Global, triggers: &[Target], sources: &[u32]) -> Result<Vec<bool>, OutOfMemory>
     requires { IsTrue (list_all (λ trigger. is_numbered (place_of sources.now trigger)) triggers.now) }
-    ensures { IfOk result (λ row. row.items ≡ heeded sources.now triggers.now) }
+    ensures { IfOk result (λ flags. flags.items ≡ heeded sources.now triggers.now) }
 {
-    let mut row = vec![in alloc; false; PLACE_COUNT]?;
+    let mut flags = vec![in alloc; false; PLACE_COUNT]?;
     for trigger in triggers {
-        row[place_number(place_of(sources, *trigger))] = true;
+        flags[place_number(place_of(sources, *trigger))] = true;
     }
-    Ok(row)
+    Ok(flags)
 }
 
 /// Which places each reaction heeds, in the order in which a step runs them.
@@ -84,31 +84,31 @@ fn heeded_in_turn(
     sources: &[u32],
 ) -> Result<Vec<Vec<bool>>, OutOfMemory>
     requires { sources.now ≡ sources_of program.now }
-    ensures { IfOk result (λ rows. map (λ row. row.items) rows.items ≡ heeded_in_turn program.now) }
+    ensures { IfOk result (λ flag_lists. map (λ flags. flags.items) flag_lists.items ≡ heeded_in_turn program.now) }
 {
     program.valid();
-    let mut rows = Vec::with_capacity(alloc, program.order().len())?;
+    let mut flag_lists = Vec::with_capacity(alloc, program.order().len())?;
     for number in program.order() {
         let triggers = triggers_of(program.reactions(), *number);
-        let row = heeded(alloc, triggers, sources)?;
-        rows.push(row)?;
+        let flags = heeded(alloc, triggers, sources)?;
+        flag_lists.push(flags)?;
     }
-    Ok(rows)
+    Ok(flag_lists)
 }
 
 /// Whether the place with this number is heeded.
-fn is_heeded(row: &[bool], number: usize) -> bool
-    ensures { result ≡ slice_index_or row.now number false }
+fn is_heeded(flags: &[bool], number: usize) -> bool
+    ensures { result ≡ slice_index_or flags.now number false }
 {
-    row.get(number).copied().unwrap_or(false)
+    flags.get(number).copied().unwrap_or(false)
 }
 
 /// Marks the turns of the reactions that heed the place with this number.
-fn watch_reactions(marks: &mut Marks, rows: &[Vec<bool>], number: usize)
-    ensures { marks.new.word ≡ with_heeding number 0 (map (λ row. row.items) rows.now) marks.old.word }
+fn watch_reactions(marks: &mut Marks, flag_lists: &[Vec<bool>], number: usize)
+    ensures { marks.new.word ≡ with_heeding number 0 (map (λ flags. flags.items) flag_lists.now) marks.old.word }
 {
-    for (turn, row) in rows.iter().enumerate() {
-        if is_heeded(row, number) {
+    for (turn, flags) in flag_lists.iter().enumerate() {
+        if is_heeded(flags, number) {
             marks.add(turn);
         }
     }
@@ -167,16 +167,16 @@ fn watch_outputs(marks: &mut Marks, first: usize, ports: &[u32], sources: &[u32]
 }
 
 /// The marks of those whom the presence of the place with this number concerns.
-fn marks_of(program: &Program, sources: &[u32], rows: &[Vec<bool>], number: usize) -> Marks
+fn marks_of(program: &Program, sources: &[u32], flag_lists: &[Vec<bool>], number: usize) -> Marks
     requires place { number < most_places }
     requires sources { sources.now ≡ sources_of program.now }
-    requires rows { map (λ row. row.items) rows.now ≡ heeded_in_turn program.now }
+    requires flag_lists { map (λ flags. flags.items) flag_lists.now ≡ heeded_in_turn program.now }
     ensures { result.word ≡ marks_of program.now (numbered_place number) }
 {
     program.valid();
     let place = numbered_place(number);
     let mut marks = Marks::none();
-    watch_reactions(&mut marks, rows, number);
+    watch_reactions(&mut marks, flag_lists, number);
     let first = first_link(program);
     watch_links(&mut marks, first, program.links(), sources, place);
     let first = first_output(program);
@@ -239,29 +239,34 @@ impl Concerned {
 }
 
 /// The turn of the first reaction that heeds the place with this number, else how many reactions there are.
-fn first_heeding(rows: &[Vec<bool>], number: usize) -> usize
-    ensures { result ≡ first_row number 0 (map (λ row. row.items) rows.now) }
+fn first_heeding(flag_lists: &[Vec<bool>], number: usize) -> usize
+    ensures { result ≡ first_flagged number 0 (map (λ flags. flags.items) flag_lists.now) }
 {
-    for (turn, row) in rows.iter().enumerate() {
-        if is_heeded(row, number) {
+    for (turn, flags) in flag_lists.iter().enumerate() {
+        if is_heeded(flags, number) {
             return turn;
         }
     }
-    rows.len()
+    flag_lists.len()
 }
 
 /// Whom the place with this number concerns.
-fn of_place(program: &Program, sources: &[u32], rows: &[Vec<bool>], number: usize) -> Concerned
+fn of_place(
+    program: &Program,
+    sources: &[u32],
+    flag_lists: &[Vec<bool>],
+    number: usize,
+) -> Concerned
     requires place { number < most_places }
     requires sources { sources.now ≡ sources_of program.now }
-    requires rows { map (λ row. row.items) rows.now ≡ heeded_in_turn program.now }
+    requires flag_lists { map (λ flags. flags.items) flag_lists.now ≡ heeded_in_turn program.now }
     ensures marks { result.marks.word ≡ marks_of program.now (numbered_place number) }
     ensures first { result.first ≡
         first_heeding (sources_of program.now) (numbered_place number) 0 (in_turn program.now) }
 {
     Concerned {
-        marks: marks_of(program, sources, rows, number),
-        first: first_heeding(rows, number),
+        marks: marks_of(program, sources, flag_lists, number),
+        first: first_heeding(flag_lists, number),
     }
 }
 
@@ -276,10 +281,10 @@ fn of_places(
     ensures firsts { IfOk result (λ all. map (λ one. one.first) all.items
         ≡ map (λ n. first_heeding (sources_of program.now) (numbered_place n) 0 (in_turn program.now)) place_numbers) }
 {
-    let rows = heeded_in_turn(alloc, program, sources)?;
+    let flag_lists = heeded_in_turn(alloc, program, sources)?;
     let mut all = Vec::with_capacity(alloc, PLACE_COUNT)?;
     for number in 0..PLACE_COUNT {
-        all.push(of_place(program, sources, &rows, number))?;
+        all.push(of_place(program, sources, &flag_lists, number))?;
     }
     Ok(all)
 }

@@ -4,7 +4,7 @@ use Rattle.warp_exchange.specs.declared.puller.Pulled.{Pulled}
 use Rattle.warp_exchange.specs.declared.puller.Pulled.TheVariants as pulled
 use Rattle.warp_session.specs.declared.pulling.PullEnd.{PullEnd}
 use Rattle.warp_session.specs.declared.pulling.PullEnd.TheVariants as end
-use Rattle.warp_session.specs.Pull.{passes}
+use Rattle.warp_exchange.specs.Pulls.{passes}
 
 -- what an outcome, of which so many of the last were level, ends with
 abbrev pub EndsBehind : ℕ → ℕ → Pulled → PullEnd → Type 0

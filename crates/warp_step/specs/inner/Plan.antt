@@ -104,15 +104,15 @@ heeded sources triggers = map (λ n. heeds sources triggers (numbered_place n)) 
 abbrev pub heeded_in_turn : Program → List (List Bool)
 heeded_in_turn P = map (λ n. heeded (sources_of P) (rule_numbered P.reactions n).triggers) P.order
 
--- with a mark for each row in which the place with this number is heeded, where turns count from the next one on; and the first such turn
+-- with a mark for each list of flags in which the place with this number is heeded, where turns count from the next one on; and the first such turn
 abbrev pub with_heeding : ℕ → ℕ → List (List Bool) → ℕ → ℕ
 with_heeding number n [] word = word
-with_heeding number n (row ∷ rows) word =
-    with_heeding number (n + 1) rows (if slice_index_or row number false then with_mark n word else word)
+with_heeding number n (flags ∷ flag_lists) word =
+    with_heeding number (n + 1) flag_lists (if slice_index_or flags number false then with_mark n word else word)
 
-abbrev pub first_row : ℕ → ℕ → List (List Bool) → ℕ
-first_row number n [] = n
-first_row number n (row ∷ rows) = if slice_index_or row number false then n else first_row number (n + 1) rows
+abbrev pub first_flagged : ℕ → ℕ → List (List Bool) → ℕ
+first_flagged number n [] = n
+first_flagged number n (flags ∷ flag_lists) = if slice_index_or flags number false then n else first_flagged number (n + 1) flag_lists
 
 -- What is kept for a turn: the number of the reaction that has it, what triggers it, its body, the marks of those whom what it
 -- writes concerns, and whether it may have wishes.

@@ -9,7 +9,7 @@ pub returns-clause-joined : goal.returns-clause-joined
 returns-clause-joined c = lanes_join IsAny
 
 pub returns-clause-answers : goal.returns-clause-answers
-returns-clause-answers c = lanes_any IsHandedOn
+returns-clause-answers c = λ most. lanes_any (IsHandedOn most)
 
 pub returns-clause-lines : goal.returns-clause-lines
 returns-clause-lines c = λ places. one_any (IsAllowedIn places)

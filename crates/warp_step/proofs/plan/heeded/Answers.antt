@@ -8,7 +8,7 @@ use Rattle.warp_step.proofs.ValidLemmas.{list_all_get}
 use Rattle.warp_step.proofs.plan.heeded.Goals as goal
 
 pub loop-trigger-init : goal.loop-trigger-init
-loop-trigger-init c = c.in_ok-row.ensures.items_if_clones_equal (λ y h. h) ∙ none_heeded c.args.sources.now
+loop-trigger-init c = c.in_ok-flags.ensures.items_if_clones_equal (λ y h. h) ∙ none_heeded c.args.sources.now
 
 pub loop-trigger-preserved : goal.loop-trigger-preserved
 loop-trigger-preserved c =

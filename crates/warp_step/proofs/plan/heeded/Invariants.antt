@@ -4,4 +4,4 @@ use Rattle.warp_step.specs.inner.Plan.{heeded}
 use Rattle.warp_step.proofs.plan.heeded.Given as goal
 
 abbrev pub invariant-loop-trigger : goal.invariant-loop-trigger
-invariant-loop-trigger l = l.row.items ≡ heeded l.sources (take l.trigger-index l.triggers)
+invariant-loop-trigger l = l.flags.items ≡ heeded l.sources (take l.trigger-index l.triggers)

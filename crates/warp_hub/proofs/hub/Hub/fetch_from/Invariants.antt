@@ -5,5 +5,5 @@ use Rattle.warp_hub.proofs.hub.Hub.fetch_from.Given as goal
 abbrev pub invariant-loop : goal.invariant-loop
 invariant-loop l = record {
   board : l.self.board ≡ l.initial.self.board;
-  lanes : LanesRun IsHandedOn l.initial.self.lanes l.self.lanes;
+  lanes : LanesRun (IsHandedOn l.durable) l.initial.self.lanes l.self.lanes;
 }

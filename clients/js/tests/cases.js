@@ -1,0 +1,119 @@
+// What the client is tried by, in Node and in browsers alike: each case has a host of its own, and a client of it.
+//
+// A case is called with `assert`, the `client`, `connect(options)` for another client of the same host, and the `host`, which has
+// `stop()` and `start()`. Where it has `tokens`, the host has a file of these lines.
+
+import { Announcer, Ended, Refused } from "../warpd.js"
+
+const sleep = milliseconds => new Promise(resolve => setTimeout(resolve, milliseconds))
+
+export const CASES = []
+
+function hosted(name, body, { tokens, ...options } = {}) {
+  CASES.push({ name, body, tokens, options })
+}
+
+async function until(holds) {
+  for (let turn = 0; turn < 1_000; turn += 1) {
+    if (holds()) return
+    await sleep(10)
+  }
+  throw new Error(`it never came to ${holds}`)
+}
+
+hosted("lines have answers as values, and names stand for numbers", async ({ assert, client }) => {
+  assert.deepEqual(client.names.vars, ["r.total"])
+  assert.deepEqual(client.names.inputs, [{ origin: 0, name: "r.a" }, { origin: 1, name: "r.b" }])
+  assert.deepEqual(await client.event("r.a", { time: 5, value: 3 }), { place: 1, isNew: true })
+  assert.deepEqual(await client.event("r.a", { time: 5, value: 3 }), { place: 1, isNew: false })
+  assert.deepEqual(await client.var("r.total"), { log: 1, value: 3n })
+  assert.deepEqual(await client.readVars(), { log: 1, values: { "r.total": 3n } })
+  assert.deepEqual(await client.output(0), { log: 1, time: 5, micro: 0, output: 0, value: 3n })
+  assert.equal(await client.output(1), null)
+  assert.deepEqual(await client.horizon(), { log: 1, time: 0, micro: 0 })
+  assert.deepEqual(await client.log(1), {
+    log: 1,
+    record: { kind: "event", origin: 0, time: 5, micro: 0, input: 0, value: 3n },
+  })
+  assert.deepEqual(await client.withdraw(0, { time: 5 }), { place: 2, isNew: true })
+  assert.deepEqual(await client.var(0), { log: 2, value: 0n })
+  assert.match((await client.program()).fingerprint, /^[0-9a-f]{64}$/)
+})
+
+hosted("a refusal has its number and meaning, and lines behind it go on", async ({ assert, client }) => {
+  const refused = client.event(0, { time: 101, value: 1 })
+  const next = client.released()
+  await assert.rejects(refused, error => error instanceof Refused && error.number === 3 && error.meaning === "past the program's stop")
+  assert.deepEqual(await next, { log: 0, count: 0 })
+  const answers = await client.many(["nonsense", "lost"])
+  assert.equal(answers[0].number, 1)
+  assert.deepEqual(answers[1], { log: 0, count: 0 })
+  await assert.rejects(client.ask("lost\nlost"), RangeError)
+  await assert.rejects(client.event("r.c", { time: 1, value: 1 }), RangeError)
+})
+
+hosted("values have 64 bits", async ({ assert, client }) => {
+  const most = 2n ** 63n - 1n
+  await client.event("r.a", { time: 1, value: most })
+  assert.equal((await client.readVars()).values["r.total"], most)
+})
+
+hosted("what is watched is pushed in order", async ({ assert, client }) => {
+  const places = []
+  await client.watch("log", push => places.push(push.place)).started
+  await client.watch("vars").started
+  const released = client.watch("released")
+  const [first, second] = [new Announcer(client, 0), new Announcer(client, 1)]
+  await first.event("r.a", { time: 5, value: 3 })
+  await first.event("r.a", { time: 6, value: 4 })
+  await Promise.all([first.announce({ time: 10 }), second.announce({ time: 10 })])
+  const rows = []
+  for await (const row of released) {
+    rows.push([row.index, row.time, row.value])
+    if (rows.length === 2) break
+  }
+  // The program's total is twice what it was, and the event's value.
+  assert.deepEqual(rows, [[0, 5, 3n], [1, 6, 10n]])
+  await until(() => places.length === 4 && client.vars["r.total"] === 10n)
+  assert.deepEqual(places, [1, 2, 3, 4])
+})
+
+hosted("an announcer keeps to its word", async ({ assert, client }) => {
+  const announcer = new Announcer(client, 0)
+  await announcer.event("r.a", { time: 5, value: 3 })
+  await assert.rejects(announcer.event("r.a", { time: 5, value: 4 }), RangeError)
+  await announcer.announce({ time: 6 })
+  await assert.rejects(announcer.event("r.a", { time: 2, value: 4 }), RangeError)
+  assert.deepEqual(await client.breach(0), { log: 2, broken: false })
+})
+
+hosted("a host that begins anew gets all again, and is watched on", async ({ assert, client, host }) => {
+  const announcer = new Announcer(client, 0)
+  const states = []
+  client.onstate = state => states.push(state)
+  const horizons = []
+  client.watch("horizon", push => horizons.push(push.time))
+  await announcer.event("r.a", { time: 5, value: 3 })
+  await host.stop()
+  await until(() => client.state === "connecting")
+  const asked = client.var("r.total")
+  await host.start()
+  assert.deepEqual(await asked, { log: 0, value: 0n })
+  const had = async () => (await client.horizon()).log
+  while (await had() < 1) await sleep(10)
+  await announcer.announce({ time: 10 })
+  await client.announce(1, { time: 10, events: 0 })
+  await until(() => horizons.at(-1) === 10)
+  assert.deepEqual(await client.var("r.total"), { log: 3, value: 3n })
+  assert.deepEqual(states, ["connecting", "open"])
+  client.close()
+  await assert.rejects(client.lost(), Ended)
+})
+
+hosted("a token says for whom a client may send", async ({ assert, client, connect }) => {
+  await client.event("r.a", { time: 5, value: 3 })
+  await assert.rejects(client.event("r.b", { time: 5, value: 3 }), error => error.number === 13)
+  const other = connect({ token: "beta", reconnect: false })
+  await assert.rejects(other.ready)
+  other.close()
+}, { tokens: "alpha 0\nreader read\n", token: "alpha" })

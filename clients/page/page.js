@@ -1,0 +1,254 @@
+// The page of a host: what its replica is doing, as it does it, and a form to send records.
+
+import { Client, Refused } from "./warpd.js"
+import { MOST, Rows, fillRow, rowOfWords } from "./lists.js"
+import { Replica } from "./replica.js"
+import { answerText, recordText, tagText } from "./tags.js"
+import { Timeline, inWords } from "./timeline.js"
+
+const PAUSE = 400
+
+const at = id => document.getElementById(id)
+const put = (id, text) => at(id).textContent !== text && (at(id).textContent = text)
+const replica = new Replica()
+const timeline = new Timeline(at("timeline"))
+const limits = { log: "", origins: 0 }
+let client
+let token
+let program
+let watches = []
+let isDrawn = false
+let isAsking = false
+let mayTellLate = true
+
+const rows = {
+  records: new Rows(at("records"), age => recordRow(replica.records.at(age))),
+  released: new Rows(at("released"), age => outputRow(replica.released.at(age))),
+  vars: new Rows(at("vars"), number => ({
+    words: ["", client.names.vars[number] ?? `variable ${number}`, `${replica.values[number]}`],
+    kind: replica.changed.has(number) ? "new" : "",
+  })),
+}
+
+function recordRow({ place, record, back }) {
+  const end = back ? `late: ${tagText(back)} back to ${tagText(record)}` : ""
+  return { words: [`${place}`, `at ${tagText(record)}  ${recordText(record, client.names)}`, end], kind: back ? "late" : "" }
+}
+
+function outputRow(row) {
+  return { words: [`at ${tagText(row)}`, client.names.outputs[row.output] ?? `output ${row.output}`, `${row.value}`] }
+}
+
+/** Draws soon, once for all that came until then. */
+function touch() {
+  if (!isDrawn) requestAnimationFrame(draw)
+  isDrawn = true
+}
+
+function draw() {
+  isDrawn = false
+  drawFacts()
+  drawOrigins()
+  rows.records.show(replica.records.length, replica.records.added)
+  rows.released.show(replica.released.length, replica.released.added)
+  rows.vars.show(replica.values.length)
+  drawOpen()
+  drawTimeline()
+  tellLate()
+}
+
+function drawFacts() {
+  const { log, horizon, released, outputs, frozen } = replica
+  put("program", program ? `version ${program.version}, ${program.fingerprint}` : "-")
+  put("log", `${log} ${log === 1 ? "record" : "records"}${limits.log && ` of at most ${limits.log}`}`)
+  put("horizon", horizon ? tagText(horizon) : "-")
+  const waiting = Math.max(0, outputs - released.added)
+  put("counts", `${released.added} released${frozen ? ", frozen: an origin broke its word" : ""}, ${waiting} not yet`)
+}
+
+function originsNow() {
+  const known = [...client.names.inputs.map(it => it.origin), ...replica.origins, ...Array(limits.origins).keys()]
+  return [...new Set(known)].sort((one, other) => one - other)
+}
+
+function drawOrigins() {
+  const body = at("origins")
+  const origins = originsNow()
+  while (body.childElementCount > origins.length) body.lastElementChild.remove()
+  while (body.childElementCount < origins.length) body.insertRow().append(...[0, 1, 2].map(() => document.createElement("td")))
+  origins.forEach((origin, number) => {
+    const announced = replica.announced.get(origin)
+    const isBroken = replica.broken.has(origin)
+    const inputs = client.names.inputs.filter(it => it.origin === origin).map(it => it.name)
+    const words = [`${origin}`, inputs.join(", "), (announced ? tagText(announced) : "-") + (isBroken ? ", broken" : "")]
+    body.children[number].className = isBroken ? "bad" : ""
+    words.forEach((word, cell) => (body.children[number].children[cell].textContent = word))
+  })
+}
+
+function drawOpen() {
+  const list = at("open")
+  const { open } = replica
+  const shown = open.length ? open.map(outputRow) : [{ words: ["", "none", ""] }]
+  while (list.childElementCount > shown.length) list.lastElementChild.remove()
+  while (list.childElementCount < shown.length) list.append(rowOfWords())
+  shown.forEach((row, number) => fillRow(list.children[number], row))
+}
+
+function drawTimeline() {
+  const length = Math.min(Number(at("span").value), replica.records.length)
+  const records = Array.from({ length }, (_, age) => replica.records.at(age))
+  const { announced, horizon } = replica
+  const shown = { records, origins: originsNow(), announced, horizon, micros: program?.version === 2 ? 256 : 16 }
+  timeline.draw(shown)
+  at("timeline").setAttribute("aria-label", inWords(shown, replica.late))
+}
+
+/** Tells the last late record in words, at most a few times a second: a screen reader speaks it. */
+function tellLate() {
+  const { late, lastLate } = replica
+  const text = late
+    ? `${late} came late. The last: record ${lastLate.place}, ${tagText(lastLate.back)} back to ${tagText(lastLate.record)}.`
+    : "No record came late."
+  if (!mayTellLate || at("late").textContent === text) return
+  put("late", text)
+  at("late").classList.toggle("some", late > 0)
+  mayTellLate = false
+  setTimeout(() => {
+    mayTellLate = true
+    touch()
+  }, PAUSE)
+}
+
+/** Asks for what is not released yet, soon, and once for all that changed until then. */
+function askOpen() {
+  touch()
+  if (isAsking) return
+  isAsking = true
+  setTimeout(() => {
+    isAsking = false
+    replica.askOpen(client).then(touch, () => {})
+  }, PAUSE)
+}
+
+/** What a push does, by what is watched. */
+const TAKES = {
+  log: it => replica.takeRecord(it),
+  released: it => replica.takeReleased(it),
+  vars: it => replica.takeVars(it),
+  horizon: it => replica.takeHorizon(it),
+  breach: it => replica.takeBreach(it),
+}
+
+function connect() {
+  if (client) client.onstate = null
+  client?.close()
+  const scheme = location.protocol === "https:" ? "wss:" : "ws:"
+  const made = new Client(`${scheme}//${location.host}/ws`, { token })
+  const start = () => made === client && begin().catch(() => {})
+  made.onstate = turn
+  made.ready.then(start, () => {})
+  made.onReopened(start)
+  client = made
+  turn("connecting")
+}
+
+function turn(state) {
+  const isRefused = state === "closed"
+  put("state", isRefused ? "refused" : state)
+  at("state").dataset.state = state
+  put("rights", isRefused ? "This host wants a token, or another one." : "")
+  at("rights").className = isRefused ? "bad" : ""
+  if (state === "connecting") for (const watch of watches.splice(0)) watch.stop().catch(() => {})
+}
+
+/** Begins to watch over a new connection: the host may be another, so from the first record on. */
+async function begin() {
+  replica.clear()
+  watches = Object.keys(TAKES).map(what => client.watch(what, push => {
+    TAKES[what](push)
+    askOpen()
+  }))
+  choose("input", client.names.inputs.map((it, number) => [number, `${it.name} (origin ${it.origin})`]))
+  askOpen()
+  readLimits().catch(() => {})
+  if (token !== undefined) put("rights", `This token may send for: ${rightsText(await client.ask(`token ${token}`))}`)
+  program = await client.program()
+  touch()
+}
+
+const rightsText = ({ may }) => ({ "*": "all origins", read: "none, it may only read" })[may] ?? `origins ${may}`
+
+/** What the host tells over HTTP alone: how long its log may get, and how many origins the program has. */
+async function readLimits() {
+  const headers = token === undefined ? {} : { Authorization: `Bearer ${token}` }
+  const metrics = await (await fetch("/metrics", { headers })).text()
+  limits.log = /^warpd_log_records_limit (\d+)/m.exec(metrics)?.[1] ?? ""
+  const file = await (await fetch("/program.json", { headers })).json()
+  limits.origins = Number(file.origins) || 0
+  choose("origin", originsNow().map(origin => [origin, `${origin}`]))
+  touch()
+}
+
+function choose(id, options) {
+  const before = at(id).value
+  at(id).replaceChildren(...options.map(([value, text]) => new Option(text, value)))
+  if (options.some(([value]) => `${value}` === before)) at(id).value = before
+}
+
+/** Shows the fields of the kind that is chosen; those that are hidden want no value. */
+function showFields() {
+  for (const part of document.querySelectorAll("[data-of]")) {
+    part.hidden = !part.dataset.of.split(" ").includes(at("kind").value)
+    for (const field of part.querySelectorAll("input")) field.disabled = part.hidden
+  }
+}
+
+const digits = id => `${BigInt(at(id).value)}`
+
+function lineOfForm() {
+  const tag = `${digits("time")} ${digits("micro")}`
+  const input = Number(at("input").value)
+  const kind = at("kind").value
+  if (kind === "event") return `event ${client.names.owner(input)} ${tag} ${input} ${digits("value")}`
+  if (kind === "withdraw") return `withdraw ${at("origin").value} ${tag}`
+  return `announce ${at("origin").value} ${tag} ${digits("events")} ${digits("withdrawn")}`
+}
+
+function tellAnswer(text, kind = "") {
+  put("answer", text)
+  at("answer").className = kind
+}
+
+async function send(event) {
+  event.preventDefault()
+  try {
+    const line = lineOfForm()
+    tellAnswer(`${line}: sent, no answer yet`)
+    tellAnswer(`${line}: ${answerText(await client.ask(line))}`, "good")
+  } catch (error) {
+    tellAnswer(error instanceof Refused ? `${error.message}. Nothing was changed.` : `not sent: ${error.message}`, "bad")
+  }
+}
+
+function countFromLog() {
+  const tag = { time: Number(at("time").value), micro: Number(at("micro").value) }
+  const counts = replica.countBefore(Number(at("origin").value), tag)
+  if (!counts) return tellAnswer(`The log is longer than the ${MOST} records that this page keeps: count elsewhere.`, "bad")
+  at("events").value = counts.events
+  at("withdrawn").value = counts.withdrawn
+}
+
+at("send").addEventListener("submit", send)
+at("kind").addEventListener("change", showFields)
+at("count").addEventListener("click", countFromLog)
+at("span").addEventListener("change", touch)
+at("who").addEventListener("submit", event => {
+  event.preventDefault()
+  token = at("token").value || undefined
+  connect()
+})
+window.addEventListener("resize", touch)
+matchMedia("(prefers-color-scheme: dark)").addEventListener("change", touch)
+showFields()
+connect()

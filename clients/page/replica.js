@@ -1,0 +1,91 @@
+// What is seen of a replica: kept from the pushes of its host, and no more of it than is shown.
+
+import { Last, MOST } from "./lists.js"
+import { orderOf } from "./tags.js"
+
+const OPEN_SHOWN = 20
+
+export class Replica {
+  constructor() {
+    this.records = new Last()
+    this.released = new Last()
+    this.clear()
+  }
+
+  /** As before the first push of a connection. */
+  clear() {
+    this.records.clear()
+    this.released.clear()
+    Object.assign(this, { log: 0, newest: null, late: 0, lastLate: null, horizon: null, values: [], frozen: false })
+    Object.assign(this, { changed: new Set(), broken: new Set(), announced: new Map(), origins: new Set() })
+    Object.assign(this, { outputs: 0, asked: [], askedFrom: 0 })
+  }
+
+  /** A record, the next of the log; what a watch before this one brings is passed over. */
+  takeRecord({ place, record }) {
+    if (place !== this.log + 1) return
+    this.log = place
+    this.origins.add(record.origin)
+    const item = { place, record, back: null }
+    if (record.kind === "announce") this.#takeAnnounced(record)
+    else if (this.newest && orderOf(record, this.newest) < 0) this.#takeLate(item)
+    else this.newest = { time: record.time, micro: record.micro }
+    this.records.add(item)
+  }
+
+  #takeAnnounced({ origin, time, micro }) {
+    const before = this.announced.get(origin)
+    if (!before || orderOf(before, { time, micro }) < 0) this.announced.set(origin, { time, micro })
+  }
+
+  #takeLate(item) {
+    item.back = this.newest
+    this.late += 1
+    this.lastLate = item
+  }
+
+  takeReleased(row) {
+    if (row.frozen) this.frozen = true
+    else if (row.index === this.released.added) this.released.add(row)
+  }
+
+  takeVars({ values }) {
+    const before = this.values
+    this.changed = new Set([...values.keys()].filter(at => before.length && values[at] !== before[at]))
+    this.values = values
+  }
+
+  takeHorizon({ time, micro }) {
+    this.horizon = { time, micro }
+  }
+
+  takeBreach({ origins }) {
+    this.broken = new Set(origins)
+  }
+
+  /** Asks for what is not released yet: how much it is, and the first of it. */
+  async askOpen(client) {
+    const { count } = await client.outputs()
+    const first = this.released.added
+    const length = Math.max(0, Math.min(count - first, OPEN_SHOWN))
+    const rows = await Promise.all(Array.from({ length }, (_, at) => client.output(first + at)))
+    Object.assign(this, { outputs: count, asked: rows.filter(Boolean), askedFrom: first })
+  }
+
+  /** The outputs that are not released, of those that were asked for. */
+  get open() {
+    return this.asked.slice(this.released.added - this.askedFrom)
+  }
+
+  /** How many names of an origin have an event, and a withdrawal, before a tag; null where not the whole log is kept. */
+  countBefore(origin, tag) {
+    if (this.log > MOST) return null
+    const names = { event: new Set(), withdraw: new Set() }
+    for (let age = 0; age < this.records.length; age += 1) {
+      const { record } = this.records.at(age)
+      const isCounted = record.origin === origin && record.kind in names && orderOf(record, tag) < 0
+      if (isCounted) names[record.kind].add(`${record.time}.${record.micro}`)
+    }
+    return { events: names.event.size, withdrawn: names.withdraw.size }
+  }
+}

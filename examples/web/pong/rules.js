@@ -1,0 +1,9 @@
+// What plays in a player's place, as `?player=ann&rule=sweep`: which way to go at a tick, -1 up, 1 down. The first two look at
+// nothing but the tick, so their score is known beforehand.
+
+export const RULES = {
+  sweep: tick => (tick % 12 < 6 ? 1 : -1),
+  shuttle: tick => (tick % 28 < 14 ? -1 : 1),
+  /** Steers towards the ball. */
+  follow: (tick, { row, ball }) => Math.sign(ball - row),
+}
