@@ -86,6 +86,32 @@ def refused_tokens():
             same(host.talk().ask("token one"), "may read", "a token")
 
 
+def journals():
+    """Why a host cannot go on with a journal is told, and why one cannot be checked or repaired."""
+    with tempfile.TemporaryDirectory() as folder:
+        file, none, other = Path(folder, "kept.journal"), Path(folder, "none", "kept.journal"), Path(folder, "other")
+        other.write_text("other\n")
+        absent, is_folder = in_system_words(errno.ENOENT), in_system_words(errno.EISDIR)
+        at = ("host", TWICE, "--listen", f"{HOST}:0", "--journal")
+        in_use = f"journal {file}: another process has it\nthe journal is in use\n"
+        no_first = f"journal {other}: its first line is none, or another program's\nthat is no journal of this program\n"
+        with Hosted("--journal", file):
+            ended(*at, file, status=6, error=in_use)
+            ended("journal", "repair", file, status=6, error=in_use)
+        ended(*at, none, status=4, error=f"journal {none}: {absent}\ncannot use the journal\n")
+        ended(*at, folder, status=4, error=f"journal {folder}: {is_folder}\ncannot use the journal\n")
+        ended(*at, other, status=3, error=no_first)
+        for action in ("check", "repair"):
+            ended("journal", action, none, status=4, error=f"journal {none}: {absent}\ncannot use the journal\n")
+            ended("journal", action, other, status=3, error=no_first)
+        with file.open("a") as more:
+            more.write("event 0 5 0 0 3\nevent 0 5 0 0 3\n")
+        ended(*at, file, status=3, error="journal: the record of line 3 stands in front of it too\njournal refused at line 3\n")
+        ended("journal", "mend", file, status=2, error="a journal is for check or repair\n")
+    # A folder's lock stands beside it.
+    Path(f"{folder}.lock").unlink(missing_ok=True)
+
+
 def allowed_origins():
     """What is no origin of a page is refused at the start; what is one may be one of several."""
     said = "--allow-origin is http://HOST[:PORT] or https://HOST[:PORT]\n"
@@ -147,4 +173,4 @@ def wrong_tokens():
             wait_for(counted, "the counts", 30)
 
 
-CASES = [refused_starts, refused_tokens, allowed_origins, started, wrong_tokens]
+CASES = [refused_starts, refused_tokens, journals, allowed_origins, started, wrong_tokens]

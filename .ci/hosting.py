@@ -183,6 +183,19 @@ class Web:
         self.socket.close()
 
 
+def read_text(web):
+    """The text messages that come until the end, and behind them the code of the close, if there is one."""
+    messages = []
+    while True:
+        got = web.next_frame()
+        if got is None:
+            return None, messages
+        if got[0] == CLOSE:
+            return struct.unpack(">H", got[1][:2])[0], messages
+        same(got[0], TEXT, "a text message")
+        messages.append(got[1].decode())
+
+
 def http(address, text, seconds=SECONDS):
     """What is answered to these bytes of HTTP, up to the end."""
     with socket.create_connection(address, seconds) as one:
