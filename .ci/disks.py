@@ -279,7 +279,7 @@ def killed_while_it_writes_anew():
         with room.host() as host:
             sent = fill(host, 40, 100)
         said = []
-        for number in range(10):
+        for number in range(6):
             host = room.host(env=disk.under())
             try:
                 same(host.talk().ask("horizon").split()[1], str(len(sent)), f"the length of the log behind kill {number}")
@@ -481,6 +481,8 @@ def lazy_failures():
             host = room.host("--sync", word, env=disk.under())
             try:
                 sent = fill(host, 20, 100)
+                last = b"= 2000 " if word == "10" else f"{sent[-1]}\n".encode()
+                wait_for(lambda: room.file.read_bytes().splitlines(keepends=True)[-1].startswith(last), "that all is written")
                 disk.fail("write")
                 talk = host.talk()
                 sent.append("event 0 70000 0 0 1")
