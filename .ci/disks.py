@@ -15,7 +15,7 @@ from pathlib import Path
 
 import hosting
 import journals
-from journals import LEFT, Client, Room, fails, fill, read, remarks, renewed
+from journals import LEFT, Client, Crowd, Room, fails, fill, read, remarks, renewed
 from loopback import Wrong, holds, same, wait_for
 
 FAILING = r"""
@@ -302,6 +302,39 @@ def killed_while_it_writes_anew():
         room.holds_log(sent, said=said)
 
 
+def fails_and_heals(disk, dice):
+    """The disk fails at drawn moments, in drawn ways, for some seconds."""
+    for _ in range(6):
+        time.sleep(dice.uniform(0.05, 0.4))
+        faults = dice.sample(("write", "sync", "rename", "folder"), dice.randrange(1, 3))
+        disk.fail(*faults)
+        time.sleep(dice.uniform(0.01, 1.6))
+        disk.heal(*faults)
+    time.sleep(dice.uniform(0, 1.2))
+
+
+def kills_while_it_fails():
+    """A disk that fails and heals at drawn moments under sixteen clients, and hosts that are killed over it: nothing that was told is lost, and
+    nothing is there that was refused."""
+    dice, crowd = random.Random(9), Crowd()
+    with Disk() as disk, Room() as room:
+        for number in range(4):
+            is_left = Path(f"{room.file}.new").exists()
+            host = room.host(env=disk.under())
+            try:
+                log = host.talk().log()
+                crowd.look(log)
+                same(LEFT in remarks(host), is_left, f"that the journal is written again is said: {remarks(host)}")
+                crowd.come(host, (number + 1) * 2_000, lambda: fails_and_heals(disk, dice), may_fail=True)
+                holds(all(it.startswith("journal: ") for it in remarks(host)), f"what is said: {remarks(host)}")
+            finally:
+                host.kill()
+        with room.host() as host:
+            crowd.look(host.talk().log())
+        room.checked(len(read(room.file.read_bytes()).records))
+        holds(crowd.told and crowd.refused, f"{len(crowd.told)} records were told, and {len(crowd.refused)} refused")
+
+
 def no_room():
     """A file that may grow no more, and a disk that is full: what was told is kept, records are refused, and it goes on when there is room.
     Where the system's signal for large files is not ignored it kills the host, and nothing that was told is lost."""
@@ -502,5 +535,5 @@ def lazy_failures():
             room.holds_log(sent)
 
 
-CASES = [each_fails, held, failing_end, no_fresh_file, killed_while_it_writes_anew, no_room, full_disk, read_only, stays_itself, peers_wait,
-         lazy_failures]
+CASES = [each_fails, held, failing_end, no_fresh_file, killed_while_it_writes_anew, kills_while_it_fails, no_room, full_disk, read_only,
+         stays_itself, peers_wait, lazy_failures]

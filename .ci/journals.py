@@ -114,10 +114,10 @@ class Read(NamedTuple):
 
 def read(data):
     end = data.index(b"\n") + 1
-    kept, records, number = end, [], 2
+    kept, records, number, digest = end, [], 2, hashlib.sha256(data[:end])
     while (end := data.find(b"\n", kept) + 1) > 0:
         line = data[kept:end - 1]
-        if line == b"= %d %s" % (len(records), hashlib.sha256(data[:kept]).hexdigest().encode()):
+        if line.startswith(b"= ") and line == b"= %d %s" % (len(records), digest.hexdigest().encode()):
             pass
         elif RECORD.fullmatch(line.decode("latin-1")):
             records.append(line.decode())
@@ -126,6 +126,7 @@ def read(data):
             later = any(b"\n" in rest[it.start(1):-1] for it in re.finditer(rb"(?:^|\n)(= )", rest))
             is_sum = line.startswith(b"= ")
             return Read(records, kept, number, WRONG_SUM if is_sum else NO_RECORD, is_sum or later)
+        digest.update(data[kept:end])
         kept, number = end, number + 1
     return Read(records, kept, number, "is torn" if kept < len(data) else "")
 
@@ -192,10 +193,10 @@ class Crowd:
     """What clients and watchers of hosts over one journal sent, and what they were told."""
 
     def __init__(self):
-        self.sent, self.told, self.longest = set(), {}, 0
+        self.sent, self.told, self.longest, self.refused = set(), {}, 0, set()
 
-    def come(self, host, ahead, until):
-        """Clients come, and send until the host is killed."""
+    def come(self, host, ahead, until, may_fail=False):
+        """Clients come, and send until the host is killed. Records may be refused 14 where its disk may fail."""
         crowd = [*(Client(host.address, number, ahead) for number in range(CLIENTS)), Watcher(host.address)]
         for it in crowd:
             it.start()
@@ -204,15 +205,16 @@ class Crowd:
         for it in crowd:
             it.join(60)
         for it in crowd[:-1]:
-            same(it.others, [], "answers but `taken`")
+            self.refused |= {line for line, *answer in it.others if may_fail and answer == ["refused", "14"]}
+            same([other for other in it.others if other[0] not in self.refused], [], "answers but `taken`")
             self.sent |= set(it.sent)
             self.told |= it.told
             self.longest = max(self.longest, it.longest)
         self.told |= crowd[-1].seen
 
     def look(self, log):
-        """What was told is there, and nothing that was never sent."""
+        """What was told is there, and nothing that was never sent, or that was refused."""
         holds(len(log) >= self.longest, f"a log of {len(log)} records, of which {self.longest} were told")
-        holds(set(log) <= self.sent and len(set(log)) == len(log), "a record that was never sent, or twice")
+        holds(set(log) <= self.sent - self.refused and len(set(log)) == len(log), "a record that was never sent, was refused, or stands twice")
         for line, place in self.told.items():
             same(log[place - 1], line, f"the record that was told to be at place {place}")
