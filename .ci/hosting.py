@@ -20,21 +20,24 @@ TWICE = "builtin:twice"
 
 class Hosted:
     """A process `warpd host`, whose standard input stays open. As a context it is ended by the end of its input, and must end well;
-    each line of its standard error must be the first, on its start, or begin as one of `remarks` does."""
+    each line of its standard error must be the first, on its start, or begin as one of `remarks` does. It has the environment `env`, and
+    calls `before` when its process begins."""
 
-    def __init__(self, program, hosted, *words, remarks=(), port=None, files=None):
+    def __init__(self, program, hosted, *words, remarks=(), port=None, files=None, env=None, before=None):
         self.remarks, self.talks = ["started: ", "standard input ended", *remarks], []
 
         def prepare():
             if files:
                 resource.setrlimit(resource.RLIMIT_NOFILE, (files, files))
+            if before:
+                before()
 
         for _ in range(5):
             self.port = port or free_port()
             self.files = [tempfile.TemporaryFile() for _ in range(2)]
             command = [program, "host", hosted, "--listen", f"{HOST}:{self.port}", "--until-input-ends", *words]
             self.process = subprocess.Popen([str(it).format(port=self.port) for it in command], stdin=subprocess.PIPE,
-                                            stdout=self.files[0], stderr=self.files[1], preexec_fn=prepare)
+                                            stdout=self.files[0], stderr=self.files[1], preexec_fn=prepare, env=env)
             wait_for(lambda: "\n" in self.printed(0) or self.process.poll() is not None, "the line ready")
             if not self.printed(1).endswith("cannot listen\n"):
                 break

@@ -3,7 +3,7 @@
        load PORT CLIENTS KIND SECONDS
 
    KIND is 'ask' (`var 0`, one by one), 'event' (events, one by one, whose times the clients take from one clock; 96,000
-   in all at most) or 'many' (64 times `var 0` at once). It prints how many lines a second were answered, and ends with
+   in all at most), 'many' (64 times `var 0` at once) or 'push' (the same events, to a list of Redis). It prints how many lines a second were answered, and ends with
    status 1 where one was not, was refused, or got a reply of another kind: of a reply the first letter is compared. */
 #include <arpa/inet.h>
 #include <netinet/tcp.h>
@@ -71,7 +71,9 @@ static void converse(int it, const char *lines, size_t length, int count, const 
 
 static struct result client(int it, int number, long *clock, const char *kind, double seconds) {
     char text[AT_ONCE * 64];
-    int is_event = !strcmp(kind, "event"), at_once = !strcmp(kind, "many") ? AT_ONCE : 1;
+    int is_push = !strcmp(kind, "push"), is_event = is_push || !strcmp(kind, "event");
+    int at_once = !strcmp(kind, "many") ? AT_ONCE : 1;
+    const char *form = is_push ? "RPUSH journal \"event %d %ld 0 %d %ld\"\r\n" : "event %d %ld 0 %d %ld\n";
     size_t length = 0;
     for (int i = 0; i < at_once; i++) length += sprintf(text + length, "var 0\n");
     double began = now();
@@ -80,9 +82,9 @@ static struct result client(int it, int number, long *clock, const char *kind, d
         if (is_event) {
             long time = __atomic_fetch_add(clock, 1, __ATOMIC_RELAXED);
             if (time >= ALL_EVENTS) break;
-            length = sprintf(text, "event %d %ld 0 %d %ld\n", number % 2, time, number % 2, time % 997);
+            length = sprintf(text, form, number % 2, time, number % 2, time % 997);
         }
-        converse(it, text, length, at_once, is_event ? "taken" : "var");
+        converse(it, text, length, at_once, is_push ? ":" : is_event ? "taken" : "var");
         lines += at_once;
     }
     return (struct result){lines, now() - began};
@@ -99,7 +101,8 @@ int main(int count, char **words) {
         char byte = 0;
         int it = connected(port);
         close(go[1]);
-        converse(it, "var 0\n", 6, 1, "var");
+        if (!strcmp(words[3], "push")) converse(it, "PING\r\n", 6, 1, "+PONG");
+        else converse(it, "var 0\n", 6, 1, "var");
         if (write(ready[1], &byte, 1) != 1 || read(go[0], &byte, 1) < 0) fail("no start");
         struct result result = client(it, number, clock, words[3], atof(words[4]));
         if (write(told[1], &result, sizeof result) != sizeof result) fail("no result told");

@@ -1,0 +1,220 @@
+"""Hosts over journals, and what a journal's file has to be, by docs/reference/journal.md: for `.ci/journal` and `bench/journal`."""
+
+import hashlib
+import json
+import random
+import re
+import subprocess
+import tempfile
+import threading
+from pathlib import Path
+from typing import NamedTuple
+
+import hosting
+from loopback import Talk, holds, same
+
+# The program that is tried: a script sets it.
+PROGRAM = Path(__file__).resolve().parent.parent / "crates" / "warpd" / "out" / "warpd"
+# How many clients a host has that is killed.
+CLIENTS = 16
+NUMBER = r"(?:0|[1-9]\d*)"
+RECORD = re.compile(rf"event {NUMBER} {NUMBER} {NUMBER} {NUMBER} (?:{NUMBER}|-[1-9]\d*)|withdraw {NUMBER} {NUMBER} {NUMBER}"
+                    rf"|announce {NUMBER} {NUMBER} {NUMBER} {NUMBER} {NUMBER}")
+
+
+def long_program(folder):
+    """A program that takes events for long: its variable is the sum of their values."""
+    file = Path(folder, "program.json")
+    file.write_text(json.dumps({"version": 1, "stop": 1_000_000, "origins": 1, "reactors": [
+        {"name": "r", "vars": [["total", 0]], "inputs": ["a"], "outputs": ["y"], "reactions": [
+            {"on": ["a"], "writes": ["y"], "body": [["set", "total", ["+", "total", "a"]], ["put", "y", "total"]]}]}],
+        "inputs": [[0, "r.a"]], "outputs": ["r.y"]}))
+    return file
+
+
+class Room:
+    """A folder with a program and the path of a journal."""
+
+    def __init__(self):
+        self.folder = tempfile.TemporaryDirectory()
+        self.program, self.file = long_program(self.folder.name), Path(self.folder.name, "kept.journal")
+
+    def __enter__(self):
+        return self
+
+    def __exit__(self, *_):
+        self.folder.cleanup()
+
+    def host(self, *words, **more):
+        more.setdefault("remarks", ["journal: "])
+        return hosting.Hosted(PROGRAM, self.program, "--journal", self.file, *words, **more)
+
+    def ended(self, *words, status, error, printed=""):
+        """A call that ends by itself: so, and with this at the end of standard error."""
+        said = subprocess.run([PROGRAM, *map(str, words)], stdin=subprocess.DEVNULL, capture_output=True, text=True, timeout=60)
+        same((said.returncode, said.stdout), (status, printed), f"how {words} ends, with {said.stderr!r}")
+        holds(said.stderr.endswith(error), f"{words} says {said.stderr!r}")
+        return said.stderr
+
+    def refused(self, status, error, program=None, file=None):
+        return self.ended("host", program or self.program, "--listen", "127.0.0.1:0", "--journal", file or self.file, status=status,
+                          error=error)
+
+    def ended_at_start(self, env):
+        """A host in this environment does not start, since its journal fails."""
+        said = subprocess.run([PROGRAM, "host", self.program, "--listen", "127.0.0.1:0", "--journal", self.file], stdin=subprocess.DEVNULL,
+                              capture_output=True, text=True, timeout=60, env=env)
+        same((said.returncode, said.stdout, said.stderr), (4, "", "cannot use the journal\n"), "how a host ends whose journal fails")
+
+    def checked(self, count, ending="whole", status=0, error=""):
+        """`warpd journal check` tells of so many records, and this of the end."""
+        fingerprint = self.file.read_bytes().split(b"\n", 1)[0].decode().split(" ")[4]
+        self.ended("journal", "check", self.file, status=status, error=error,
+                   printed=f"version 1\nfingerprint {fingerprint}\nrecords {count}\n{ending}\n")
+
+    def holds_log(self, wanted, said=()):
+        """A host that starts now says so, and has this log; and when it has ended, so has the file."""
+        with self.host() as host:
+            same(host.talk().log(), wanted, "the log behind a start")
+            same(remarks(host), list(said), "what a start says")
+        same(read(self.file.read_bytes())[:2], (wanted, self.file.stat().st_size), "the file")
+        holds(not Path(f"{self.file}.new").exists(), "the fresh file is left")
+
+    def records(self):
+        return [it for it in self.file.read_text().splitlines()[1:] if not it.startswith("= ")]
+
+
+def remarks(host):
+    """What a host said on standard error, but for its start and its end in order."""
+    return [it for it in host.printed(1).splitlines() if not it.startswith(("started: ", "standard input ended"))]
+
+
+def fails(why):
+    return f"journal: it can't be written: {why}; records are refused 14 until it is written anew, which is tried each second"
+
+
+def renewed(count):
+    return f"journal: written anew, with {count} records"
+
+
+LEFT = "journal: it could not be written when a host ended; it was written anew"
+NO_RECORD = "is no record of this program's form, and no sum"
+WRONG_SUM = "is not the sum of what stands before it"
+
+
+class Read(NamedTuple):
+    """What a journal's bytes are: the records of the lines that are kept, how many bytes these are, the number of the line behind them,
+    what is wrong with it, if anything is, and whether that is damage."""
+    records: list
+    kept: int
+    number: int
+    why: str = ""
+    is_damaged: bool = False
+
+
+def read(data):
+    end = data.index(b"\n") + 1
+    kept, records, number, digest = end, [], 2, hashlib.sha256(data[:end])
+    while (end := data.find(b"\n", kept) + 1) > 0:
+        line = data[kept:end - 1]
+        if line.startswith(b"= ") and line == b"= %d %s" % (len(records), digest.hexdigest().encode()):
+            pass
+        elif RECORD.fullmatch(line.decode("latin-1")):
+            records.append(line.decode())
+        else:
+            rest = data[kept:]
+            later = any(b"\n" in rest[it.start(1):-1] for it in re.finditer(rb"(?:^|\n)(= )", rest))
+            is_sum = line.startswith(b"= ")
+            return Read(records, kept, number, WRONG_SUM if is_sum else NO_RECORD, is_sum or later)
+        digest.update(data[kept:end])
+        kept, number = end, number + 1
+    return Read(records, kept, number, "is torn" if kept < len(data) else "")
+
+
+def fill(host, batches, size=3):
+    """Sends so many batches of records, each behind the answers to the last, and gives all."""
+    talk, sent = host.talk(), []
+    for batch in range(batches):
+        lines = [f"event 0 {batch * size + at} 0 0 {batch + at}" for at in range(size)]
+        talk.ask_all(lines)
+        sent += lines
+    return sent
+
+
+class Client(threading.Thread):
+    """Sends records of its own until the host is gone. Of each it remembers whether it was sent, and the place that it was told."""
+
+    def __init__(self, address, number, ahead):
+        super().__init__(daemon=True)
+        self.address, self.number, self.ahead = address, number, ahead
+        self.sent, self.told, self.longest, self.others = [], {}, 0, []
+
+    def run(self):
+        dice = random.Random(self.number)
+        try:
+            talk = Talk(self.address)
+            for at in range(2_000):
+                lines = [f"event 0 {CLIENTS * (self.ahead + at) + self.number} {it} 0 1" for it in range(dice.randrange(1, 12))]
+                self.sent += lines
+                self.take(talk, lines)
+        except (OSError, hosting.Wrong):
+            pass  # (the host was killed)
+
+    def take(self, talk, lines):
+        talk.send("".join(it + "\n" for it in [*lines, "var 0"]).encode())
+        for line in lines:
+            word, _, place = talk.line().partition(" ")
+            if word == "taken":
+                self.told[line] = int(place)
+            else:
+                self.others.append((line, word, place))
+        self.longest = max(self.longest, int(talk.line().split(" ")[1]))
+
+
+class Watcher(threading.Thread):
+    """Watches the log until the host is gone."""
+
+    def __init__(self, address):
+        super().__init__(daemon=True)
+        self.address, self.seen = address, {}
+
+    def run(self):
+        try:
+            talk = Talk(self.address)
+            talk.ask("watch log 1")
+            while True:
+                _, _, place, line = talk.line().split(" ", 3)
+                self.seen[line] = int(place)
+        except (OSError, hosting.Wrong, ValueError):
+            pass
+
+
+class Crowd:
+    """What clients and watchers of hosts over one journal sent, and what they were told."""
+
+    def __init__(self):
+        self.sent, self.told, self.longest, self.refused = set(), {}, 0, set()
+
+    def come(self, host, ahead, until, may_fail=False):
+        """Clients come, and send until the host is killed. Records may be refused 14 where its disk may fail."""
+        crowd = [*(Client(host.address, number, ahead) for number in range(CLIENTS)), Watcher(host.address)]
+        for it in crowd:
+            it.start()
+        until()
+        host.process.kill()
+        for it in crowd:
+            it.join(60)
+        for it in crowd[:-1]:
+            self.refused |= {line for line, *answer in it.others if may_fail and answer == ["refused", "14"]}
+            same([other for other in it.others if other[0] not in self.refused], [], "answers but `taken`")
+            self.sent |= set(it.sent)
+            self.told |= it.told
+            self.longest = max(self.longest, it.longest)
+        self.told |= crowd[-1].seen
+
+    def look(self, log):
+        """What was told is there, and nothing that was never sent, or that was refused."""
+        holds(len(log) >= self.longest, f"a log of {len(log)} records, of which {self.longest} were told")
+        holds(set(log) <= self.sent - self.refused and len(set(log)) == len(log), "a record that was never sent, was refused, or stands twice")
+        for line, place in self.told.items():
+            same(log[place - 1], line, f"the record that was told to be at place {place}")
