@@ -36,7 +36,7 @@ SECONDS = 30
 
 def missing():
     """What is not installed of what a browser needs."""
-    programs = [name for name in ("chromium", "chromedriver") if not shutil.which(name)]
+    programs = [name for name in ("chromium", "chromedriver", "caddy", "curl") if not shutil.which(name)]
     return programs + ([] if webdriver else ["python3-selenium"])
 
 
@@ -48,6 +48,8 @@ class Browser:
         options.binary_location = shutil.which("chromium")
         for word in WORDS:
             options.add_argument(word)
+        # An authority that a test makes is known to nobody; whether its certificates hold is tried by curl.
+        options.accept_insecure_certs = True
         options.set_capability("goog:loggingPrefs", {"browser": "ALL", "performance": "ALL"})
         self.driver = webdriver.Chrome(service=Service(shutil.which("chromedriver")), options=options)
         self.driver.set_script_timeout(SECONDS)

@@ -1,4 +1,4 @@
-// Tries the client over real hosts, which are started, stopped and started again: `WARPD=PROGRAM node --test tests/`.
+// Tries the client over real hosts, which are started, stopped and started again: `WARPD=PROGRAM node --test tests/*.test.js`.
 // WebSocket is that of the package ws (Debian's node-ws) where this Node has none.
 
 import assert from "node:assert/strict"

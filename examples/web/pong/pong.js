@@ -8,14 +8,15 @@ const WIDTH = 25
 const HEIGHT = 7
 const CELL = 24
 const GHOST = 600
-const EVERY = 8
+const ANNOUNCE_EVERY = 8
+const ASK_EVERY = 1_000
 const NAMES = ["Ann", "Ben"]
 
 const words = new URLSearchParams(location.search)
 const player = words.get("player") === "ben" ? "ben" : "ann"
 const rule = RULES[words.get("rule")] ?? null
 const at = id => document.getElementById(id)
-const seen = { newest: 0, times: 0, shown: null, ghost: null, final: [], open: [], horizon: 0, isAsking: false }
+const seen = { newest: 0, times: 0, shown: null, ghost: null, final: [], open: [], horizon: 0, isAsking: false, slid: -Infinity }
 let wish = 0
 let game
 let client
@@ -52,7 +53,7 @@ class Play {
       await this.moves.event(`${player}.steer`, { time: tick, value: wanted })
     }
     await this.clock.event("clock.tick", { time: tick, value: 0 })
-    if (tick % EVERY === 0) await this.announce(tick + 1)
+    if (tick % ANNOUNCE_EVERY === 0) await this.announce(tick + 1)
   }
 
   /** Says that no move of this player and no tick comes before this tick any more. */
@@ -164,19 +165,21 @@ function steer() {
   }
   at("delay").addEventListener("input", () => {
     at("told").textContent = at("delay").value
+    seen.slid = performance.now()
     post("/delay", at("delay").value).catch(() => {})
   })
 }
 
-/** Both pages show the one delay that there is. */
+/** Both pages show the one delay that there is. What was told before this page's slider was moved last is passed over. */
 async function followDelay() {
   for (;;) {
-    if (document.activeElement !== at("delay")) {
-      const { delay } = await (await fetch("/game")).json()
+    const asked = performance.now()
+    const { delay } = await (await fetch("/game")).json()
+    if (seen.slid < asked - ASK_EVERY) {
       at("delay").value = delay
       at("told").textContent = delay
     }
-    await sleep(1_000)
+    await sleep(ASK_EVERY)
   }
 }
 
