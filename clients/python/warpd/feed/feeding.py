@@ -21,8 +21,9 @@ from dataclasses import dataclass, field
 from itertools import islice
 from typing import Optional
 
-from .. import Client, Refused
-from ..host import HEAD, Program, admit
+from .. import Refused
+from ..host import HEAD, Program
+from .servers import Server
 from .state import State
 from .streams import START, Lost, Stream, Unreachable
 
@@ -30,7 +31,8 @@ FOR_NOW = (8, 10, 14)
 DEAD = (1, 2, 3, 4, 5, 6, 9)
 # Behind a version 3 log's base: whoever needs it has it.
 PASSED = (12,)
-WORDS = {7: "its log is full", 13: "the token does not allow this record's origin"}
+FULL, NOT_ALLOWED = 7, 13
+WORDS = {FULL: "its log is full", NOT_ALLOWED: "the token does not allow this record's origin"}
 SHORTEST, LONGEST = 0.05, 5.0
 # So many records are appended before the stream is read again: other feeds may have appended the rest.
 PIECE = 1_000
@@ -70,7 +72,7 @@ class Feed:
         self.server, self.name = server, "{}:{}".format(*server)
         self._stream, self._dead, self._state, self._token = stream, dead, state, token
         self._tell, self._ready, self._watch, self._pause, self._timeout = tell, ready, watch, pause, timeout
-        self._client: Optional[Client] = None
+        self._client: Optional[Server] = None
         self._buried: Optional[set[str]] = None
         self._mark = Mark(**state.load()) if state else Mark()
         self._begin(self._mark, ())
@@ -84,7 +86,7 @@ class Feed:
                 wait = SHORTEST
                 troubles.over()
                 if not moved:
-                    time.sleep(self._pause)
+                    self._client.rest(self._pause)
                 continue
             except Unreachable as fault:
                 troubles.met("the stream", fault)
@@ -102,7 +104,7 @@ class Feed:
         if not self._client:
             self._meet()
         is_last, moved = self._take()
-        moved += self._follow()
+        moved += self._follow(self._due)
         self._mark = Mark(self._position, len(self._log), self._digest.hexdigest(), self._head, list(self._pending))
         if self._state:
             self._state.save(self._mark)
@@ -132,8 +134,9 @@ class Feed:
         for line in log:
             self._note(line)
         self._pending = dict.fromkeys(mark.pending)
-        # Put to the server, and not yet read in its log.
+        # Put to the server, and not yet read in its log; and the place up to which the log has all of it.
         self._ahead: set[str] = set()
+        self._due = 0
 
     def _note(self, line: str) -> None:
         self._log.add(line)
@@ -141,21 +144,34 @@ class Feed:
 
     def _meet(self) -> None:
         """Connects to the server, and sees whether it is the one that was marked."""
-        self._client = Client(*self.server, timeout=self._timeout)
-        number = admit(self._client, self._token)
-        if number == 1:
+        server = self._connected()
+        try:
+            self._program = server.program
+            lines = list(server.new_lines(server.length()))
+            known = lines[:self._mark.length]
+            self._begin(self._mark, known)
+            if len(known) < self._mark.length or self._digest.hexdigest() != self._mark.digest:
+                self._tell(f"the server {self.name} has another log than before: it is fed from the start of the stream")
+                self._mark, known = Mark(), []
+                self._begin(self._mark, known)
+            self._compare()
+            self._hear(lines[len(known):])
+        except BaseException:
+            server.close()
+            raise
+        self._client = server
+
+    def _connected(self) -> Server:
+        try:
+            server = Server(self.server, self._token, self._timeout)
+        except Refused as refused:
+            if refused.number != NOT_ALLOWED:
+                raise
+            why = "does not take the token" if self._token else "wants a token, in a file for --token-file"
+            raise Stopped(f"the server {self.name} {why} (refused {NOT_ALLOWED})") from refused
+        if not server.knows_tokens:
             self._tell(f"the server {self.name} knows no tokens: it is asked without one")
-        elif number:
-            raise Stopped(f"the server {self.name} does not take the token (refused {number})")
-        self._program = Program.of(self._client)
-        lines = [str(it) for it in islice(self._client.records(), self._mark.length)]
-        self._begin(self._mark, lines)
-        if len(lines) < self._mark.length or self._digest.hexdigest() != self._mark.digest:
-            self._tell(f"the server {self.name} has another log than before: it is fed from the start of the stream")
-            self._mark = Mark()
-            self._begin(self._mark, ())
-        self._compare()
-        self._follow()
+        return server
 
     def _compare(self) -> None:
         if self._head is None:
@@ -180,7 +196,7 @@ class Feed:
         fresh: dict[str, None] = {}
         for text in texts:
             if text.startswith(HEAD + " "):
-                if self._head is None:
+                if _tells_more(text, self._head):
                     self._head = text
                     self._compare()
             elif text in self._pending:
@@ -206,6 +222,7 @@ class Feed:
             for line, reply in zip(lines, self._client.many(lines)):
                 if not isinstance(reply, Refused):
                     self._ahead.add(line)
+                    self._due = max(self._due, reply.place)
                 elif reply.number in FOR_NOW:
                     again.append(line)
                 elif reply.number in DEAD:
@@ -243,29 +260,31 @@ class Feed:
             why = WORDS.get(refused.number, refused.meaning)
             raise Stopped(f"the server {self.name} refuses {refused.line!r}: {why} (refused {refused.number})")
 
-    def _follow(self) -> int:
-        """Reads what is new in the log; says how much did not come from the stream."""
+    def _follow(self, place: int = 0) -> int:
+        """Reads what is new in the log, up to this place at least; says how much did not come from the stream."""
         before = len(self._pending)
-        for record in self._client.records(len(self._log) + 1):
-            line = str(record)
+        self._hear(self._client.new_lines(place))
+        return len(self._pending) - before
+
+    def _hear(self, lines: Iterable[str]) -> None:
+        for line in lines:
             self._note(line)
             if line in self._ahead:
                 self._ahead.remove(line)
             else:
                 self._pending[line] = None
-        return len(self._pending) - before
 
     def _append(self) -> int:
         """Appends what the stream lacks, once its first entry is there; the next turn reads it back."""
-        texts = list(islice(self._pending, PIECE)) if self._head else [self._program.head()]
+        head = self._program.head()
+        texts = [head] if _tells_more(head, self._head) else list(islice(self._pending, PIECE))
         if texts:
             self._stream.append(texts)
         return len(texts)
 
-
     def _leave_nothing(self) -> None:
         """Appends all that the stream lacks: what a full server took is not to end with its feed."""
-        self._follow()
+        self._follow(self._client.length())
         while self._pending:
             for text in (texts := list(islice(self._pending, PIECE))):
                 del self._pending[text]
@@ -291,6 +310,15 @@ class _Troubles:
             self._tell(f"{what} is there again")
         self._told.clear()
         self._since.clear()
+
+
+def _tells_more(head: str, known: Optional[str]) -> bool:
+    """Whether this first entry counts in the place of the known one: there is none, or that was of a server that tells
+    no fingerprint, and this has one."""
+    if known is None:
+        return True
+    old, new = Program.read(known), Program.read(head)
+    return bool(old and new and new.fingerprint and not old.fingerprint)
 
 
 def _tag(line: str) -> tuple[int, int]:
