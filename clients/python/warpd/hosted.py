@@ -137,7 +137,10 @@ class HostClient(Client):
         return text
 
     def _keep(self, text: str) -> None:
-        found = _push_of(text)
+        try:
+            found = _push_of(text)
+        except (KeyError, IndexError, TypeError, ValueError):
+            raise Ended(f"no push: {text!r}") from None
         if found is None:
             return
         what, push = found

@@ -9,7 +9,9 @@ Records may come twice and in any order, so a feed only has to leave nothing out
   start.
 - A record of the log is *pending* until it was read in the stream, whoever appended it. What is pending when the
   stream was read to its end is appended, again if need be. So nothing rests on an append that was answered, and a lost
-  tail is filled again."""
+  tail is filled again.
+- What was heard of a server stays pending when the server is lost, and while the stream is away the server is heard
+  on: so a record that only a killed server had, and its feed had heard, is appended all the same, and fed back."""
 
 from __future__ import annotations
 
@@ -50,8 +52,8 @@ class Stopped(Exception):
 @dataclass
 class Mark:
     """What was read of the stream up to `position` is in the first `length` records of the log, whose lines have this
-    digest. They are all in the stream, up to `position`, but for those that are pending. `head` is the stream's first
-    entry."""
+    digest. They are all in the stream, up to `position`, but for those that are pending, of which a server that was lost
+    may have been the last to have some. `head` is the stream's first entry."""
 
     position: str = START
     length: int = 0
@@ -78,10 +80,13 @@ class Feed:
         self._begin(self._mark, ())
 
     def run(self) -> None:
-        wait, troubles = SHORTEST, _Troubles(self._tell)
+        wait, again, troubles = SHORTEST, 0.0, _Troubles(self._tell)
         while True:
             self._watch()
             try:
+                if time.monotonic() < again:
+                    self._listen()
+                    continue
                 moved = self.turn()
                 wait = SHORTEST
                 troubles.over()
@@ -90,6 +95,8 @@ class Feed:
                 continue
             except Unreachable as fault:
                 troubles.met("the stream", fault)
+                again, wait = time.monotonic() + wait, min(2 * wait, LONGEST)
+                continue
             except OSError as fault:
                 self._leave()
                 troubles.met(f"the server {self.name}", fault)
@@ -98,6 +105,14 @@ class Feed:
                 troubles.met(f"the server {self.name}", refused)
             time.sleep(wait)
             wait = min(2 * wait, LONGEST)
+
+    def _listen(self) -> None:
+        """Hears what the server takes while the stream is not there: it is appended then, even if the server is not
+        there any more."""
+        if not self._client:
+            self._meet()
+        self._follow()
+        self._client.rest(self._pause)
 
     def turn(self) -> int:
         """One round of both ways; says how much it moved."""
@@ -144,20 +159,24 @@ class Feed:
 
     def _meet(self) -> None:
         """Connects to the server, and sees whether it is the one that was marked."""
-        server = self._connected()
+        server, heard = self._connected(), self._pending
         try:
-            self._program = server.program
+            self._program = server.shown
+            # What was heard, and the stream lacks, may be here alone; of another program it means nothing.
+            is_meant = self._fits(self._mark.head)
             lines = list(server.new_lines(server.length()))
             known = lines[:self._mark.length]
             self._begin(self._mark, known)
             if len(known) < self._mark.length or self._digest.hexdigest() != self._mark.digest:
                 self._tell(f"the server {self.name} has another log than before: it is fed from the start of the stream")
-                self._mark, known = Mark(), []
+                self._mark, known = Mark(pending=list(heard) if is_meant else ()), []
                 self._begin(self._mark, known)
             self._compare()
             self._hear(lines[len(known):])
+            self._pending.update(heard if is_meant else ())
         except BaseException:
             server.close()
+            self._pending = heard
             raise
         self._client = server
 
@@ -174,12 +193,14 @@ class Feed:
         return server
 
     def _compare(self) -> None:
-        if self._head is None:
-            return
-        program = Program.read(self._head)
-        if not program or not program.fits(self._program):
+        if not self._fits(self._head):
+            program = Program.read(self._head)
             raise Stopped(f"the stream is of another program than the server {self.name}: "
                           f"it has {str(program or self._head)}; {self.name} has {self._program}")
+
+    def _fits(self, head: Optional[str]) -> bool:
+        program = Program.read(head) if head else self._program
+        return bool(program and program.fits(self._program))
 
     def _take(self) -> tuple[bool, int]:
         """Puts the next texts of the stream to the server; says whether they were the last, and how many were new
@@ -199,9 +220,9 @@ class Feed:
                 if _tells_more(text, self._head):
                     self._head = text
                     self._compare()
-            elif text in self._pending:
-                del self._pending[text]
-            elif text not in self._log:
+                continue
+            self._pending.pop(text, None)
+            if text not in self._log:
                 fresh[text] = None
         try:
             self._put(fresh)

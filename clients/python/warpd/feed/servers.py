@@ -19,8 +19,8 @@ SILENT = 10.0
 
 
 class Server(HostClient):
-    """A connection with a host, or with `warpd serve`. `knows_tokens` says whether a token that was given means
-    anything there; a token that is refused is a `Refused`."""
+    """A connection with a host, or with `warpd serve`. `shown` is what it shows of its program, and `knows_tokens` says
+    whether a token that was given means anything there; a token that is refused is a `Refused`."""
 
     def __init__(self, address: tuple[str, int], token: Optional[str], timeout: float):
         self.knows_tokens = True
@@ -36,11 +36,11 @@ class Server(HostClient):
             self.knows_tokens = answer != f"refused {UNKNOWN}"
             if self.knows_tokens and answer.startswith("refused "):
                 raise reply_of(answer, "token ..")
-        self.program = Program.of(self)
+        self.shown = Program.of(self)
 
     @property
     def is_host(self) -> bool:
-        return self.program.fingerprint is not None
+        return self.shown.fingerprint is not None
 
     def new_lines(self, place: int = 0) -> Iterator[str]:
         """What is new in the log. All lines up to this place are among those that it has given then."""
@@ -56,19 +56,35 @@ class Server(HostClient):
 
     def _watched(self, seconds: float) -> Iterator[str]:
         """What has come, or comes within so many seconds; nothing at all where it may come later."""
-        came = self.arrived("log", seconds)
+        fault = None
+        try:
+            came = self.arrived("log", seconds)
+        except Ended as ended:
+            # What came before the end counts.
+            came, fault = list(self._waiting["log"]), ended
         if came:
             self._heard = time.monotonic()
         elif seconds:
-            raise Ended(f"no record behind place {self._given}")
+            raise fault or Ended(f"no record behind place {self._given}")
         elif time.monotonic() - self._heard > SILENT:
             self.length()
             self._heard = time.monotonic()
-        for push in came:
-            if push.place != self._given + 1:
-                raise Ended(f"place {push.place} was pushed behind {self._given}")
+        for place, line in came:
+            if place != self._given + 1:
+                raise Ended(f"place {place} was pushed behind {self._given}")
             self._given += 1
-            yield str(push.record)
+            yield line
+        if fault:
+            raise fault
+
+    def _keep(self, text: str) -> None:
+        """A record stays the text that it is."""
+        kind, _, rest = text.partition(" ")
+        if kind == "log":
+            place, _, line = rest.partition(" ")
+            if not place.isdecimal():
+                raise Ended(f"no push: {text!r}")
+            self._waiting["log"].append((int(place), line))
 
     def rest(self, seconds: float) -> None:
         """Waits so long, but no longer than until a host pushes."""
