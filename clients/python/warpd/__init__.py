@@ -601,11 +601,16 @@ class _Server:
 
     def connect(self, others: Iterable[_Server]) -> None:
         """Connects, and begins anew with it: it may be another process, with another log."""
-        self.client = Client(*self.address, timeout=self.timeout)
-        if self.compare:
-            from .host import Program  # which imports this module
+        client = Client(*self.address, timeout=self.timeout)
+        try:
+            if self.compare:
+                from .host import Program  # which imports this module
 
-            self.program = Program.of(self.client)
+                self.program = Program.of(client)
+        except BaseException:
+            client.close()
+            raise
+        self.client = client
         self.log, self.given, self.lost = [], {}, False
         self.refused.clear()
         for other in others:
