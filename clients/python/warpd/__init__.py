@@ -594,18 +594,23 @@ class _Server:
         self.log: list[Record] = []
         self.given: dict[_Server, int] = {}
         self.refused: set[tuple[_Server, int]] = set()
-        self.lost = self.whole = False
+        self.lost = self.whole = self.denies = False
 
     def __str__(self) -> str:
         return "{}:{}".format(*self.address)
 
     def connect(self, others: Iterable[_Server]) -> None:
         """Connects, and begins anew with it: it may be another process, with another log."""
-        self.client = Client(*self.address, timeout=self.timeout)
-        if self.compare:
-            from .host import Program  # which imports this module
+        client = Client(*self.address, timeout=self.timeout)
+        try:
+            if self.compare:
+                from .host import Program  # which imports this module
 
-            self.program = Program.of(self.client)
+                self.program = Program.of(client)
+        except BaseException:
+            client.close()
+            raise
+        self.client = client
         self.log, self.given, self.lost = [], {}, False
         self.refused.clear()
         for other in others:
@@ -635,8 +640,11 @@ class _Server:
 
     def turn(self, servers: Sequence[_Server]) -> int:
         """Reads its log, and gives it what the others have; says how many records were new to it. A lost connection is made
-        again in the next turn, and what was refused is asked again there."""
+        again in the next turn, and what was refused for now is asked again there. A server that wants a token denies all
+        that is asked: it has no further turn."""
         self.whole = False
+        if self.denies:
+            return 0
         try:
             if not self.client:
                 self.connect(servers)
@@ -644,7 +652,11 @@ class _Server:
             moved = sum(self.give(other) for other in servers if other is not self)
             self.whole = True
             return moved
-        except Refused:
+        except Refused as refusal:
+            if refusal.number not in FOR_NOW:
+                self.tell(f"{self}: it refuses {refusal.line!r} (refused {refusal.number}: {refusal.meaning})")
+                self.close()
+                self.denies = True
             return 0
         except OSError as error:
             if not self.lost:
@@ -684,8 +696,8 @@ class Carrier:
     @property
     def complete(self) -> bool:
         """Whether the last round read every log, and nothing that it read is still to be put."""
-        pairs = permutations(self._servers, 2)
-        return all(it.whole for it in self._servers) and all(one.given.get(other, 0) == len(other.log) for one, other in pairs)
+        servers = [it for it in self._servers if not it.denies]
+        return all(it.whole for it in servers) and all(one.given.get(other, 0) == len(other.log) for one, other in permutations(servers, 2))
 
     @property
     def amiss(self) -> bool:

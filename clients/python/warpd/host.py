@@ -1,13 +1,11 @@
-"""What a server tells of its program, and who may send: the one place that knows words of `warpd host`.
-
-`warpd serve` has none of these words. It answers `refused 1` to `program`, and then what can be seen of its program
-stands in the place of a fingerprint; a token has no meaning there."""
+"""What a server tells of its program. A host has the word `program`, which tells the fingerprint. `warpd serve` answers
+`refused 1` to it, and then only what can be seen of its program is known."""
 
 from __future__ import annotations
 
 from typing import NamedTuple, Optional
 
-from . import Client
+from . import Client, reply_of
 
 # What begins a stream's first entry, which no record begins with.
 HEAD = "warpd"
@@ -21,7 +19,10 @@ class Program(NamedTuple):
 
     @classmethod
     def of(cls, client: Client) -> Program:
+        """Asks; what is refused for another reason than that it knows no such word is a `Refused`."""
         answer = client.say("program")
+        if answer.startswith("refused ") and answer != "refused 1":
+            raise reply_of(answer, "program")
         fingerprint = "-".join(answer.split()[1:]) if answer.startswith("program ") else None
         return cls(str(client.shape()), fingerprint)
 
@@ -43,9 +44,3 @@ class Program(NamedTuple):
 
     def __str__(self) -> str:
         return f"{self.shape}, fingerprint {self.fingerprint or 'unknown'}"
-
-
-def admit(client: Client, token: Optional[str]) -> Optional[int]:
-    """Says the token, where there is one; the number of a refusal."""
-    answer = client.say(f"token {token}") if token else ""
-    return int(answer.split()[1]) if answer.startswith("refused ") else None

@@ -9,6 +9,7 @@
 from __future__ import annotations
 
 import json
+import select
 from collections import deque
 from collections.abc import Iterator
 from typing import NamedTuple, Optional, Union
@@ -97,6 +98,12 @@ def _push_of(text: str) -> Optional[tuple[str, Push]]:
     return None
 
 
+def _taken_from(waiting: deque[Push]) -> list[Push]:
+    found = list(waiting)
+    waiting.clear()
+    return found
+
+
 class HostClient(Client):
     """Lines to one host, and their answers, as of any `Client`. Names are those that the host tells."""
 
@@ -110,15 +117,18 @@ class HostClient(Client):
     def _connect(self) -> None:
         super()._connect()
         try:
-            if self._token is not None:
-                self._word(f"token {self._token}")
-            told = json.loads(self._word("names").partition(" ")[2])
-            self.names = Names(told["vars"], [(origin, name) for origin, name in told["inputs"]], told["outputs"])
+            self._greet()
             for what, place in self._next.items():
                 self._word(f"watch {what}" if place is None else f"watch {what} {place}")
         except BaseException:
             self.close()
             raise
+
+    def _greet(self) -> None:
+        if self._token is not None:
+            self._word(f"token {self._token}")
+        told = json.loads(self._word("names").partition(" ")[2])
+        self.names = Names(told["vars"], [(origin, name) for origin, name in told["inputs"]], told["outputs"])
 
     def _text(self, line: str) -> str:
         """The next reply; pushes in front of it are kept for who watches."""
@@ -127,7 +137,10 @@ class HostClient(Client):
         return text
 
     def _keep(self, text: str) -> None:
-        found = _push_of(text)
+        try:
+            found = _push_of(text)
+        except (KeyError, IndexError, TypeError, ValueError):
+            raise Ended(f"no push: {text!r}") from None
         if found is None:
             return
         what, push = found
@@ -183,21 +196,50 @@ class HostClient(Client):
                 continue
             self._socket.settimeout(None)
             try:
-                text = super()._text(f"watch {what}")
+                self._next_push(what)
             finally:
                 self._socket.settimeout(self._timeout)
-            if not text.startswith("* "):
-                raise Ended(f"no push: {text!r}")
-            self._keep(text[2:])
+
+    def _next_push(self, what: str) -> None:
+        text = super()._text(f"watch {what}")
+        if not text.startswith("* "):
+            raise Ended(f"no push: {text!r}")
+        self._keep(text[2:])
 
     def pushed(self, what: str) -> list[Push]:
         """What was pushed of a thing that is watched, and not taken yet, up to now: the host is asked once, and nothing
         is waited for. So a loop of a game looks at what is new."""
         self.horizon()
         waiting = self._waiting[_subject(what)]
-        found = list(waiting)
-        waiting.clear()
-        return found
+        return _taken_from(waiting)
+
+    def arrived(self, what: str, seconds: float = 0.0) -> list[Push]:
+        """What has come of a thing that is watched, and was not taken yet. The host is not asked; where nothing has come,
+        it waits until something does, for so many seconds at most."""
+        waiting = self._waiting[_subject(what)]
+        try:
+            lines = self._coming(0.0 if waiting else seconds)
+            while lines:
+                for _ in range(lines):
+                    self._next_push(what)
+                lines = self._coming(0.0)
+        except BaseException:
+            self.close()
+            raise
+        return _taken_from(waiting)
+
+    def _coming(self, seconds: float) -> int:
+        """How many lines are here, or begin to come within so many seconds; an end counts as one."""
+        try:
+            self._socket.settimeout(0.0)
+            try:
+                here = self._replies.peek(1)
+            finally:
+                self._socket.settimeout(self._timeout)
+            # A line that has begun is read to its end.
+            return max(here.count(b"\n"), 1) if here else len(select.select([self._socket], [], [], seconds)[0])
+        except (OSError, ValueError) as error:
+            raise Ended(str(error)) from error
 
     def unwatch(self, what: str) -> None:
         """Watches it, by its name, no more."""

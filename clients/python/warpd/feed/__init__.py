@@ -1,8 +1,8 @@
-"""Feeds a server from a log engine, and the engine from the server, so that several machines stay equal.
+"""Feeds a host, or a server, from a log engine, and the engine from it, so that several machines stay equal.
 
     python3 -m warpd feed --server HOST:PORT --stream redis://HOST:PORT/NAME [--state FILE]
 
-Any server and any feed may be killed at any moment and come back equal: taking records is union, so at-least-once
+Any host and any feed may be killed at any moment and come back equal: taking records is union, so at-least-once
 delivery in any order is enough. Each engine is a file here with two calls, `append` and `read_from` (`streams.py`); it
 wants a package of its own."""
 

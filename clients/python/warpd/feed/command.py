@@ -15,7 +15,7 @@ from . import DEAD, Feed, State, Stopped, Unusable, opened
 
 EPILOG = """URL is redis://HOST:PORT/NAME, or postgresql://USER@HOST:PORT/DATABASE/TABLE. NAME.dead has what no server takes,
 with the reason.
-It prints `ready HOST:PORT` when the server has what the stream had, and goes on until it is interrupted.
+It prints `ready HOST:PORT` when the host has what the stream had, and goes on until it is interrupted.
 With a COMMAND behind `--` it starts this first, and ends it at its own end: one command for a replica that comes from
 the stream alone.
 Status 0: interrupted; 1: stopped, standard error says why; 2: wrong words; 4: a package is missing."""
@@ -25,10 +25,10 @@ def parser() -> argparse.ArgumentParser:
     it = argparse.ArgumentParser(
         "python3 -m warpd feed",
         "%(prog)s --server HOST:PORT --stream URL [--state FILE] [--token-file FILE] [-- COMMAND..]",
-        "Keeps a server and a stream of a log engine equal.", EPILOG,
+        "Keeps a host, or a server, and a stream of a log engine equal.", EPILOG,
         formatter_class=argparse.RawDescriptionHelpFormatter)
     it.add_argument("--server", required=True, metavar="HOST:PORT", type=address,
-                    help="the server that is fed and followed")
+                    help="the host, or server, that is fed and followed")
     it.add_argument("--stream", required=True, metavar="URL", help="the stream that all feeds share")
     it.add_argument("--state", metavar="FILE", type=Path,
                     help="where the feed keeps how far it is; without it the stream is read from its start")

@@ -9,7 +9,9 @@ Records may come twice and in any order, so a feed only has to leave nothing out
   start.
 - A record of the log is *pending* until it was read in the stream, whoever appended it. What is pending when the
   stream was read to its end is appended, again if need be. So nothing rests on an append that was answered, and a lost
-  tail is filled again."""
+  tail is filled again.
+- What was heard of a server stays pending when the server is lost, and while the stream is away the server is heard
+  on: so a record that only a killed server had, and its feed had heard, is appended all the same, and fed back."""
 
 from __future__ import annotations
 
@@ -21,8 +23,9 @@ from dataclasses import dataclass, field
 from itertools import islice
 from typing import Optional
 
-from .. import Client, Refused
-from ..host import HEAD, Program, admit
+from .. import Refused
+from ..host import HEAD, Program
+from .servers import Server
 from .state import State
 from .streams import START, Lost, Stream, Unreachable
 
@@ -30,7 +33,8 @@ FOR_NOW = (8, 10, 14)
 DEAD = (1, 2, 3, 4, 5, 6, 9)
 # Behind a version 3 log's base: whoever needs it has it.
 PASSED = (12,)
-WORDS = {7: "its log is full", 13: "the token does not allow this record's origin"}
+FULL, NOT_ALLOWED = 7, 13
+WORDS = {FULL: "its log is full", NOT_ALLOWED: "the token does not allow this record's origin"}
 SHORTEST, LONGEST = 0.05, 5.0
 # So many records are appended before the stream is read again: other feeds may have appended the rest.
 PIECE = 1_000
@@ -48,8 +52,8 @@ class Stopped(Exception):
 @dataclass
 class Mark:
     """What was read of the stream up to `position` is in the first `length` records of the log, whose lines have this
-    digest. They are all in the stream, up to `position`, but for those that are pending. `head` is the stream's first
-    entry."""
+    digest. They are all in the stream, up to `position`, but for those that are pending, of which a server that was lost
+    may have been the last to have some. `head` is the stream's first entry."""
 
     position: str = START
     length: int = 0
@@ -70,24 +74,29 @@ class Feed:
         self.server, self.name = server, "{}:{}".format(*server)
         self._stream, self._dead, self._state, self._token = stream, dead, state, token
         self._tell, self._ready, self._watch, self._pause, self._timeout = tell, ready, watch, pause, timeout
-        self._client: Optional[Client] = None
+        self._client: Optional[Server] = None
         self._buried: Optional[set[str]] = None
         self._mark = Mark(**state.load()) if state else Mark()
         self._begin(self._mark, ())
 
     def run(self) -> None:
-        wait, troubles = SHORTEST, _Troubles(self._tell)
+        wait, again, troubles = SHORTEST, 0.0, _Troubles(self._tell)
         while True:
             self._watch()
             try:
+                if time.monotonic() < again:
+                    self._listen()
+                    continue
                 moved = self.turn()
                 wait = SHORTEST
                 troubles.over()
                 if not moved:
-                    time.sleep(self._pause)
+                    self._client.rest(self._pause)
                 continue
             except Unreachable as fault:
                 troubles.met("the stream", fault)
+                again, wait = time.monotonic() + wait, min(2 * wait, LONGEST)
+                continue
             except OSError as fault:
                 self._leave()
                 troubles.met(f"the server {self.name}", fault)
@@ -97,12 +106,20 @@ class Feed:
             time.sleep(wait)
             wait = min(2 * wait, LONGEST)
 
+    def _listen(self) -> None:
+        """Hears what the server takes while the stream is not there: it is appended then, even if the server is not
+        there any more."""
+        if not self._client:
+            self._meet()
+        self._follow()
+        self._client.rest(self._pause)
+
     def turn(self) -> int:
         """One round of both ways; says how much it moved."""
         if not self._client:
             self._meet()
         is_last, moved = self._take()
-        moved += self._follow()
+        moved += self._follow(self._due)
         self._mark = Mark(self._position, len(self._log), self._digest.hexdigest(), self._head, list(self._pending))
         if self._state:
             self._state.save(self._mark)
@@ -132,8 +149,9 @@ class Feed:
         for line in log:
             self._note(line)
         self._pending = dict.fromkeys(mark.pending)
-        # Put to the server, and not yet read in its log.
+        # Put to the server, and not yet read in its log; and the place up to which the log has all of it.
         self._ahead: set[str] = set()
+        self._due = 0
 
     def _note(self, line: str) -> None:
         self._log.add(line)
@@ -141,29 +159,48 @@ class Feed:
 
     def _meet(self) -> None:
         """Connects to the server, and sees whether it is the one that was marked."""
-        self._client = Client(*self.server, timeout=self._timeout)
-        number = admit(self._client, self._token)
-        if number == 1:
+        server, heard = self._connected(), self._pending
+        try:
+            self._program = server.shown
+            # What was heard, and the stream lacks, may be here alone; of another program it means nothing.
+            is_meant = self._fits(self._mark.head)
+            lines = list(server.new_lines(server.length()))
+            known = lines[:self._mark.length]
+            self._begin(self._mark, known)
+            if len(known) < self._mark.length or self._digest.hexdigest() != self._mark.digest:
+                self._tell(f"the server {self.name} has another log than before: it is fed from the start of the stream")
+                self._mark, known = Mark(pending=list(heard) if is_meant else ()), []
+                self._begin(self._mark, known)
+            self._compare()
+            self._hear(lines[len(known):])
+            self._pending.update(heard if is_meant else ())
+        except BaseException:
+            server.close()
+            self._pending = heard
+            raise
+        self._client = server
+
+    def _connected(self) -> Server:
+        try:
+            server = Server(self.server, self._token, self._timeout)
+        except Refused as refused:
+            if refused.number != NOT_ALLOWED:
+                raise
+            why = "does not take the token" if self._token else "wants a token, in a file for --token-file"
+            raise Stopped(f"the server {self.name} {why} (refused {NOT_ALLOWED})") from refused
+        if not server.knows_tokens:
             self._tell(f"the server {self.name} knows no tokens: it is asked without one")
-        elif number:
-            raise Stopped(f"the server {self.name} does not take the token (refused {number})")
-        self._program = Program.of(self._client)
-        lines = [str(it) for it in islice(self._client.records(), self._mark.length)]
-        self._begin(self._mark, lines)
-        if len(lines) < self._mark.length or self._digest.hexdigest() != self._mark.digest:
-            self._tell(f"the server {self.name} has another log than before: it is fed from the start of the stream")
-            self._mark = Mark()
-            self._begin(self._mark, ())
-        self._compare()
-        self._follow()
+        return server
 
     def _compare(self) -> None:
-        if self._head is None:
-            return
-        program = Program.read(self._head)
-        if not program or not program.fits(self._program):
+        if not self._fits(self._head):
+            program = Program.read(self._head)
             raise Stopped(f"the stream is of another program than the server {self.name}: "
                           f"it has {str(program or self._head)}; {self.name} has {self._program}")
+
+    def _fits(self, head: Optional[str]) -> bool:
+        program = Program.read(head) if head else self._program
+        return bool(program and program.fits(self._program))
 
     def _take(self) -> tuple[bool, int]:
         """Puts the next texts of the stream to the server; says whether they were the last, and how many were new
@@ -180,12 +217,12 @@ class Feed:
         fresh: dict[str, None] = {}
         for text in texts:
             if text.startswith(HEAD + " "):
-                if self._head is None:
+                if _tells_more(text, self._head):
                     self._head = text
                     self._compare()
-            elif text in self._pending:
-                del self._pending[text]
-            elif text not in self._log:
+                continue
+            self._pending.pop(text, None)
+            if text not in self._log:
                 fresh[text] = None
         try:
             self._put(fresh)
@@ -206,6 +243,7 @@ class Feed:
             for line, reply in zip(lines, self._client.many(lines)):
                 if not isinstance(reply, Refused):
                     self._ahead.add(line)
+                    self._due = max(self._due, reply.place)
                 elif reply.number in FOR_NOW:
                     again.append(line)
                 elif reply.number in DEAD:
@@ -243,29 +281,31 @@ class Feed:
             why = WORDS.get(refused.number, refused.meaning)
             raise Stopped(f"the server {self.name} refuses {refused.line!r}: {why} (refused {refused.number})")
 
-    def _follow(self) -> int:
-        """Reads what is new in the log; says how much did not come from the stream."""
+    def _follow(self, place: int = 0) -> int:
+        """Reads what is new in the log, up to this place at least; says how much did not come from the stream."""
         before = len(self._pending)
-        for record in self._client.records(len(self._log) + 1):
-            line = str(record)
+        self._hear(self._client.new_lines(place))
+        return len(self._pending) - before
+
+    def _hear(self, lines: Iterable[str]) -> None:
+        for line in lines:
             self._note(line)
             if line in self._ahead:
                 self._ahead.remove(line)
             else:
                 self._pending[line] = None
-        return len(self._pending) - before
 
     def _append(self) -> int:
         """Appends what the stream lacks, once its first entry is there; the next turn reads it back."""
-        texts = list(islice(self._pending, PIECE)) if self._head else [self._program.head()]
+        head = self._program.head()
+        texts = [head] if _tells_more(head, self._head) else list(islice(self._pending, PIECE))
         if texts:
             self._stream.append(texts)
         return len(texts)
 
-
     def _leave_nothing(self) -> None:
         """Appends all that the stream lacks: what a full server took is not to end with its feed."""
-        self._follow()
+        self._follow(self._client.length())
         while self._pending:
             for text in (texts := list(islice(self._pending, PIECE))):
                 del self._pending[text]
@@ -291,6 +331,15 @@ class _Troubles:
             self._tell(f"{what} is there again")
         self._told.clear()
         self._since.clear()
+
+
+def _tells_more(head: str, known: Optional[str]) -> bool:
+    """Whether this first entry counts in the place of the known one: there is none, or that was of a server that tells
+    no fingerprint, and this has one."""
+    if known is None:
+        return True
+    old, new = Program.read(known), Program.read(head)
+    return bool(old and new and new.fingerprint and not old.fingerprint)
 
 
 def _tag(line: str) -> tuple[int, int]:
