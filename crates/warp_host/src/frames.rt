@@ -24,13 +24,5 @@ pub(crate) fn next_message(output: &[u8]) -> usize
 fn last_line_feed(bytes: &[u8]) -> Option<usize>
     ensures { IfSome result (λ at. at < length bytes.now) }
 {
-    let mut last = None;
-    let mut at = 0;
-    for byte in bytes {
-        if *byte == b'\n' {
-            last = Some(at);
-        }
-        at += 1;
-    }
-    last
+    bytes.iter().rposition(|byte| *byte == b'\n')
 }

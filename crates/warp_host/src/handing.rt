@@ -9,13 +9,12 @@ use warp_replica::Replica;
 /// The places of the ring of what is handed.
 pub(crate) const RING_ROOM: usize = 4_096;
 
-/// What is handed to the journal's thread.
+/// What is handed to the journal's thread: the next record of the log, since that was asked for from its beginning for
+/// the so-manieth time.
 #[derive(Clone, Copy)]
-pub(crate) enum Handed {
-    /// The next record of the log.
-    Record(Record),
-    /// The log comes from its beginning now, since that was asked for the so-manieth time.
-    Beginning(u32),
+pub(crate) struct Handed {
+    pub(crate) record: Record,
+    pub(crate) beginning: u32,
 }
 
 /// Where records are handed to the journal's thread, in the order of the log.
@@ -40,21 +39,20 @@ impl<'a> Handing<'a> {
         }
     }
 
-    /// Begins anew where that is asked for, as soon as there is room to say so; whether it did.
-    fn begin_anew(&mut self) -> bool {
+    /// Begins anew where that is asked for.
+    fn begin_anew(&mut self) {
         let wanted = self.durable.beginnings();
-        if wanted == self.beginnings || self.ring.push(Handed::Beginning(wanted)).is_err() {
-            return false;
+        if wanted != self.beginnings {
+            self.beginnings = wanted;
+            self.count = 0;
         }
-        self.beginnings = wanted;
-        self.count = 0;
-        true
     }
 
     /// Hands the records of the log that are new, as far as there is room, and wakes the journal's thread; whether
     /// there were any.
     pub(crate) fn hand<T: Timeline>(&mut self, replica: &Replica<T>) -> bool {
-        let mut found = self.begin_anew();
+        self.begin_anew();
+        let mut found = false;
         for _ in 0..RING_ROOM {
             if self.ring.is_full() {
                 break;
@@ -62,7 +60,8 @@ impl<'a> Handing<'a> {
             let Some(record) = replica.entry(self.count.saturating_add(1)) else {
                 break;
             };
-            let _ = self.ring.push(Handed::Record(record));
+            let beginning = self.beginnings;
+            let _ = self.ring.push(Handed { record, beginning });
             self.count = self.count.saturating_add(1);
             found = true;
         }

@@ -92,16 +92,31 @@ impl Peers {
         let now = common.now;
         self.take_found(rt, poll, now);
         for number in 0..self.all.len() {
-            if !self.all[number].is_due_at(now) {
-                continue;
-            }
-            self.all[number].is_due = false;
-            if let Way::Waits(_) = &self.all[number].way {
-                self.begin(rt, poll, number, now);
-            } else {
-                self.all[number].go_on(rt, &mut common.post, &mut common.buffer, now);
-            }
+            self.go_on(rt, poll, common, number);
         }
+    }
+
+    /// Goes on with this peer, if there is something to do.
+    fn go_on<X: Eprint + Net>(
+        &mut self,
+        rt: &X,
+        poll: &Poll,
+        common: &mut Common<'_>,
+        number: usize,
+    ) {
+        let now = common.now;
+        let Some(peer) = self.all.get_mut(number) else {
+            return;
+        };
+        if !peer.is_due_at(now) {
+            return;
+        }
+        peer.is_due = false;
+        if !matches!(&peer.way, Way::Waits(_)) {
+            peer.go_on(rt, &mut common.post, &mut common.buffer, now);
+            return;
+        }
+        self.begin(rt, poll, number, now);
     }
 
     /// Begins to connect, or has the name looked up.

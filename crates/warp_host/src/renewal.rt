@@ -5,7 +5,6 @@
 //! the old one was synced for, and clients' records are refused.
 
 use crate::fresh_file::FreshFiles;
-use crate::handing::Handed;
 use crate::journal_faults::Unwritten;
 use crate::journal_file::JournalFile;
 use crate::operator;
@@ -101,14 +100,11 @@ impl<'a> Scribe<'a> {
         fresh: &mut Keeper<JournalFile>,
         least: u32,
     ) -> Result<(), Failed> {
-        let mut has_begun = false;
         for _ in rt.forever() {
-            match self.handed.pop() {
-                Ok(Handed::Beginning(number)) => has_begun = number == self.beginnings,
-                Ok(Handed::Record(record)) if has_begun => take_in_batches(fresh, &record)?,
-                Ok(Handed::Record(_)) => {}
-                Err(_) if has_begun && fresh.len() >= least => return Ok(()),
-                Err(_) => self.wait_for_executor(rt)?,
+            match self.next_handed() {
+                Some(record) => take_in_batches(fresh, &record)?,
+                None if fresh.len() >= least => return Ok(()),
+                None => self.wait_for_executor(rt)?,
             }
         }
         Ok(())

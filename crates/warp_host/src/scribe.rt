@@ -14,6 +14,7 @@ use std::io::Eprint;
 use std::sync::Wait;
 use std::time::{Clock, Duration};
 use warp_journal::{Failed, Keeper};
+use warp_record::Record;
 
 /// The longest sleep of the journal's thread, in milliseconds.
 const LONGEST_SLEEP: u64 = 100;
@@ -40,15 +41,23 @@ pub(crate) struct Scribe<'a> {
 }
 
 impl<'a> Scribe<'a> {
+    /// The next record that was handed, since the log was asked for from its beginning last.
+    pub(crate) fn next_handed(&mut self) -> Option<Record> {
+        for _ in 0..RING_ROOM {
+            let handed = self.handed.pop().ok()?;
+            if handed.beginning == self.beginnings {
+                return Some(handed.record);
+            }
+        }
+        None
+    }
+
     /// Takes what was handed; how many records that was.
     fn take_all(&mut self) -> Result<usize, Failed> {
         let mut count = 0usize;
         for _ in 0..RING_ROOM {
-            let record = match self.handed.pop() {
-                Ok(Handed::Record(record)) => record,
-                // The log comes from its beginning only where `renewal` asked for it, and takes it.
-                Ok(Handed::Beginning(_)) => continue,
-                Err(_) => break,
+            let Some(record) = self.next_handed() else {
+                break;
             };
             self.keeper.take(&record)?;
             if self.when == SyncWhen::Never && self.keeper.len() % BATCH == 0 {
