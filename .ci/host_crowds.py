@@ -14,7 +14,7 @@ from pathlib import Path
 
 from hosting import CLOSE, TEXT, Web, frame, get, read_all, read_text
 from hosting import begun as Hosted
-from loopback import SECONDS, Talk, holds, same, wait_for
+from loopback import SECONDS, Talk, Wrong, holds, same, wait_for
 
 VISITORS, VISITING = 1_000, 60
 # Fewer than a log has room for.
@@ -236,15 +236,25 @@ def flood():
         holds(all(counts) and asked >= 20, f"{counts} came, and {asked} lines were asked meanwhile")
         wait_for(lambda: refused_in(host.printed(1), ", there are 20 already") == count, f"{count} are told to be refused", 30)
         holds(len(host.printed(1).splitlines()) <= seconds + 30, "a line a second at most")
-        talks[0].close()
+        for talk in talks[:5]:
+            talk.close()
         wait_for(lambda: is_served(host), "a place again", 30)
-        refused = b"\nwarpd_clients_refused_total "
-        wait_for(lambda: int(get(host.address, "/metrics")[2].partition(refused)[2].split(b"\n")[0]) >= count, "they are counted", 30)
+        wait_for(lambda: refused_by_metrics(host) >= count, "they are counted", 30)
+
+
+def refused_by_metrics(host):
+    """How many connections the page of metrics tells to be refused; 0 where it is not told."""
+    try:
+        text = get(host.address, "/metrics")[2]
+    except (OSError, Wrong):
+        return 0
+    return int(text.partition(b"\nwarpd_clients_refused_total ")[2].split(b"\n")[0])
 
 
 def few_descriptors():
     """The limit on descriptors is looked at in the start: if they are few, so many clients there may be."""
     with Hosted("--clients", "500", files=60, remarks=["clients refused: "]) as host:
+        wait_for(lambda: "\n" in host.printed(1), "the line on the start", 30)
         most = int(host.printed(1).split()[1])
         holds(30 <= most < 60, f"{host.printed(1)!r}")
         said = f"started: {most} clients at a time, since there are descriptors for no more (500 were asked for); warpd "
