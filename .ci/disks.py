@@ -216,7 +216,7 @@ def held():
 def failing_end():
     """A host that ends while its disk fails says so, and a host that is killed then does not trust what may be in no disk: the next has what
     was told, and writes the journal again."""
-    for how in ("ends", "killed"):
+    for how in ("ends", "ends with a client", "killed"):
         with Disk() as disk, Room() as room:
             host = room.host(env=disk.under())
             try:
@@ -225,10 +225,12 @@ def failing_end():
                 talk = host.talk()
                 talk.send(b"event 0 70 0 0 1\n")
                 wait_for(lambda: remarks(host), "what is said")
-                if how == "ends":
-                    talk.close()
+                if how != "killed":
+                    if how == "ends":
+                        talk.close()
                     host.process.stdin.close()
                     same(host.process.wait(60), 4, "the status")
+                    same(how == "ends" or talk.replies.read(), how == "ends" or b"", "what is told at the end")
                     same(remarks(host), [fails(NO_QUOTA), "cannot write the journal"], "what is said")
                 else:
                     time.sleep(1.2)
