@@ -1,6 +1,7 @@
 """Disks that fail when a script says so, and the cases of `.ci/journal` that are over them. A few lines of C, which the C compiler of the
 system makes into a library that is loaded before all others, stand between a host and the files that have `.journal` in their names."""
 
+import errno
 import os
 import random
 import resource
@@ -15,7 +16,7 @@ from pathlib import Path
 
 import hosting
 import journals
-from journals import LEFT, Client, Crowd, Room, fails, fill, read, remarks, renewed
+from journals import LEFT, Client, Crowd, Room, fails, fill, read, remarks, renewed, unusable
 from loopback import Wrong, holds, same, wait_for
 
 FAILING = r"""
@@ -134,7 +135,7 @@ def one_failure(disk, which, first, many, half=False):
     why = NO_SPACE if which == "write" else NO_QUOTA
     with Room() as room:
         if first == 1:
-            room.ended_at_start(disk.under(which, 1, many, half))
+            room.ended_at_start(disk.under(which, 1, many, half), errno.ENOSPC if which == "write" else errno.EDQUOT)
             room.holds_log([])
             return
         host = room.host(env=disk.under(which, first, many, half))
@@ -190,7 +191,8 @@ def held():
             for line in (sent[3], "event 0 70 0 0 1", "withdraw 0 1 0", "announce 0 9 0 9 1"):
                 same(late.ask(line), "refused 14", f"the answer to {line} while the disk fails")
             asking.send(b"var 0\n")
-            same(other.ask_all(["board", "program"])[0], "board 0 0", "a look")
+            same([it.split()[0] for it in other.ask_all(["board", "row 0", "program", "names"])], ["board", "none", "program", "names"], "looks")
+            same([hosting.get(host.address, it)[0] for it in ("/healthz", "/metrics")], [200, 200], "pages")
             holds(is_silent(first, 2.5) and is_silent(asking) and is_silent(watching), "something past the synced length is told")
             first.send(b"event 0 71 0 0 1\n")
             same(late.ask("event 0 72 0 0 1"), "refused 14", "a record later on")
@@ -214,7 +216,7 @@ def held():
 def failing_end():
     """A host that ends while its disk fails says so, and a host that is killed then does not trust what may be in no disk: the next has what
     was told, and writes the journal again."""
-    for how in ("ends", "killed"):
+    for how in ("ends", "ends with a client", "killed"):
         with Disk() as disk, Room() as room:
             host = room.host(env=disk.under())
             try:
@@ -223,10 +225,12 @@ def failing_end():
                 talk = host.talk()
                 talk.send(b"event 0 70 0 0 1\n")
                 wait_for(lambda: remarks(host), "what is said")
-                if how == "ends":
-                    talk.close()
+                if how != "killed":
+                    if how == "ends":
+                        talk.close()
                     host.process.stdin.close()
                     same(host.process.wait(60), 4, "the status")
+                    same(how == "ends" or talk.replies.read(), how == "ends" or b"", "what is told at the end")
                     same(remarks(host), [fails(NO_QUOTA), "cannot write the journal"], "what is said")
                 else:
                     time.sleep(1.2)
@@ -438,7 +442,7 @@ def read_only():
         folder.chmod(0o555)
         words = [program, "host", room.program, "--listen", "127.0.0.1:0", "--journal", room.file]
         said = subprocess.run(words, stdin=subprocess.DEVNULL, capture_output=True, text=True, timeout=60, preexec_fn=nobody)
-        same((said.returncode, said.stdout, said.stderr), (4, "", "cannot use the journal\n"), "a start in a folder that is read-only")
+        same((said.returncode, said.stdout, said.stderr), (4, "", unusable(room.file, errno.EACCES)), "a start in a folder that is read-only")
         folder.chmod(0o755)
         host = hosting.Hosted(program, room.program, "--journal", room.file, env=disk.under(), before=nobody)
         try:

@@ -2,6 +2,7 @@
 
 import hashlib
 import json
+import os
 import random
 import re
 import subprocess
@@ -60,11 +61,11 @@ class Room:
         return self.ended("host", program or self.program, "--listen", "127.0.0.1:0", "--journal", file or self.file, status=status,
                           error=error)
 
-    def ended_at_start(self, env):
-        """A host in this environment does not start, since its journal fails."""
+    def ended_at_start(self, env, number):
+        """A host in this environment does not start, since its journal fails, for which the system gives this number."""
         said = subprocess.run([PROGRAM, "host", self.program, "--listen", "127.0.0.1:0", "--journal", self.file], stdin=subprocess.DEVNULL,
                               capture_output=True, text=True, timeout=60, env=env)
-        same((said.returncode, said.stdout, said.stderr), (4, "", "cannot use the journal\n"), "how a host ends whose journal fails")
+        same((said.returncode, said.stdout, said.stderr), (4, "", unusable(self.file, number)), "how a host ends whose journal fails")
 
     def checked(self, count, ending="whole", status=0, error=""):
         """`warpd journal check` tells of so many records, and this of the end."""
@@ -95,6 +96,19 @@ def fails(why):
 
 def renewed(count):
     return f"journal: written anew, with {count} records"
+
+
+def in_use(file):
+    return f"journal {file}: another process has it\nthe journal is in use\n"
+
+
+def is_other(file):
+    return f"journal {file}: its first line is none, or another program's\nthat is no journal of this program\n"
+
+
+def unusable(file, number):
+    """What a host says that can't use its journal, since the system says this."""
+    return f"journal {file}: {os.strerror(number)} (os error {number})\ncannot use the journal\n"
 
 
 LEFT = "journal: it could not be written when a host ended; it was written anew"

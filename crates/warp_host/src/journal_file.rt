@@ -242,7 +242,16 @@ fn go_on<X: Eprint, T: Timeline>(
     Ok((journal, kept))
 }
 
-/// The file at this path, which is made where none is there, and its bytes.
+/// Makes the file at this path where none is there. From then on all paths that lead to it have one lock.
+fn make_file<F: Files<File = File>>(files: &F, path: &str) -> Result<(), FileFault> {
+    let _file = OpenOptions::new()
+        .append(true)
+        .create(true)
+        .open(files, path)?;
+    Ok(())
+}
+
+/// The file at this path, and its bytes.
 fn read_file<F: Files<File = File>>(
     files: &F,
     alloc: Global,
@@ -303,7 +312,9 @@ fn opened<X: Files<File = File> + Eprint, T: Timeline>(
     first: &[u8],
     replica: &mut Replica<T>,
 ) -> Result<OpenJournal, FileFault> {
+    make_file(rt, path)?;
     let lock = lock_journal(rt, alloc, path)?;
+    // It is opened behind the lock: the file may have been written anew until then.
     let (mut file, bytes) = read_file(rt, alloc, path)?;
     let (journal, kept) = if first.starts_with(&bytes) {
         (begin(alloc, &mut file, first)?, 0)

@@ -106,15 +106,28 @@ impl<'a> Scribe<'a> {
         Ok(taken > 0)
     }
 
+    /// How long it may sleep where nothing is handed: until what waits for the disk is due.
+    fn longest_rest<X: Clock>(&self, rt: &X) -> Duration {
+        let longest = Duration::from_millis(LONGEST_SLEEP);
+        let Some(since) = self.behind_since else {
+            return longest;
+        };
+        let interval = self.when.interval();
+        match rt.monotonic() {
+            Ok(now) => longest.min(since.saturating_add(interval).saturating_sub(now)),
+            Err(_) => longest.min(interval),
+        }
+    }
+
     /// Sleeps, unless something was handed.
-    fn rest<X: Wait>(&mut self, rt: &X) {
+    fn rest<X: Wait + Clock>(&mut self, rt: &X) {
         self.durable.scribe_sleeps();
         if !self.handed.is_empty() {
             self.durable.scribe_wakes();
             return;
         }
-        let longest = Duration::from_millis(LONGEST_SLEEP);
-        self.durable.sleep(rt, longest.min(self.when.interval()));
+        let longest = self.longest_rest(rt);
+        self.durable.sleep(rt, longest);
     }
 
     /// Ends the journal with a sum, and brings it to the disk.
