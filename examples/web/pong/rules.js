@@ -2,8 +2,8 @@
 // nothing but the tick, so their score is known beforehand.
 
 export const RULES = {
-  sweep: tick => (tick % 12 < 6 ? 1 : -1),
-  shuttle: tick => (tick % 28 < 14 ? -1 : 1),
+  sweep: tick => (tick % 10 < 5 ? 1 : -1),
+  shuttle: tick => (tick % 10 < 5 ? -1 : 1),
   /** Steers towards the ball. */
   follow: (tick, { row, ball }) => Math.sign(ball - row),
 }
