@@ -11,6 +11,7 @@ use Rattle.warp_board.specs.contracts.shared.Board as board
 use Rattle.warp_board.proofs.shared.Board.TheSendSync as board_crosses
 use Rattle.warp_lanes.proofs.SentEngines.{engine_send}
 use Rattle.warp_host.specs.contracts.executor.Executor as executor
+use Rattle.warp_host.proofs.executor.Ends.TheSendSync as ends
 
 module _ (l : NamedLft) (T : RattleType) (g : timeline.Ghosts T.Denot) (s : IsSend T) where
   pub executor_send : IsSend (executor.the_row l T g)
@@ -20,13 +21,7 @@ module _ (l : NamedLft) (T : RattleType) (g : timeline.Ghosts T.Denot) (s : IsSe
       engine_send T g s,
       (
         as_row_send (row_field (ShrRef l.mir l.lft board.the_row)) (shr_send l.mir l.lft board.the_row board_crosses.the_sync),
-        (
-          search (crosses, sendable) depth 60,
-          (
-            search (crosses, sendable) depth 60,
-            (search (crosses, sendable) depth 60, (search (crosses, sendable) depth 60, (search (crosses, sendable) depth 60, tt))),
-          ),
-        ),
+        (search (crosses, sendable) depth 60, (search (crosses, sendable) depth 60, (ends.the_send l, tt))),
       ),
     ),
   )

@@ -22,18 +22,23 @@ const LOOKS: u32 = 256;
 /// How many questions are answered before the lanes are looked at again.
 const MOST_QUESTIONS: u32 = 64;
 
-/// An engine, what was shown of its replica, and the rings of what it is asked and of what it tells.
+/// The executor's ends of rings: what it is asked, what it tells, and the way to the journal's thread, if there is one.
+#[derive(Drop)]
+pub(crate) struct Ends<'a> {
+    pub(crate) questions: Consumer<Question>,
+    pub(crate) told: Producer<Result<Told, OutOfMemory>>,
+    pub(crate) handing: Option<Handing<'a>>,
+}
+
+/// An engine, what was shown of its replica, and the ends of its rings.
 #[derive(Drop)]
 pub(crate) struct Executor<'a, T: Timeline> {
     pub(crate) alloc: Global,
     pub(crate) engine: Engine<T>,
     pub(crate) board: &'a Board,
     pub(crate) shown: Shown,
-    pub(crate) questions: Consumer<Question>,
-    pub(crate) told: Producer<Result<Told, OutOfMemory>>,
     pub(crate) bells: &'a Bells,
-    /// The way to the journal's thread, if there is one.
-    pub(crate) handing: Option<Handing<'a>>,
+    pub(crate) ends: Ends<'a>,
     pub(crate) ghost same: { engine.writer.board ≡ board.now },
 }
 
@@ -69,14 +74,14 @@ impl<'a, T: Timeline> Executor<'a, T> {
     fn tell_all(&mut self) -> bool {
         let mut found = false;
         for _ in 0..MOST_QUESTIONS {
-            if self.told.is_full() {
+            if self.ends.told.is_full() {
                 break;
             }
-            let Ok(question) = self.questions.pop() else {
+            let Ok(question) = self.ends.questions.pop() else {
                 break;
             };
             let told = self.answer(question);
-            let _ = self.told.push(told);
+            let _ = self.ends.told.push(told);
             found = true;
         }
         found
@@ -95,7 +100,7 @@ impl<'a, T: Timeline> Executor<'a, T> {
 
     /// Hands the records that are new to the journal's thread; whether there were any.
     fn hand_over(&mut self) -> bool {
-        match &mut self.handing {
+        match &mut self.ends.handing {
             Some(handing) => handing.hand(self.engine.replica()),
             None => false,
         }
@@ -103,7 +108,7 @@ impl<'a, T: Timeline> Executor<'a, T> {
 
     /// Whether all records were handed to the journal's thread.
     fn is_handed_over(&self) -> bool {
-        match &self.handing {
+        match &self.ends.handing {
             Some(handing) => handing.is_done(self.engine.replica()),
             None => true,
         }

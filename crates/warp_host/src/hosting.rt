@@ -9,9 +9,8 @@ use crate::client::Common;
 use crate::descriptors::clients_within;
 use crate::durable::Durable;
 use crate::entrance::Entrance;
-use crate::executor::Executor;
+use crate::executor::{Ends, Executor};
 use crate::fresh_file::FreshFiles;
-use crate::handing::Handing;
 use crate::histogram::Stopwatch;
 use crate::input_end::InputEnd;
 use crate::lookup::{Found, Lookup, Sought};
@@ -461,14 +460,12 @@ fn make_rings<'a>(alloc: Global, durable: &'a Durable) -> Result<AllRings<'a>, A
     })
 }
 
-/// The loop, the rings' ends for the executor, the journal's thread if there is a journal, and the lookup if one is
+/// The loop, the ends of rings for the executor, the journal's thread if there is a journal, and the lookup if one is
 /// wanted.
 #[derive(Drop)]
 struct Ready<'a> {
     serving: Serving<'a>,
-    questions: Consumer<Question>,
-    told: Producer<Result<Told, OutOfMemory>>,
-    handing: Option<Handing<'a>>,
+    ends: Ends<'a>,
     scribe: Option<Scribe<'a>>,
     lookup: Option<Lookup<'a>>,
 }
@@ -514,11 +511,14 @@ fn make_ready<'a, X: System + RandomSource>(
         options,
     };
     let (serving, wants_lookup) = make_serving(rt, start)?;
-    Ok(Ready {
-        serving,
+    let ends = Ends {
         questions,
         told,
         handing,
+    };
+    Ok(Ready {
+        serving,
+        ends,
         scribe,
         lookup: lookup_if(wants_lookup, sought, found, bells),
     })
@@ -559,9 +559,7 @@ fn host_over<
 {
     let Ready {
         serving,
-        questions,
-        told,
-        handing,
+        ends,
         scribe,
         lookup,
     } = ready;
@@ -573,10 +571,8 @@ fn host_over<
         engine,
         board,
         shown: Shown::new(alloc),
-        questions,
-        told,
         bells: shared.bells,
-        handing,
+        ends,
     };
     thread::scope(thread::scope_env(), rt, move |scope| {
         run_beside(scope, rt, shared, executor, scribe, lookup, serving, events)
