@@ -8,6 +8,7 @@ import re
 import subprocess
 import tempfile
 import threading
+import time
 from pathlib import Path
 from typing import NamedTuple
 
@@ -158,9 +159,9 @@ def fill(host, batches, size=3):
 class Client(threading.Thread):
     """Sends records of its own until the host is gone. Of each it remembers whether it was sent, and the place that it was told."""
 
-    def __init__(self, address, number, ahead):
+    def __init__(self, address, number, ahead, pause=0):
         super().__init__(daemon=True)
-        self.address, self.number, self.ahead = address, number, ahead
+        self.address, self.number, self.ahead, self.pause = address, number, ahead, pause
         self.sent, self.told, self.longest, self.others = [], {}, 0, []
 
     def run(self):
@@ -171,6 +172,7 @@ class Client(threading.Thread):
                 lines = [f"event 0 {CLIENTS * (self.ahead + at) + self.number} {it} 0 1" for it in range(dice.randrange(1, 12))]
                 self.sent += lines
                 self.take(talk, lines)
+                time.sleep(self.pause)
         except (OSError, hosting.Wrong):
             pass  # (the host was killed)
 
@@ -210,8 +212,8 @@ class Crowd:
         self.sent, self.told, self.longest, self.refused = set(), {}, 0, set()
 
     def come(self, host, ahead, until, may_fail=False):
-        """Clients come, and send until the host is killed. Records may be refused 14 where its disk may fail."""
-        crowd = [*(Client(host.address, number, ahead) for number in range(CLIENTS)), Watcher(host.address)]
+        """Clients come, and send until the host is killed. Where its disk may fail, records may be refused 14, and clients take their time."""
+        crowd = [*(Client(host.address, number, ahead, may_fail / 20) for number in range(CLIENTS)), Watcher(host.address)]
         for it in crowd:
             it.start()
         until()
