@@ -93,7 +93,8 @@ int rename(const char *from, const char *to) {
 }
 """
 # What the host says of these.
-NO_SPACE, NO_QUOTA, READ_ONLY = "no storage space", "quota exceeded", "read-only filesystem or storage medium"
+NO_SPACE, NO_QUOTA = "No space left on device (os error 28)", "Disk quota exceeded (os error 122)"
+READ_ONLY = "Read-only file system (os error 30)"
 
 
 class Disk:
@@ -268,7 +269,7 @@ def no_fresh_file():
             sent.append("event 0 70 0 0 1")
             wait_for(lambda: len(remarks(host)) == 5, "what is said")
             anew = "journal: it can't be written anew: "
-            same(remarks(host), [fails(NO_SPACE), anew + "is a directory", anew + READ_ONLY, anew + NO_QUOTA, renewed(4)], "what is said")
+            same(remarks(host), [fails(NO_SPACE), anew + "Is a directory (os error 21)", anew + READ_ONLY, anew + NO_QUOTA, renewed(4)], "what is said")
             host.finish()
         finally:
             host.kill()
@@ -350,7 +351,7 @@ def no_room():
         host = room.host(before=ignored)
         try:
             told = until_refused(host)
-            same(remarks(host), [fails("file too large")], "what is said")
+            same(remarks(host), [fails("File too large (os error 27)")], "what is said")
             resource.prlimit(host.process.pid, resource.RLIMIT_FSIZE, (resource.RLIM_INFINITY, resource.RLIM_INFINITY))
             goes_on(host, told)
             host.finish()
@@ -453,7 +454,7 @@ def read_only():
             talk.send(b"event 0 70 0 0 1\n")
             wait_for(lambda: len(remarks(host)) == 2, "what is said")
             disk.heal("sync")
-            same(remarks(host), [fails(NO_QUOTA), "journal: it can't be written anew: permission denied"], "what is said")
+            same(remarks(host), [fails(NO_QUOTA), "journal: it can't be written anew: Permission denied (os error 13)"], "what is said")
             folder.chmod(0o755)
             same(talk.line(), "taken 4", "a record that was held")
             wait_for(lambda: remarks(host)[2:] == [renewed(4)], "what is said behind it")

@@ -78,12 +78,12 @@ fn tell_open_fault<X: Eprint>(rt: &X, path: &str, fault: OpenFault) {
 
 /// Why a journal can't be written: what the system says, or `None` where no memory was to be had.
 #[derive(Clone, Copy)]
-pub(crate) struct Unwritten(pub(crate) Option<ErrorKind>);
+pub(crate) struct Unwritten(pub(crate) Option<io::Error>);
 
 impl From<FileFault> for Unwritten {
     fn from(fault: FileFault) -> Unwritten {
         match fault {
-            FileFault::System(error) => Unwritten(Some(error.kind())),
+            FileFault::System(error) => Unwritten(Some(error)),
             FileFault::Open(_) => Unwritten(None),
         }
     }

@@ -4,7 +4,7 @@ use crate::fresh_file::{JournalPlace, begin, is_left, real_path, sync_folder, wr
 use crate::journal_faults::{FileFault, OpenFault, tell_file_fault};
 use std::alloc::Global;
 use std::fs::{File, Files, OpenOptions, TryLockError};
-use std::io::{Eprint, ErrorKind, Read, Write};
+use std::io::{self, Eprint, Read, Write};
 use std::time::Duration;
 use warp_journal::{Disk, Ending, Failed, Fault, Found, Journal, Keeper, NotRead, read_journal};
 use warp_line::Timeline;
@@ -37,7 +37,7 @@ impl SyncWhen {
 #[derive(Drop)]
 pub struct JournalFile {
     pub(crate) file: File,
-    pub(crate) fault: Option<ErrorKind>,
+    pub(crate) fault: Option<io::Error>,
 }
 
 impl Disk for JournalFile {
@@ -51,7 +51,7 @@ impl Disk for JournalFile {
         match self.file.write_all(bytes) {
             Ok(()) => Ok(()),
             Err(error) => {
-                self.fault = Some(error.kind());
+                self.fault = Some(error);
                 Err(Failed)
             }
         }
@@ -61,7 +61,7 @@ impl Disk for JournalFile {
         match self.file.sync_data() {
             Ok(()) => Ok(()),
             Err(error) => {
-                self.fault = Some(error.kind());
+                self.fault = Some(error);
                 Err(Failed)
             }
         }
@@ -70,7 +70,7 @@ impl Disk for JournalFile {
 
 impl JournalFile {
     /// Why it could not be written, if the system said so.
-    pub(crate) fn fault(&self) -> Option<ErrorKind> {
+    pub(crate) fn fault(&self) -> Option<io::Error> {
         self.fault
     }
 }

@@ -1,6 +1,6 @@
 //! What an operator is told, on standard error.
 
-use std::io::{Eprint, ErrorKind};
+use std::io::{self, Eprint};
 use warp_hub::PeerEvent;
 
 /// What begins.
@@ -93,10 +93,10 @@ pub(crate) fn tell_peer_lost<X: Eprint>(rt: &X, name: &str, was_found: bool) {
 }
 
 /// Tells that the journal can't be written, and why, if the system said so.
-pub(crate) fn tell_journal_fails<X: Eprint>(rt: &X, fault: Option<ErrorKind>) {
+pub(crate) fn tell_journal_fails<X: Eprint>(rt: &X, fault: Option<io::Error>) {
     let _ = match fault {
-        Some(kind) => eprintln!(rt;
-            "journal: it can't be written: {kind}; records are refused 14 until it is written anew, which is tried each second"
+        Some(error) => eprintln!(rt;
+            "journal: it can't be written: {error}; records are refused 14 until it is written anew, which is tried each second"
         ),
         None => rt.eprintln(
             "journal: no memory to write it; records are refused 14 until it is written anew, which is tried each second",
@@ -105,9 +105,9 @@ pub(crate) fn tell_journal_fails<X: Eprint>(rt: &X, fault: Option<ErrorKind>) {
 }
 
 /// Tells why the journal is not written anew.
-pub(crate) fn tell_journal_not_renewed<X: Eprint>(rt: &X, fault: Option<ErrorKind>) {
+pub(crate) fn tell_journal_not_renewed<X: Eprint>(rt: &X, fault: Option<io::Error>) {
     let _ = match fault {
-        Some(kind) => eprintln!(rt; "journal: it can't be written anew: {kind}"),
+        Some(error) => eprintln!(rt; "journal: it can't be written anew: {error}"),
         None => rt.eprintln("journal: no memory to write it anew"),
     };
 }

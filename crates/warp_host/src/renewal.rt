@@ -9,7 +9,7 @@ use crate::journal_faults::Unwritten;
 use crate::journal_file::JournalFile;
 use crate::operator;
 use crate::scribe::Scribe;
-use std::io::{Eprint, ErrorKind};
+use std::io::{self, Eprint, ErrorKind};
 use std::sync::Wait;
 use std::time::Duration;
 use warp_journal::{Failed, Journal, Keeper};
@@ -54,10 +54,10 @@ impl<'a> Scribe<'a> {
     fn tell_change<X: Eprint>(
         &self,
         rt: &X,
-        told: &mut Option<ErrorKind>,
-        fault: Option<ErrorKind>,
+        told: &mut Option<io::Error>,
+        fault: Option<io::Error>,
     ) {
-        if fault == *told || self.durable.is_over() {
+        if kind_of(fault) == kind_of(*told) || self.durable.is_over() {
             return;
         }
         operator::tell_journal_not_renewed(rt, fault);
@@ -118,6 +118,14 @@ impl<'a> Scribe<'a> {
         self.bells.wake_executor();
         self.durable.sleep(rt, Duration::from_millis(MOMENT));
         Ok(())
+    }
+}
+
+/// The kind of what the system says, if it says something.
+fn kind_of(fault: Option<io::Error>) -> Option<ErrorKind> {
+    match fault {
+        Some(error) => Some(error.kind()),
+        None => None,
     }
 }
 
