@@ -2,6 +2,7 @@
 
 import errno
 import os
+import re
 import socket
 import subprocess
 import tempfile
@@ -10,7 +11,7 @@ from pathlib import Path
 import hosting
 from hosting import TWICE, get
 from hosting import begun as Hosted
-from loopback import HOST, same, wait_for
+from loopback import HOST, holds, same, wait_for
 
 
 def ended(*words, status, error, output="", mode=None):
@@ -121,7 +122,8 @@ def allowed_origins():
         ended("host", TWICE, "--allow-origin", "https://good.example", "--allow-origin", word, status=2,
               error=f"--allow-origin {word}: no origin of a page\n{said}")
     good = ["https://game.example", "http://game.example:8080", "https://a-b_c.Example:65535", "http://192.0.2.1", "https://[2001:db8::1]:443", "http://[::1]"]
-    with Hosted(*(it for origin in good for it in ("--allow-origin", origin))) as host:
+    words = [it for origin in good for it in ("--allow-origin", origin)]
+    with Hosted(*words, remarks=["pages refused: "]) as host:
         for origin in [*good, f"http://localhost:{host.port}"]:
             for path, status in (("/", 200), ("/names.json", 200), ("/none", 404), ("/ws", 426)):
                 fields = same_status(host, path, origin, status)
@@ -129,6 +131,9 @@ def allowed_origins():
         for headers in ((), ("Origin: https://evil.example",), ("Origin: https://game.example:443",)):
             status, fields, _ = get(host.address, "/names.json", *headers)
             same((status, fields.get("access-control-allow-origin"), fields.get("vary")), (403 if headers else 200, None, None), f"{headers}")
+        refused = re.compile(r"^pages refused: (\d+), their origin or the host's name in their requests is not allowed \(see --allow-origin\)$", re.M)
+        wait_for(lambda: sum(map(int, refused.findall(host.printed(1)))) == 2, "that two pages were refused")
+        holds(b"\nwarpd_http_forbidden_total 2\n" in get(host.address, "/metrics")[2], "the count of pages refused")
 
 
 def same_status(host, path, origin, status):

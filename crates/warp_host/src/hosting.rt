@@ -159,6 +159,7 @@ fn make_pages(alloc: Global, served: Served, options: &mut Options) -> Result<Pa
         seen: Seen::nothing(u64::from(options.clients)),
         answered: 0,
         unauthorized: 0,
+        forbidden: 0,
         upgraded: None,
     })
 }
@@ -311,6 +312,7 @@ fn make_serving<'a, X: System>(rt: &X, start: Start<'a>) -> Result<(Serving<'a>,
         sent: 0,
         ending: None,
         slow_told: 0,
+        forbidden_told: 0,
         is_full_told: false,
     };
     Ok((serving, wants_lookup))

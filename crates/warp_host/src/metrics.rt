@@ -20,6 +20,7 @@ pub(crate) struct Seen {
     pub(crate) peers_connected: u64,
     pub(crate) clients_refused: u64,
     pub(crate) unauthorized: u64,
+    pub(crate) forbidden: u64,
     pub(crate) histogram: Histogram,
 }
 
@@ -40,6 +41,7 @@ impl Seen {
             peers_connected: 0,
             clients_refused: 0,
             unauthorized: 0,
+            forbidden: 0,
             histogram: Histogram::new(),
         }
     }
@@ -144,7 +146,7 @@ fn micros_of(histogram: &Histogram) -> u64 {
 }
 
 /// The numbers of clients and lines.
-fn traffic(seen: &Seen) -> [Row<'static>; 8] {
+fn traffic(seen: &Seen) -> [Row<'static>; 9] {
     [
         number(
             b"warpd_clients",
@@ -193,6 +195,12 @@ fn traffic(seen: &Seen) -> [Row<'static>; 8] {
             COUNTER,
             b"Requests over HTTP that brought no token, or a wrong one, where one is wanted.",
             seen.unauthorized,
+        ),
+        number(
+            b"warpd_http_forbidden_total",
+            COUNTER,
+            b"Requests over HTTP of a page, or to a name, that is not allowed.",
+            seen.forbidden,
         ),
     ]
 }

@@ -49,6 +49,13 @@ pub(crate) fn tell_slow<X: Eprint>(rt: &X, slow: u64) {
     let _ = eprintln!(rt; "clients closed: {slow}, they read too slowly");
 }
 
+/// Tells that so many requests of pages were refused.
+pub(crate) fn tell_forbidden<X: Eprint>(rt: &X, forbidden: u64) {
+    let _ = eprintln!(rt;
+        "pages refused: {forbidden}, their origin or the host's name in their requests is not allowed (see --allow-origin)"
+    );
+}
+
 /// Tells that the log is full.
 pub(crate) fn tell_log_full<X: Eprint>(rt: &X) {
     let _ = rt.eprintln("the log is full: no further record is taken");

@@ -24,6 +24,9 @@ const METRICS: &str = "text/plain; version=0.0.4; charset=utf-8";
 /// The status of an answer to a request that wants a token.
 const UNAUTHORIZED: u16 = 401;
 
+/// The status of an answer to a request that may not reach the host.
+const FORBIDDEN: u16 = 403;
+
 /// Answers requests.
 #[derive(Drop)]
 pub(crate) struct Pages {
@@ -37,6 +40,8 @@ pub(crate) struct Pages {
     pub(crate) answered: u64,
     /// How many of them wanted a token, and brought none or a wrong one.
     pub(crate) unauthorized: u64,
+    /// How many of them were of a page, or to a name, that is not allowed.
+    pub(crate) forbidden: u64,
     /// The rights of a connection that was just upgraded: those of the token that it brought, if it brought one.
     pub(crate) upgraded: Option<Option<Rights>>,
 }
@@ -184,6 +189,16 @@ impl Pages {
                 Some(authority) => names.is_host_allowed(authority.as_str()),
                 None => true,
             }
+    }
+
+    /// Counts an answer with this status.
+    fn count(&mut self, status: u16) {
+        if status == UNAUTHORIZED {
+            self.unauthorized = self.unauthorized.wrapping_add(1);
+        }
+        if status == FORBIDDEN {
+            self.forbidden = self.forbidden.wrapping_add(1);
+        }
     }
 
     /// The rights of this token; `None` where there is no such token.
@@ -362,9 +377,7 @@ impl Service for Pages {
         match self.serve(request, response) {
             Ok(answered) => {
                 self.answered = self.answered.wrapping_add(1);
-                if response.status.as_u16() == UNAUTHORIZED {
-                    self.unauthorized = self.unauthorized.wrapping_add(1);
-                }
+                self.count(response.status.as_u16());
                 self.upgraded = rights_in(answered);
                 Ok(())
             }

@@ -89,6 +89,7 @@ pub(crate) struct Serving<'a> {
     /// Since when the host ends, if it does.
     pub(crate) ending: Option<Duration>,
     pub(crate) slow_told: u64,
+    pub(crate) forbidden_told: u64,
     pub(crate) is_full_told: bool,
 }
 
@@ -424,6 +425,11 @@ impl<'a> Serving<'a> {
             operator::tell_slow(rt, counts.slow - self.slow_told);
             self.slow_told = counts.slow;
         }
+        let forbidden = self.common.pages.forbidden;
+        if forbidden > self.forbidden_told {
+            operator::tell_forbidden(rt, forbidden - self.forbidden_told);
+            self.forbidden_told = forbidden;
+        }
         if u64::from(counts.newest) >= MOST_RECORDS && !self.is_full_told {
             operator::tell_log_full(rt);
             self.is_full_told = true;
@@ -451,6 +457,7 @@ impl<'a> Serving<'a> {
                 None => 0,
             },
             unauthorized: self.common.pages.unauthorized,
+            forbidden: self.common.pages.forbidden,
             histogram: self.stopwatch.histogram,
         };
     }
