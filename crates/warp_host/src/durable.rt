@@ -44,6 +44,11 @@ impl Durable {
         }
     }
 
+    /// How many records are on the disk; none where there is no journal.
+    pub(crate) fn synced(&self) -> u32 {
+        self.synced.load(Ordering::SeqCst)
+    }
+
     /// So many records are on the disk now.
     pub(crate) fn note_synced(&self, count: u32) {
         self.synced.store(count, Ordering::SeqCst);

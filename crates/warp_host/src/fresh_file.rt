@@ -5,6 +5,7 @@ use crate::journal_file::JournalFile;
 use std::alloc::{AllocError, Global};
 use std::fs::{self, File, Files, OpenOptions};
 use std::io::{Eprint, Write};
+use std::os::unix::fs::OpenOptionsExt;
 use std::path::Path;
 use warp_journal::Journal;
 
@@ -54,6 +55,30 @@ fn path_beside(alloc: Global, path: &str) -> Result<String, AllocError> {
     Ok(name)
 }
 
+/// Who may read and write the files of a journal that are made: their owner alone.
+pub(crate) const OWNER_ALONE: u32 = 0o600;
+
+/// Puts bytes that are cut off the journal at this path to the end of the file with `.damaged` behind its name, on the
+/// disk; that file's path.
+pub fn keep_aside<F: Files<File = File>>(
+    files: &F,
+    alloc: Global,
+    path: &str,
+    rest: &[u8],
+) -> Result<String, FileFault> {
+    let mut name = String::from_str(alloc, path)?;
+    name.push_str(".damaged")?;
+    let mut aside = OpenOptions::new()
+        .append(true)
+        .create(true)
+        .mode(OWNER_ALONE)
+        .open(files, name.as_str())?;
+    aside.write_all(rest)?;
+    aside.sync_all()?;
+    sync_folder(files, name.as_str())?;
+    Ok(name)
+}
+
 /// Lets those read and write the fresh file who may read and write the file at this path, if there is one.
 fn keep_permissions<F: Files<File = File>>(
     files: &F,
@@ -81,6 +106,7 @@ fn begin_beside<F: Files<File = File>>(
         .write(true)
         .create(true)
         .truncate(true)
+        .mode(OWNER_ALONE)
         .open(files, name.as_str())?;
     keep_permissions(files, &file, place.path.as_str())?;
     begin(alloc, &mut file, &place.first)?;

@@ -1,10 +1,13 @@
 //! The file of a journal: it is locked, read and mended before a host begins.
 
-use crate::fresh_file::{JournalPlace, begin, is_left, real_path, sync_folder, write_again};
+use crate::fresh_file::{
+    JournalPlace, OWNER_ALONE, begin, is_left, keep_aside, real_path, sync_folder, write_again,
+};
 use crate::journal_faults::{FileFault, OpenFault, tell_file_fault};
 use std::alloc::Global;
 use std::fs::{File, Files, OpenOptions, TryLockError};
 use std::io::{self, Eprint, Read, Write};
+use std::os::unix::fs::OpenOptionsExt;
 use std::time::Duration;
 use warp_journal::{Disk, Ending, Failed, Fault, Found, Journal, Keeper, NotRead, read_journal};
 use warp_line::Timeline;
@@ -167,8 +170,19 @@ fn tell_ending<X: Eprint>(rt: &X, ending: Ending, line: u64, cut: usize) {
         Ending::Torn => { eprintln!(rt; "journal: line {line} is torn; {cut} bytes are cut off") }
         Ending::Cut(fault) | Ending::Damaged(fault) => {
             let why = words_of(fault);
-            eprintln!(rt; "journal: line {line} {why}; {cut} bytes are cut off")
+            eprintln!(rt;
+                "journal: line {line} {why}; {cut} bytes are cut off, and kept in FILE.damaged"
+            )
         }
+    };
+}
+
+/// Tells how many records a journal has that is gone on with, or that it is begun.
+fn tell_opened<X: Eprint>(rt: &X, count: u32, was_there: bool) {
+    let _ = if was_there {
+        eprintln!(rt; "journal: {count} records")
+    } else {
+        rt.eprintln("journal: begun, since it was empty or not there")
     };
 }
 
@@ -202,10 +216,11 @@ fn tell_refused<X: Eprint>(rt: &X, line: u64, refusal: Option<Refusal>) {
 }
 
 /// Reads the journal that these bytes of the file are, cuts off what is torn, and has the replica take its records. How
-/// many bytes are kept.
-fn go_on<X: Eprint, T: Timeline>(
+/// many bytes are kept. What is cut for another reason is kept aside.
+fn go_on<X: Files<File = File> + Eprint, T: Timeline>(
     rt: &X,
     alloc: Global,
+    path: &str,
     file: &File,
     bytes: &[u8],
     first: &[u8],
@@ -236,6 +251,9 @@ fn go_on<X: Eprint, T: Timeline>(
         tell_refused(rt, line, refusal);
         return Err(FileFault::Open(OpenFault::Refused(line)));
     }
+    if let Ending::Cut(_) = ending {
+        keep_aside(rt, alloc, path, bytes.get(kept..).unwrap_or(b""))?;
+    }
     if ending != Ending::Whole {
         file.set_len(kept as u64)?;
     }
@@ -247,6 +265,7 @@ fn make_file<F: Files<File = File>>(files: &F, path: &str) -> Result<(), FileFau
     let _file = OpenOptions::new()
         .append(true)
         .create(true)
+        .mode(OWNER_ALONE)
         .open(files, path)?;
     Ok(())
 }
@@ -319,12 +338,13 @@ fn opened<X: Files<File = File> + Eprint, T: Timeline>(
     let (journal, kept) = if first.starts_with(&bytes) {
         (begin(alloc, &mut file, first)?, 0)
     } else {
-        go_on(rt, alloc, &file, &bytes, first, replica)?
+        go_on(rt, alloc, path, &file, &bytes, first, replica)?
     };
     let place = JournalPlace {
         path: real_path(rt, alloc, path)?,
         first: Vec::from_slice(alloc, first)?,
     };
+    tell_opened(rt, journal.len(), kept > 0);
     let kept = bytes.get(..kept).unwrap_or(&bytes);
     let disk = keep_on(rt, alloc, file, &place, kept)?;
     Ok(OpenJournal {

@@ -41,7 +41,7 @@ mod speech;
 mod web;
 mod writing;
 
-pub use fresh_file::{FreshFiles, JournalPlace, sync_folder};
+pub use fresh_file::{FreshFiles, JournalPlace, keep_aside};
 pub use hosting::{HostFault, Machine, Served, host};
 pub use journal_faults::{FileFault, OpenFault, tell_file_fault};
 pub use journal_file::{OpenJournal, SyncWhen, damage_in, lock_journal, open_journal, words_of};

@@ -21,6 +21,8 @@ pub(crate) struct Seen {
     pub(crate) clients_refused: u64,
     pub(crate) unauthorized: u64,
     pub(crate) forbidden: u64,
+    pub(crate) journal_records: u64,
+    pub(crate) journal_failing: u64,
     pub(crate) histogram: Histogram,
 }
 
@@ -42,6 +44,8 @@ impl Seen {
             clients_refused: 0,
             unauthorized: 0,
             forbidden: 0,
+            journal_records: 0,
+            journal_failing: 0,
             histogram: Histogram::new(),
         }
     }
@@ -242,6 +246,24 @@ fn state(seen: &Seen) -> [Row<'static>; 6] {
     ]
 }
 
+/// The numbers of the journal: both 0 where there is none.
+fn journal(seen: &Seen) -> [Row<'static>; 2] {
+    [
+        number(
+            b"warpd_journal_records",
+            GAUGE,
+            b"Records of the journal that are on the disk.",
+            seen.journal_records,
+        ),
+        number(
+            b"warpd_journal_failing",
+            GAUGE,
+            b"Whether the journal cannot be written: 1, and records are refused.",
+            seen.journal_failing,
+        ),
+    ]
+}
+
 /// All that is measured, in the text format of Prometheus.
 pub(crate) fn metrics_text(alloc: Global, seen: &Seen) -> Result<Vec<u8>, AllocError> {
     let mut text = Vec::new(alloc);
@@ -249,6 +271,9 @@ pub(crate) fn metrics_text(alloc: Global, seen: &Seen) -> Result<Vec<u8>, AllocE
         write_row(&mut text, row)?;
     }
     for row in &state(seen) {
+        write_row(&mut text, row)?;
+    }
+    for row in &journal(seen) {
         write_row(&mut text, row)?;
     }
     text.extend_from_slice(NOT_TOLD)?;

@@ -458,6 +458,8 @@ impl<'a> Serving<'a> {
             },
             unauthorized: self.common.pages.unauthorized,
             forbidden: self.common.pages.forbidden,
+            journal_records: u64::from(self.durable.synced()),
+            journal_failing: u64::from(self.durable.is_failing()),
             histogram: self.stopwatch.histogram,
         };
     }

@@ -252,13 +252,17 @@ fn peers_with_tokens<X: Files + Eprint>(
     or_memory(peers_of(alloc, &job.peers, &text))
 }
 
-/// When a journal is brought to the disk.
-fn sync_of<X: Eprint>(rt: &X, word: Option<&str>) -> Result<SyncWhen, Outcome>
+/// When a journal is brought to the disk, if there is one.
+fn sync_of<X: Eprint>(rt: &X, word: Option<&str>, has_journal: bool) -> Result<SyncWhen, Outcome>
     ensures { IfErr result KeepsFromHosting }
 {
     let Some(word) = word else {
         return Ok(SyncWhen::Always);
     };
+    if !has_journal {
+        tell_word(rt, "--sync", word, "there is no --journal");
+        return Err(Outcome::NoSync);
+    }
     if word == "always" {
         return Ok(SyncWhen::Always);
     }
@@ -305,7 +309,7 @@ pub(crate) fn host_plan<X: Files + Eprint>(
     let tokens = tokens_of(rt, alloc, job.tokens, TokenFile::Clients)?;
     let peers = peers_with_tokens(rt, alloc, job)?;
     let origins = origins_of(rt, alloc, &job.origins)?;
-    let sync = sync_of(rt, job.sync)?;
+    let sync = sync_of(rt, job.sync, job.journal.is_some())?;
     let journal = or_memory(path_of(alloc, job.journal))?;
     Ok(HostPlan {
         address,

@@ -8,9 +8,9 @@ use crate::service::Host;
 use crate::streams::Streams;
 use std::alloc::{AllocError, Global};
 use std::fs::{File, Files, OpenOptions};
-use std::io::{Read, Write};
+use std::io::Read;
 use warp_host::{
-    FileFault, OpenFault, damage_in, lock_journal, sync_folder, tell_file_fault, words_of,
+    FileFault, OpenFault, damage_in, keep_aside, lock_journal, tell_file_fault, words_of,
 };
 use warp_journal::{Ending, Fault, Found, NotRead, read_journal};
 use warp_session::{Sink, Source};
@@ -137,6 +137,20 @@ impl Seen {
         self.bytes.len().saturating_sub(self.found.kept)
     }
 
+    /// How many bytes stay where the journal is repaired: those in front of the damage; and where a sum does not fit,
+    /// those up to the last one that does, since what it is over may be what was changed.
+    fn sound(&self) -> usize {
+        match damage_in(self.found.ending) {
+            Some(Fault::WrongSum) => end_of_sums(self.kept()),
+            _ => self.found.kept,
+        }
+    }
+
+    /// What is kept in front of the damage.
+    fn kept(&self) -> &[u8] {
+        self.bytes.get(..self.found.kept).unwrap_or(&self.bytes)
+    }
+
     /// The first line's version and fingerprint, and how many records there are.
     fn head(&self, alloc: Global) -> Result<String, AllocError> {
         let front = self.bytes.get(FRONT.len()..).unwrap_or(b"");
@@ -204,13 +218,15 @@ fn repaired<P: Host>(rt: &P, alloc: Global, path: &str) -> Result<Account, FileF
     let seen = see_all(alloc, file)?;
     let mut text = seen.head(alloc)?;
     text.push_str(seen.ending(alloc)?.as_str())?;
-    let cut = seen.cut();
+    let sound = seen.sound();
+    let cut = seen.bytes.len().saturating_sub(sound);
     if cut > 0 {
-        let mut aside = String::from_str(alloc, path)?;
-        aside.push_str(".damaged")?;
-        move_rest(rt, path, aside.as_str(), &seen)?;
+        let aside = move_rest(rt, alloc, path, &seen.bytes, sound)?;
         let name = aside.as_str();
-        text.push_str(format!(in alloc; "moved {cut} bytes to {name}\n")?.as_str())?;
+        let records = records_in(seen.bytes.get(..sound).unwrap_or(b""));
+        text.push_str(format!(in alloc;
+            "moved {cut} bytes to {name}\nkept {records} records\n"
+        )?.as_str())?;
     }
     Ok(Account {
         text,
@@ -218,23 +234,42 @@ fn repaired<P: Host>(rt: &P, alloc: Global, path: &str) -> Result<Account, FileF
     })
 }
 
-/// Moves what stands behind what is kept to the end of the file `aside`: it is on the disk there before it goes.
+/// Moves what stands behind so many bytes of the journal at this path to the file beside it: it is on the disk there
+/// before it goes. That file's path.
 fn move_rest<F: Files<File = File>>(
     files: &F,
+    alloc: Global,
     path: &str,
-    aside: &str,
-    seen: &Seen,
-) -> Result<(), FileFault> {
-    let rest = seen.bytes.get(seen.found.kept..).unwrap_or(b"");
-    let mut other = OpenOptions::new()
-        .append(true)
-        .create(true)
-        .open(files, aside)?;
-    other.write_all(rest)?;
-    other.sync_all()?;
-    sync_folder(files, aside)?;
+    bytes: &[u8],
+    sound: usize,
+) -> Result<String, FileFault> {
+    let aside = keep_aside(files, alloc, path, bytes.get(sound..).unwrap_or(b""))?;
     let file = OpenOptions::new().write(true).open(files, path)?;
-    file.set_len(seen.found.kept as u64)?;
+    file.set_len(sound as u64)?;
     file.sync_all()?;
-    Ok(())
+    Ok(aside)
+}
+
+/// The end of the last sum in these whole lines; where there is none, of the first line.
+fn end_of_sums(lines: &[u8]) -> usize {
+    let mut end = 0usize;
+    let mut at = 0usize;
+    for line in lines.split(|byte| *byte == b'\n') {
+        at = at.saturating_add(line.len()).saturating_add(1);
+        if end == 0 || line.starts_with(b"= ") {
+            end = at.min(lines.len());
+        }
+    }
+    end
+}
+
+/// How many records these whole lines of a journal have behind the first.
+fn records_in(lines: &[u8]) -> usize {
+    let mut records = 0usize;
+    for line in lines.split(|byte| *byte == b'\n') {
+        if !line.is_empty() && !line.starts_with(b"= ") {
+            records = records.saturating_add(1);
+        }
+    }
+    records.saturating_sub(1)
 }
