@@ -2,6 +2,7 @@
 
 import base64
 import os
+import re
 import resource
 import socket
 import struct
@@ -18,13 +19,18 @@ PROGRAM = ROOT / "crates" / "warpd" / "out" / "warpd"
 TWICE = "builtin:twice"
 
 
+def is_usual(line):
+    """Whether a host without trouble says this on standard error: on its start, on its journal, on its end in order."""
+    return bool(re.match(r"started: |standard input ended|journal: \d+ records$|journal: begun, since it was empty or not there$", line))
+
+
 class Hosted:
     """A process `warpd host`, whose standard input stays open. As a context it is ended by the end of its input, and must end well;
     each line of its standard error must be the first, on its start, or begin as one of `remarks` does. It has the environment `env`, and
     calls `before` when its process begins."""
 
     def __init__(self, program, hosted, *words, remarks=(), port=None, files=None, env=None, before=None):
-        self.remarks, self.talks = ["started: ", "standard input ended", *remarks], []
+        self.remarks, self.talks = list(remarks), []
 
         def prepare():
             if files:
@@ -82,7 +88,7 @@ class Hosted:
         same(self.process.returncode, 0, "the host's status")
         same(self.printed(0), f"ready {HOST}:{self.port}\n", "the host's standard output")
         for line in self.printed(1).splitlines():
-            holds(line.startswith(tuple(self.remarks)), f"standard error has {line!r}")
+            holds(is_usual(line) or line.startswith(tuple(self.remarks)), f"standard error has {line!r}")
 
     def kill(self):
         for talk in self.talks:

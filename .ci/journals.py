@@ -88,7 +88,7 @@ class Room:
 
 def remarks(host):
     """What a host said on standard error, but for its start and its end in order."""
-    return [it for it in host.printed(1).splitlines() if not it.startswith(("started: ", "standard input ended"))]
+    return [it for it in host.printed(1).splitlines() if not hosting.is_usual(it)]
 
 
 def fails(why):

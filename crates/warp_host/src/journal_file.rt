@@ -344,9 +344,9 @@ fn opened<X: Files<File = File> + Eprint, T: Timeline>(
         path: real_path(rt, alloc, path)?,
         first: Vec::from_slice(alloc, first)?,
     };
+    let front = bytes.get(..kept).unwrap_or(&bytes);
+    let disk = keep_on(rt, alloc, file, &place, front)?;
     tell_opened(rt, journal.len(), kept > 0);
-    let kept = bytes.get(..kept).unwrap_or(&bytes);
-    let disk = keep_on(rt, alloc, file, &place, kept)?;
     Ok(OpenJournal {
         keeper: Keeper::new(alloc, disk, journal),
         place,

@@ -1,5 +1,5 @@
 //! Hosting a program.
-ghost use Rattle.std.specs.Prelude.{◌≡◌, ℕ, IfErr, IfOk, List, MatchBool, OnErr, string_bytes};
+ghost use Rattle.std.specs.Prelude.{◌≡◌, IfErr, IfOk, MatchBool, OnErr, string_bytes};
 ghost use Rattle.warpd.specs.Outcome.{EndsHosting, Hosts, HostsAt, HostsPlanned, IsPrinted, KeepsFromHosting, host_line};
 
 use crate::client_tokens::tokens_in;
@@ -130,11 +130,15 @@ fn prepare<P: Host, T: Timeline>(
         names,
         names_json,
     } = hosted;
-    let most_clients = plan.clients.saturating_add(plan.peers.len() as u32);
+    let peers = u32::try_from(plan.peers.len()).unwrap_or(u32::MAX);
+    let most_clients = plan.clients.saturating_add(peers);
     let Ok(mut replica) = Replica::new(alloc, program) else {
         return Err(Outcome::Memory);
     };
-    let journal = journal_of(rt, alloc, &identity, &plan, &mut replica)?;
+    let journal = match journal_of(rt, alloc, &identity, &plan, &mut replica) {
+        Ok(journal) => journal,
+        Err(outcome) => return Err(outcome),
+    };
     Ok(Prepared {
         replica,
         facts: Facts {
@@ -169,23 +173,32 @@ fn host_line(alloc: Global, address: &str) -> Result<String, AllocError>
     Ok(line)
 }
 
-/// Says where is listened, and answers whether that could be written; `Err` for want of memory, and nothing was.
+/// Writes this line, and answers whether it could be written.
+fn is_said<R: Source, W: Sink>(line: &str, streams: &mut Streams<R, W>) -> bool
+    ensures { MatchBool result
+        (IsPrinted line.now streams.old streams.new Outcome.Done)
+        (IsPrinted line.now streams.old streams.new Outcome.Output) }
+{
+    match write_all(&mut streams.sink, line.as_bytes()) {
+        Ok(()) => true,
+        Err(_) => false,
+    }
+}
+
+/// Says that this address is listened on, and answers whether that could be written; `Err` for want of memory, and
+/// nothing was.
 fn say_host<R: Source, W: Sink>(
     alloc: Global,
-    address: SocketAddr,
+    address: &str,
     streams: &mut Streams<R, W>,
 ) -> Result<bool, AllocError>
-    ensures ok { IfOk result (λ written. (text : List ℕ) × MatchBool written
-        (IsPrinted (host_line text) streams.old streams.new Outcome.Done)
-        (IsPrinted (host_line text) streams.old streams.new Outcome.Output)) }
+    ensures ok { IfOk result (λ written. MatchBool written
+        (IsPrinted (host_line address.now) streams.old streams.new Outcome.Done)
+        (IsPrinted (host_line address.now) streams.old streams.new Outcome.Output)) }
     ensures err { OnErr result (streams.new ≡ streams.old) }
 {
-    let text = address.to_string(alloc)?;
-    let line = host_line(alloc, text.as_str())?;
-    match write_all(&mut streams.sink, line.as_str().as_bytes()) {
-        Ok(()) => Ok(true),
-        Err(_) => Ok(false),
-    }
+    let line = host_line(alloc, address)?;
+    Ok(is_said(line.as_str(), streams))
 }
 
 /// Listens, says so, and hosts.
@@ -207,7 +220,10 @@ fn host_at<
     let Ok(address) = listener.local_addr() else {
         return Outcome::Listen;
     };
-    match say_host(alloc, address, streams) {
+    let Ok(text) = address.to_string(alloc) else {
+        return Outcome::Memory;
+    };
+    match say_host(alloc, text.as_str(), streams) {
         Ok(true) => host_on::<P, T>(rt, alloc, prepared, listener, address),
         Ok(false) => Outcome::Output,
         Err(_) => Outcome::Memory,
