@@ -58,7 +58,8 @@ class Child:
     """The server that the feed started. It is looked at in each turn."""
 
     def __init__(self, words: Sequence[str]):
-        self._process = subprocess.Popen(words, stdin=subprocess.DEVNULL)
+        # What it prints goes to standard error: `ready` is said once, when it has what the stream has.
+        self._process = subprocess.Popen(words, stdin=subprocess.DEVNULL, stdout=sys.stderr.fileno())
 
     def watch(self) -> None:
         status = self._process.poll()
