@@ -104,6 +104,8 @@ export class Client {
   readonly names: Names
   readonly state: "connecting" | "open" | "closed"
   onstate: ((state: "connecting" | "open" | "closed") => void) | null
+  /** Why it is closed: `Refused` where the host refuses the token, else `Ended`. */
+  readonly error: Refused | Ended | null
   readonly connections: number
   /** Resolved once the host told its names. */
   readonly ready: Promise<Client>
@@ -138,7 +140,7 @@ export class Client {
 
 /**
  * Sends the events and withdrawals of one origin, and keeps their counts, so that its announcements are true. No other
- * may send for this origin. What would break an announcement is a RangeError, and not sent.
+ * may send for this origin. What would break an announcement is a RangeError, and not sent; what is refused does not count.
  */
 export class Announcer {
   constructor(client: Client, origin: number)

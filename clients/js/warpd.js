@@ -81,6 +81,17 @@ function number(kind, name, names) {
   return at
 }
 
+/** A whole number of a line: a TypeError where there is none, a RangeError where it is out of range. */
+function whole(name, value, most, least = 0) {
+  if (value === undefined || value === null) throw new TypeError(`${name} is missing: say it as { ${name}: 9 }`)
+  if (typeof value !== "bigint" && !Number.isSafeInteger(value)) throw new RangeError(`${name} is ${value}, and no whole number`)
+  if (value < least || value > most) throw new RangeError(`${name} is ${value}: it may be ${least} to ${most}`)
+  return value
+}
+
+const tagIn = ({ time, micro = 0 } = {}) => `${whole("time", time, 10_000_001)} ${whole("micro", micro, 255)}`
+const valueIn = ({ value }) => whole("value", value, 2n ** 63n - 1n, -(2n ** 63n))
+
 const tagged = (time, micro) => ({ time: Number(time), micro: Number(micro) })
 
 function recordOf([kind, origin, time, micro, ...rest]) {
@@ -135,6 +146,8 @@ const PUSHES = {
   horizon: READERS.horizon,
   breach: ([log, ...origins]) => ({ log: Number(log), origins: origins.map(Number) }),
 }
+
+const SUBJECTS = Object.keys(PUSHES).filter(it => it !== "frozen")
 
 /** What is watched: calls back for each push, and is an async iterator over them. `stop()` ends it. */
 class Watch {
@@ -219,6 +232,7 @@ export class Client {
   #watches = new Map()
   #isReady
   #isNotReady
+  #fingerprint
   #reopened = new Set()
 
   /** The variables by name, as a watch of "vars" keeps them. */
@@ -228,6 +242,8 @@ export class Client {
   /** "connecting", "open" or "closed"; `onstate` is called with each change, if it is set. */
   state = "connecting"
   onstate = null
+  /** Why it is closed: `Refused` where the host refuses the token, else `Ended`. */
+  error = null
   /** How often a connection was made. */
   connections = 0
   /** Resolved once the host told its names. */
@@ -262,28 +278,38 @@ export class Client {
     socket.onerror = () => {}
   }
 
-  /** Says who it is, asks for the names, watches on from where it was, and sends again what was not answered. */
+  /** Says who it is, and asks for the names; then watches on from where it was, and sends again what was not answered. */
   #opened() {
+    const socket = this.#socket
     this.#pause = FIRST_PAUSE
     this.connections += 1
-    const first = []
-    if (this.#token !== undefined) first.push(new Asked(`token ${this.#token}`))
-    const names = new Asked("names")
-    first.push(names)
-    for (const asked of first) asked.isOfOpening = true
+    const lines = ["names", "program"]
+    if (this.#token !== undefined) lines.unshift(`token ${this.#token}`)
+    const opening = lines.map(line => new Asked(line))
+    for (const asked of opening) asked.isOfOpening = true
+    this.#asked = [...opening, ...this.#asked.filter(it => !it.isOfOpening)]
+    this.#send(opening)
+    Promise.all(opening.map(it => it.answer)).then(answers => {
+      if (this.#socket === socket && this.state !== "closed") this.#greeted(...answers.slice(-2))
+    }, error => error instanceof Refused && this.#finish(error))
+  }
+
+  /** Goes on where it was, unless the host has another program than before. */
+  #greeted(names, { fingerprint }) {
+    this.#fingerprint ??= fingerprint
+    if (this.#fingerprint !== fingerprint) {
+      return this.#finish(new Ended(`the host has another program now, ${fingerprint}: it had ${this.#fingerprint}`))
+    }
+    this.names = names
     const begun = new Set(this.#asked.map(it => it.watch))
-    for (const watch of this.#watches.values()) if (!begun.has(watch)) first.push(new Asked(watch.line))
-    const again = this.#asked.filter(it => !it.isOfOpening)
-    for (const asked of again) if (asked.watch) asked.line = asked.watch.line
-    this.#asked = [...first, ...again]
+    const missing = [...this.#watches.values()].filter(it => !begun.has(it)).map(it => new Asked(it.line))
+    for (const asked of this.#asked) if (asked.watch) asked.line = asked.watch.line
+    this.#asked.unshift(...missing)
     this.#isOpened = true
     this.#send(this.#asked)
-    Promise.all(first.filter(it => it.isOfOpening).map(it => it.answer)).then(answers => {
-      this.names = answers.at(-1)
-      this.#turn("open")
-      this.#isReady(this)
-      if (this.connections > 1) for (const callback of this.#reopened) callback()
-    }, error => error instanceof Refused && this.#finish(error))
+    this.#turn("open")
+    this.#isReady(this)
+    if (this.connections > 1) for (const callback of this.#reopened) callback()
   }
 
   #send(asked) {
@@ -317,6 +343,8 @@ export class Client {
 
   #finish(error) {
     clearTimeout(this.#timer)
+    this.#isOpened = false
+    this.error ??= error
     this.#turn("closed")
     this.#isNotReady(error)
     for (const asked of this.#asked.splice(0)) asked.reject(error)
@@ -377,20 +405,23 @@ export class Client {
   }
 
   /** Puts an event: at its tag the input, by name or number, has the value. */
-  async event(input, { time, value, micro = 0, origin }) {
+  async event(input, event) {
+    const [tag, value] = [tagIn(event), valueIn(event)]
     await this.ready
     const at = this.names.input(input)
-    return this.ask(`event ${origin ?? this.names.owner(at)} ${time} ${micro} ${at} ${BigInt(value)}`)
+    return this.ask(`event ${event.origin ?? this.names.owner(at)} ${tag} ${at} ${value}`)
   }
 
   /** No event of this name (origin and tag) counts. */
-  withdraw(origin, { time, micro = 0 }) {
-    return this.ask(`withdraw ${origin} ${time} ${micro}`)
+  async withdraw(origin, tag) {
+    return this.ask(`withdraw ${whole("origin", origin, 63)} ${tagIn(tag)}`)
   }
 
   /** Before this tag the origin has so many names with an event, and with a withdrawal. An `Announcer` counts them. */
-  announce(origin, { time, micro = 0, events, withdrawn = 0 }) {
-    return this.ask(`announce ${origin} ${time} ${micro} ${events} ${withdrawn}`)
+  async announce(origin, word) {
+    const tag = tagIn(word)
+    const { events, withdrawn = 0 } = word
+    return this.ask(`announce ${whole("origin", origin, 63)} ${tag} ${whole("events", events, 1e9)} ${whole("withdrawn", withdrawn, 1e9)}`)
   }
 
   /** A variable, by name or number. */
@@ -453,14 +484,19 @@ export class Client {
   /**
    * Watches "log" or "released" (from place 1, number 0, or `from` on), "vars", "horizon" or "breach". Calls back for
    * each push, and is an async iterator over them; `stop()` ends it. A second watch of the same takes the first's place.
+   * What cannot be watched is a RangeError.
    */
   watch(what, callback = null, { from = { log: 1, released: 0 }[what] ?? null } = {}) {
+    number("subject of a watch", what, SUBJECTS)
     this.#watches.get(what)?.end()
     const watch = new Watch(this, what, from, callback)
     this.#watches.set(what, watch)
     /** Resolved once the host answered that it is watched. */
     watch.started = this.#put(watch.line, watch)
-    watch.started.catch(() => this.#watches.get(what) === watch && this.#watches.delete(what))
+    watch.started.catch(() => {
+      if (this.#watches.get(what) === watch) this.#watches.delete(what)
+      watch.end()
+    })
     return watch
   }
 
@@ -486,15 +522,23 @@ function before(tags, tag) {
   return low
 }
 
+const numbersOf = words => words.split(" ").map(Number)
+
+// Refusals that pass: what was sent may be sent again.
+const FOR_NOW = new Set([8, 10, 14])
+
 /**
  * Sends the events and withdrawals of one origin, and keeps their counts, so that its announcements are true. No other
  * may send for this origin. What would break an announcement is a RangeError and not sent: what is before the last
- * announced tag, and a second payload of one name. A lost connection does no harm: the client sends again what was not
- * answered, and to a host that began anew the announcer sends all that it sent before.
+ * announced tag, and a second payload of one name. What the host refuses does not count; where it refuses for now (no
+ * memory, busy, no journal), the announcer says it again before the next announcement. A lost connection does no harm:
+ * the client sends again what was not answered, and to a host that began anew the announcer sends all that it has.
  */
 export class Announcer {
   constructor(client, origin) {
-    Object.assign(this, { client, origin, announced: { time: 0, micro: 0 }, events: [], withdrawn: [], payloads: new Map(), sent: [] })
+    Object.assign(this, { client, origin, words: new Set([{ time: 0, micro: 0 }]), events: [], withdrawn: [], payloads: new Map() })
+    // The lines that the host has, and those that are under way or were refused for now.
+    Object.assign(this, { taken: new Set(), open: new Map() })
     this.began = this.begin()
     this.began.catch(() => {})
     client.onReopened(() => this.again().catch(() => {}))
@@ -509,57 +553,118 @@ export class Announcer {
     this.connections = this.client.connections
   }
 
-  note(record) {
-    if (record.kind === "announce") {
-      if (compare(this.announced, record) < 0) this.announced = tagged(record.time, record.micro)
+  /** The greatest tag that was announced, or is about to be. */
+  get announced() {
+    return [...this.words].reduce((one, other) => (compare(one, other) < 0 ? other : one))
+  }
+
+  /** Counts a record that the host has. */
+  note({ kind, time, micro, input, value, events, withdrawn }) {
+    const tag = { time, micro }
+    const name = `${time} ${micro}`
+    const payload = { event: ` ${input} ${value}`, announce: ` ${events} ${withdrawn}` }[kind] ?? ""
+    this.taken.add(`${kind} ${this.origin} ${name}${payload}`)
+    if (kind === "announce") {
+      for (const word of this.words) if (compare(word, tag) <= 0) this.words.delete(word)
+      this.words.add(tag)
       return
     }
-    const tags = record.kind === "event" ? this.events : this.withdrawn
-    if (record.kind === "event") this.payloads.set(`${record.time} ${record.micro}`, `${record.input} ${record.value}`)
-    const at = before(tags, record)
-    if (!tags[at] || compare(tags[at], record)) tags.splice(at, 0, tagged(record.time, record.micro))
+    if (kind === "event") this.payloads.set(name, payload)
+    const tags = kind === "event" ? this.events : this.withdrawn
+    const at = before(tags, tag)
+    if (!tags[at] || compare(tags[at], tag)) tags.splice(at, 0, tag)
   }
 
   /** Over another connection says all of it again: the host may have begun anew. */
   async again() {
     await this.began
     await this.client.ready
-    if (this.connections === this.client.connections) return
-    this.connections = this.client.connections
-    await Promise.all(this.sent.map(line => this.client.ask(line)))
+    const { connections } = this.client
+    if (this.connections === connections) return
+    this.saying ??= Promise.all(Array.from(this.taken, line => this.client.ask(line)))
+      .then(() => (this.connections = connections))
+      .finally(() => (this.saying = null))
+    await this.saying
   }
 
-  async put(record, line) {
-    if (compare(record, this.announced) < 0) {
-      throw new RangeError(`before what was announced, ${this.announced.time} ${this.announced.micro}: ${line}`)
+  /** Sends an event or a withdrawal, and counts it once the host has it. */
+  async put(line, record) {
+    const answer = this.client.ask(line)
+    this.open.set(line, { record, answer })
+    try {
+      const taken = await answer
+      this.note(record)
+      this.open.delete(line)
+      return taken
+    } catch (error) {
+      const isForNow = error instanceof Refused && FOR_NOW.has(error.number)
+      if (isForNow) this.open.set(line, { record, answer: null })
+      else this.drop(line, record)
+      throw error
     }
-    this.note(record)
-    this.sent.push(line)
-    return this.client.ask(line)
   }
 
-  async event(input, { time, value, micro = 0 }) {
+  /** What was refused is as if it had never been sent; but the host may have had it before. */
+  drop(line, { kind, time, micro }) {
+    this.open.delete(line)
+    if (kind === "event" && !this.taken.has(line)) this.payloads.delete(`${time} ${micro}`)
+  }
+
+  check(line, tag) {
+    const { announced } = this
+    if (compare(tag, announced) < 0) throw new RangeError(`before what was announced, ${announced.time} ${announced.micro}: ${line}`)
+  }
+
+  async event(input, event) {
+    const [tag, value] = [tagIn(event), valueIn(event)]
+    const [time, micro] = numbersOf(tag)
     await this.again()
     const at = this.client.names.input(input)
-    const record = { kind: "event", time, micro, input: at, value: BigInt(value) }
-    const line = `event ${this.origin} ${time} ${micro} ${at} ${record.value}`
-    const payload = this.payloads.get(`${time} ${micro}`)
-    if (payload !== undefined && payload !== `${at} ${record.value}`) {
-      throw new RangeError(`another payload of its name was sent: ${line}`)
+    const payload = ` ${at} ${value}`
+    const line = `event ${this.origin} ${tag}${payload}`
+    if ((this.payloads.get(tag) ?? payload) !== payload) throw new RangeError(`another payload of its name was sent: ${line}`)
+    this.check(line, { time, micro })
+    this.payloads.set(tag, payload)
+    return this.put(line, { kind: "event", time, micro, input: at, value })
+  }
+
+  async withdraw(tag) {
+    const line = `withdraw ${this.origin} ${tagIn(tag)}`
+    const [time, micro] = numbersOf(tagIn(tag))
+    await this.again()
+    this.check(line, { time, micro })
+    return this.put(line, { kind: "withdraw", time, micro })
+  }
+
+  /**
+   * Announces that nothing more comes before this tag. Waits until the host has what was sent before it; what it refused
+   * for now is sent again, and where it refuses that once more nothing is announced.
+   */
+  async announce(tag) {
+    const words = `announce ${this.origin} ${tagIn(tag)}`
+    const [time, micro] = numbersOf(tagIn(tag))
+    const word = { kind: "announce", time, micro }
+    await this.again()
+    this.check(words, word)
+    this.words.add(word)
+    try {
+      await this.settle(word)
+      const [events, withdrawn] = [before(this.events, word), before(this.withdrawn, word)]
+      const taken = await this.client.ask(`${words} ${events} ${withdrawn}`)
+      this.note({ ...word, events, withdrawn })
+      return taken
+    } catch (error) {
+      if (error instanceof Refused) this.words.delete(word)
+      throw error
     }
-    return this.put(record, line)
   }
 
-  async withdraw({ time, micro = 0 }) {
-    await this.again()
-    return this.put({ kind: "withdraw", time, micro }, `withdraw ${this.origin} ${time} ${micro}`)
-  }
-
-  /** Announces that nothing more comes before this tag. */
-  async announce({ time, micro = 0 }) {
-    await this.again()
-    const tag = { kind: "announce", time, micro }
-    const counts = `${before(this.events, tag)} ${before(this.withdrawn, tag)}`
-    return this.put(tag, `announce ${this.origin} ${time} ${micro} ${counts}`)
+  /** Waits for what is under way before a tag, and sends again what was refused for now. */
+  async settle(tag) {
+    const waiting = () => [...this.open].filter(([, { record }]) => compare(record, tag) < 0)
+    await Promise.all(waiting().map(([, { answer }]) => answer?.catch(() => {})))
+    await Promise.all(waiting().map(([line, { record, answer }]) => (answer ?? this.put(line, record)).catch(error => {
+      if (this.open.has(line)) throw error
+    })))
   }
 }

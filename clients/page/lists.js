@@ -1,7 +1,6 @@
 // Lists that keep no more than they show, and show no more than is seen.
 
 export const MOST = 10_000
-const ROW = 28
 const SPARE = 4
 
 /** The last MOST items of those that were added, by age: the newest has age 0. */
@@ -28,12 +27,13 @@ export class Last {
   }
 }
 
-/** Rows of one height in a box that scrolls: only those that are seen are in the document. */
+/** Rows of one height, which the style says, in a box that scrolls: only those that are seen are in the document. */
 export class Rows {
   #box
   #list = document.createElement("ul")
   #tellsOf
   #length = 0
+  #row
   #added = 0
 
   /** `tellsOf` gives the words of a row by its number: `{ words: [first, middle, last], kind }`. */
@@ -49,14 +49,15 @@ export class Rows {
     const grown = added - this.#added
     this.#added = added
     this.#length = length
-    this.#list.style.height = `${length * ROW}px`
-    if (grown > 0 && this.#box.scrollTop >= ROW) this.#box.scrollTop += grown * ROW
+    this.#row = parseInt(getComputedStyle(this.#box).getPropertyValue("--row"))
+    this.#list.style.height = `${length * this.#row}px`
+    if (grown > 0 && this.#box.scrollTop >= this.#row) this.#box.scrollTop += grown * this.#row
     this.#render()
   }
 
   #render() {
-    const first = Math.max(0, Math.floor(this.#box.scrollTop / ROW) - SPARE)
-    const seen = Math.ceil(this.#box.clientHeight / ROW) + 2 * SPARE
+    const first = Math.max(0, Math.floor(this.#box.scrollTop / this.#row) - SPARE)
+    const seen = Math.ceil(this.#box.clientHeight / this.#row) + 2 * SPARE
     const wanted = Math.max(0, Math.min(seen, this.#length - first))
     while (this.#list.childElementCount > wanted) this.#list.lastElementChild.remove()
     while (this.#list.childElementCount < wanted) this.#list.append(rowOfWords())
@@ -65,7 +66,7 @@ export class Rows {
 
   #fill(item, number) {
     fillRow(item, this.#tellsOf(number))
-    item.style.transform = `translateY(${number * ROW}px)`
+    item.style.transform = `translateY(${number * this.#row}px)`
     item.setAttribute("aria-setsize", this.#length)
     item.setAttribute("aria-posinset", number + 1)
   }

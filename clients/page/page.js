@@ -3,7 +3,7 @@
 import { Client, Refused } from "./warpd.js"
 import { MOST, Rows, fillRow, rowOfWords } from "./lists.js"
 import { Replica } from "./replica.js"
-import { answerText, recordText, tagText } from "./tags.js"
+import { answerText, orderOf, recordText, tagText } from "./tags.js"
 import { Timeline, inWords } from "./timeline.js"
 
 const PAUSE = 400
@@ -22,13 +22,16 @@ let isAsking = false
 let mayTellLate = true
 
 const rows = {
-  records: new Rows(at("records"), age => recordRow(replica.records.at(age))),
+  records: new Rows(at("records"), age => recordRow(listed().at(age))),
   released: new Rows(at("released"), age => outputRow(replica.released.at(age))),
   vars: new Rows(at("vars"), number => ({
     words: ["", client.names.vars[number] ?? `variable ${number}`, `${replica.values[number]}`],
     kind: replica.changed.has(number) ? "new" : "",
   })),
 }
+
+/** The records that are listed. */
+const listed = () => (at("words").checked ? replica.records : replica.acts)
 
 function recordRow({ place, record, back }) {
   const end = back ? `late: ${tagText(back)} back to ${tagText(record)}` : ""
@@ -49,21 +52,22 @@ function draw() {
   isDrawn = false
   drawFacts()
   drawOrigins()
-  rows.records.show(replica.records.length, replica.records.added)
+  rows.records.show(listed().length, listed().added)
   rows.released.show(replica.released.length, replica.released.added)
   rows.vars.show(replica.values.length)
   drawOpen()
   drawTimeline()
   tellLate()
+  warn()
 }
 
 function drawFacts() {
-  const { log, horizon, released, outputs, frozen } = replica
+  const { log, horizon, released, outputs, frozen, lost } = replica
   put("program", program ? `version ${program.version}, ${program.fingerprint}` : "-")
   put("log", `${log} ${log === 1 ? "record" : "records"}${limits.log && ` of at most ${limits.log}`}`)
   put("horizon", horizon ? tagText(horizon) : "-")
   const waiting = Math.max(0, outputs - released.added)
-  put("counts", `${released.added} released${frozen ? ", frozen: an origin broke its word" : ""}, ${waiting} not yet`)
+  put("counts", `${released.added} released${frozen ? ", frozen: an origin broke its word" : ""}, ${waiting} not yet${lost ? `, ${lost} lost` : ""}`)
 }
 
 function originsNow() {
@@ -154,11 +158,14 @@ function connect() {
 }
 
 function turn(state) {
-  const isRefused = state === "closed"
+  const isRefused = client.error instanceof Refused
   put("state", isRefused ? "refused" : state)
   at("state").dataset.state = state
   put("rights", isRefused ? "This host wants a token, or another one." : "")
   at("rights").className = isRefused ? "bad" : ""
+  if (isRefused) at("you").hidden = false
+  // The host has another program.
+  if (state === "closed" && !isRefused) setTimeout(connect, PAUSE)
   if (state === "connecting") for (const watch of watches.splice(0)) watch.stop().catch(() => {})
 }
 
@@ -215,6 +222,15 @@ function lineOfForm() {
   return `announce ${at("origin").value} ${tag} ${digits("events")} ${digits("withdrawn")}`
 }
 
+/** Says so where what the form has would break its origin's word. */
+function warn() {
+  const kind = at("kind").value
+  const origin = kind === "event" ? client.names.inputs[at("input").value]?.origin : Number(at("origin").value)
+  const word = kind !== "announce" && at("time").value && replica.announced.get(origin)
+  const isLate = word && orderOf({ time: at("time").value, micro: at("micro").value }, word) < 0
+  put("warning", isLate ? `Origin ${origin} announced ${tagText(word)}: this breaks its word.` : "")
+}
+
 function tellAnswer(text, kind = "") {
   put("answer", text)
   at("answer").className = kind
@@ -227,6 +243,7 @@ async function send(event) {
     tellAnswer(`${line}: sent, no answer yet`)
     tellAnswer(`${line}: ${answerText(await client.ask(line))}`, "good")
   } catch (error) {
+    if (error.number === 13) at("you").hidden = false
     tellAnswer(error instanceof Refused ? `${error.message}. Nothing was changed.` : `not sent: ${error.message}`, "bad")
   }
 }
@@ -242,7 +259,8 @@ function countFromLog() {
 at("send").addEventListener("submit", send)
 at("kind").addEventListener("change", showFields)
 at("count").addEventListener("click", countFromLog)
-at("span").addEventListener("change", touch)
+at("send").addEventListener("input", touch)
+for (const id of ["span", "words"]) at(id).addEventListener("change", touch)
 at("who").addEventListener("submit", event => {
   event.preventDefault()
   token = at("token").value || undefined

@@ -8,6 +8,8 @@ const OPEN_SHOWN = 20
 export class Replica {
   constructor() {
     this.records = new Last()
+    // Those that are no announcements.
+    this.acts = new Last()
     this.released = new Last()
     this.clear()
   }
@@ -15,10 +17,11 @@ export class Replica {
   /** As before the first push of a connection. */
   clear() {
     this.records.clear()
+    this.acts.clear()
     this.released.clear()
     Object.assign(this, { log: 0, newest: null, late: 0, lastLate: null, horizon: null, values: [], frozen: false })
     Object.assign(this, { changed: new Set(), broken: new Set(), announced: new Map(), origins: new Set() })
-    Object.assign(this, { outputs: 0, asked: [], askedFrom: 0 })
+    Object.assign(this, { outputs: 0, lost: 0, asked: [], askedFrom: 0 })
   }
 
   /** A record, the next of the log; what a watch before this one brings is passed over. */
@@ -31,6 +34,7 @@ export class Replica {
     else if (this.newest && orderOf(record, this.newest) < 0) this.#takeLate(item)
     else this.newest = { time: record.time, micro: record.micro }
     this.records.add(item)
+    if (record.kind !== "announce") this.acts.add(item)
   }
 
   #takeAnnounced({ origin, time, micro }) {
@@ -63,13 +67,13 @@ export class Replica {
     this.broken = new Set(origins)
   }
 
-  /** Asks for what is not released yet: how much it is, and the first of it. */
+  /** Asks for what is not released yet: how much it is, and the first of it; and how much was lost. */
   async askOpen(client) {
-    const { count } = await client.outputs()
+    const [{ count }, lost] = await Promise.all([client.outputs(), client.lost()])
     const first = this.released.added
     const length = Math.max(0, Math.min(count - first, OPEN_SHOWN))
     const rows = await Promise.all(Array.from({ length }, (_, at) => client.output(first + at)))
-    Object.assign(this, { outputs: count, asked: rows.filter(Boolean), askedFrom: first })
+    Object.assign(this, { outputs: count, lost: lost.count, asked: rows.filter(Boolean), askedFrom: first })
   }
 
   /** The outputs that are not released, of those that were asked for. */

@@ -113,8 +113,9 @@ export class Timeline {
     this.#line("faint", [GUTTER, y], [width - EDGE, y])
     for (let time = Math.ceil(low / step) * step; time <= high; time += step) {
       const at = x({ time, micro: 0 })
+      const half = this.#pen.measureText(`${time}`).width / 2
       this.#line("faint", [at, y], [at, y + 4])
-      this.#text("faint", `${time}`, at, y + 16, "center")
+      this.#text("faint", `${time}`, Math.min(at, width - half), y + 16, "center")
     }
   }
 
@@ -158,8 +159,10 @@ export class Timeline {
     pen.lineTo(to + 7, y + 4.5)
     pen.fill()
     const text = `${tagText(back)} back to ${tagText(record)}`
-    const isRoom = from + 6 + pen.measureText(text).width < width
-    this.#text("late", text, isRoom ? from + 6 : to - 6, y + 4, isRoom ? "left" : "right")
+    const wide = 6 + pen.measureText(text).width
+    if (from + wide < width) this.#text("late", text, from + 6, y + 4)
+    else if (to > wide) this.#text("late", text, to - 6, y + 4, "right")
+    else this.#text("late", text, Math.max(wide, from - 6), y - 3, "right")
     pen.globalAlpha = 1
   }
 }

@@ -87,6 +87,67 @@ hosted("an announcer keeps to its word", async ({ assert, client }) => {
   assert.deepEqual(await client.breach(0), { log: 2, broken: false })
 })
 
+hosted("what is refused does not count, and what breaks no rule is announced with what was taken", async ({ assert, client }) => {
+  const [announcer, other] = [new Announcer(client, 0), new Announcer(client, 1)]
+  await announcer.event("r.a", { time: 5, value: 3 })
+  // Past the stop, and another's input.
+  const refused = [announcer.event("r.a", { time: 101, value: 1 }), announcer.event("r.b", { time: 6, value: 1 })]
+  const word = announcer.announce({ time: 50 })
+  for (const [at, number] of [3, 5].entries()) await assert.rejects(refused[at], error => error.number === number)
+  await word
+  await other.announce({ time: 50 })
+  assert.deepEqual(await client.horizon(), { log: 3, time: 50, micro: 0 })
+  // An event that is under way counts, and one before a word that is under way is not sent.
+  const sent = announcer.event("r.a", { time: 60, value: 1 })
+  const next = announcer.announce({ time: 70 })
+  await assert.rejects(announcer.event("r.a", { time: 61, value: 1 }), RangeError)
+  await Promise.all([sent, next, other.announce({ time: 70 })])
+  assert.equal((await client.horizon()).time, 70)
+  // A word that was refused binds nobody.
+  await assert.rejects(announcer.announce({ time: 1_000 }), error => error instanceof Refused)
+  await announcer.event("r.a", { time: 80, value: 1 })
+  assert.deepEqual(await client.breach(0), { log: 7, broken: false })
+})
+
+hosted("what is refused for now is said again before the next announcement", async ({ assert, client }) => {
+  const [announcer, other] = [new Announcer(client, 0), new Announcer(client, 1)]
+  await announcer.began
+  const { ask } = client
+  let isBusy = true
+  client.ask = line => (isBusy && line.startsWith("event") ? Promise.reject(new Refused(10, line)) : ask.call(client, line))
+  await assert.rejects(announcer.event("r.a", { time: 5, value: 3 }), Refused)
+  await assert.rejects(announcer.announce({ time: 9 }), error => error.number === 10)
+  isBusy = false
+  await Promise.all([announcer.announce({ time: 9 }), other.announce({ time: 9 })])
+  assert.deepEqual(await client.log(1), { log: 3, record: { kind: "event", origin: 0, time: 5, micro: 0, input: 0, value: 3n } })
+  assert.equal((await client.horizon()).time, 9)
+})
+
+hosted("what is missing or out of range is told in words, and not sent", async ({ assert, client }) => {
+  const announcer = new Announcer(client, 0)
+  const told = async (promise, kind, words) => assert.rejects(promise, error => error instanceof kind && error.message.includes(words))
+  for (const it of [event => client.event("r.a", event), event => announcer.event("r.a", event)]) {
+    await told(it({ value: 3 }), TypeError, "time is missing")
+    await told(it({ time: 9 }), TypeError, "value is missing")
+    await told(it(), TypeError, "time is missing")
+    await told(it({ time: -1, value: 3 }), RangeError, "time is -1")
+    await told(it({ time: 1.5, value: 3 }), RangeError, "time is 1.5")
+    await told(it({ time: 1, micro: 256, value: 3 }), RangeError, "micro is 256")
+    await told(it({ time: 1, value: 2n ** 63n }), RangeError, "value is 9223372036854775808")
+  }
+  await told(announcer.announce(9), TypeError, "time is missing")
+  await told(client.announce(0, { time: 9 }), TypeError, "events is missing")
+  await told(client.withdraw({ time: 9 }), RangeError, "origin is")
+  let thrown = null
+  try {
+    client.watch("vrs")
+  } catch (error) {
+    thrown = error
+  }
+  assert.match(`${thrown}`, /RangeError: .*"vrs".*vars/)
+  assert.deepEqual(await client.released(), { log: 0, count: 0 })
+})
+
 hosted("a host that begins anew gets all again, and is watched on", async ({ assert, client, host }) => {
   const announcer = new Announcer(client, 0)
   const states = []

@@ -5,8 +5,8 @@ use http::HeaderValue;
 /// What the page may do in a browser: its own style and script alone, told by their SHA-256, and connect to its host.
 const POLICY: &str = "\
 default-src 'none'; \
-script-src 'sha256-XeLIzRQUG+EmdlvIryoiJczPZs56cuj85DnBvFTUe1U='; \
-style-src 'sha256-oiKuV4JbqFMjwWlL5iBAnKyLy3HOQcb+K2ldvFLfu2w='; \
+script-src 'sha256-trXwca+y7XcYAz7S/oLDpy1/GNPszdGrWDGAoKcJJ5s='; \
+style-src 'sha256-w6wrpSjQQo2ITNrYMfX6Z7+uynafgFVJ8u9XhCCqJFo='; \
 connect-src 'self'; \
 img-src data:; \
 base-uri 'none'; \
@@ -21,253 +21,7 @@ const PAGE: &[u8] = br##"<!doctype html>
 <meta name="color-scheme" content="light dark">
 <title>warpd</title>
 <link rel="icon" href="data:,">
-<style>:root {
-color-scheme: light dark;
---ground: #f4f5f7;
---card: #ffffff;
---ink: #1b232c;
---faint: #5a6673;
---rule: #d3d9e0;
---accent: #1d63a8;
---late: #b8400a;
---shade: #e6f1e9;
---good: #1c7040;
---new: #fdf0d0;
-}
-@media (prefers-color-scheme: dark) {
-:root {
---ground: #14181d;
---card: #1d2329;
---ink: #e4e8ec;
---faint: #9aa6b2;
---rule: #38424c;
---accent: #6db3f2;
---late: #ff9a57;
---shade: #1e3327;
---good: #6fce94;
---new: #453a1c;
-}
-}
-* {
-box-sizing: border-box;
-}
-body {
-margin: 0 auto;
-padding: 0.75rem;
-max-width: 76rem;
-background: var(--ground);
-color: var(--ink);
-font: 15px/1.45 system-ui, sans-serif;
-}
-header,
-.row {
-display: flex;
-flex-wrap: wrap;
-align-items: center;
-gap: 0.5rem 1rem;
-}
-h1,
-h2,
-h3,
-p,
-dl,
-dd {
-margin: 0;
-}
-h1 {
-font-size: 1.4rem;
-}
-h2 {
-font-size: 1.05rem;
-margin-bottom: 0.5rem;
-}
-h3 {
-font-size: 0.9rem;
-color: var(--faint);
-margin: 0.5rem 0 0.25rem;
-}
-main {
-display: grid;
-grid-template-columns: repeat(auto-fit, minmax(min(100%, 22rem), 1fr));
-grid-auto-flow: row dense;
-gap: 0.75rem;
-margin-top: 0.75rem;
-}
-section {
-min-width: 0;
-padding: 0.75rem;
-background: var(--card);
-border: 1px solid var(--rule);
-border-radius: 8px;
-}
-@media (min-width: 50rem) {
-.wide {
-grid-column: span 2;
-}
-}
-#state {
-padding: 0 0.6rem;
-border: 1px solid;
-border-radius: 1rem;
-color: var(--late);
-}
-#state[data-state="open"] {
-color: var(--good);
-}
-dl div {
-display: flex;
-gap: 0.5rem;
-}
-dt {
-flex: 0 0 5rem;
-color: var(--faint);
-}
-dd {
-min-width: 0;
-overflow-wrap: anywhere;
-}
-table {
-width: 100%;
-margin-top: 0.5rem;
-border-collapse: collapse;
-}
-caption,
-th {
-text-align: left;
-color: var(--faint);
-font-weight: normal;
-}
-th,
-td {
-padding: 0.15rem 0.5rem 0.15rem 0;
-border-bottom: 1px solid var(--rule);
-vertical-align: top;
-overflow-wrap: anywhere;
-}
-td:first-child,
-th:first-child,
-td:last-child {
-white-space: nowrap;
-}
-canvas {
-display: block;
-width: 100%;
-margin: 0.5rem 0;
-}
-ul {
-margin: 0;
-padding: 0 0 0 1.2rem;
-}
-.box {
-position: relative;
-min-height: 28px;
-max-height: 15.4rem;
-overflow: auto;
-border: 1px solid var(--rule);
-border-radius: 6px;
-}
-#open {
-max-height: 9rem;
-overflow: auto;
-}
-.box ul,
-#open {
-position: relative;
-padding: 0;
-list-style: none;
-font-variant-numeric: tabular-nums;
-}
-.box li,
-#open li {
-display: flex;
-gap: 0.6rem;
-width: 100%;
-height: 28px;
-padding: 0 0.6rem;
-line-height: 28px;
-white-space: nowrap;
-}
-.box li {
-position: absolute;
-top: 0;
-border-bottom: 1px solid var(--rule);
-}
-li span {
-overflow: hidden;
-text-overflow: ellipsis;
-}
-li .dim {
-flex: 0 0 auto;
-min-width: 3rem;
-color: var(--faint);
-}
-li .dim:empty {
-display: none;
-}
-li .end {
-margin-left: auto;
-flex: 0 0 auto;
-}
-li.late .end {
-color: var(--late);
-}
-li.new {
-background: var(--new);
-}
-form {
-display: grid;
-grid-template-columns: repeat(auto-fit, minmax(8rem, 1fr));
-gap: 0.5rem;
-align-items: end;
-}
-form .row {
-grid-column: 1 / -1;
-}
-form label {
-display: grid;
-color: var(--faint);
-}
-input,
-select,
-button {
-min-width: 0;
-padding: 0.3rem 0.5rem;
-border: 1px solid var(--faint);
-border-radius: 6px;
-background: var(--card);
-color: var(--ink);
-font: inherit;
-}
-button {
-padding: 0.3rem 0.9rem;
-border-color: var(--accent);
-color: var(--accent);
-cursor: pointer;
-}
-button:not([type]) {
-background: var(--accent);
-color: var(--card);
-}
-:focus-visible {
-outline: 3px solid var(--accent);
-outline-offset: 1px;
-}
-[hidden] {
-display: none !important;
-}
-#answer {
-margin-top: 0.5rem;
-min-height: 1.5em;
-overflow-wrap: anywhere;
-}
-.bad,
-#late.some {
-color: var(--late);
-}
-.good {
-color: var(--good);
-}
-</style>
+<style>:root{color-scheme:light dark;--ground:#f4f5f7;--card:#ffffff;--ink:#1b232c;--faint:#5a6673;--rule:#d3d9e0;--accent:#1d63a8;--late:#b8400a;--shade:#e6f1e9;--good:#1c7040;--new:#fdf0d0}@media (prefers-color-scheme:dark){:root{--ground:#14181d;--card:#1d2329;--ink:#e4e8ec;--faint:#9aa6b2;--rule:#38424c;--accent:#6db3f2;--late:#ff9a57;--shade:#1e3327;--good:#6fce94;--new:#453a1c}}*{box-sizing:border-box}body{margin:0 auto;padding:0.75rem;max-width:76rem;background:var(--ground);color:var(--ink);font:15px/1.45 system-ui,sans-serif}header,.row{display:flex;flex-wrap:wrap;align-items:center;gap:0.5rem 1rem}h1,h2,h3,p,dl,dd{margin:0}h1{font-size:1.4rem}h2{font-size:1.05rem;margin-bottom:0.5rem}h3{font-size:0.9rem;color:var(--faint);margin:0.5rem 0 0.25rem}main{display:grid;grid-template-columns:repeat(auto-fit,minmax(min(100%,22rem),1fr));grid-auto-flow:row dense;gap:0.75rem;margin-top:0.75rem}section{min-width:0;padding:0.75rem;background:var(--card);border:1px solid var(--rule);border-radius:8px}@media (min-width:50rem){.wide{grid-column:span 2}}#state{padding:0 0.6rem;border:1px solid;border-radius:1rem;color:var(--late)}#state[data-state="open"]{color:var(--good)}dl div{display:flex;gap:0.5rem}dt{flex:0 0 5rem;color:var(--faint)}dd{min-width:0;overflow-wrap:anywhere}table{width:100%;margin-top:0.5rem;border-collapse:collapse}caption,th{text-align:left;color:var(--faint);font-weight:normal}th,td{padding:0.15rem 0.5rem 0.15rem 0;border-bottom:1px solid var(--rule);vertical-align:top;overflow-wrap:anywhere}td:first-child,th:first-child,td:last-child{white-space:nowrap}canvas{display:block;width:100%;margin:0.5rem 0}ul{margin:0;padding:0 0 0 1.2rem}.box{position:relative;--row:28px;min-height:var(--row);max-height:15.4rem;overflow:auto;border:1px solid var(--rule);border-radius:6px}#open{max-height:9rem;overflow:auto}.box ul,#open{position:relative;padding:0;list-style:none;font-variant-numeric:tabular-nums}.box li,#open li{display:flex;gap:0.6rem;width:100%;height:28px;padding:0 0.6rem;line-height:28px;white-space:nowrap}.box li{position:absolute;top:0;height:var(--row);border-bottom:1px solid var(--rule)}li span{overflow:hidden;text-overflow:ellipsis}li .dim{flex:0 0 auto;min-width:3rem;color:var(--faint)}li .dim:empty{display:none}li .end{margin-left:auto;flex:0 0 auto}@media (max-width:30rem){#records{--row:50px}#records li{white-space:normal;line-height:24px}#records .end{flex-shrink:1}}li.late .end{color:var(--late)}li.new{background:var(--new)}form{display:grid;grid-template-columns:repeat(auto-fit,minmax(8rem,1fr));gap:0.5rem;align-items:end}form .row{grid-column:1 / -1}form label{display:grid;color:var(--faint)}input,select,button{min-width:0;padding:0.3rem 0.5rem;border:1px solid var(--faint);border-radius:6px;background:var(--card);color:var(--ink);font:inherit}button{padding:0.3rem 0.9rem;border-color:var(--accent);color:var(--accent);cursor:pointer}button:not([type]){background:var(--accent);color:var(--card)}:focus-visible{outline:3px solid var(--accent);outline-offset:1px}[hidden]{display:none !important}#answer{margin-top:0.5rem;min-height:1.5em;overflow-wrap:anywhere}.bad,#late.some{color:var(--late)}.good{color:var(--good)}</style>
 <header>
 <h1>warpd</h1>
 <p id="state" role="status" data-state="connecting">connecting</p>
@@ -313,6 +67,7 @@ it was, the replica goes on from there) or more (timers and actions may lie behi
 </section>
 <section aria-labelledby="h-records" class="wide">
 <h2 id="h-records">Records, the newest first</h2>
+<p><label><input type="checkbox" id="words" checked> With announcements</label></p>
 <div class="box" id="records" tabindex="0" role="region" aria-labelledby="h-records"></div>
 </section>
 <section aria-labelledby="h-outputs">
@@ -341,12 +96,13 @@ it was, the replica goes on from there) or more (timers and actions may lie behi
 <p class="row"><button>Send</button>
 <button type="button" id="count" data-of="announce">Count from the log</button></p>
 </form>
+<p id="warning" role="status" class="bad"></p>
 <p id="answer" role="status"></p>
 </section>
-<section aria-labelledby="h-who">
+<section aria-labelledby="h-who" id="you" hidden>
 <h2 id="h-who">Who you are</h2>
 <form id="who">
-<label>Token, where the host wants one <input id="token" type="password" autocomplete="off"></label>
+<label>Token <input id="token" type="password" autocomplete="off"></label>
 <p class="row"><button>Use it</button></p>
 </form>
 <p id="rights" role="status"></p>
@@ -390,12 +146,6 @@ constructor({ vars = [], inputs = [], outputs = [] } = {}) {
 this.vars = vars
 this.inputs = inputs.map(([origin, name]) => ({ origin, name }))
 this.outputs = outputs
-}
-var(name) {
-return number("variable", name, this.vars)
-}
-input(name) {
-return number("input", name, this.inputs.map(it => it.name))
 }
 owner(input) {
 const found = this.inputs[input]
@@ -457,6 +207,7 @@ vars: READERS.vars,
 horizon: READERS.horizon,
 breach: ([log, ...origins]) => ({ log: Number(log), origins: origins.map(Number) }),
 }
+const SUBJECTS = Object.keys(PUSHES).filter(it => it !== "frozen")
 class Watch {
 #client
 #callback
@@ -523,11 +274,13 @@ class Client {
 #watches = new Map()
 #isReady
 #isNotReady
+#fingerprint
 #reopened = new Set()
 vars = {}
 names = new Names()
 state = "connecting"
 onstate = null
+error = null
 connections = 0
 ready
 constructor(url, { token, reconnect = true, WebSocket = globalThis.WebSocket } = {}) {
@@ -552,26 +305,34 @@ socket.onclose = () => this.#socket === socket && this.#closed()
 socket.onerror = () => {}
 }
 #opened() {
+const socket = this.#socket
 this.#pause = FIRST_PAUSE
 this.connections += 1
-const first = []
-if (this.#token !== undefined) first.push(new Asked(`token ${this.#token}`))
-const names = new Asked("names")
-first.push(names)
-for (const asked of first) asked.isOfOpening = true
+const lines = ["names", "program"]
+if (this.#token !== undefined) lines.unshift(`token ${this.#token}`)
+const opening = lines.map(line => new Asked(line))
+for (const asked of opening) asked.isOfOpening = true
+this.#asked = [...opening, ...this.#asked.filter(it => !it.isOfOpening)]
+this.#send(opening)
+Promise.all(opening.map(it => it.answer)).then(answers => {
+if (this.#socket === socket && this.state !== "closed") this.#greeted(...answers.slice(-2))
+}, error => error instanceof Refused && this.#finish(error))
+}
+#greeted(names, { fingerprint }) {
+this.#fingerprint ??= fingerprint
+if (this.#fingerprint !== fingerprint) {
+return this.#finish(new Ended(`the host has another program now, ${fingerprint}: it had ${this.#fingerprint}`))
+}
+this.names = names
 const begun = new Set(this.#asked.map(it => it.watch))
-for (const watch of this.#watches.values()) if (!begun.has(watch)) first.push(new Asked(watch.line))
-const again = this.#asked.filter(it => !it.isOfOpening)
-for (const asked of again) if (asked.watch) asked.line = asked.watch.line
-this.#asked = [...first, ...again]
+const missing = [...this.#watches.values()].filter(it => !begun.has(it)).map(it => new Asked(it.line))
+for (const asked of this.#asked) if (asked.watch) asked.line = asked.watch.line
+this.#asked.unshift(...missing)
 this.#isOpened = true
 this.#send(this.#asked)
-Promise.all(first.filter(it => it.isOfOpening).map(it => it.answer)).then(answers => {
-this.names = answers.at(-1)
 this.#turn("open")
 this.#isReady(this)
 if (this.connections > 1) for (const callback of this.#reopened) callback()
-}, error => error instanceof Refused && this.#finish(error))
 }
 #send(asked) {
 if (asked.length) this.#socket.send(asked.map(it => it.line).join("\n"))
@@ -597,6 +358,8 @@ this.#finish(new Ended("the client was closed"))
 }
 #finish(error) {
 clearTimeout(this.#timer)
+this.#isOpened = false
+this.error ??= error
 this.#turn("closed")
 this.#isNotReady(error)
 for (const asked of this.#asked.splice(0)) asked.reject(error)
@@ -640,71 +403,28 @@ return asked.answer
 ask(line) {
 return this.#put(String(line))
 }
-many(lines) {
-return Promise.all(Array.from(lines, line => this.ask(line).catch(error => {
-if (error instanceof Refused) return error
-throw error
-})))
-}
-async event(input, { time, value, micro = 0, origin }) {
-await this.ready
-const at = this.names.input(input)
-return this.ask(`event ${origin ?? this.names.owner(at)} ${time} ${micro} ${at} ${BigInt(value)}`)
-}
-withdraw(origin, { time, micro = 0 }) {
-return this.ask(`withdraw ${origin} ${time} ${micro}`)
-}
-announce(origin, { time, micro = 0, events, withdrawn = 0 }) {
-return this.ask(`announce ${origin} ${time} ${micro} ${events} ${withdrawn}`)
-}
-async var(name) {
-await this.ready
-return this.ask(`var ${this.names.var(name)}`)
-}
-async readVars() {
-await this.ready
-const { log, values } = await this.ask("vars")
-return { log, values: Object.fromEntries(values.map((it, at) => [this.names.vars[at] ?? at, it])) }
-}
 outputs() {
 return this.ask("outputs")
 }
 output(index) {
 return this.ask(`output ${index}`)
 }
-horizon() {
-return this.ask("horizon")
-}
-released() {
-return this.ask("released")
-}
-releases() {
-return this.ask("releases")
-}
-release(index) {
-return this.ask(`release ${index}`)
-}
-breach(origin) {
-return this.ask(`breach ${origin}`)
-}
 lost() {
 return this.ask("lost")
-}
-log(place) {
-return this.ask(`log ${place}`)
-}
-collect() {
-return this.ask("collect")
 }
 program() {
 return this.ask("program")
 }
 watch(what, callback = null, { from = { log: 1, released: 0 }[what] ?? null } = {}) {
+number("subject of a watch", what, SUBJECTS)
 this.#watches.get(what)?.end()
 const watch = new Watch(this, what, from, callback)
 this.#watches.set(what, watch)
 watch.started = this.#put(watch.line, watch)
-watch.started.catch(() => this.#watches.get(what) === watch && this.#watches.delete(what))
+watch.started.catch(() => {
+if (this.#watches.get(what) === watch) this.#watches.delete(what)
+watch.end()
+})
 return watch
 }
 async unwatch(watch) {
@@ -737,7 +457,6 @@ if (answer.isNew) return `taken ${answer.place}: it is new, and stands at place 
 return `known ${answer.place}: it was there already, at place ${answer.place} of the log.`
 }
 const MOST = 10_000
-const ROW = 28
 const SPARE = 4
 class Last {
 #items = []
@@ -762,6 +481,7 @@ class Rows {
 #list = document.createElement("ul")
 #tellsOf
 #length = 0
+#row
 #added = 0
 constructor(box, tellsOf) {
 this.#box = box
@@ -773,13 +493,14 @@ show(length, added = 0) {
 const grown = added - this.#added
 this.#added = added
 this.#length = length
-this.#list.style.height = `${length * ROW}px`
-if (grown > 0 && this.#box.scrollTop >= ROW) this.#box.scrollTop += grown * ROW
+this.#row = parseInt(getComputedStyle(this.#box).getPropertyValue("--row"))
+this.#list.style.height = `${length * this.#row}px`
+if (grown > 0 && this.#box.scrollTop >= this.#row) this.#box.scrollTop += grown * this.#row
 this.#render()
 }
 #render() {
-const first = Math.max(0, Math.floor(this.#box.scrollTop / ROW) - SPARE)
-const seen = Math.ceil(this.#box.clientHeight / ROW) + 2 * SPARE
+const first = Math.max(0, Math.floor(this.#box.scrollTop / this.#row) - SPARE)
+const seen = Math.ceil(this.#box.clientHeight / this.#row) + 2 * SPARE
 const wanted = Math.max(0, Math.min(seen, this.#length - first))
 while (this.#list.childElementCount > wanted) this.#list.lastElementChild.remove()
 while (this.#list.childElementCount < wanted) this.#list.append(rowOfWords())
@@ -787,7 +508,7 @@ for (let at = 0; at < wanted; at += 1) this.#fill(this.#list.children[at], first
 }
 #fill(item, number) {
 fillRow(item, this.#tellsOf(number))
-item.style.transform = `translateY(${number * ROW}px)`
+item.style.transform = `translateY(${number * this.#row}px)`
 item.setAttribute("aria-setsize", this.#length)
 item.setAttribute("aria-posinset", number + 1)
 }
@@ -808,15 +529,17 @@ const OPEN_SHOWN = 20
 class Replica {
 constructor() {
 this.records = new Last()
+this.acts = new Last()
 this.released = new Last()
 this.clear()
 }
 clear() {
 this.records.clear()
+this.acts.clear()
 this.released.clear()
 Object.assign(this, { log: 0, newest: null, late: 0, lastLate: null, horizon: null, values: [], frozen: false })
 Object.assign(this, { changed: new Set(), broken: new Set(), announced: new Map(), origins: new Set() })
-Object.assign(this, { outputs: 0, asked: [], askedFrom: 0 })
+Object.assign(this, { outputs: 0, lost: 0, asked: [], askedFrom: 0 })
 }
 takeRecord({ place, record }) {
 if (place !== this.log + 1) return
@@ -827,6 +550,7 @@ if (record.kind === "announce") this.#takeAnnounced(record)
 else if (this.newest && orderOf(record, this.newest) < 0) this.#takeLate(item)
 else this.newest = { time: record.time, micro: record.micro }
 this.records.add(item)
+if (record.kind !== "announce") this.acts.add(item)
 }
 #takeAnnounced({ origin, time, micro }) {
 const before = this.announced.get(origin)
@@ -853,11 +577,11 @@ takeBreach({ origins }) {
 this.broken = new Set(origins)
 }
 async askOpen(client) {
-const { count } = await client.outputs()
+const [{ count }, lost] = await Promise.all([client.outputs(), client.lost()])
 const first = this.released.added
 const length = Math.max(0, Math.min(count - first, OPEN_SHOWN))
 const rows = await Promise.all(Array.from({ length }, (_, at) => client.output(first + at)))
-Object.assign(this, { outputs: count, asked: rows.filter(Boolean), askedFrom: first })
+Object.assign(this, { outputs: count, lost: lost.count, asked: rows.filter(Boolean), askedFrom: first })
 }
 get open() {
 return this.asked.slice(this.released.added - this.askedFrom)
@@ -970,8 +694,9 @@ const step = stepOf(high - low, width / 70)
 this.#line("faint", [GUTTER, y], [width - EDGE, y])
 for (let time = Math.ceil(low / step) * step; time <= high; time += step) {
 const at = x({ time, micro: 0 })
+const half = this.#pen.measureText(`${time}`).width / 2
 this.#line("faint", [at, y], [at, y + 4])
-this.#text("faint", `${time}`, at, y + 16, "center")
+this.#text("faint", `${time}`, Math.min(at, width - half), y + 16, "center")
 }
 }
 #bracket({ x, top, lane, origins, low, high }, origin, tag) {
@@ -1011,8 +736,10 @@ pen.lineTo(to + 7, y - 4.5)
 pen.lineTo(to + 7, y + 4.5)
 pen.fill()
 const text = `${tagText(back)} back to ${tagText(record)}`
-const isRoom = from + 6 + pen.measureText(text).width < width
-this.#text("late", text, isRoom ? from + 6 : to - 6, y + 4, isRoom ? "left" : "right")
+const wide = 6 + pen.measureText(text).width
+if (from + wide < width) this.#text("late", text, from + 6, y + 4)
+else if (to > wide) this.#text("late", text, to - 6, y + 4, "right")
+else this.#text("late", text, Math.max(wide, from - 6), y - 3, "right")
 pen.globalAlpha = 1
 }
 }
@@ -1040,13 +767,14 @@ let isDrawn = false
 let isAsking = false
 let mayTellLate = true
 const rows = {
-records: new Rows(at("records"), age => recordRow(replica.records.at(age))),
+records: new Rows(at("records"), age => recordRow(listed().at(age))),
 released: new Rows(at("released"), age => outputRow(replica.released.at(age))),
 vars: new Rows(at("vars"), number => ({
 words: ["", client.names.vars[number] ?? `variable ${number}`, `${replica.values[number]}`],
 kind: replica.changed.has(number) ? "new" : "",
 })),
 }
+const listed = () => (at("words").checked ? replica.records : replica.acts)
 function recordRow({ place, record, back }) {
 const end = back ? `late: ${tagText(back)} back to ${tagText(record)}` : ""
 return { words: [`${place}`, `at ${tagText(record)}  ${recordText(record, client.names)}`, end], kind: back ? "late" : "" }
@@ -1062,20 +790,21 @@ function draw() {
 isDrawn = false
 drawFacts()
 drawOrigins()
-rows.records.show(replica.records.length, replica.records.added)
+rows.records.show(listed().length, listed().added)
 rows.released.show(replica.released.length, replica.released.added)
 rows.vars.show(replica.values.length)
 drawOpen()
 drawTimeline()
 tellLate()
+warn()
 }
 function drawFacts() {
-const { log, horizon, released, outputs, frozen } = replica
+const { log, horizon, released, outputs, frozen, lost } = replica
 put("program", program ? `version ${program.version}, ${program.fingerprint}` : "-")
 put("log", `${log} ${log === 1 ? "record" : "records"}${limits.log && ` of at most ${limits.log}`}`)
 put("horizon", horizon ? tagText(horizon) : "-")
 const waiting = Math.max(0, outputs - released.added)
-put("counts", `${released.added} released${frozen ? ", frozen: an origin broke its word" : ""}, ${waiting} not yet`)
+put("counts", `${released.added} released${frozen ? ", frozen: an origin broke its word" : ""}, ${waiting} not yet${lost ? `, ${lost} lost` : ""}`)
 }
 function originsNow() {
 const known = [...client.names.inputs.map(it => it.origin), ...replica.origins, ...Array(limits.origins).keys()]
@@ -1154,11 +883,13 @@ client = made
 turn("connecting")
 }
 function turn(state) {
-const isRefused = state === "closed"
+const isRefused = client.error instanceof Refused
 put("state", isRefused ? "refused" : state)
 at("state").dataset.state = state
 put("rights", isRefused ? "This host wants a token, or another one." : "")
 at("rights").className = isRefused ? "bad" : ""
+if (isRefused) at("you").hidden = false
+if (state === "closed" && !isRefused) setTimeout(connect, PAUSE)
 if (state === "connecting") for (const watch of watches.splice(0)) watch.stop().catch(() => {})
 }
 async function begin() {
@@ -1204,6 +935,13 @@ if (kind === "event") return `event ${client.names.owner(input)} ${tag} ${input}
 if (kind === "withdraw") return `withdraw ${at("origin").value} ${tag}`
 return `announce ${at("origin").value} ${tag} ${digits("events")} ${digits("withdrawn")}`
 }
+function warn() {
+const kind = at("kind").value
+const origin = kind === "event" ? client.names.inputs[at("input").value]?.origin : Number(at("origin").value)
+const word = kind !== "announce" && at("time").value && replica.announced.get(origin)
+const isLate = word && orderOf({ time: at("time").value, micro: at("micro").value }, word) < 0
+put("warning", isLate ? `Origin ${origin} announced ${tagText(word)}: this breaks its word.` : "")
+}
 function tellAnswer(text, kind = "") {
 put("answer", text)
 at("answer").className = kind
@@ -1215,6 +953,7 @@ const line = lineOfForm()
 tellAnswer(`${line}: sent, no answer yet`)
 tellAnswer(`${line}: ${answerText(await client.ask(line))}`, "good")
 } catch (error) {
+if (error.number === 13) at("you").hidden = false
 tellAnswer(error instanceof Refused ? `${error.message}. Nothing was changed.` : `not sent: ${error.message}`, "bad")
 }
 }
@@ -1228,7 +967,8 @@ at("withdrawn").value = counts.withdrawn
 at("send").addEventListener("submit", send)
 at("kind").addEventListener("change", showFields)
 at("count").addEventListener("click", countFromLog)
-at("span").addEventListener("change", touch)
+at("send").addEventListener("input", touch)
+for (const id of ["span", "words"]) at(id).addEventListener("change", touch)
 at("who").addEventListener("submit", event => {
 event.preventDefault()
 token = at("token").value || undefined
