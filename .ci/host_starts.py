@@ -47,8 +47,9 @@ def refused_starts():
             ended("host", TWICE, "--listen", word, status=2,
                   error=f"--listen {word}: no address in numbers with a port\nwhere to listen is ADDRESS:PORT\n")
         ended("host", TWICE, *["--peer", "127.0.0.1:1"] * 65, status=2, error="--peer: 65 of them, of at most 64\ntoo many peers\n")
-        ended("host", TWICE, "--sync", "soon", status=2,
-              error="--sync soon: no such time\n--sync is always, never or MILLISECONDS, 1 to 60000\n")
+        for words, why in ((["--journal", Path(folder, "none.journal")], "no such time"), ([], "there is no --journal")):
+            ended("host", TWICE, "--sync", "soon", *words, status=2,
+                  error=f"--sync soon: {why}\n--sync is always, never or MILLISECONDS, 1 to 60000\n")
         with socket.create_server((HOST, 0)) as taken:
             port = taken.getsockname()[1]
             ended("host", TWICE, "--listen", f"{HOST}:{port}", status=6,
