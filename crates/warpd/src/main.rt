@@ -34,7 +34,7 @@ ghost use Rattle.std.specs.declared.io.ErrorKind.TheVariants.{OutOfMemory};
 ghost use Rattle.clap.specs.Words.{kind_of};
 ghost use Rattle.warp_lanes.specs.Engine.{most_lanes};
 ghost use Rattle.warp_step.specs.Counter.{IsUnused};
-ghost use Rattle.warpd.specs.Outcome.{Checks, Does, EndsSo, IsPrinted, IsShown, Obeys, Plays, PlaysBytes, PlaysOver};
+ghost use Rattle.warpd.specs.Outcome.{Checks, Does, EndsSo, Hosts, IsPrinted, IsShown, Obeys, Plays, PlaysBytes, PlaysOver};
 ghost use Rattle.warpd.specs.Outcome.{Runs, Seen, ServesAt, ServesInLanes, ServesNamed, Traces, TracesAs};
 ghost use Rattle.warpd.specs.Outcome.{ready_line, status_of, told_line, untouched};
 ghost use Rattle.warp_words.specs.Words.{task_of};
