@@ -144,6 +144,8 @@ export class Client {
  */
 export class Announcer {
   constructor(client: Client, origin: number)
+  /** The greatest tag that was announced, or is about to be. */
+  readonly announced: Tag
   event(input: string | number, event: { time: number; value: GivenValue; micro?: number }): Promise<Taken>
   withdraw(tag: { time: number; micro?: number }): Promise<Taken>
   announce(tag: { time: number; micro?: number }): Promise<Taken>

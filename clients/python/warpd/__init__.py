@@ -50,7 +50,7 @@ MOST_ROWS = 4_096
 # No program has more, of any version.
 MOST_ORIGINS, MOST_VARIABLES = 64, 256
 # Refusals that pass: the line may be sent again.
-FOR_NOW = (8, 10)
+FOR_NOW = (8, 10, 14)
 FULL = 7
 
 

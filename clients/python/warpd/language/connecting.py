@@ -108,8 +108,10 @@ class Main:
             return Port(owner, name)
         elif name in instance.of.scope.kinds:
             kind = instance.of.scope.kinds[name]
-            is_turned = kind in (Kind.INPUT, Kind.OUTPUT)
-            hint = "a connection leads from an output to an input: `p.y -> q.a`" if is_turned else ""
+            hint = "a connection leads from an output to an input: `p.y -> q.a`" if kind in (Kind.INPUT, Kind.OUTPUT) else ""
+            is_program = not place.owner or any(it.port == Port(owner, name) for it in self.program.inputs)
+            if kind is Kind.INPUT and is_program:
+                hint = "hand it on through a reactor: a reaction puts it on an output, and that leads to several inputs"
             self.report.error(place.at, f"`{place}` is {kind.value}: here stands {wanted.value}", hint)
         else:
             hint = nearest(name, [it.text for it in instance.of.ports(wanted is Kind.INPUT)])

@@ -92,5 +92,5 @@ def _tell(program: Program, report: Report, circle: Circle) -> None:
     link = next(it for _, _, it in circle if it)
     way = " -> ".join([named(circle[0][0]), *(named(node) for _, node, _ in circle)])
     what = "reactions wait at one tag, each for the next" if circle[1:] else "a reaction waits for itself at one tag"
-    hint = f"give a connection of the round a delay: `{link.source} -> {link.target} after 1`"
+    hint = f"give a connection of the round a delay: `{link.source} -> {link.target} after 1`, or `after 0` for the next microstep"
     report.error(link.at, f"{what}: {way}", hint)
