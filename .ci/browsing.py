@@ -36,7 +36,7 @@ SECONDS = 30
 
 def missing():
     """What is not installed of what a browser needs."""
-    programs = [name for name in ("chromium", "chromedriver", "caddy", "curl") if not shutil.which(name)]
+    programs = [name for name in ("chromium", "chromedriver", "caddy", "nginx", "openssl", "curl") if not shutil.which(name)]
     return programs + ([] if webdriver else ["python3-selenium"])
 
 
