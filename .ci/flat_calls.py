@@ -338,16 +338,16 @@ def told(question, lines, len, next=0, frozen=False):
 
 # Two events of the first origin, and announcements of both up to time 7; then an event behind them.
 ROWS = ["5 0 0 3", "6 0 0 10"]
-RECORDS = ["event 0 5 0 0 3", "event 0 6 0 0 4", "announce 0 7 0 2 0", "announce 1 7 0 0 0"]
+TOLD = ["event 0 5 0 0 3", "event 0 6 0 0 4", "announce 0 7 0 2 0", "announce 1 7 0 0 0"]
 
 
 def shown():
     released, log = ([f"{word} {n + first} {text}" for n, text in enumerate(some)]
-                     for word, first, some in (("released", 0, ROWS), ("log", 1, RECORDS)))
+                     for word, first, some in (("released", 0, ROWS), ("log", 1, TOLD)))
     yield paired("what watchers are told, and that it is frozen", "watches", "twice", [
         told("vars", ["vars 0 0"], 0), told("horizon", ["horizon 0 0 0"], 0), told("breaches", ["breach 0"], 0),
         told("log 1 0", [], 0, 1), told("released 0 0", [], 0), told("releases", ["releases 0 0 0"], 0),
-        *((f"take {text}", "taken") for text in RECORDS), ("update", "shown 2 false"), ("update", "shown 2 false"),
+        *((f"take {text}", "taken") for text in TOLD), ("update", "shown 2 false"), ("update", "shown 2 false"),
         told("vars", ["vars 4 10"], 4), told("horizon", ["horizon 4 7 0"], 4), told("breaches", ["breach 4"], 4),
         told("releases", ["releases 4 2 0"], 4), told("release 1", [f"release 4 {ROWS[1]}"], 4), told("release 2", ["none 4"], 4),
         told("released 0 0", released, 4, 2), told("released 1 0", released[1:], 4, 2), told("released 0 1", released[:1], 4, 1),
