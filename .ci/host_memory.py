@@ -58,7 +58,7 @@ def say_lines(port, may_lack):
             one.sendall("".join(line + "\n" for line in LINES).encode())
             one.shutdown(socket.SHUT_WR)
             said = hosting.read_all(one).decode()
-        except ConnectionError:
+        except OSError:
             # A client without memory is closed, whatever it has sent.
             holds(may_lack, "a connection that lasts")
             return 0
