@@ -94,7 +94,11 @@ def chain(dice, depth, right):
     return [word, other, deep] if right else [word, deep, other]
 
 
-def statement(dice, depth, room):
+# The longest delay of each version.
+LONGEST = {1: 1_000_000, 2: 10_000_000, 3: 15_624_999}
+
+
+def statement(dice, depth, room, longest):
     """A statement whose lists are at most so deep, and how many schedulings are in it, which are as many as there is room for."""
     kind = dice.randrange(6 if depth > 1 else 4)
     value = chain(dice, dice.choice([3, 9, 12, 24]), dice.random() < 0.7) if dice.random() < 0.1 else term(dice, dice.choice([1, 2, 3, 3, 4, 5]))
@@ -103,16 +107,16 @@ def statement(dice, depth, room):
     if kind == 2 or kind == 3 and not room:
         return ["put", dice.choice(OUTPUTS), value], 0
     if kind == 3:
-        return ["schedule", dice.choice(ACTIONS), dice.choice([0, 1, 5, 1_000_000]), value], 1
-    first, one = body(dice, depth - 1, room)
-    second, two = body(dice, depth - 1, room - one)
+        return ["schedule", dice.choice(ACTIONS), dice.choice([0, 1, 5, longest]), value], 1
+    first, one = body(dice, depth - 1, room, longest)
+    second, two = body(dice, depth - 1, room - one, longest)
     return ["if", value, first, second], one + two
 
 
-def body(dice, depth, room):
+def body(dice, depth, room, longest):
     statements, asked = [], 0
     for _ in range(dice.choice([0, 1, 1, 2, 2, 3])):
-        one, count = statement(dice, depth, room - asked)
+        one, count = statement(dice, depth, room - asked, longest)
         statements.append(one)
         asked += count
     return statements, asked
@@ -126,14 +130,16 @@ def nested(dice, depth):
     return ["if", term(dice, 2), *lists] if depth > 1 else inner[0]
 
 
-def file(dice):
-    bodies = [[nested(dice, dice.choice([8, 24]))] if n % 25 == 0 else body(dice, dice.choice([1, 2, 3, 4]), 16)[0] for n in range(REACTIONS)]
+def file(dice, version):
+    longest = LONGEST[version]
+    bodies = [[nested(dice, dice.choice([8, 24]))] if n % 25 == 0 else body(dice, dice.choice([1, 2, 3, 4]), 16, longest)[0]
+              for n in range(REACTIONS)]
     reaction = {"on": INPUTS[:1], "reads": INPUTS[1:] + ACTIONS + TIMERS, "writes": OUTPUTS + ACTIONS}
     reactor = {
         "name": "r", "vars": [[name, 0] for name in VARIABLES], "inputs": INPUTS, "outputs": OUTPUTS,
         "actions": [[name, 0] for name in ACTIONS], "timers": [[name, 0, 1] for name in TIMERS],
         "reactions": [{**reaction, "body": one} for one in bodies]}
-    return json.dumps({"version": 1, "stop": 1_000_000, "origins": 1, "reactors": [reactor]}), bodies
+    return json.dumps({"version": version, "stop": longest, "origins": 1, "reactors": [reactor]}), bodies
 
 
 def calls(dice, bodies):
@@ -175,5 +181,5 @@ def cases(flat):
     yield flat(f"bodies of {LONG // 2:,} statements", "bodies", text, lines, said)
     for number in range(FILES):
         dice = random.Random(f"bodies {number}")
-        text, bodies = file(dice)
+        text, bodies = file(dice, 1 + number % 3)
         yield flat(f"drawn bodies, file {number}", "bodies", text, *calls(dice, bodies))

@@ -159,23 +159,27 @@ def without(word):
 
 # Its action comes one microstep behind what schedules it.
 ECHO = (
-    '{"version":1,"stop":100,"origins":1,"reactors":[{"name":"e","vars":[["n",0]],"inputs":["a"],"outputs":["y"],"actions":[["c",0]],'
+    '{"version":%d,"stop":100,"origins":1,"reactors":[{"name":"e","vars":[["n",0]],"inputs":["a"],"outputs":["y"],"actions":[["c",0]],'
     '"reactions":[{"on":["a"],"writes":["c"],"body":[["schedule","c",0,"a"]]},'
     '{"on":["c"],"writes":["y"],"body":[["set","n",["+","n","c"]],["put","y","n"]]}]}],"inputs":[[0,"e.a"]],"outputs":["e.y"]}'
 )
+# How replicas are raised, from which version, and the last microstep before and after.
+RAISED = [("raise", 1, 15, 255), ("raise_to 2", 1, 15, 255), ("raise_to 3", 1, 15, 255), ("raise_to 3", 2, 255, 255)]
 
 
-def raising(word):
-    """What was lost past the last microstep is there in the raised replica; where raising was refused, the old one is as before."""
-    questions = ["ask lost", "ask outputs", "ask output 0", "ask log 1"]
-    old = ["lost 1 1", "outputs 1 0", "none 1", "log 1 event 0 5 15 0 3"]
-    new = ["lost 1 0", "outputs 1 1", "output 1 5 16 0 3", "log 1 event 0 5 15 0 3"]
+def raising(word, call, version, last, most):
+    """What was lost past the last microstep is there where the raised replica has further ones; where raising was refused, the old one
+    is as before."""
+    questions, record = ["ask lost", "ask outputs", "ask output 0", "ask log 1"], f"event 0 5 {last} 0 3"
+    old = ["lost 1 1", "outputs 1 0", "none 1", f"log 1 {record}"]
+    new = ["lost 1 0", "outputs 1 1", f"output 1 5 {last + 1} 0 3", f"log 1 {record}"] if most > last else old
     size = 1 + len(questions)
-    step = Step(["raised", *new] * 2, ["raise", *questions] * 2, 2 * size, (0, size),
+    step = Step(["raised", *new] * 2, [call, *questions] * 2, 2 * size, (0, size),
                 [[REFUSED, *old, "raised", *new], ["raised", *new, REFUSED, *new]])
-    tail = [("take event 0 5 16 0 1", "taken 2"), ("ask lost", "lost 2 0"), ("ask var 0", "var 2 4")]
-    first = [("take event 0 5 15 0 3", "taken 1"), ("take event 0 5 16 0 1", "refused 3"), *zip(questions, old)]
-    return Calls(f"{word}: raising", word, ECHO, [before(first), step, before(tail)])
+    further = f"take event 0 5 {last + 1} 0 1"
+    first = [(f"take {record}", "taken 1"), *([(further, "refused 3")] if most > last else []), *zip(questions, old)]
+    tail = [(further, "taken 2"), ("ask lost", "lost 2 0"), ("ask var 0", "var 2 4")] if most > last else [("ask var 0", "var 1 0")]
+    return Calls(f"{word}: {call} from version {version}", word, ECHO % version, [before(first), step, before(tail)])
 
 
 def replicas():
@@ -190,7 +194,8 @@ def replicas():
         yield asking(word)
         yield without(word)
         yield merging(word)
-        yield raising(word)
+        for raised in RAISED:
+            yield raising(word, *raised)
 
 
 def made():

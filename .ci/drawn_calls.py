@@ -5,6 +5,7 @@
   timeline that rolls back and over the one that runs from the start: both answer as the definitions say. The one executes no more
   rows than those at tags from the least at which an event changed, and sixteen, where nothing came behind what was let go of, and
   none where no event changed; the other all rows where one changed.
+- So they do where the program is raised on the way, to version 2, to version 3, and from the one to the other, over names of all microsteps.
 - An arena takes, frees and is walked along, beside a sorted list.
 """
 
@@ -50,7 +51,10 @@ LATEST = program([{"name": "l", "vars": [["v", 0]], "inputs": ["a", "b"], "outpu
     {"on": ["a", "b"], "writes": ["y", "c"], "body": [["set", "v", ["-", "a", "b"]], ["schedule", "c", 0, "a"], ["put", "y", "v"]]},
     {"on": ["c"], "writes": ["y"], "body": [["put", "y", "c"]]}]}],
     stop=10_000, inputs=[[0, "l.a"], [1, "l.b"]], outputs=["l.y"])
+ALL_MICROSTEPS = (0, 0, 1, 2, 14, 15, 16, 254, 255)
 MIXED, CASCADE, LATEST = (json.dumps({**json.loads(text), "origins": 2}) for text in (MIXED, CASCADE, LATEST))
+# In version 3 nothing is lost of what comes again 16 times.
+MIXED_3, CASCADE_3 = (json.dumps({**json.loads(text), "version": 3}) for text in (MIXED, CASCADE))
 # How many rows more than the changed ones may be executed again.
 SLACK = 16
 QUERIES = ["outputs", "horizon", "released", "lost", *(f"{word} {number}" for word in ("var", "breach", "log") for number in range(3))]
@@ -89,6 +93,9 @@ class Log:
             return f"known {self.places[line]}"
         word, origin, time, micro, *_ = line.split()
         name = int(origin), (int(time), int(micro))
+        # A case reads lines in the widest form, so it is the program that has a reason against a microstep.
+        if name[0] < self.file.tree["origins"] and name[1][1] > TRACES.LAST_MICROSTEP[self.file.tree["version"]]:
+            return "refused 3"
         before, reason = self.counting(*name), self.records.take(line)
         if reason:
             return f"refused {reason}"
@@ -102,6 +109,12 @@ class Log:
         for line in other.lines:
             self.take(line)
         return f"merged {len(other.lines)} into {len(self.lines)}"
+
+    def raise_to(self, version):
+        """The program is of this version now, where it was of no later one."""
+        tree = self.file.tree
+        self.file = self.records.file = TRACES.File({**tree, "version": max(version, tree["version"])})
+        self.least, self.run = (0, 0), None
 
     def settled(self):
         """The run, made anew where an event changed."""
@@ -176,6 +189,11 @@ class Watch:
         self.behind += came
         return self.rows == every if self.is_slow else came or self.rows <= most
 
+    def has_raised(self, text):
+        """A raised replica has let go of nothing."""
+        self.had = False
+        return text == "raised"
+
     def has_collected(self, text):
         self.had = text == "behind true"
         return text in ("behind true", "behind false")
@@ -203,6 +221,11 @@ class Play:
         self.ask("rows", Watch.executed)
         self.ask("behind 0 0", partial(Watch.was_bounded, every=is_changed * len(tags), most=changed if most is None else most))
         self.ask_all(log)
+
+    def raise_to(self, version, log):
+        log.raise_to(version)
+        self.ask(f"raise_to {version}", Watch.has_raised)
+        self.settle(log)
 
     def collect(self, log):
         self.ask("collect", f"collected {len(log.lines)}")
@@ -235,9 +258,9 @@ class Replayed:
         return f"only {watch.behind} records came behind" if few else ""
 
 
-def drawn(dice, latest):
+def drawn(dice, latest, microsteps=(0, 1, 2)):
     """A record of two origins: more often an event than a withdrawal or an announcement, which ends at `latest` at the latest."""
-    origin, time, micro, kind = dice.randrange(2), dice.randrange(60), dice.randrange(3), dice.randrange(8)
+    origin, time, micro, kind = dice.randrange(2), dice.randrange(60), dice.choice(microsteps), dice.randrange(8)
     if kind < 2:
         return f"withdraw {origin} {time} {micro}"
     if kind == 2:
@@ -258,10 +281,31 @@ def taking(name, text, seed):
     return play
 
 
-def merging(name, text, seed):
+def raising(name, text, seed, versions, least_behind=2):
+    """The same, where the program is raised to these versions in turn, each time behind as many records."""
+    words = " and ".join(map(str, versions))
+    play, log, dice = Play(f"drawn records, {name}, raised to {words}", text, least_behind), Log(text), random.Random(seed)
+    play.settle(log)
+    for version in (None, *versions):
+        if version:
+            play.raise_to(version, log)
+        for turn in range(PART):
+            line = drawn(dice, len(log.lines) // 8, ALL_MICROSTEPS)
+            play.ask(f"take {line}", log.take(line))
+            play.settle(log)
+            if turn % 8 == 0:
+                play.collect(log)
+    return play
+
+
+def merging(name, text, seed, version=None):
     """The one takes records, and the other takes others; now and then each takes what the other has. The one collects where it
-    settled, and the other settles apart."""
+    settled, and the other settles apart. Where a version is given, both are raised to it first."""
     play, one, other, dice = Play(f"drawn records and mergings, {name}", text, 10), Log(text), Log(text), random.Random(seed)
+    if version:
+        one.raise_to(version), other.raise_to(version)
+        play.ask(f"raise_to {version}", Watch.has_raised)
+        play.of_other(f"raise_to {version}", "raised")
     for _ in range(5 * TURNS // 2):
         line, turn = drawn(dice, len(one.lines) // 8), dice.randrange(64)
         if turn < 24:
@@ -352,12 +396,19 @@ class Arena:
         return f"line {at + 1} is {got!r}, wanted {wanted!r}"
 
 
-TURNS = 400
+TURNS, PART = 400, 60
 DRAWS = [("a timer, an action and a delayed link", MIXED, 1), ("an action that comes again", CASCADE, 2), ("one origin", ECHO, 14),
-         ("the last value", LATEST, 5)]
+         ("the last value", LATEST, 5), ("an action that comes again, in version 3", CASCADE_3, 7),
+         ("a timer, an action and a delayed link, in version 3", MIXED_3, 8)]
+
+
+# Each raised from version 1: the same records have other rows where more microsteps are there, and the same where only the log is longer.
+RAISED = [(*DRAWS[0][:2], 21, (2, 3)), (*DRAWS[1][:2], 22, (2, 3)), (*DRAWS[1][:2], 23, (3, 2)), (*DRAWS[2][:2], 24, (3,), 0),
+          (*DRAWS[3][:2], 25, (1, 3))]
 
 
 def cases():
-    plays = [*(taking(*draw) for draw in DRAWS), merging("a timer, an action and a delayed link", MIXED, 4), forgetting()]
+    plays = [*(taking(*draw) for draw in DRAWS), merging("a timer, an action and a delayed link", MIXED, 4), forgetting(),
+             *(raising(*draw) for draw in RAISED), merging("in version 3", MIXED, 6, 3)]
     yield from (Replayed(play, word) for play in plays for word in ("replicas", "twins"))
     yield Arena(2026, 2000)

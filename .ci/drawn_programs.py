@@ -90,7 +90,7 @@ def program_of(dice):
             elif kind < 0.95:
                 inputs.append([dice.randrange(3), link[1]])
     outputs = [f"{it['name']}.{name}" for it in reactors for name in it["outputs"] if dice.random() < 0.8]
-    made = {"version": dice.choice([1, 2]), "stop": STOP, "origins": dice.choice([3, 5]), "reactors": reactors}
+    made = {"version": dice.choice([1, 2, 3]), "stop": STOP, "origins": dice.choice([3, 5]), "reactors": reactors}
     return {**made, "links": links, "inputs": inputs, "outputs": outputs}
 
 

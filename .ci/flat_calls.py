@@ -45,12 +45,19 @@ def program(reactors, version=1, **rest):
     return json.dumps({"version": version, "origins": 1, "reactors": reactors, **rest})
 
 
+def of_version(text, version):
+    """The program of this file, of another version."""
+    return json.dumps({**json.loads(text), "version": version})
+
+
 def total(sign, name):
     return {"on": [name], "writes": ["y"], "body": [["set", "total", sign], ["put", "y", "total"]]}
 
 
 # The program that is built in, as a file.
 TWICE = json.dumps(json.loads((EXAMPLES / "twice.json").read_text()))
+# The same of two versions.
+DOUBLING = {1: "twice", 3: of_version(TWICE, 3)}
 # At startup, at times 2, 5 and 8 by a timer, and at each event it counts one more and puts the count.
 BEAT = program([reactor(vars=[["n", 0]], inputs=["a"], outputs=["y"], timers=[["t", 2, 3]], reactions=[
     {"on": ["startup", "t", "a"], "writes": ["y"], "body": [["set", "n", ["+", "n", 1]], ["put", "y", "n"]]}])],
@@ -171,11 +178,16 @@ ONE_WAY, OTHER_WAY, REST = [0, 1, 2, 1, 3, 4, 0, 5], [5, 2, 5, 4], [3, 2, 1]
 
 
 def meeting():
+    for version, text in DOUBLING.items():
+        yield met(version, text)
+
+
+def met(version, text):
     lines = [*(f"one {RECORDS[number]}" for number in ONE_WAY), *(f"other {RECORDS[number]}" for number in OTHER_WAY), "",
              *(f"other {RECORDS[number]}" for number in REST)]
     replies = ["var 6 7", "outputs 6 2", "output 6 5 0 0 3", "horizon 6 10 0", "released 6 1", "lost 6 0", "breach 6 0", "breach 6 0"]
     said = ["collected 3", "released 1 and 0", *(text for reply in replies for text in ("alike true", reply)), "released 1 and 1"]
-    yield Flat("two replicas over two timelines that met", "meetings", "twice", lines, said)
+    return Flat(f"two replicas over two timelines that met, in version {version}", "meetings", text, lines, said)
 
 
 def world():
@@ -188,6 +200,11 @@ def world():
         yield Flat(f"a world behind {last!r}", "world", "twice", lines, said)
     lines = ["replicas 2", *["settle 1"] * 5, "settle"]
     yield Flat("a schedule that is refused", "schedule", "twice", lines, ["refused at line 7"])
+    for version, (_, last, _, micro, _, records, _) in LIMITS.items():
+        text, read, refused = of_version(TWICE, version), "2 replicas, 1 moves", "refused at line 2"
+        for move, said in ((f"carry 0 {records} 1", read), (f"carry 0 {records + 1} 1", refused),
+                           (f"make 1 withdraw 0 {last} {micro}", read), (f"make 1 withdraw 0 {last + 1} 0", refused)):
+            yield Flat(f"a schedule of version {version}: {move}", "schedule", text, ["replicas 2", move], [said])
 
 
 # The errors of program files, by the reference, and what each is called: two have one number, each in files of one version alone.
@@ -204,6 +221,70 @@ def files():
         "port of 0, input true", "port of 0, input false", "port of 1, input true", "port of 1, input true", "port of 1, input false",
         "link 1 to 2, delayed false", "input of 0 at 0", "input of 1 at 3", "output at 4"])
     yield Flat("the errors of files", "errors", "twice", [], [*ERRORS, "8 out of memory"])
+
+
+# Of each version: the last stop, the last time of a tag, the longest delay, the last microstep, the most origins, records and rows.
+LIMITS = {1: (1_000_000, 1_000_001, 1_000_000, 15, 32, 100_000, 4_096), 2: (10_000_000, 10_000_001, 10_000_000, 255, 64, 100_000, 4_096),
+          3: (15_624_999, 15_625_000, 15_624_999, 255, 64, 10_000_000, 1_048_576)}
+FORMS = {1: "One", 2: "Two", 3: "Three"}
+
+
+def versions():
+    said = []
+    for version, (stop, last, period, micro, origins, records, rows) in LIMITS.items():
+        said += [f"{FORMS[version]}: stop {stop}, time {last}, period {period}",
+                 f"microstep {micro}, {origins} origins, {records} records, {rows} rows"]
+    said += [f"{FORMS[one]} or {FORMS[other]}: {FORMS[max(one, other)]}" for one in FORMS for other in FORMS]
+    yield Flat("the limits of each version, and the wider of two", "forms", "", [], said)
+    for version, (*_, rows) in LIMITS.items():
+        yield Flat(f"a full board of version {version}", "board", str(version), [0, rows // 2, rows - 1, rows], [
+            f"{rows} appended", f"{rows} rows", *(f"{number} 1 3 {100 - number}" for number in (0, rows // 2, rows - 1)), "no row"])
+
+
+def raising():
+    """A program raised to a version is that of the same file with the greater of both; and nothing else is."""
+    for name, text in (("a link", PAIR), ("a timer", BEAT), ("an action", ECHO)):
+        for version in FORMS:
+            wanted = [("raise", max(version, 2)), *((str(to), max(version, to)) for to in FORMS)]
+            lines = [f"{word} {of_version(text, other)}" for word, _ in wanted for other in FORMS]
+            said = [f"raised to {FORMS[to]}, the same {str(other == to).lower()}" for _, to in wanted for other in FORMS]
+            yield Flat(f"a program with {name}, raised from version {version}", "raise", of_version(text, version), lines,
+                       [text for text in said for _ in range(2)])
+
+
+def longer_log():
+    """A log that is full goes on where it is raised to version 3, and only there; each record keeps its place. Another replica takes all
+    of it over once it is raised too."""
+    most, stop = LIMITS[1][5], LIMITS[1][0]
+    text = program([reactor(vars=[["total", 0]], inputs=["a"], outputs=["y"], reactions=[total(["+", "total", "a"], "a")])],
+                   stop=stop, inputs=[[0, "r.a"]], outputs=["r.y"])
+    last, more, known = f"take event 0 {most + 1} 0 0 1", most + 2, ("take event 0 7 0 0 1", "known 7")
+    told = [("var 0", more), ("outputs", more), ("output 5", "5 16 0 6"), (f"output {most + 1}", f"{most + 1} 0 0 {more}"),
+            (f"log {most + 1}", f"event 0 {most + 1} 0 0 1"), (f"log {more}", "event 0 5 16 0 1"), (f"log {more + 1}", None)]
+    asked = [(f"ask {query}", f"{query.split()[0]} {more} {answer}" if answer else f"none {more}") for query, answer in told]
+    for word in ("replicas", "twins"):
+        yield paired(f"a full log that is raised: {word}", word, text, [
+            *((f"take event 0 {time} 0 0 1", f"taken {time}") for time in range(1, most + 1)), (last, "refused 7"), ("ask var 0", f"var {most} {most}"),
+            ("raise_to 2", "raised"), (last, "refused 7"), ("raise", "raised"), (last, "refused 7"), known, ("raise_to 3", "raised"),
+            (last, f"taken {most + 1}"), known, ("raise_to 1", "raised"), ("take event 0 5 16 0 1", f"taken {more}"), ("length", f"length {more}"),
+            *asked, ("exchange",), ("merge", "another program"), ("raise_to 3", "raised"), ("merge", f"merged {more} into {more}"), *asked])
+
+
+def last_steps():
+    """Steps up to the last tag of a version: what lands behind it is lost, or not entered where it is past the stop."""
+    for version, (stop, _, period, micro, *_) in LIMITS.items():
+        text = program([reactor(vars=[["n", 0]], inputs=["a"], actions=[["c", 0], ["d", period]], timers=[["t", 0, period]], reactions=[
+            {"on": ["t"], "writes": ["d"], "body": [["set", "n", ["+", "n", 1]], ["schedule", "d", 0, 5]]},
+            {"on": ["a"], "writes": ["c"], "body": [["set", "n", ["+", "n", 10]], ["schedule", "c", 0, 1]]},
+            {"on": ["c"], "body": [["set", "n", ["+", "n", 100]]]},
+            {"on": ["d"], "body": [["set", "n", ["+", "n", "d"]]]}])], version, stop=stop, inputs=[[0, "r.a"]])
+        last = f"event 0 {stop} {micro - 1} 0 7", f"event 0 {stop} {micro} 0 7"
+        yield paired(f"the last steps of version {version}", "steps", text, [
+            ("pending", "at 0 0: Timer(0), 0"), ("next", "at 0 0", "variable 1", "2 pending, 0 lost"), (last[1], "no step"),
+            ("pending", f"at {stop} 0: Timer(0), 0", f"at {stop} 0: Action(1), 5"), ("next", f"at {stop} 0", "variable 7", "0 pending, 0 lost"),
+            (last[0], f"at {stop} {micro - 1}", "variable 17", "1 pending, 0 lost"), ("pending", f"at {stop} {micro}: Action(0), 1"),
+            (last[1], f"at {stop} {micro}", "variable 127", "0 pending, 1 lost"), ("next", "nothing is pending"),
+            (f"event 0 {stop + 1} 0 0 7", "no step")])
 
 
 def copies():
@@ -235,9 +316,10 @@ def tag_told(time, micro):
 
 
 LEAST, MOST = -2**63, 2**63 - 1
-# The ends of what version 1 and what version 2 can name; cases read lines of either.
-ENDS = [(0, (0, 0), 0, LEAST, 0), (31, (1_000_001, 15), 63, MOST, 100_000), (63, (10_000_001, 255), 63, LEAST, 100_000)]
-LONG = 100_000
+# The ends of what each version can name; cases read lines of any.
+ENDS = [(0, (0, 0), 0, LEAST, 0), (31, (1_000_001, 15), 63, MOST, 100_000), (63, (10_000_001, 255), 63, LEAST, 100_000),
+        (63, (15_625_000, 255), 63, MOST, 10_000_000)]
+LONG, BOARDS = 10_000_000, [0, 4_096, 4_096, 1_048_576]
 
 
 def end_records():
@@ -253,19 +335,19 @@ def end_records():
 
 def end_replies():
     """Replies at the ends of their ranges."""
-    for place in (1, LONG):
+    for place in (1, 100_000, LONG):
         yield f"taken {place}", f"Taken({place})"
         yield f"known {place}", f"Known({place})"
     for number, name in ((1, "Syntax"), (11, "NoBoard")):
         yield f"refused {number}", f"Refused({name})"
-    for log, (_, tag, put, value, _), count in zip((0, 1, LONG), ENDS, (0, 1, 2**64 - 1)):
+    for log, (_, tag, put, value, _), count, rows in zip((0, 1, 100_000, LONG), ENDS, (0, 1, 2**64 - 1, 2**64 - 1), BOARDS):
         yield f"var {log} {value}", f"Var {{ log: {log}, value: {value} }}"
         for word in ("outputs", "released", "lost"):
             yield f"{word} {log} {count}", f"{word.capitalize()} {{ log: {log}, count: {count} }}"
         yield f"none {log}", f"Nothing {{ log: {log} }}"
         yield f"breach {log} {int(log > 0)}", f"Breach {{ log: {log}, broken: {str(log > 0).lower()} }}"
         yield f"collected {log}", f"Collected {{ log: {log} }}"
-        yield f"board {4096 if log else 0} {int(log > 0)}", f"Board {{ count: {4096 if log else 0}, frozen: {str(log > 0).lower()} }}"
+        yield f"board {rows} {int(log > 0)}", f"Board {{ count: {rows}, frozen: {str(log > 0).lower()} }}"
         out = f"Out {{ tag: {tag_told(*tag)}, port: {put}, value: {value} }}"
         numbers = f"{tag[0]} {tag[1]} {put} {value}"
         yield f"output {log} {numbers}", f"Output {{ log: {log}, output: {out} }}"
@@ -277,9 +359,9 @@ def end_replies():
 
 
 # No reply has one of these texts.
-NO_REPLIES = ["", "taken", "taken 0", "taken 100001", "known 01", "refused 0", "refused 12", "var 1 -0", "var 1 2 ",
-              "outputs 1 18446744073709551616", "output 1 0 0 0", "output 1 0 256 0 1", "output 1 0 0 64 1", "none 1 2", "horizon 1 10000002 0",
-              "lost -1 0", "breach 1 2", "log 1", "log 1 var 0", "log 1 withdraw 64 0 0", "board 4097 0", "row 1 2 64 0", "collected  1"]
+NO_REPLIES = ["", "taken", "taken 0", "taken 10000001", "known 01", "refused 0", "refused 12", "var 1 -0", "var 1 2 ",
+              "outputs 1 18446744073709551616", "output 1 0 0 0", "output 1 0 256 0 1", "output 1 0 0 64 1", "none 1 2", "horizon 1 15625001 0",
+              "lost -1 0", "breach 1 2", "log 1", "log 1 var 0", "log 1 withdraw 64 0 0", "board 1048577 0", "row 1 2 64 0", "collected  1"]
 
 
 def spellings():
@@ -342,9 +424,14 @@ TOLD = ["event 0 5 0 0 3", "event 0 6 0 0 4", "announce 0 7 0 2 0", "announce 1 
 
 
 def shown():
+    for version, text in DOUBLING.items():
+        yield shown_in(version, text)
+
+
+def shown_in(version, text):
     released, log = ([f"{word} {n + first} {text}" for n, text in enumerate(some)]
                      for word, first, some in (("released", 0, ROWS), ("log", 1, TOLD)))
-    yield paired("what watchers are told, and that it is frozen", "watches", "twice", [
+    return paired(f"what watchers are told, and that it is frozen, in version {version}", "watches", text, [
         told("vars", ["vars 0 0"], 0), told("horizon", ["horizon 0 0 0"], 0), told("breaches", ["breach 0"], 0),
         told("log 1 0", [], 0, 1), told("released 0 0", [], 0), told("releases", ["releases 0 0 0"], 0),
         *((f"take {text}", "taken") for text in TOLD), ("update", "shown 2 false"), ("update", "shown 2 false"),
@@ -380,16 +467,17 @@ def pages():
 
 # The first line and what a host, and a `serve`, answers to it.
 HELLO, HOST, SERVE = ("connect", "program"), "peer program 1 here", "peer refused 1"
+PROGRAM = HOST.removeprefix("peer ")
 FIVE, SIX, NONE = "event 0 5 0 0 3", "event 0 6 0 0 4", "withdraw 0 5 0"
 
 
-def followed(name, *calls):
-    return paired(f"following a peer: {name}", "follows", "", [("peer program 1 here", "strange", "over"), HELLO, *calls])
+def followed(name, *calls, program=PROGRAM):
+    return paired(f"following a peer: {name}", "follows", program, [(f"peer {program}", "strange", "over"), HELLO, *calls])
 
 
-def watched(place, check=()):
+def watched(place, check=(), host=HOST):
     """A host is found, and followed from this place on."""
-    return [(HOST, check[0] if check else f"watch log {place}"), *([(check[1], f"watch log {place}")] if check else []),
+    return [(host, check[0] if check else f"watch log {place}"), *([(check[1], f"watch log {place}")] if check else []),
             ("peer watching 1", f"found at {place}, true")]
 
 
@@ -426,6 +514,53 @@ def following():
                    HELLO, *watched(1), (f"peer log 1 {FIVE}", "strange", "over"), HELLO, *serve, (f"peer * log 1 {FIVE}", "strange", "over"))
 
 
+def following_versions():
+    """What a peer tells is read in the form of the own program."""
+    for version, (_, last, _, micro, origins, records, _) in LIMITS.items():
+        program = f"program {version} here"
+        line = f"announce {origins - 1} {last} {micro} {records} {records}"
+        found, serve = watched(1, host=f"peer {program}"), [(SERVE, "found at 1, false", "log 1")]
+        wrong = [f"announce {origins} 0 0 0 0", f"withdraw 0 {last + 1} 0", f"withdraw 0 0 {micro + 1}", f"announce 0 0 0 {records + 1} 0",
+                 f"announce 0 0 0 0 {records + 1}"]
+        again = [(HELLO, *watched(2, ("log 1", f"peer log 1 {line}"), f"peer {program}"), (f"peer * log 2 {text}", "strange", "over"))
+                 for text in wrong]
+        yield followed(f"records of a host of version {version}", *found, (f"peer * log 1 {line}", line), ("hub taken 1",), ("lose", "over"),
+                       *(call for some in again for call in some), program=program)
+        asked = [f"log {number}" for number in range(2, 66)]
+        yield followed(f"a long log of a serve of version {version}", *serve, (f"peer log {records} {line}", *asked, line),
+                       (f"peer log {records + 1} {FIVE}", "strange", "over"), program=program)
+
+
+def endless():
+    """A pull from a peer that gives a byte at each read, and whose log never ends: a turn is a question or a read, up to the most of a
+    version."""
+    for version, most in ((1, 1_000_000), (2, 1_000_000), (3, 100_000_000)):
+        reply = f"log {LIMITS[version][5]} {FIVE}\n"
+        whole, rest = divmod(most, 1 + len(reply))
+        questions = whole + (rest > 0)
+        size = sum(len(f"log {place}\n") for place in range(1, questions + 1))
+        yield Flat(f"a pull of version {version} that comes to no end", "endless", str(version), [],
+                   ["too many turns", f"{most - questions} reads, {size} bytes"], reply)
+
+
+def session_ends():
+    """A session reads lines in the form of its program."""
+    for version, (stop, _, _, micro, origins, records, _) in LIMITS.items():
+        name, announced = f"{origins - 1} {stop}", f"announce {origins - 1} {stop + 1} 0"
+        text = program([reactor(vars=[["total", 0]], inputs=["a"], outputs=["y"], reactions=[total(["+", "total", "a"], "a")])], version,
+                       stop=stop, origins=origins, inputs=[[origins - 1, "r.a"]], outputs=["r.y"])
+        rows = [(f"event {name} {micro} 0 7", "taken 1"), (f"event {name} {micro + 1} 0 7", "refused 1"),
+                (f"event {origins - 1} {stop + 1} 0 0 7", "refused 3"), (f"event {origins - 1} {stop + 2} 0 0 7", "refused 1"),
+                (f"event {origins} 0 0 0 7", "refused 1"), (f"{announced} {records} {records}", "taken 2"),
+                (f"{announced} {records + 1} 0", "refused 1"), (f"{announced} 0 {records + 1}", "refused 1"), (f"{announced} 1 0", "taken 3"),
+                (f"breach {origins - 1}", "breach 3 0"), (f"breach {origins}", "refused 1"), ("outputs", "outputs 3 1"),
+                ("output 0", f"output 3 {stop} {micro} 0 7"), ("released", "released 3 0"), ("log 4294967295", "none 3")]
+        yield Flat(f"a session of version {version} at the ends of its ranges", "manner", text, [],
+                   ["end: 3 records", *(answer for _, answer in rows), ""], "4096 4096 - -\n" + "".join(f"{line}\n" for line, _ in rows))
+
+
 def cases():
+    for some in (versions, raising, longer_log, last_steps, following_versions, endless, session_ends):
+        yield from some()
     for some in (shown, pages, following, slow, forty, collecting, desks, merging, meeting, world, files, copies, feeding, spellings, streams, sessions):
         yield from some()

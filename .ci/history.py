@@ -92,7 +92,7 @@ REFUSED = {"var 1": 6, "nonsense": 1, "": 1, "event 0 5 0 1 3": 5, "event 2 5 0 
            "breach 2": 2, "row 4294967296": 1, "x" * 129: 9, "x" * 128: 1, "event 00 5 0 0 3": 1}
 
 
-# A board takes no more rows.
+# A board of a program of version 1 or 2 takes no more rows.
 MOST_ROWS = 4_096
 
 

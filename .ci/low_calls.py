@@ -4,7 +4,7 @@ import hashlib
 import json
 
 from calls import EXAMPLES, NO_MEMORY, REFUSED, Calls, Step, before, made
-from flat_calls import HOST, end_records, end_replies
+from flat_calls import HOST, PROGRAM, end_records, end_replies, of_version
 from program_files import canonical
 
 
@@ -53,6 +53,16 @@ def making_twice():
     said = ["2 reactions"]
     step = Step(said * 2, calls=2, otherwise=two_times(said, [NO_MEMORY]))
     return Calls("the program that is built in", "twice", "twice", [step])
+
+
+def raising():
+    """A program that is raised; without memory there is none."""
+    text = text_of("pair.json")
+    steps = []
+    for word, version, form in (("raise", 2, "Two"), ("1", 1, "One"), ("2", 2, "Two"), ("3", 3, "Three")):
+        said = [f"raised to {form}, the same true"]
+        steps.append(Step(said * 2, [f"{word} {of_version(text, version)}"], 2, otherwise=two_times(said, [NO_MEMORY])))
+    return Calls("a program that is raised", "raise", text, steps)
 
 
 def making(line):
@@ -248,7 +258,7 @@ def following():
     lines = [f"peer * log 1 {record}", "connect", HOST, f"peer log 1 {record}", "peer watching 1"]
     step = Step([record, "program", "log 1", "watch log 1", "found at 1, true"], lines, 5, (0,),
                 [[NO_MEMORY, "over", "program", "watch log 1", "strange", "over", "strange", "over"]])
-    return Calls("following a peer", "follows", "", [
+    return Calls("following a peer", "follows", PROGRAM, [
         before([("connect", "program"), (HOST, "watch log 1"), ("peer watching 1", "found at 1, true")]), step])
 
 
@@ -258,6 +268,7 @@ def cases():
     yield loading()
     yield refusing()
     yield making_twice()
+    yield raising()
     yield stepping()
     yield giving()
     yield timeline("timelines")

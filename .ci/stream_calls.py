@@ -5,6 +5,7 @@ from what each reply leads to.
 """
 
 from calls import NO_MEMORY, Calls, Step
+from flat_calls import TWICE, of_version
 
 # `tardy_event` of rows/events.rows: lines, answers, and how many records there are behind each.
 ROW = [("event 0 5 0 0 3", "taken 1", 1), ("var 0", "var 1 3", 1), ("event 1 2 0 1 4", "taken 2", 2), ("var 0", "var 2 -5", 2),
@@ -82,6 +83,8 @@ def full():
 GOT, HELD, OVER = "got", "held", "over"
 LONG = "x" * 200
 TAKEN = "event 0 5 0 0 3"
+# The same program in version 3, whose stop is 100 too.
+LATER = of_version(TWICE, 3)
 # What a peer replies, with what each reply leads to and how many records there are then; how the pull ends by the last of
 # these, or None where the bytes end before; and how it ends where its one record was refused, with records and questions.
 PEERS = [
@@ -94,6 +97,14 @@ PEERS = [
     ([(LONG, OVER, 0)], "", "strange", None),
     ([(f"log 9 {TAKEN}", GOT, 1), (f"log 9 {TAKEN}", GOT, 1), ("none 2", OVER, 1)], "", "quiet", ("strange", 1, 3)),
     ([(f"log 1 {TAKEN}", GOT, 1)], "log 2 wi", None, ("end", 0, 2)),
+    ([("log 100001 event 0 5 0 0 3", OVER, 0)], "", "strange", None),
+]
+# The same of a peer of version 3.
+LATER_PEERS = [
+    ([("log 1 event 0 15625000 0 0 3", OVER, 0)], "", "held 3", None),
+    ([("log 1 event 0 15625001 0 0 3", OVER, 0)], "", "strange", None),
+    ([("log 10000001 event 0 5 0 0 3", OVER, 0)], "", "strange", None),
+    ([("log 10000000 announce 0 5 255 10000000 10000000", GOT, 1), ("none 1", OVER, 1)], "", "quiet", ("strange", 0, 2)),
 ]
 # Each question is `log N` and a line feed, with N below 10.
 QUESTION = 6
@@ -137,15 +148,16 @@ class Peer:
 
 
 def pulls():
-    for replies, torn, end, refused in PEERS:
-        peer = Peer(replies, torn, end)
-        yield Calls(f"a peer that replies {peer.text[:30]!r}", "pulls", "twice", peer.steps(refused), peer.text)
+    for program, peers in (("twice", PEERS), (LATER, LATER_PEERS)):
+        for replies, torn, end, refused in peers:
+            peer = Peer(replies, torn, end)
+            yield Calls(f"a peer that replies {peer.text[:30]!r}", "pulls", program, peer.steps(refused), peer.text)
 
 
 def exhausted():
     """A desk that has no memory asks for the same place again and again: each turn is a question or a read."""
     step = several([["too many turns", f"{500_000 * QUESTION} bytes, 500000 questions for place 1"]])
-    return Calls("a pull into a desk without memory", "exhausted", "twice", [step], f"log 1 {TAKEN}\n")
+    return Calls("a pull into a desk without memory", "exhausted", "1", [step], f"log 1 {TAKEN}\n")
 
 
 def cases():

@@ -48,12 +48,31 @@ export interface Releases extends Counted {
   frozen: boolean
 }
 
+/** A step that the host executed; values are by names. */
+export interface StepMade extends Tag {
+  rollback?: undefined
+  skipped?: undefined
+  given: Record<string, Value>
+  due: { target: string; value: Value }[]
+  changed: Record<string, Value>
+  outputs: Record<string, Value>
+  pending: number
+}
+
+/** The host went back, from the last tag that was done; `to` is null for the start of the run. `again` counts the steps that follow, up to `from`. */
+export interface Rollback {
+  from: Tag
+  to: Tag | null
+  again: number
+}
+
 export interface Pushes {
   log: { place: number; record: LogRecord }
   released: ({ index: number; frozen?: undefined } & Row) | { frozen: true }
   vars: { log: number; values: Value[] }
   horizon: { log: number } & Tag
   breach: { log: number; origins: number[] }
+  steps: StepMade | { rollback: Rollback; skipped?: undefined } | { skipped: number; rollback?: undefined }
 }
 
 /** A line that was refused: its number, what that means, and the line. Nothing was changed. */

@@ -89,7 +89,7 @@ function whole(name, value, most, least = 0) {
   return value
 }
 
-const tagIn = ({ time, micro = 0 } = {}) => `${whole("time", time, 10_000_001)} ${whole("micro", micro, 255)}`
+const tagIn = ({ time, micro = 0 } = {}) => `${whole("time", time, 15_625_000)} ${whole("micro", micro, 255)}`
 const valueIn = ({ value }) => whole("value", value, 2n ** 63n - 1n, -(2n ** 63n))
 
 const tagged = (time, micro) => ({ time: Number(time), micro: Number(micro) })
@@ -138,6 +138,25 @@ export function replyOf(text, line) {
   return read(words)
 }
 
+const valuesOf = values => Object.fromEntries(Object.entries(values).map(([name, value]) => [name, BigInt(value)]))
+
+/** A step, or a going back before steps, of its JSON: a value may have more digits than a number keeps. */
+function executedOf(text) {
+  const { tag, rollback, given, due, changed, outputs, pending } = JSON.parse(text.replace(/":(-?\d+)/g, '":"$1"'))
+  if (rollback) {
+    const { from, to, again } = rollback
+    return { rollback: { from: tagged(...from), to: to && tagged(...to), again: Number(again) } }
+  }
+  return {
+    ...tagged(...tag),
+    given: valuesOf(given),
+    due: due.map(({ target, value }) => ({ target, value: BigInt(value) })),
+    changed: valuesOf(changed),
+    outputs: valuesOf(outputs),
+    pending: Number(pending),
+  }
+}
+
 const PUSHES = {
   log: ([place, ...record]) => ({ place: Number(place), record: recordOf(record) }),
   released: ([index, ...row]) => ({ index: Number(index), ...rowOf(row) }),
@@ -145,9 +164,13 @@ const PUSHES = {
   vars: READERS.vars,
   horizon: READERS.horizon,
   breach: ([log, ...origins]) => ({ log: Number(log), origins: origins.map(Number) }),
+  step: ([json]) => executedOf(json),
+  skipped: ([count]) => ({ skipped: Number(count) }),
 }
 
-const SUBJECTS = Object.keys(PUSHES).filter(it => it !== "frozen")
+// What is watched, where a push has another name.
+const SUBJECT_OF = { frozen: "released", step: "steps", skipped: "steps" }
+const SUBJECTS = [...new Set(Object.keys(PUSHES).map(it => SUBJECT_OF[it] ?? it))]
 
 /** What is watched: calls back for each push, and is an async iterator over them. `stop()` ends it. */
 class Watch {
@@ -379,7 +402,7 @@ export class Client {
     if (!(kind in PUSHES)) return
     const value = PUSHES[kind](words)
     if (kind === "vars") value.values.forEach((it, at) => (this.vars[this.names.vars[at] ?? at] = it))
-    this.#watches.get(kind === "frozen" ? "released" : kind)?.push(value)
+    this.#watches.get(SUBJECT_OF[kind] ?? kind)?.push(value)
   }
 
   #put(line, watch) {
@@ -482,9 +505,9 @@ export class Client {
   }
 
   /**
-   * Watches "log" or "released" (from place 1, number 0, or `from` on), "vars", "horizon" or "breach". Calls back for
-   * each push, and is an async iterator over them; `stop()` ends it. A second watch of the same takes the first's place.
-   * What cannot be watched is a RangeError.
+   * Watches "log" or "released" (from place 1, number 0, or `from` on), "vars", "horizon", "breach", or "steps" (what
+   * the host executes from then on). Calls back for each push, and is an async iterator over them; `stop()` ends it. A
+   * second watch of the same takes the first's place. What cannot be watched is a RangeError.
    */
   watch(what, callback = null, { from = { log: 1, released: 0 }[what] ?? null } = {}) {
     number("subject of a watch", what, SUBJECTS)

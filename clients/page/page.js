@@ -17,6 +17,7 @@ let client
 let token
 let program
 let watches = []
+let steps = null
 let isDrawn = false
 let isAsking = false
 let mayTellLate = true
@@ -58,6 +59,7 @@ function draw() {
   drawOpen()
   drawTimeline()
   tellLate()
+  tellAgain()
   warn()
 }
 
@@ -103,7 +105,7 @@ function drawTimeline() {
   const length = Math.min(Number(at("span").value), replica.records.length)
   const records = Array.from({ length }, (_, age) => replica.records.at(age))
   const { announced, horizon } = replica
-  const shown = { records, origins: originsNow(), announced, horizon, micros: program?.version === 2 ? 256 : 16 }
+  const shown = { records, origins: originsNow(), announced, horizon, micros: program?.version > 1 ? 256 : 16 }
   timeline.draw(shown)
   at("timeline").setAttribute("aria-label", inWords(shown, replica.late))
 }
@@ -122,6 +124,30 @@ function tellLate() {
     mayTellLate = true
     touch()
   }, PAUSE)
+}
+
+const rowsText = count => `${count} ${count === 1 ? "row" : "rows"}`
+
+/** Tells the last rollback in words, where steps are watched. */
+function tellAgain() {
+  const { rollbacks, again, lastRollback, skipped } = replica
+  const lost = skipped ? ` ${skipped} lines were left out.` : ""
+  if (!steps) return put("again", "")
+  if (!lastRollback) return put("again", `No rollback so far.${lost}`)
+  const { from, to, again: last } = lastRollback
+  const back = `Rolled back from ${tagText(from)} to ${to ? tagText(to) : "the start"}: ${rowsText(last)} again.`
+  put("again", `${back} ${rollbacks} so far, ${rowsText(again)} in all.${lost}`)
+}
+
+/** Watches what is executed from now on, where that is wanted. */
+function watchSteps() {
+  steps?.stop().catch(() => {})
+  replica.clearSteps()
+  steps = at("steps").checked ? client.watch("steps", push => {
+    replica.takeStep(push)
+    touch()
+  }) : null
+  touch()
 }
 
 /** Asks for what is not released yet, soon, and once for all that changed until then. */
@@ -176,6 +202,7 @@ async function begin() {
     TAKES[what](push)
     askOpen()
   }))
+  watchSteps()
   choose("input", client.names.inputs.map((it, number) => [number, `${it.name} (origin ${it.origin})`]))
   askOpen()
   readLimits().catch(() => {})
@@ -260,6 +287,7 @@ at("send").addEventListener("submit", send)
 at("kind").addEventListener("change", showFields)
 at("count").addEventListener("click", countFromLog)
 at("send").addEventListener("input", touch)
+at("steps").addEventListener("change", watchSteps)
 for (const id of ["span", "words"]) at(id).addEventListener("change", touch)
 at("who").addEventListener("submit", event => {
   event.preventDefault()

@@ -22,6 +22,22 @@ export class Replica {
     Object.assign(this, { log: 0, newest: null, late: 0, lastLate: null, horizon: null, values: [], frozen: false })
     Object.assign(this, { changed: new Set(), broken: new Set(), announced: new Map(), origins: new Set() })
     Object.assign(this, { outputs: 0, lost: 0, asked: [], askedFrom: 0 })
+    this.clearSteps()
+  }
+
+  /** As before the first push of steps. */
+  clearSteps() {
+    Object.assign(this, { steps: 0, rollbacks: 0, again: 0, lastRollback: null, skipped: 0 })
+  }
+
+  /** A step, a going back before steps, or how many of these were left out. */
+  takeStep({ rollback, skipped = 0 }) {
+    this.skipped += skipped
+    if (rollback) {
+      this.rollbacks += 1
+      this.again += rollback.again
+      this.lastRollback = rollback
+    } else if (!skipped) this.steps += 1
   }
 
   /** A record, the next of the log; what a watch before this one brings is passed over. */

@@ -78,6 +78,33 @@ hosted("what is watched is pushed in order", async ({ assert, client }) => {
   assert.deepEqual(places, [1, 2, 3, 4])
 })
 
+hosted("steps tell what is executed, and how far a late event goes back", async ({ assert, client }) => {
+  const most = 2n ** 63n - 1n
+  await client.event("r.a", { time: 5, value: 1 })
+  const pushes = []
+  const watch = client.watch("steps", push => pushes.push(push))
+  assert.deepEqual(await watch.started, { count: 1 })
+  const step = (time, given, total) => ({
+    ...{ time, micro: 0, given, due: [], changed: { "r.total": total }, outputs: { "r.y": total }, pending: 0 },
+  })
+  await client.event("r.a", { time: 9, value: most })
+  await until(() => pushes.length === 1)
+  // The program's total is twice what it was, and the event's value: it wraps.
+  assert.deepEqual(pushes.splice(0), [step(9, { "r.a": most }, BigInt.asIntN(64, 2n + most))])
+  await client.event("r.b", { time: 7, value: 2 })
+  await until(() => pushes.some(it => it.time === 9))
+  const [{ rollback }, ...again] = pushes
+  assert.deepEqual(rollback.from, { time: 9, micro: 0 })
+  assert.equal(rollback.to === null || rollback.to.time <= 5, true)
+  assert.equal(rollback.again, again.length)
+  // What comes from the other origin is taken away.
+  assert.deepEqual(again.slice(-2), [step(7, { "r.b": 2n }, -1n), step(9, { "r.a": most }, most - 2n)])
+  await watch.stop()
+  await client.event("r.a", { time: 11, value: 1 })
+  assert.deepEqual(await client.ask("unwatch steps"), { count: 0 })
+  assert.equal(pushes.length, 1 + again.length)
+})
+
 hosted("an announcer keeps to its word", async ({ assert, client }) => {
   const announcer = new Announcer(client, 0)
   await announcer.event("r.a", { time: 5, value: 3 })

@@ -45,8 +45,10 @@ MEANINGS = {
 }
 # So many lines are sent before their replies are read: they fit into the buffers on the way, so neither side waits for the other.
 WINDOW = 256
-# A board takes no more rows.
-MOST_ROWS = 4_096
+# A board takes no more rows: of a program of version 3, and of one before.
+MOST_ROWS_OF_3, MOST_ROWS = 1_048_576, 4_096
+# A record that no program takes: its time is behind every stop, and before version 3 it is no line.
+BEHIND_EACH_STOP = "event 0 15625000 0 0 0"
 # No program has more, of any version.
 MOST_ORIGINS, MOST_VARIABLES = 64, 256
 # Refusals that pass: the line may be sent again.
@@ -68,7 +70,8 @@ class Ended(ConnectionError):
 
 
 class Tag(NamedTuple):
-    """A time, 0 to 10,000,001, and a microstep, 0 to 255; of a program of version 1, 0 to 1,000,001 and 0 to 15."""
+    """A time, 0 to 15,625,000, and a microstep, 0 to 255; of a program of version 2, 0 to 10,000,001 and 0 to 255, and of
+    version 1, 0 to 1,000,001 and 0 to 15."""
 
     time: int
     micro: int = 0
@@ -419,7 +422,8 @@ class Client:
         return self.ask("collect")
 
     def board(self) -> Board:
-        """How many released outputs stand on the board, 4,096 at most, and whether it is frozen; only a server has one."""
+        """How many released outputs stand on the board, and whether it is frozen; only a server has one. There are 4,096
+        at most, of a program of version 3 1,048,576."""
         return self.ask("board")
 
     def row(self, number: int) -> Optional[Row]:
@@ -480,11 +484,15 @@ class Client:
         while True:
             board = self.board()
             yield from self._rows(start, board.count)
-            if board.frozen or board.count == MOST_ROWS:
+            if board.frozen or board.count == MOST_ROWS_OF_3 or board.count == MOST_ROWS and not self._is_of_version_3():
                 return
             if board.count <= start:
                 clock.sleep(pause)
             start = max(start, board.count)
+
+    def _is_of_version_3(self) -> bool:
+        """Whether the program's lines have the ranges of version 3."""
+        return self._refusal(BEHIND_EACH_STOP) != 1
 
     def _rows(self, start: int, end: int) -> Iterator[Row]:
         for first in range(start, end, WINDOW):

@@ -17,7 +17,7 @@ from typing import NamedTuple, Optional, Union
 from . import Client, Ended, Horizon, Names, Output, Record, Refused, Tag, record_of, reply_of
 
 # What can be watched, and where it begins where no place is given.
-SUBJECTS = {"log": 1, "released": 0, "vars": None, "horizon": None, "breach": None}
+SUBJECTS = {"log": 1, "released": 0, "vars": None, "horizon": None, "breach": None, "steps": None}
 
 
 class Program(NamedTuple):
@@ -69,7 +69,40 @@ class Broken(NamedTuple):
     origins: tuple[int, ...]
 
 
-Push = Union[Logged, Released, Frozen, Variables, Horizon, Broken]
+class Due(NamedTuple):
+    """What was pending for a step's tag."""
+
+    target: str
+    value: int
+
+
+class Step(NamedTuple):
+    """A push: a step that the host executed. Values are by the names of what they belong to."""
+
+    tag: Tag
+    given: dict[str, int]
+    due: tuple[Due, ...]
+    changed: dict[str, int]
+    outputs: dict[str, int]
+    pending: int
+
+
+class Rollback(NamedTuple):
+    """A push: the host went back, from the last tag that was done; `to_tag` is None for the start of the run. So many of the
+    steps that follow are not after `from_tag`."""
+
+    from_tag: Tag
+    to_tag: Optional[Tag]
+    again: int
+
+
+class Skipped(NamedTuple):
+    """A push: so many lines of steps were left out, since they were not read fast enough."""
+
+    count: int
+
+
+Push = Union[Logged, Released, Frozen, Variables, Horizon, Broken, Step, Rollback, Skipped]
 
 
 def _subject(what: str) -> str:
@@ -77,6 +110,14 @@ def _subject(what: str) -> str:
     if what not in SUBJECTS:
         raise ValueError(f"{what!r} is nothing to watch; there are: {', '.join(SUBJECTS)}")
     return what
+
+
+def _step_of(told: dict) -> Union[Step, Rollback]:
+    if "rollback" in told:
+        back = told["rollback"]
+        return Rollback(Tag(*back["from"]), Tag(*back["to"]) if back["to"] else None, back["again"])
+    due = tuple(Due(it["target"], it["value"]) for it in told["due"])
+    return Step(Tag(*told["tag"]), told["given"], due, told["changed"], told["outputs"], told["pending"])
 
 
 def _push_of(text: str) -> Optional[tuple[str, Push]]:
@@ -95,6 +136,10 @@ def _push_of(text: str) -> Optional[tuple[str, Push]]:
         return kind, Horizon(numbers[0], Tag(*numbers[1:]))
     if kind == "breach":
         return kind, Broken(numbers[0], tuple(numbers[1:]))
+    if kind == "step":
+        return "steps", _step_of(json.loads(words[0]))
+    if kind == "skipped":
+        return "steps", Skipped(int(words[0]))
     return None
 
 
@@ -177,8 +222,8 @@ class HostClient(Client):
         return None if text.startswith("none ") else reply_of(text.replace("release", "output", 1), "release")
 
     def watch(self, what: str, start: Optional[int] = None) -> Iterator[Push]:
-        """Watches "log" or "released" (from `start` on, or from the first), "vars", "horizon" or "breach", and gives each
-        push. The next one is waited for without an end; `pushed` has what came without waiting. What is not taken waits
+        """Watches "log" or "released" (from `start` on, or from the first), "vars", "horizon", "breach", or "steps" (what
+        the host executes from then on), and gives each push. The next one is waited for without an end; `pushed` has what came without waiting. What is not taken waits
         in memory, up to `unwatch`. Watching the same again begins anew."""
         place = SUBJECTS[_subject(what)] if start is None else start
         self._waiting[what], self._next[what] = deque(), place

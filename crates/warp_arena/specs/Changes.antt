@@ -1,6 +1,6 @@
 -- What the private calls on nodes do to their links. No public clause cites this module.
-use Rattle.std.specs.Prelude.{◌≡◌, ◌≢◌, true, ℕ, ◌<◌, List, length}
-use Rattle.warp_tag.specs.Moment.{Moment}
+use Rattle.std.specs.Prelude.{◌≡◌, ◌≢◌, Bool, true, ℕ, ◌<◌, List, length}
+use Rattle.warp_tag.specs.Moment.{Moment, is_before}
 use Rattle.warp_tag.specs.Table.{fresh, name_before}
 use Rattle.warp_tag.specs.declared.entry.Entry.{Entry}
 use Rattle.warp_arena.specs.declared.node.Links.{Links}
@@ -15,6 +15,10 @@ IsPlace size i = i ≢ NO_NODE → i < size
 -- the place is an end of a list, or the name of its entry comes before this one
 abbrev pub IsPassed : ℕ → Moment → List Node → ℕ → Type 0
 IsPassed origin tag nodes i = i ≢ NO_NODE → name_before (entry_at nodes i).origin (entry_at nodes i).tag (fresh origin tag) ≡ true
+
+-- the tag of the entry at a place is after this one
+abbrev pub is_later : List Node → Moment → ℕ → Bool
+is_later nodes tag i = is_before tag (entry_at nodes i).tag
 
 -- a node can come into a list behind a place: that and the place after it are places, and it is neither
 pub record CanThread (size : ℕ) (next : ℕ → ℕ) (before at : ℕ) : Type 0 where

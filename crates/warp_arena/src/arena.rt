@@ -1,7 +1,7 @@
 //! The arena: entries of names, in order, each at a handle.
 use crate::hints::{
-    back_by_tag, back_of_origin, forget_hint, forget_own_hint, leads_back, near_hint, own_hint,
-    place_of_hint, place_of_own_hint, reserve_hints, stands_behind, tag_hint,
+    back_by_tag, back_of_origin, keep_later, leads_back, near_hint, own_hint, place_of_hint,
+    place_of_own_hint, reserve_hints, stands_behind, tag_hint,
 };
 use crate::links::{
     add_node, handle, is_passed, next_by_tag, next_of_origin, thread_node, unthread_node,
@@ -442,7 +442,19 @@ impl Arena {
             }
             self.free_first();
         }
-        before - self.len()
+        let freed = before - self.len();
+        self.forget_hints_through(tag, freed);
+        freed
+    }
+
+    /// Forgets the hints of nodes that were freed, of which there are so many: their tags were not after this one.
+    fn forget_hints_through(&mut self, tag: Tag, freed: usize)
+        ensures { self.new ≡ self.old }
+    {
+        if freed > 0 {
+            keep_later(&mut self.hints, &self.nodes, tag);
+            keep_later(&mut self.own_hints, &self.nodes, tag);
+        }
     }
 
     /// Frees the first node of the tag list, which is the first of its origin's list too.
@@ -455,8 +467,6 @@ impl Arena {
         let own = self.by_origin[origin];
         let mut own_ends = own.ends;
         let free = self.free;
-        forget_hint(&mut self.hints, at);
-        forget_own_hint(&mut self.own_hints, &self.nodes, at);
         unthread_node(&mut self.nodes, &mut self.ends, &mut own_ends, at, free);
         self.by_origin[origin] = Origin {
             ends: own_ends,

@@ -5,6 +5,7 @@ ghost use Rattle.std.specs.Prelude.{vec_len, vec_capacity};
 ghost use Rattle.std.specs.List.{AllByRecursion};
 ghost use Rattle.warp_tag.specs.Table.{name_before};
 ghost use Rattle.warp_arena.specs.Shape.{IsOwnAfter, entry_at};
+ghost use Rattle.warp_arena.specs.Changes.{is_later};
 
 use crate::node::{MOST_SEEN, NO_NODE, Node};
 use warp_tag::{OutOfMemory, Tag};
@@ -186,39 +187,24 @@ pub(crate) fn near_hint(
     kept_hint(own_hints, nodes, origin, tag)
 }
 
-/// Takes the node, the first of all, out of the hints, which stand in order.
-pub(crate) fn forget_hint(hints: &mut Vec<u32>, at: u32)
+/// Whether the tag of the node at this index, if there is one, is after this one.
+fn is_later(nodes: &[Node], at: u32, tag: Tag) -> bool
+    ensures { result ≡ is_later nodes.now tag at }
+{
+    match nodes.get(at as usize) {
+        Some(node) => tag.is_before(node.entry.tag()),
+        None => false,
+    }
+}
+
+/// Takes out of the hints, in one pass, those of nodes whose tags are not after this one. A node that is free has the
+/// first tag of all.
+pub(crate) fn keep_later(hints: &mut Vec<u32>, nodes: &[Node], tag: Tag)
     ensures below { (bound : ℕ) → AllByRecursion (λ h. h < bound) hints.old.items
         → AllByRecursion (λ h. h < bound) hints.new.items }
     ensures room { vec_capacity hints.new ≡ vec_capacity hints.old }
 {
-    if hints.first() == Some(&at) {
-        hints.retain(move |hint| *hint != at);
-    }
-}
-
-/// Takes the node out of the hints of its origin, which stand in order of origin, then of tag.
-pub(crate) fn forget_own_hint(hints: &mut Vec<u32>, nodes: &[Node], at: u32)
-    requires { All (λ h. h < length nodes.now) hints.old.items }
-    ensures below { (bound : ℕ) → AllByRecursion (λ h. h < bound) hints.old.items
-        → AllByRecursion (λ h. h < bound) hints.new.items }
-    ensures room { vec_capacity hints.new ≡ vec_capacity hints.old }
-{
-    if !hints.is_empty() && is_own_hint(hints, nodes, at) {
-        hints.retain(move |hint| *hint != at);
-    }
-}
-
-/// Whether the node is one of its origin's hints, which stand in order of origin, then of tag.
-#[inline(never)]
-fn is_own_hint(hints: &[u32], nodes: &[Node], at: u32) -> bool
-    requires { All (λ h. h < length nodes.now) hints.now }
-{
-    let Some(node) = nodes.get(at as usize) else {
-        return false;
-    };
-    let place = place_of_own_hint(hints, nodes, node.entry.origin(), node.entry.tag());
-    place > 0 && hints[place - 1] == at
+    hints.retain(|hint| is_later(nodes, *hint, tag));
 }
 
 /// The node that is so many before this one in its origin's list. On this hangs what a walk costs, and nothing else.

@@ -1,6 +1,6 @@
 //! A board, made with its writer and a first reader.
 ghost use Rattle.std.specs.Prelude.{◌≡◌, ◌≤◌, [], false, IfOk};
-ghost use Rattle.warp_tag.specs.Limits.{most_rows};
+ghost use Rattle.warp_tag.specs.Limits.{most_rows, widest};
 ghost use Rattle.warp_board.specs.Board.{room_of};
 
 use crate::reader::Reader;
@@ -11,11 +11,11 @@ use atomic_table::Table;
 use std::alloc::Global;
 use warp_tag::OutOfMemory;
 
-/// A board with room for so many rows, 1 to 4,096, empty and not frozen, with its writer and a first reader. Every
+/// A board with room for so many rows, 1 to 1,048,576, empty and not frozen, with its writer and a first reader. Every
 /// word, and the room of the writer's copy, is taken here.
 pub fn board(alloc: Global, rows: usize) -> Result<(Board, Writer, Reader), OutOfMemory>
     requires least { 1 ≤ rows }
-    requires most { rows ≤ most_rows }
+    requires most { rows ≤ most_rows widest }
     ensures room { IfOk result (λ made. room_of made.0 ≡ rows) }
     ensures writer { IfOk result
         (λ made. made.1 ≡ record { board = made.0; rows = []; frozen = false }) }

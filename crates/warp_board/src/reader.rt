@@ -1,7 +1,7 @@
 //! The readers of a board.
 ghost use Rattle.std.specs.Prelude.{◌≡◌, ◌<◌, ◌≤◌, true, ◌||◌, ◌↔◌};
 ghost use Rattle.std.specs.Prelude.{IfSome, IsNone, IsOk, MatchResult, slice_get, length};
-ghost use Rattle.warp_tag.specs.Limits.{most_outputs, most_rows};
+ghost use Rattle.warp_tag.specs.Limits.{most_outputs, most_rows, widest};
 ghost use Rattle.warp_tag.specs.Lists.{StartsWith};
 ghost use Rattle.warp_board.specs.Board.{room_of};
 
@@ -36,14 +36,14 @@ impl Model for Reader {
 }
 
 impl Reader {
-    /// Loads how many rows there are, 0 to 4,096, which the reader knows from then on.
+    /// Loads how many rows there are, 0 to the board's room, which the reader knows from then on.
     pub fn count(&mut self, board: &Board) -> u64
         requires { self.old.board ≡ board.now }
         ensures count { result ≡ length self.new.rows }
         ensures rows { StartsWith self.new.rows self.old.rows }
         ensures least { length self.old.rows ≤ result }
         ensures most { result ≤ room_of board.now }
-        ensures bound { result ≤ most_rows }
+        ensures bound { result ≤ most_rows widest }
         ensures others { self.new ≡ record self.old { rows = self.new.rows } }
     {
         let count = board.table.shared.load::<LoadCount>(&mut self.seat, 0);

@@ -1,6 +1,6 @@
 //! The words that the seats of one board share.
 ghost use Rattle.std.specs.Prelude.{◌≡◌, ◌≤◌};
-ghost use Rattle.warp_tag.specs.Limits.{most_rows};
+ghost use Rattle.warp_tag.specs.Limits.{most_rows, widest};
 ghost use Rattle.warp_board.specs.Board.{room_of};
 
 use crate::notes::Notes;
@@ -10,7 +10,7 @@ use std::alloc::Global;
 use std::marker::Model;
 
 /// The most rows for which a board can have room.
-pub const MAX_ROWS: usize = 4096;
+pub const MAX_ROWS: usize = 1_048_576;
 
 pub(crate) type Seat = atomic_table::Seat<(), Notes>;
 
@@ -24,7 +24,7 @@ pub struct Board {
 impl Model for Board {
     ghost use Rattle.std.specs.Prelude.{◌≡◌, ◌≤◌, ◌+◌, ◌*◌};
     ghost use Rattle.atomic_table.specs.Seated.{TableId, table_id_coded};
-    ghost use Rattle.warp_tag.specs.Limits.{most_rows};
+    ghost use Rattle.warp_tag.specs.Limits.{most_rows, widest};
 
     ghost Value = { TableId };
 
@@ -33,7 +33,7 @@ impl Model for Board {
     ghost view = { λ b. b.table.shared.table_id };
 
     ghost invariant = { λ b. let rows = b.table.shared.key in
-        (b.table.shared.table_id.words ≡ 2 + 2 * rows) × (1 ≤ rows) × (rows ≤ most_rows) };
+        (b.table.shared.table_id.words ≡ 2 + 2 * rows) × (1 ≤ rows) × (rows ≤ most_rows widest) };
 }
 
 impl Board {
@@ -41,7 +41,7 @@ impl Board {
     pub(crate) fn room(&self) -> usize
         ensures room { result ≡ room_of self.now }
         ensures least { 1 ≤ result }
-        ensures most { result ≤ most_rows }
+        ensures most { result ≤ most_rows widest }
     {
         (self.table.word_count() - 2) / 2
     }

@@ -27,6 +27,7 @@ fn spells_and_reads_rows(rt: HostRuntime) -> Result<(), Fail> {
         (out(5, 0, 0, 3), (327_680, 3)),
         (out(5, 255, 63, 3), (393_023, 3)),
         (out(10_000_001, 255, 0, 3), (655_360_130_816, 3)),
+        (out(15_625_000, 255, 0, 3), (1_024_000_065_280, 3)),
     ];
     for (row, words) in rows {
         let row = row.ok_or("no tag")?;
@@ -37,7 +38,7 @@ fn spells_and_reads_rows(rt: HostRuntime) -> Result<(), Fail> {
     let second = out(5, 0, 0, 3).ok_or("no tag")?;
     assert_eq!(rt; spell_row(second), (327_680, 3));
     // Port 64, and a time past the last.
-    for word in [327_744, 655_360_131_072] {
+    for word in [327_744, 1_024_000_065_536] {
         assert_eq!(rt; read_row(word, 3), None, "at {word}");
     }
     Ok(())

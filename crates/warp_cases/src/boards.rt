@@ -1,13 +1,14 @@
-//! A board of two rows, with its writer and its readers. Each call but the making of boards takes no memory.
+//! A board of two rows, with its writer and its readers. Each call but the making of boards takes no memory. And boards
+//! with room for as many rows as a form allows, which are filled.
 ghost use Rattle.std.specs.Prelude.{◌≡◌, ◌<◌};
 ghost use Rattle.warp_tag.specs.Limits.{most_outputs};
 
-use crate::lines::tag_of;
+use crate::lines::{form_of, number_of, tag_of};
 use crate::mark::{begin, end};
 use crate::transcript::{NO_MEMORY, Transcript, outcome};
 use std::alloc::Global;
 use warp_board::{Board, Reader, Writer, board, join_readers, meet, split_reader};
-use warp_tag::Out;
+use warp_tag::{Out, Tag};
 
 /// How many rows the board has room for.
 const ROOM: usize = 2;
@@ -21,6 +22,71 @@ const SECOND: Row = ("5 0", 3);
 
 /// One more than there is room for.
 const THIRD: Row = ("6 0", 9);
+
+/// More rows than any board has room for.
+const MANY: u32 = 2_000_000;
+
+/// Fills a board with room for as many rows as programs of this version allow, and tells how many it took, how many
+/// there are, and the row of each line.
+pub(crate) fn fill(alloc: Global, out: &mut Transcript, version: &str, lines: &str) {
+    let Some(form) = form_of(version) else {
+        return out.fail("no version");
+    };
+    match board(alloc, form.most_rows() as usize) {
+        Ok((board, writer, reader)) => fill_all(out, &board, writer, reader, lines),
+        Err(_) => out.fail(NO_MEMORY),
+    }
+}
+
+/// Fills this board, and tells the same.
+fn fill_all(
+    out: &mut Transcript,
+    board: &Board,
+    mut writer: Writer,
+    mut reader: Reader,
+    lines: &str,
+)
+    requires writer { writer.board ≡ board.now }
+    requires reader { reader.board ≡ board.now }
+{
+    out.say(format_args!("{} appended", append_all(board, &mut writer)));
+    out.say(format_args!("{} rows", reader.count(board)));
+    for line in lines.lines() {
+        say_row_of(out, board, &mut reader, line);
+    }
+}
+
+/// Appends rows until there is no room for one more; how many there were. The port of each is 3, its time is its place,
+/// and its value what is left of 100 from there.
+fn append_all(board: &Board, writer: &mut Writer) -> u32
+    requires { writer.old.board ≡ board.now }
+{
+    for number in 0..MANY {
+        let Some(tag) = Tag::new(u64::from(number), 1) else {
+            return 0;
+        };
+        let row = Out {
+            tag,
+            port: 3,
+            value: 100 - i64::from(number),
+        };
+        if writer.append(board, row).is_err() {
+            return number;
+        }
+    }
+    MANY
+}
+
+/// Tells the row of this number.
+fn say_row_of(out: &mut Transcript, board: &Board, reader: &mut Reader, line: &str)
+    requires { reader.old.board ≡ board.now }
+    ensures { reader.new.board ≡ board.now }
+{
+    match number_of(line) {
+        Some(number) => say_row(out, reader.row(board, u64::from(number))),
+        None => out.fail("no number"),
+    }
+}
 
 /// Makes boards, and then all calls over one.
 pub(crate) fn perform(alloc: Global, out: &mut Transcript) {

@@ -1,17 +1,15 @@
-//! Following the log of a peer. Each line is a call, and what it said to the peer and handed to the hub is told behind it:
+//! Following the log of a peer. The first line, `program V X`, tells the own program. Each further line is a call, and
+//! what it said to the peer and handed to the hub is told behind it:
 //!
 //! - `connect` and `connect TOKEN` begin a connection, `lose` ends it, `again` asks a `serve` again after a pause;
 //! - `peer TEXT` is a line of the peer, `part TEXT` bytes of it without a line feed;
 //! - `hub TEXT` is an answer of the hub to a line that it was handed.
-use crate::lines::word_of;
+use crate::lines::{form_of, word_of};
 use crate::mark::{begin, end};
 use crate::transcript::{NO_MEMORY, Transcript};
 use std::alloc::{AllocError, Global};
 use warp_hub::{Follower, PeerEvent};
 use warp_tag::Form;
-
-/// The line that tells the own program.
-const PROGRAM: &[u8] = b"program 1 here";
 
 /// What a follower said and handed on.
 #[derive(Drop)]
@@ -20,12 +18,15 @@ struct Sides {
     handed: Vec<u8>,
 }
 
-/// Makes the calls of the lines over a new follower.
-pub(crate) fn perform(alloc: Global, out: &mut Transcript, lines: &str) {
-    let Ok(program) = Vec::from_slice(alloc, PROGRAM) else {
+/// Makes the calls of the lines over a new follower of a peer with this program.
+pub(crate) fn perform(alloc: Global, out: &mut Transcript, program: &str, lines: &str) {
+    let Some(form) = told_form(program) else {
+        return out.fail("no program");
+    };
+    let Ok(program) = Vec::from_slice(alloc, program.as_bytes()) else {
         return out.fail(NO_MEMORY);
     };
-    let mut follower = Follower::new(Form::One, program);
+    let mut follower = Follower::new(form, program);
     let mut sides = Sides {
         said: Vec::new(alloc),
         handed: Vec::new(alloc),
@@ -37,6 +38,13 @@ pub(crate) fn perform(alloc: Global, out: &mut Transcript, lines: &str) {
         sides.said.clear();
         sides.handed.clear();
     }
+}
+
+/// The form of the program that a line tells.
+fn told_form(line: &str) -> Option<Form> {
+    let (_program, rest) = word_of(line);
+    let (version, _fingerprint) = word_of(rest);
+    form_of(version)
 }
 
 /// Makes the call of a line.

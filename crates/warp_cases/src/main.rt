@@ -2,7 +2,7 @@
 //! ask, and prints what each of them came to. `.ci/cases` runs it and compares; `.ci/memory` refuses its calls memory.
 //!
 //! The first word says which calls: each file here has those of one kind. Standard input begins with a line that
-//! names the program which the calls are over: `twice`, or the text of a program file.
+//! names the program which the calls are over: `twice`, or the text of a program file; or the version of programs alone.
 //!
 //! Each call stands between two marks (`mark.rt`), so that a library which is loaded before it can refuse the requests
 //! for memory of that call, and no other. What is told is kept (`transcript.rt`), and printed when all calls are made:
@@ -15,6 +15,7 @@ mod bodies;
 mod desks;
 mod files;
 mod follows;
+mod forms;
 mod lanes;
 mod lines;
 mod mark;
@@ -40,7 +41,6 @@ use std::{env, io};
 use transcript::Transcript;
 use warp_line::{Plain, Timeline};
 use warp_run::Warp;
-use warp_tag::Form;
 
 fn main(rt: HostRuntime) -> io::Result<()> {
     let mut words = env::args(&rt)?;
@@ -72,7 +72,8 @@ fn perform<X: Clock>(
         "desks" => desks::perform::<Warp>(alloc, out, program, rest),
         "meetings" => meetings::perform::<Warp, Plain>(alloc, out, program, rest),
         "pulls" => pulls::all::<Warp, X>(rt, alloc, out, program, rest),
-        "exhausted" => pulls::exhausted(rt, alloc, out, rest),
+        "exhausted" => pulls::exhausted(rt, alloc, out, program, rest),
+        "endless" => pulls::endless(rt, alloc, out, program, rest),
         "replicas"
         | "timelines"
         | "worlds"
@@ -106,12 +107,15 @@ fn over_none(alloc: Global, out: &mut Transcript, word: &str, program: &str, res
     match word {
         "load" => programs::load_twice(alloc, out, program),
         "twice" => programs::twice_twice(alloc, out),
+        "raise" => programs::raise_all(alloc, out, program, rest),
+        "forms" => forms::perform(out),
         "steps" => steps::perform(alloc, out, program, rest),
         "arenas" => arenas::perform(alloc, out, rest),
         "bodies" => bodies::perform(alloc, out, program, rest),
         "boards" => boards::perform(alloc, out),
-        "follows" => follows::perform(alloc, out, rest),
-        "schedule" => worlds::read_once(alloc, out, Form::One, rest.as_bytes()),
+        "board" => boards::fill(alloc, out, program, rest),
+        "follows" => follows::perform(alloc, out, program, rest),
+        "schedule" => worlds::read(alloc, out, program, rest),
         "same" => files::compare(alloc, out, program, rest),
         "parts" => files::tell_parts(alloc, out, program),
         "errors" => files::tell_errors(out),

@@ -1,8 +1,9 @@
 //! Program files: their loading, copies of the program, its account and its labels, and why a file is refused. Each
-//! call is made two times. And the programs and replicas that the other calls are over.
+//! call is made two times. Programs that are raised. And the programs and replicas that the other calls are over.
+use crate::lines::{form_of, word_of};
 use crate::mark::{begin, end};
 use crate::transcript::{NO_MEMORY, Transcript};
-use std::alloc::Global;
+use std::alloc::{AllocError, Global};
 use warp_line::Timeline;
 use warp_prog::{
     AccountOptions, LoadError, NamedProgram, explanation, load, load_named, program_account,
@@ -113,6 +114,66 @@ fn tell_once(alloc: Global, out: &mut Transcript, named: &NamedProgram) {
     match told {
         Ok(text) => out.say_text(text.as_bytes()),
         Err(_) => out.say(NO_MEMORY),
+    }
+}
+
+/// Raises the program of the first line as each other line says, two times: to the version that is its first word, or by
+/// `raise`; and tells whether the raised one is the program of the rest of the line.
+pub(crate) fn raise_all(alloc: Global, out: &mut Transcript, program: &str, lines: &str) {
+    match program_of(alloc, program) {
+        Ok(program) => raise_each(alloc, out, &program, lines),
+        Err(_) => out.fail("no program"),
+    }
+}
+
+/// The same of a program that is loaded.
+fn raise_each(alloc: Global, out: &mut Transcript, program: &Program, lines: &str) {
+    for line in lines.lines() {
+        let (word, wanted) = word_of(line);
+        match program_of(alloc, wanted) {
+            Ok(wanted) => raise_twice(alloc, out, program, word, &wanted),
+            Err(_) => out.fail("no program"),
+        }
+    }
+}
+
+/// Raises a program two times, as this word says.
+fn raise_twice(
+    alloc: Global,
+    out: &mut Transcript,
+    program: &Program,
+    word: &str,
+    wanted: &Program,
+) {
+    raise_once(alloc, out, program, word, wanted);
+    raise_once(alloc, out, program, word, wanted);
+}
+
+/// Raises a program.
+fn raise_once(
+    alloc: Global,
+    out: &mut Transcript,
+    program: &Program,
+    word: &str,
+    wanted: &Program,
+) {
+    begin(alloc);
+    let raised = raised(alloc, program, word);
+    end(alloc);
+    match raised {
+        Ok(raised) => {
+            let (form, is_same) = (raised.form(), raised.is_same(wanted));
+            out.say(format_args!("raised to {form:?}, the same {is_same}"));
+        }
+        Err(_) => out.say(NO_MEMORY),
+    }
+}
+
+/// The program that is raised from this one to a version, or to none but `raise`.
+fn raised(alloc: Global, program: &Program, word: &str) -> Result<Program, AllocError> {
+    match form_of(word) {
+        Some(form) => Program::raise_to(alloc, program, form),
+        None => Program::raise(alloc, program),
     }
 }
 

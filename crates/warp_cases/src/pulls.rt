@@ -1,9 +1,11 @@
 //! Pulls of a peer's log into a replica, each new, over the same replies, whose reads and writes come in pieces, end or
-//! fail: what each came to, how many records the replica has, and how many bytes of questions were written.
+//! fail: what each came to, how many records the replica has, and how many bytes of questions were written. And pulls
+//! that come to no end but that of their turns.
 ghost use Rattle.std.specs.Prelude.{None, false};
 ghost use Rattle.warp_step.specs.Counter.{IsUnused};
 ghost use Rattle.warp_record.specs.Reply.{IsReply};
 
+use crate::lines::form_of;
 use crate::mark::{begin, end};
 use crate::programs::replica_of;
 use crate::streams::{
@@ -145,27 +147,34 @@ fn say_end(out: &mut Transcript, ended: PullEnd) {
     out.say(word);
 }
 
-/// A desk that has no memory for any line.
+/// A desk of this form that knows each record at the first place, or has no memory for any line.
 #[derive(Drop)]
-struct WithoutMemory;
+struct Steady {
+    form: Form,
+    has_memory: bool,
+}
 
-impl Desk for WithoutMemory {
+impl Desk for Steady {
     ghost use Rattle.warp_tag.specs.Limits.{widest};
-    ghost use Rattle.warp_tag.specs.declared.form.Form.TheVariants.{One};
+    ghost use Rattle.warp_tag.specs.declared.form.Form.{Form};
     ghost use Rattle.warp_record.specs.Reply.{IsReply};
 
-    ghost State = { Unit {0} };
+    ghost State = { Form };
 
-    ghost state = { λ _. tt };
+    ghost state = { λ d. d.form };
 
     ghost gives = { λ _ _ reply _. IsReply widest reply };
 
-    ghost form_of = { λ _. One };
+    ghost form_of = { λ f. f };
 
     ghost together = { false };
 
     fn ask(&mut self, _line: Line) -> Reply {
-        Reply::Refused(Refusal::NoMemory)
+        if self.has_memory {
+            Reply::Known(1)
+        } else {
+            Reply::Refused(Refusal::NoMemory)
+        }
     }
 
     fn asks_together() -> bool {
@@ -173,17 +182,17 @@ impl Desk for WithoutMemory {
     }
 
     fn form(&self) -> Form {
-        Form::One
+        self.form
     }
 }
 
 /// A peer that gives one reply to each read.
 #[derive(Drop)]
-struct Endless<'a> {
+struct Repeating<'a> {
     reply: &'a [u8],
 }
 
-impl Source for Endless<'_> {
+impl Source for Repeating<'_> {
     ghost use Rattle.std.specs.Prelude.{None};
 
     ghost left = { λ _. None };
@@ -196,6 +205,35 @@ impl Source for Endless<'_> {
             Ok(count) => Ok(count),
             Err(_) => Ok(0),
         }
+    }
+}
+
+/// A peer that gives one reply again and again, a byte at each read, and counts its reads.
+#[derive(Drop)]
+struct Dripping<'a> {
+    reply: &'a [u8],
+    next: usize,
+    reads: usize,
+}
+
+impl Source for Dripping<'_> {
+    ghost use Rattle.std.specs.Prelude.{None};
+
+    ghost left = { λ _. None };
+
+    ghost failures = { λ _. 0 };
+
+    fn read(&mut self, buffer: &mut [u8]) -> Result<usize, Failed> {
+        if self.next >= self.reply.len() {
+            self.next = 0;
+        }
+        if self.next >= self.reply.len() || buffer.is_empty() {
+            return Ok(0);
+        }
+        buffer[0] = self.reply[self.next];
+        self.next += 1;
+        self.reads = self.reads.saturating_add(1);
+        Ok(1)
     }
 }
 
@@ -222,15 +260,27 @@ impl Sink for Questions {
     }
 }
 
-/// Pulls from a peer that gives this reply to each question, into a desk that has no memory.
-pub(crate) fn exhausted<X: Clock>(rt: &X, alloc: Global, out: &mut Transcript, reply: &str) {
+/// Pulls from a peer that gives this reply to each question, into a desk of this version that has no memory.
+pub(crate) fn exhausted<X: Clock>(
+    rt: &X,
+    alloc: Global,
+    out: &mut Transcript,
+    version: &str,
+    reply: &str,
+) {
+    let Some(form) = form_of(version) else {
+        return out.fail("no version");
+    };
     let reply = reply.as_bytes();
-    let mut source = Endless { reply };
+    let mut source = Repeating { reply };
     let mut sink = Questions {
         bytes: 0,
         firsts: 0,
     };
-    let mut desk = WithoutMemory;
+    let mut desk = Steady {
+        form,
+        has_memory: false,
+    };
     begin(alloc);
     let ended = pull(
         rt,
@@ -245,4 +295,43 @@ pub(crate) fn exhausted<X: Clock>(rt: &X, alloc: Global, out: &mut Transcript, r
     say_end(out, ended);
     let (bytes, firsts) = (sink.bytes, sink.firsts);
     out.say(format_args!("{bytes} bytes, {firsts} questions for place 1"));
+}
+
+/// Pulls from a peer that gives this reply to each question, a byte at a time, into a desk of this version that knows
+/// its record.
+pub(crate) fn endless<X: Clock>(
+    rt: &X,
+    alloc: Global,
+    out: &mut Transcript,
+    version: &str,
+    reply: &str,
+) {
+    let Some(form) = form_of(version) else {
+        return out.fail("no version");
+    };
+    let mut source = Dripping {
+        reply: reply.as_bytes(),
+        next: 0,
+        reads: 0,
+    };
+    let mut sink = Questions {
+        bytes: 0,
+        firsts: 0,
+    };
+    let mut desk = Steady {
+        form,
+        has_memory: true,
+    };
+    let ended = pull(
+        rt,
+        alloc,
+        &mut source,
+        &mut sink,
+        &mut desk,
+        1,
+        Duration::ZERO,
+    );
+    say_end(out, ended);
+    let (reads, bytes) = (source.reads, sink.bytes);
+    out.say(format_args!("{reads} reads, {bytes} bytes"));
 }

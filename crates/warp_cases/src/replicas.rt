@@ -3,14 +3,14 @@
 //! - `take RECORD`, `settle`, `answer QUERY` where it is settled, `collect` likewise, `ask LINE`;
 //! - `rows` settles, and tells how many rows that executed;
 //! - `merge` takes what the second has, `exchange` makes the second the first;
-//! - `raise` makes it the one that is raised from it;
+//! - `raise` makes it the one that is raised from it, `raise_to V` the one of this version, or of a later one that it has;
 //! - `outputs` tells all outputs where it is settled, and that there are no more;
 //! - `length` tells how long its log is, `is_settled` whether it is settled, and `behind TIME MICRO` whether a tag is
 //!   behind what it let go of.
 ghost use Rattle.std.specs.Prelude.{◌≡◌, IsTrue};
 ghost use Rattle.warp_step.specs.Counter.{IsUnused};
 
-use crate::lines::{line_of, query_of, record_of, tag_of, word_of};
+use crate::lines::{form_of, line_of, query_of, record_of, tag_of, word_of};
 use crate::mark::{begin, end};
 use crate::meter::Tally;
 use crate::programs::replica_of;
@@ -20,7 +20,7 @@ use std::marker::Brand;
 use std::mem;
 use std::sync::ledger::{Blank, Ledger};
 use warp_line::Timeline;
-use warp_record::Query;
+use warp_record::{Query, Refusal};
 use warp_replica::{Replica, Took};
 
 /// The most outputs that are told.
@@ -83,6 +83,7 @@ fn make_call<T: Timeline>(
         "collect" => collect(alloc, out, one),
         "merge" => merge(alloc, out, one, other),
         "raise" => raise(alloc, out, one),
+        "raise_to" => raise_to(alloc, out, one, rest),
         "exchange" => mem::swap(one, other),
         "answer" => answer(alloc, out, one, rest),
         "outputs" => say_outputs(out, one),
@@ -121,6 +122,31 @@ fn raise<T: Timeline>(alloc: Global, out: &mut Transcript, replica: &mut Replica
     begin(alloc);
     let raised = replica.raise(alloc);
     end(alloc);
+    put_raised(out, replica, raised);
+}
+
+/// Makes the replica the one that is raised from it to this version.
+fn raise_to<T: Timeline>(
+    alloc: Global,
+    out: &mut Transcript,
+    replica: &mut Replica<T>,
+    version: &str,
+) {
+    let Some(form) = form_of(version) else {
+        return out.fail("no version");
+    };
+    begin(alloc);
+    let raised = replica.raise_to(alloc, form);
+    end(alloc);
+    put_raised(out, replica, raised);
+}
+
+/// Puts the raised replica in the place of the old one, where there is one.
+fn put_raised<T: Timeline>(
+    out: &mut Transcript,
+    replica: &mut Replica<T>,
+    raised: Result<Replica<T>, Refusal>,
+) {
     match raised {
         Ok(raised) => {
             *replica = raised;

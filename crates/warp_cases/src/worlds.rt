@@ -99,8 +99,16 @@ fn make_calls<T: Timeline>(
     tell_once::<T>(alloc, out, program, schedule);
 }
 
+/// Reads the schedule in the form of the program.
+pub(crate) fn read(alloc: Global, out: &mut Transcript, program: &str, schedule: &str) {
+    match program_of(alloc, program) {
+        Ok(program) => read_once(alloc, out, program.form(), schedule.as_bytes()),
+        Err(_) => out.fail("no program"),
+    }
+}
+
 /// Reads the schedule.
-pub(crate) fn read_once(alloc: Global, out: &mut Transcript, form: Form, schedule: &[u8]) {
+fn read_once(alloc: Global, out: &mut Transcript, form: Form, schedule: &[u8]) {
     begin(alloc);
     let read = read_schedule(alloc, form, schedule);
     end(alloc);

@@ -35,13 +35,13 @@ pub struct Puller {
 
 impl Model for Puller {
     ghost use Rattle.std.specs.Prelude.{ℕ, ◌≤◌, ◌+◌};
-    ghost use Rattle.warp_tag.specs.Limits.{most_records};
+    ghost use Rattle.warp_tag.specs.Limits.{most_records, widest};
 
     ghost Value = { ℕ };
 
     ghost view = { λ p. p.next };
 
-    ghost invariant = { λ p. (1 ≤ p.next) × (p.next ≤ most_records + 1) };
+    ghost invariant = { λ p. (1 ≤ p.next) × (p.next ≤ most_records widest + 1) };
 }
 
 impl Puller {
@@ -52,10 +52,10 @@ impl Puller {
         Puller { next: 1 }
     }
 
-    /// The place that it asks for next, 1 to 100,001.
+    /// The place that it asks for next, 1 to 10,000,001.
     pub fn next(&self) -> u32
         ensures value { result ≡ self.now }
-        ensures range { (1 ≤ self.now) × (self.now ≤ most_records + 1) }
+        ensures range { (1 ≤ self.now) × (self.now ≤ most_records widest + 1) }
     {
         self.next
     }
@@ -84,7 +84,7 @@ impl Puller {
 
     /// Asks the desk to take the record from the place that was asked for.
     fn put<D: Desk>(&mut self, record: Record, desk: &mut D) -> Pulled
-        requires { self.old ≤ most_records }
+        requires { self.old ≤ most_records widest }
         ensures { (answer : Reply) × D.gives (D.state desk.old) (Line.Put «record») answer (D.state desk.new)
             × (record { pulled = result; next = self.new } ≡ after_put self.old answer) }
     {

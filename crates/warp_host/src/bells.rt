@@ -22,6 +22,8 @@ pub(crate) struct Bells {
     is_over: AtomicBool,
     horizon_time: AtomicU64,
     horizon_microstep: AtomicU64,
+    watches_steps: AtomicBool,
+    step_bytes: AtomicU64,
 }
 
 impl Bells {
@@ -35,6 +37,8 @@ impl Bells {
             is_over: AtomicBool::new(false),
             horizon_time: AtomicU64::new(0),
             horizon_microstep: AtomicU64::new(0),
+            watches_steps: AtomicBool::new(false),
+            step_bytes: AtomicU64::new(0),
         }
     }
 
@@ -103,5 +107,25 @@ impl Bells {
             self.horizon_time.load(Ordering::SeqCst),
             self.horizon_microstep.load(Ordering::SeqCst),
         )
+    }
+
+    /// Some client watches steps from now on, or none does.
+    pub(crate) fn watch_steps(&self, watches: bool) {
+        self.watches_steps.store(watches, Ordering::SeqCst);
+    }
+
+    /// Whether some client watches steps.
+    pub(crate) fn are_steps_watched(&self) -> bool {
+        self.watches_steps.load(Ordering::SeqCst)
+    }
+
+    /// The loop has taken so many bytes of steps in all.
+    pub(crate) fn note_step_bytes(&self, taken: u64) {
+        self.step_bytes.store(taken, Ordering::SeqCst);
+    }
+
+    /// How many bytes of steps the loop has taken in all.
+    pub(crate) fn step_bytes(&self) -> u64 {
+        self.step_bytes.load(Ordering::SeqCst)
     }
 }

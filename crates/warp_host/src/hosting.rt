@@ -24,6 +24,7 @@ use crate::peers::{Peers, spelled_address};
 use crate::post::Post;
 use crate::scribe::Scribe;
 use crate::serving::{FIRST_PEER, LISTENER, Serving, System, WAKER};
+use crate::steps::{self, Executed, Progress, Telling};
 use crate::writing::{Shared, durable_of, end_writing, make_scribe, start_writing};
 use bytes::Bytes;
 use mio::net::TcpListener;
@@ -41,13 +42,14 @@ use std::thread;
 use std::thread::{JoinHandle, Scope, Threads};
 use std::time::Clock;
 use thiserror::Error;
-use warp_board::{Board, MAX_ROWS, Reader, Writer, board};
+use warp_board::{Board, Reader, Writer, board};
 use warp_hub::{Facts, Follower, Hub, Rights};
 use warp_lanes::{Engine, Lane, Port, lane};
 use warp_line::Timeline;
 use warp_replica::Replica;
 use warp_tag::{Form, OutOfMemory};
 use warp_watch::{Question, Shown, Told};
+use warp_world::Labels;
 
 /// The lanes between the loop and the executor.
 const LANES: usize = 16;
@@ -144,7 +146,12 @@ fn make_lanes(alloc: Global) -> Result<(Vec<Port>, Vec<Lane>), AllocError>
 }
 
 /// What is answered over HTTP.
-fn make_pages(alloc: Global, served: Served, options: &mut Options) -> Result<Pages, AllocError> {
+fn make_pages(
+    alloc: Global,
+    form: Form,
+    served: Served,
+    options: &mut Options,
+) -> Result<Pages, AllocError> {
     let Served {
         program,
         names_json,
@@ -156,7 +163,7 @@ fn make_pages(alloc: Global, served: Served, options: &mut Options) -> Result<Pa
         tokens: options.tokens.take(),
         program: Bytes::from_vec(program)?,
         names_json: Bytes::from_vec(names_json)?,
-        seen: Seen::nothing(u64::from(options.clients)),
+        seen: Seen::nothing(u64::from(options.clients), u64::from(form.most_records())),
         answered: 0,
         unauthorized: 0,
         forbidden: 0,
@@ -189,6 +196,7 @@ fn make_common<'a, X: Clock + RandomSource>(
 struct Rings<'a> {
     questions: Producer<Question>,
     told: Consumer<Result<Told, OutOfMemory>>,
+    executed: Consumer<Executed>,
     durable: &'a Durable,
 }
 
@@ -290,6 +298,7 @@ fn make_serving<'a, X: System>(rt: &X, start: Start<'a>) -> Result<(Serving<'a>,
     let Rings {
         questions,
         told,
+        executed,
         durable,
     } = rings;
     let serving = Serving {
@@ -300,6 +309,9 @@ fn make_serving<'a, X: System>(rt: &X, start: Start<'a>) -> Result<(Serving<'a>,
         questions,
         told,
         held: None,
+        executed,
+        held_steps: None,
+        step_bytes: 0,
         durable,
         clients: Slab::new(alloc),
         seats,
@@ -307,6 +319,7 @@ fn make_serving<'a, X: System>(rt: &X, start: Start<'a>) -> Result<(Serving<'a>,
         peers,
         stopwatch: Stopwatch::new(alloc),
         most_clients,
+        most_records: form.most_records(),
         ticked: common.now,
         common,
         sent: 0,
@@ -327,12 +340,19 @@ pub(crate) fn started<H, E: Drop>(running: Result<H, E>) -> Result<H, HostFault>
 }
 
 /// Starts the executor in a thread of its own.
-fn start_executor<'s, E, X: Wait + Clock + Sync + 's, T: Timeline + Send + Drop + 's>(
+fn start_executor<
+    's,
+    E,
+    X: Wait + Clock + Sync + 's,
+    T: Timeline + Send + Drop + 's,
+    P: Progress<T> + Send + 's,
+>(
     scope: &'s Scope<'s, E>,
     rt: &'s X,
     executor: Executor<'s, T>,
+    labels: Labels,
 ) -> Result<JoinHandle<()>, HostFault> {
-    started(scope.spawn(move || executor.run(rt)))
+    started(scope.spawn(move || executor.run::<X, P>(rt, labels)))
 }
 
 /// Starts the lookup in a thread of its own, where there is one.
@@ -353,11 +373,12 @@ where
 
 /// Runs the loop beside the executor, beside the journal's thread where there is a journal, and beside the lookup where
 /// names have to be looked up, until it ends.
-fn run_beside<'s, E, X, T: Timeline + Send + Drop + 's>(
+fn run_beside<'s, E, X, T: Timeline + Send + Drop + 's, P: Progress<T> + Send + 's>(
     scope: &'s Scope<'s, E>,
     rt: &'s X,
     shared: Shared<'s>,
     executor: Executor<'s, T>,
+    labels: Labels,
     scribe: Option<Scribe<'s>>,
     lookup: Option<Lookup<'s>>,
     serving: Serving<'_>,
@@ -368,7 +389,7 @@ where
     X: Eprint + FreshFiles + Threads + Wait + Clock + Sync,
 {
     let Shared { bells, durable } = shared;
-    let Ok(running) = start_executor(scope, rt, executor) else {
+    let Ok(running) = start_executor::<E, X, T, P>(scope, rt, executor, labels) else {
         return Err(HostFault::System);
     };
     let Ok(writing) = start_writing(scope, rt, scribe) else {
@@ -434,6 +455,7 @@ struct AllRings<'a> {
     rings: Rings<'a>,
     questions: Consumer<Question>,
     told: Producer<Result<Told, OutOfMemory>>,
+    telling: Telling,
     lookup: LookupRings,
     sought: Consumer<Sought>,
     found: Producer<Found>,
@@ -442,17 +464,20 @@ struct AllRings<'a> {
 /// New rings.
 fn make_rings<'a>(alloc: Global, durable: &'a Durable) -> Result<AllRings<'a>, AllocError> {
     let (asking, questions) = RingBuffer::new(alloc, RING_ROOM)?;
-    let (telling, told) = RingBuffer::new(alloc, RING_ROOM)?;
+    let (tells, told) = RingBuffer::new(alloc, RING_ROOM)?;
+    let (executing, executed) = RingBuffer::new(alloc, steps::RING_ROOM)?;
     let (seeking, sought) = RingBuffer::new(alloc, MOST_PEERS)?;
     let (finding, found) = RingBuffer::new(alloc, MOST_PEERS)?;
     Ok(AllRings {
         rings: Rings {
             questions: asking,
             told,
+            executed,
             durable,
         },
         questions,
-        told: telling,
+        told: tells,
+        telling: Telling::new(executing),
         lookup: LookupRings {
             sought: seeking,
             found,
@@ -490,13 +515,14 @@ fn make_ready<'a, X: System + RandomSource>(
     } = orders;
     let Shared { bells, durable } = shared;
     let (handing, scribe) = make_scribe(alloc, options.journal.take(), shared)?;
-    let pages = make_pages(alloc, served, &mut options)?;
+    let pages = make_pages(alloc, form, served, &mut options)?;
     let common = make_common(rt, alloc, post, pages)?;
     let all = make_rings(alloc, durable)?;
     let AllRings {
         rings,
         questions,
         told,
+        telling,
         lookup,
         sought,
         found,
@@ -516,6 +542,7 @@ fn make_ready<'a, X: System + RandomSource>(
     let ends = Ends {
         questions,
         told,
+        telling,
         handing,
     };
     Ok(Ready {
@@ -549,6 +576,7 @@ fn host_over<
     'a,
     X: Machine + Net<Listener = net::TcpListener, Stream = net::TcpStream>,
     T: Timeline + Send + Drop,
+    P: Progress<T> + Send,
 >(
     rt: &X,
     alloc: Global,
@@ -556,6 +584,7 @@ fn host_over<
     board: &'a Board,
     shared: Shared<'a>,
     ready: Ready<'a>,
+    labels: Labels,
 ) -> Result<(), HostFault>
     requires { engine.writer.board ≡ board.now }
 {
@@ -577,7 +606,9 @@ fn host_over<
         ends,
     };
     thread::scope(thread::scope_env(), rt, move |scope| {
-        run_beside(scope, rt, shared, executor, scribe, lookup, serving, events)
+        run_beside::<_, X, T, P>(
+            scope, rt, shared, executor, labels, scribe, lookup, serving, events,
+        )
     })
 }
 
@@ -585,11 +616,13 @@ fn host_over<
 fn host_with<
     X: Machine + Net<Listener = net::TcpListener, Stream = net::TcpStream>,
     T: Timeline + Send + Drop,
+    P: Progress<T> + Send,
 >(
     rt: &X,
     alloc: Global,
     replica: Replica<T>,
     facts: Facts,
+    labels: Labels,
     board: &Board,
     writer: Writer,
     reader: Reader,
@@ -605,26 +638,31 @@ fn host_with<
         durable: &durable,
     };
     let (hub, lanes) = make_hub(alloc, reader, facts)?;
-    let ready = make_ready(rt, alloc, Post::new(hub, board), shared, poll, orders)?;
+    let post = Post::new(hub, board, &bells);
+    let ready = make_ready(rt, alloc, post, shared, poll, orders)?;
     let engine = Engine::new(replica, lanes, writer);
-    host_over(rt, alloc, engine, board, shared, ready)
+    host_over::<X, T, P>(rt, alloc, engine, board, shared, ready, labels)
 }
 
 /// Hosts a replica that has taken no records but those of the journal, at this listener. One thread holds the replica,
 /// another writes the journal if there is one, and this one has the sockets. It returns when standard input has ended,
-/// if that is asked for, and else only for a fault.
+/// if that is asked for, and else only for a fault. Who watches steps is told them by the names of `labels`.
 pub fn host<
     X: Machine + Net<Listener = net::TcpListener, Stream = net::TcpStream>,
     T: Timeline + Send + Drop,
+    P: Progress<T> + Send,
 >(
     rt: &X,
     alloc: Global,
     replica: Replica<T>,
-    facts: Facts,
+    mut facts: Facts,
+    labels: Labels,
     served: Served,
     listener: TcpListener,
     options: Options,
 ) -> Result<(), HostFault> {
+    // Whatever the facts say, lines are read in the form of the program that runs.
+    facts.form = replica.program().form();
     let orders = Orders {
         form: facts.form,
         identity: Vec::from_slice(alloc, &facts.program)?,
@@ -632,9 +670,11 @@ pub fn host<
         listener,
         options,
     };
-    match board(alloc, MAX_ROWS) {
+    match board(alloc, facts.form.most_rows() as usize) {
         Ok((board, writer, reader)) => {
-            host_with::<X, T>(rt, alloc, replica, facts, &board, writer, reader, orders)
+            host_with::<X, T, P>(
+                rt, alloc, replica, facts, labels, &board, writer, reader, orders,
+            )
         }
         Err(_) => Err(HostFault::NoMemory),
     }

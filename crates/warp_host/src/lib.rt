@@ -38,6 +38,7 @@ mod scribe;
 mod serving;
 mod socket;
 mod speech;
+mod steps;
 mod web;
 mod writing;
 
@@ -47,3 +48,4 @@ pub use journal_faults::{FileFault, OpenFault, tell_file_fault};
 pub use journal_file::{OpenJournal, SyncWhen, damage_in, lock_journal, open_journal, words_of};
 pub use names::Names;
 pub use options::{DEFAULT_CLIENTS, MOST_CLIENTS, MOST_PEERS, Options, PeerAt, may_listen};
+pub use steps::Progress;

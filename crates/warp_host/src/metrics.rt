@@ -14,6 +14,7 @@ pub(crate) struct Seen {
     pub(crate) pushes: u64,
     pub(crate) refused: u64,
     pub(crate) log: u64,
+    pub(crate) most_records: u64,
     pub(crate) horizon_time: u64,
     pub(crate) horizon_microstep: u64,
     pub(crate) peers: u64,
@@ -28,7 +29,7 @@ pub(crate) struct Seen {
 
 impl Seen {
     /// Nothing happened yet.
-    pub(crate) fn nothing(most_clients: u64) -> Seen {
+    pub(crate) fn nothing(most_clients: u64, most_records: u64) -> Seen {
         Seen {
             clients: 0,
             most_clients,
@@ -37,6 +38,7 @@ impl Seen {
             pushes: 0,
             refused: 0,
             log: 0,
+            most_records,
             horizon_time: 0,
             horizon_microstep: 0,
             peers: 0,
@@ -50,9 +52,6 @@ impl Seen {
         }
     }
 }
-
-/// The most records of a log.
-const MOST_RECORDS: u64 = 100_000;
 
 /// A number that is told.
 #[derive(Clone, Copy)]
@@ -222,7 +221,7 @@ fn state(seen: &Seen) -> [Row<'static>; 6] {
             b"warpd_log_records_limit",
             GAUGE,
             b"The most records of the log.",
-            MOST_RECORDS,
+            seen.most_records,
         ),
         number(
             b"warpd_horizon_time",

@@ -27,7 +27,8 @@ pub(crate) fn tell_start<X: Eprint>(rt: &X, clients: u32, wanted: u32, begun: Be
     };
     let _ = if clients < wanted {
         eprintln!(rt;
-            "started: {clients} clients at a time, since there are descriptors for no more ({wanted} were asked for); warpd {version}; {program}; {tokens}"
+            "started: {clients} clients at a time, since there are descriptors for no more ({wanted} were asked for); \
+             warpd {version}; {program}; {tokens}"
         )
     } else {
         eprintln!(rt; "started: {clients} clients at a time; warpd {version}; {program}; {tokens}")

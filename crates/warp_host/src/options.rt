@@ -1,6 +1,7 @@
 //! What a host is asked to do.
 
-ghost use Rattle.std.specs.Prelude.{◌≡◌, ◌||◌};
+ghost use Rattle.std.specs.Prelude.{◌↔◌, IsTrue};
+ghost use Rattle.warp_host.specs.Listening.{MayListen};
 
 use crate::journal_file::OpenJournal;
 use std::net::IpAddr;
@@ -43,6 +44,8 @@ pub struct Options {
 
 /// Whether a host may listen on this address: on another than that of its own machine only with tokens, or where it was
 /// said that this is meant.
-pub fn may_listen(address: IpAddr, has_tokens: bool, is_meant: bool) -> bool {
+pub fn may_listen(address: IpAddr, has_tokens: bool, is_meant: bool) -> bool
+    ensures { IsTrue result ↔ MayListen address has_tokens is_meant }
+{
     has_tokens || is_meant || address.is_loopback()
 }

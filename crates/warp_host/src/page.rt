@@ -5,7 +5,7 @@ use http::HeaderValue;
 /// What the page may do in a browser: its own style and script alone, told by their SHA-256, and connect to its host.
 const POLICY: &str = "\
 default-src 'none'; \
-script-src 'sha256-trXwca+y7XcYAz7S/oLDpy1/GNPszdGrWDGAoKcJJ5s='; \
+script-src 'sha256-CmcXxC21bwUDic7YKmVoZBSciqC82m1LbnyqllC4L2Y='; \
 style-src 'sha256-w6wrpSjQQo2ITNrYMfX6Z7+uynafgFVJ8u9XhCCqJFo='; \
 connect-src 'self'; \
 img-src data:; \
@@ -50,6 +50,8 @@ const PAGE: &[u8] = br##"<!doctype html>
 <p class="row"><label>Show the last <select id="span">
 <option>50</option><option selected>200</option><option>1000</option><option>10000</option>
 </select> records</label> <span id="late" role="status">No record came late.</span></p>
+<p class="row"><label><input type="checkbox" id="steps"> Watch what is executed (the host works more slowly)</label>
+<span id="again" role="status"></span></p>
 <canvas id="timeline" role="img" aria-label="No records yet"></canvas>
 <details>
 <summary>What the marks mean</summary>
@@ -62,6 +64,8 @@ already in the log. The replica goes back from there, and executes again what co
 <li>Arrows are read off the log alone. An arrow leads from the greatest tag of an event or a withdrawal that was there to
 the late one's own. What was executed again may be less (several records may come in one piece, and where the state is as
 it was, the replica goes on from there) or more (timers and actions may lie behind that tag).</li>
+<li>With "Watch what is executed" the host says of each rollback from which tag it went back, to which that is done, and how many
+rows it executed that are not after the first of these.</li>
 </ul>
 </details>
 </section>
@@ -199,6 +203,22 @@ const read = READERS[word]
 if (!read) throw new Ended(`no reply to "${line}": "${text}"`)
 return read(words)
 }
+const valuesOf = values => Object.fromEntries(Object.entries(values).map(([name, value]) => [name, BigInt(value)]))
+function executedOf(text) {
+const { tag, rollback, given, due, changed, outputs, pending } = JSON.parse(text.replace(/":(-?\d+)/g, '":"$1"'))
+if (rollback) {
+const { from, to, again } = rollback
+return { rollback: { from: tagged(...from), to: to && tagged(...to), again: Number(again) } }
+}
+return {
+...tagged(...tag),
+given: valuesOf(given),
+due: due.map(({ target, value }) => ({ target, value: BigInt(value) })),
+changed: valuesOf(changed),
+outputs: valuesOf(outputs),
+pending: Number(pending),
+}
+}
 const PUSHES = {
 log: ([place, ...record]) => ({ place: Number(place), record: recordOf(record) }),
 released: ([index, ...row]) => ({ index: Number(index), ...rowOf(row) }),
@@ -206,8 +226,11 @@ frozen: () => ({ frozen: true }),
 vars: READERS.vars,
 horizon: READERS.horizon,
 breach: ([log, ...origins]) => ({ log: Number(log), origins: origins.map(Number) }),
+step: ([json]) => executedOf(json),
+skipped: ([count]) => ({ skipped: Number(count) }),
 }
-const SUBJECTS = Object.keys(PUSHES).filter(it => it !== "frozen")
+const SUBJECT_OF = { frozen: "released", step: "steps", skipped: "steps" }
+const SUBJECTS = [...new Set(Object.keys(PUSHES).map(it => SUBJECT_OF[it] ?? it))]
 class Watch {
 #client
 #callback
@@ -390,7 +413,7 @@ const [kind, ...words] = text.split(" ")
 if (!(kind in PUSHES)) return
 const value = PUSHES[kind](words)
 if (kind === "vars") value.values.forEach((it, at) => (this.vars[this.names.vars[at] ?? at] = it))
-this.#watches.get(kind === "frozen" ? "released" : kind)?.push(value)
+this.#watches.get(SUBJECT_OF[kind] ?? kind)?.push(value)
 }
 #put(line, watch) {
 if (line.includes("\n")) return Promise.reject(new RangeError("more than one line"))
@@ -540,6 +563,18 @@ this.released.clear()
 Object.assign(this, { log: 0, newest: null, late: 0, lastLate: null, horizon: null, values: [], frozen: false })
 Object.assign(this, { changed: new Set(), broken: new Set(), announced: new Map(), origins: new Set() })
 Object.assign(this, { outputs: 0, lost: 0, asked: [], askedFrom: 0 })
+this.clearSteps()
+}
+clearSteps() {
+Object.assign(this, { steps: 0, rollbacks: 0, again: 0, lastRollback: null, skipped: 0 })
+}
+takeStep({ rollback, skipped = 0 }) {
+this.skipped += skipped
+if (rollback) {
+this.rollbacks += 1
+this.again += rollback.again
+this.lastRollback = rollback
+} else if (!skipped) this.steps += 1
 }
 takeRecord({ place, record }) {
 if (place !== this.log + 1) return
@@ -763,6 +798,7 @@ let client
 let token
 let program
 let watches = []
+let steps = null
 let isDrawn = false
 let isAsking = false
 let mayTellLate = true
@@ -796,6 +832,7 @@ rows.vars.show(replica.values.length)
 drawOpen()
 drawTimeline()
 tellLate()
+tellAgain()
 warn()
 }
 function drawFacts() {
@@ -836,7 +873,7 @@ function drawTimeline() {
 const length = Math.min(Number(at("span").value), replica.records.length)
 const records = Array.from({ length }, (_, age) => replica.records.at(age))
 const { announced, horizon } = replica
-const shown = { records, origins: originsNow(), announced, horizon, micros: program?.version === 2 ? 256 : 16 }
+const shown = { records, origins: originsNow(), announced, horizon, micros: program?.version > 1 ? 256 : 16 }
 timeline.draw(shown)
 at("timeline").setAttribute("aria-label", inWords(shown, replica.late))
 }
@@ -853,6 +890,25 @@ setTimeout(() => {
 mayTellLate = true
 touch()
 }, PAUSE)
+}
+const rowsText = count => `${count} ${count === 1 ? "row" : "rows"}`
+function tellAgain() {
+const { rollbacks, again, lastRollback, skipped } = replica
+const lost = skipped ? ` ${skipped} lines were left out.` : ""
+if (!steps) return put("again", "")
+if (!lastRollback) return put("again", `No rollback so far.${lost}`)
+const { from, to, again: last } = lastRollback
+const back = `Rolled back from ${tagText(from)} to ${to ? tagText(to) : "the start"}: ${rowsText(last)} again.`
+put("again", `${back} ${rollbacks} so far, ${rowsText(again)} in all.${lost}`)
+}
+function watchSteps() {
+steps?.stop().catch(() => {})
+replica.clearSteps()
+steps = at("steps").checked ? client.watch("steps", push => {
+replica.takeStep(push)
+touch()
+}) : null
+touch()
 }
 function askOpen() {
 touch()
@@ -898,6 +954,7 @@ watches = Object.keys(TAKES).map(what => client.watch(what, push => {
 TAKES[what](push)
 askOpen()
 }))
+watchSteps()
 choose("input", client.names.inputs.map((it, number) => [number, `${it.name} (origin ${it.origin})`]))
 askOpen()
 readLimits().catch(() => {})
@@ -968,6 +1025,7 @@ at("send").addEventListener("submit", send)
 at("kind").addEventListener("change", showFields)
 at("count").addEventListener("click", countFromLog)
 at("send").addEventListener("input", touch)
+at("steps").addEventListener("change", watchSteps)
 for (const id of ["span", "words"]) at(id).addEventListener("change", touch)
 at("who").addEventListener("submit", event => {
 event.preventDefault()

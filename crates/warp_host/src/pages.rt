@@ -1,7 +1,5 @@
 //! What is answered over HTTP, and the way to WebSocket.
 
-ghost use Rattle.std.specs.Prelude.{◌≡◌};
-
 use crate::metrics::{Seen, metrics_text};
 use crate::names::Names;
 use crate::page::{page, policy};

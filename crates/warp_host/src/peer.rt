@@ -1,7 +1,5 @@
 //! A peer: its connection, and what goes between it, its follower and the hub.
 
-ghost use Rattle.std.specs.Prelude.{◌≡◌};
-
 use crate::operator;
 use crate::post::Post;
 use crate::socket::{Gone, Socket};

@@ -1,26 +1,44 @@
-//! The hub with the board that its looks are at: what the loop calls of it.
+//! The hub with the board that its looks are at: what the loop calls of it. The executor is told whether steps are
+//! watched before a line is sent that comes behind.
 
 ghost use Rattle.std.specs.Prelude.{◌≡◌, ◌≤◌, length};
 
+use crate::bells::Bells;
 use warp_board::Board;
 use warp_hub::{ClientId, Counts, Hub, Rights, Unjoined};
 use warp_tag::OutOfMemory;
 use warp_watch::{Question, Told};
 
-/// The hub, and the board of its reader.
+/// The hub, the board of its reader, and whether the executor was told that steps are watched.
 #[derive(Drop)]
 pub(crate) struct Post<'a> {
     hub: Hub,
     board: &'a Board,
+    bells: &'a Bells,
+    watches_steps: bool,
     ghost same: { hub.board ≡ board.now },
 }
 
 impl<'a> Post<'a> {
-    /// The hub with this board.
-    pub(crate) fn new(hub: Hub, board: &'a Board) -> Post<'a>
+    /// The hub with this board, of which no client watches steps.
+    pub(crate) fn new(hub: Hub, board: &'a Board, bells: &'a Bells) -> Post<'a>
         requires { hub.board ≡ board.now }
     {
-        Post { hub, board }
+        Post {
+            hub,
+            board,
+            bells,
+            watches_steps: false,
+        }
+    }
+
+    /// Tells the executor whether steps are watched, where that has changed.
+    fn tell_executor(&mut self) {
+        let watches = self.hub.are_steps_watched();
+        if watches != self.watches_steps {
+            self.watches_steps = watches;
+            self.bells.watch_steps(watches);
+        }
     }
 
     /// What was counted.
@@ -47,7 +65,9 @@ impl<'a> Post<'a> {
     pub(crate) fn take(&mut self, client: ClientId, bytes: &[u8]) -> usize
         ensures { result ≤ length bytes.now }
     {
-        self.hub.take(client, bytes, self.board)
+        let taken = self.hub.take(client, bytes, self.board);
+        self.tell_executor();
+        taken
     }
 
     /// A client's bytes have ended.
@@ -58,6 +78,7 @@ impl<'a> Post<'a> {
     /// Fetches the answers that are there, of a log that is no longer than this.
     pub(crate) fn fetch(&mut self, durable: u32) {
         self.hub.fetch(durable, self.board);
+        self.tell_executor();
     }
 
     /// The next question for the executor.
@@ -68,6 +89,12 @@ impl<'a> Post<'a> {
     /// What the executor told to the first question on its way.
     pub(crate) fn told(&mut self, told: Result<Told, OutOfMemory>) {
         self.hub.told(told);
+    }
+
+    /// What the executor executed: lines, before which so many were left out.
+    pub(crate) fn push_steps(&mut self, left_out: u64, text: &[u8]) {
+        self.hub.push_steps(left_out, text);
+        self.tell_executor();
     }
 
     /// The next client for which there is something to do.

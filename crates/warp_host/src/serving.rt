@@ -12,6 +12,7 @@ use crate::metrics::Seen;
 use crate::operator;
 use crate::peers::Peers;
 use crate::socket::Gone;
+use crate::steps::{Executed, RING_ROOM};
 use mio::event::Event;
 use mio::net::TcpStream;
 use mio::{Events, Interest, Poll, Token};
@@ -50,9 +51,6 @@ const TICK: u64 = 1_000;
 /// For how many seconds the host may go on when it ends.
 const LONGEST_END: u64 = 10;
 
-/// The most records of a log.
-const MOST_RECORDS: u64 = 100_000;
-
 /// What the system offers to a loop.
 pub(crate) trait System: Eprint + Net + Wait + Clock {}
 
@@ -73,6 +71,12 @@ pub(crate) struct Serving<'a> {
     pub(crate) told: Consumer<Result<Told, OutOfMemory>>,
     /// What was told of a longer log than may be told of yet.
     pub(crate) held: Option<Told>,
+    /// What the executor executed while that is watched.
+    pub(crate) executed: Consumer<Executed>,
+    /// What was executed at a longer log than may be told of yet.
+    pub(crate) held_steps: Option<Executed>,
+    /// How many bytes of steps were taken in all.
+    pub(crate) step_bytes: u64,
     pub(crate) durable: &'a Durable,
     pub(crate) clients: Slab<Client>,
     /// By their places in the hub, the keys of clients, and of peers their tokens.
@@ -82,6 +86,8 @@ pub(crate) struct Serving<'a> {
     pub(crate) peers: Peers,
     pub(crate) stopwatch: Stopwatch,
     pub(crate) most_clients: u32,
+    /// The most records of the log.
+    pub(crate) most_records: u32,
     /// When it was last looked at what is late.
     pub(crate) ticked: Duration,
     /// How many lines the executor knows of.
@@ -321,8 +327,37 @@ impl<'a> Serving<'a> {
             };
             self.common.post.told(told);
         }
+        self.fetch_steps(durable);
         let replies = self.common.post.counts().replies;
         self.stopwatch.end(replies, self.common.now);
+    }
+
+    /// Hands on what was executed, as far as the log is no longer than this.
+    fn fetch_steps(&mut self, durable: u32) {
+        for _ in 0..RING_ROOM {
+            let Some(executed) = self.next_executed(durable) else {
+                return;
+            };
+            let bytes = executed.text.len() as u64;
+            self.step_bytes = self.step_bytes.wrapping_add(bytes);
+            self.bells.note_step_bytes(self.step_bytes);
+            self.common
+                .post
+                .push_steps(executed.left_out, &executed.text);
+        }
+    }
+
+    /// What was executed next, if that was at a log no longer than this. What was at a longer one waits.
+    fn next_executed(&mut self, durable: u32) -> Option<Executed> {
+        let executed = match self.held_steps.take() {
+            Some(executed) => executed,
+            None => self.executed.pop().ok()?,
+        };
+        if executed.len > durable {
+            self.held_steps = Some(executed);
+            return None;
+        }
+        Some(executed)
     }
 
     /// What the executor told next, if that is of a log no longer than this. What is of a longer one waits, and all
@@ -430,7 +465,7 @@ impl<'a> Serving<'a> {
             operator::tell_forbidden(rt, forbidden - self.forbidden_told);
             self.forbidden_told = forbidden;
         }
-        if u64::from(counts.newest) >= MOST_RECORDS && !self.is_full_told {
+        if counts.newest >= self.most_records && !self.is_full_told {
             operator::tell_log_full(rt);
             self.is_full_told = true;
         }
@@ -448,6 +483,7 @@ impl<'a> Serving<'a> {
             pushes: counts.pushes,
             refused: counts.refused,
             log: u64::from(counts.newest),
+            most_records: u64::from(self.most_records),
             horizon_time,
             horizon_microstep,
             peers: self.peers.count(),

@@ -43,6 +43,7 @@ two_of key text (word.Watch (watch.Released number)) fits are = absurd (omega (a
 two_of key text (word.Watch watch.Vars) fits are = watched watch.Vars tt (first _ _ are) (rest _ _ are)
 two_of key text (word.Watch watch.Horizon) fits are = watched watch.Horizon tt (first _ _ are) (rest _ _ are)
 two_of key text (word.Watch watch.Breach) fits are = watched watch.Breach tt (first _ _ are) (rest _ _ are)
+two_of key text (word.Watch watch.Steps) fits are = watched watch.Steps tt (first _ _ are) (rest _ _ are)
 two_of key text (word.Unwatch what) fits are = unwatched what (first _ _ are) (second _ _ are)
 
 -- the keywords of two words differ in their first letter
@@ -96,6 +97,7 @@ number_of what number (watch.Released n) fits are = (n, fits, second _ _ are)
 number_of what number watch.Vars fits are = absurd (omega (arith, count _ _ are))
 number_of what number watch.Horizon fits are = absurd (omega (arith, count _ _ are))
 number_of what number watch.Breach fits are = absurd (omega (arith, count _ _ are))
+number_of what number watch.Steps fits are = absurd (omega (arith, count _ _ are))
 
 -- the places of a log begin at 1
 pub no_place_zero : (what : List ℕ) (number : ℕ) (w : Watch) → number ≡ 0 → (what ≡ codes "released" → ⊥) → IsWatch w
@@ -107,6 +109,7 @@ no_place_zero what number (watch.Released n) zero other fits are = other (first 
 no_place_zero what number watch.Vars zero other fits are = omega (arith, count _ _ are)
 no_place_zero what number watch.Horizon zero other fits are = omega (arith, count _ _ are)
 no_place_zero what number watch.Breach zero other fits are = omega (arith, count _ _ are)
+no_place_zero what number watch.Steps zero other fits are = omega (arith, count _ _ are)
 
 pub no_watch_from : (what : List ℕ) (number : ℕ) (w : Watch) → (what ≡ codes "released" → ⊥) → (what ≡ codes "log" → ⊥) → IsWatch w
     → what ∷ decimal number ∷ [] ≡ watch_words w → ⊥
@@ -115,6 +118,7 @@ no_watch_from what number (watch.Released n) r l fits are = r (first _ _ are)
 no_watch_from what number watch.Vars r l fits are = omega (arith, count _ _ are)
 no_watch_from what number watch.Horizon r l fits are = omega (arith, count _ _ are)
 no_watch_from what number watch.Breach r l fits are = omega (arith, count _ _ are)
+no_watch_from what number watch.Steps r l fits are = omega (arith, count _ _ are)
 
 -- a word has one to three words
 pub few_words : (said : Word) → (0 < length (word_words said)) × (length (word_words said) ≤ 3)
@@ -128,6 +132,7 @@ few_words (word.Watch (watch.Released number)) = (omega arith, omega arith)
 few_words (word.Watch watch.Vars) = (omega arith, omega arith)
 few_words (word.Watch watch.Horizon) = (omega arith, omega arith)
 few_words (word.Watch watch.Breach) = (omega arith, omega arith)
+few_words (word.Watch watch.Steps) = (omega arith, omega arith)
 few_words (word.Unwatch what) = (omega arith, omega arith)
 
 plain_subject : (what : Subject) → is_plain (subject_name what) ≡ true
@@ -136,6 +141,7 @@ plain_subject subject.Released = refl
 plain_subject subject.Vars = refl
 plain_subject subject.Horizon = refl
 plain_subject subject.Breach = refl
+plain_subject subject.Steps = refl
 
 -- the words of a word are plain
 pub plain_words : (said : Word) → IsWord said → are_plain (word_words said) ≡ true
@@ -149,6 +155,7 @@ plain_words (word.Watch (watch.Released number)) fits = rw (plain_decimal number
 plain_words (word.Watch watch.Vars) fits = refl
 plain_words (word.Watch watch.Horizon) fits = refl
 plain_words (word.Watch watch.Breach) fits = refl
+plain_words (word.Watch watch.Steps) fits = refl
 plain_words (word.Unwatch what) fits = rw (plain_subject what) refl
 
 -- the words of a text that spells a word

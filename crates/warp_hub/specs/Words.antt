@@ -16,6 +16,7 @@ IsWatch (watch.Released number) = number ≤ last_number
 IsWatch watch.Vars = Unit {0}
 IsWatch watch.Horizon = Unit {0}
 IsWatch watch.Breach = Unit {0}
+IsWatch watch.Steps = Unit {0}
 
 -- the ranges of a word
 abbrev pub IsWord : Word → Type 0
@@ -34,6 +35,7 @@ subject_name subject.Released = codes "released"
 subject_name subject.Vars = codes "vars"
 subject_name subject.Horizon = codes "horizon"
 subject_name subject.Breach = codes "breach"
+subject_name subject.Steps = codes "steps"
 
 -- the words of what is to be watched
 abbrev pub watch_words : Watch → List (List ℕ)
@@ -42,6 +44,7 @@ watch_words (watch.Released number) = codes "released" ∷ decimal number ∷ []
 watch_words watch.Vars = codes "vars" ∷ []
 watch_words watch.Horizon = codes "horizon" ∷ []
 watch_words watch.Breach = codes "breach" ∷ []
+watch_words watch.Steps = codes "steps" ∷ []
 
 -- the words of a word's line
 abbrev pub word_words : Word → List (List ℕ)

@@ -11,7 +11,7 @@ use crate::gate::Gate;
 use crate::outbox::Outbox;
 use crate::rights::Rights;
 use crate::watches::Watches;
-use crate::words::{Word, read_token, read_word};
+use crate::words::{Watch, Word, read_token, read_word};
 use std::alloc::Global;
 use std::mem;
 use warp_board::Board;
@@ -370,7 +370,8 @@ impl Client {
     }
 
     /// Answers this, or keeps it until all lines before it are answered. Other rights are given at the end of a round:
-    /// those of its lines are the same.
+    /// those of its lines are the same. So steps are watched at the end of one: no line behind it is sent before the
+    /// executor knows.
     fn say(&mut self, commons: &mut Commons, board: &Board, saying: Saying)
         requires { commons.old.reader.board ≡ board.now }
         ensures board { commons.new.reader.board ≡ board.now }
@@ -382,6 +383,7 @@ impl Client {
         }
         match saying {
             Saying::Token(_) => self.phase = Phase::Held(saying),
+            Saying::Word(Word::Watch(Watch::Steps)) => self.phase = Phase::Held(saying),
             Saying::Word(word) => self.answer_word(commons, word),
             Saying::Look(look) => self.answer_look(commons, board, look),
             Saying::Refuse(refusal) => self.refuse(commons, refusal),

@@ -5,7 +5,7 @@
 ghost use Rattle.std.specs.Prelude.{◌≡◌, ◌↔◌, ℕ, List, ◌+◌, ◌-◌, ◌<◌, ◌≤◌, [], ◌∷◌, ◌++◌, false, IfNone, IfSome, IsTrue, OnErr};
 ghost use Rattle.std.specs.Prelude.{OnOk, length, min};
 ghost use Rattle.std.specs.List.{before_first};
-ghost use Rattle.warp_tag.specs.Limits.{most_records};
+ghost use Rattle.warp_tag.specs.Limits.{most_records, widest};
 ghost use Rattle.warp_record.specs.Lines.{ended, first_end, is_end, kept_of, piece_of};
 ghost use Rattle.warp_record.specs.Record.{record_spelling};
 ghost use Rattle.warp_record.specs.Reply.{IsReply, reply_spelling};
@@ -100,7 +100,7 @@ pub struct Follower {
 
 impl Model for Follower {
     ghost use Rattle.std.specs.Prelude.{◌<◌, ◌≤◌, ◌+◌};
-    ghost use Rattle.warp_tag.specs.Limits.{most_records};
+    ghost use Rattle.warp_tag.specs.Limits.{most_records, widest};
     ghost use Rattle.warp_hub.specs.Follow.{FollowState};
 
     ghost Value = { FollowState };
@@ -109,7 +109,7 @@ impl Model for Follower {
         record { kept = f.feed; form = f.form; phase = f.phase; next = f.next; missing = f.missing } };
 
     ghost invariant = { λ f.
-        (f.missing < f.next) × (f.next ≤ most_records + 1) × (f.asked ≤ 64) × (f.len ≤ most_records) };
+        (f.missing < f.next) × (f.next ≤ most_records widest + 1) × (f.asked ≤ 64) × (f.len ≤ most_records widest) };
 }
 
 impl Follower {
@@ -508,7 +508,7 @@ impl Follower {
 
     /// Hands a record to the hub, as a line.
     fn hand(&mut self, said: Record, handed: &mut Vec<u8>) -> Result<(), OutOfMemory>
-        requires { self.old.next ≤ most_records }
+        requires { self.old.next ≤ most_records widest }
         ensures handed { OnOk result (handed.new.items ≡ handed.old.items ++ (record_spelling said ++ 10 ∷ [])) }
         ensures next { OnOk result
             (self.new ≡ record self.old { next = self.old.next + 1; missing = self.old.missing + 1 }) }
@@ -580,7 +580,7 @@ fn pushed(form: Form, line: &[u8], place: u32) -> Option<Record>
 /// The length of the log and the record, if a `serve` answered with the record at this place.
 fn answered(form: Form, line: &[u8], place: u32) -> Option<(u32, Record)>
     ensures found { IfSome result (λ told. TellsRecord form Phase.Asked place line.now told.1) }
-    ensures within { IfSome result (λ told. (place ≤ told.0) × (told.0 ≤ most_records)) }
+    ensures within { IfSome result (λ told. (place ≤ told.0) × (told.0 ≤ most_records widest)) }
     ensures none { IfNone result ((said : Record) → TellsRecord form Phase.Asked place line.now said → ⊥) }
 {
     // A reply has one spelling.
@@ -615,7 +615,7 @@ fn watch(said: &mut Vec<u8>, place: u32) -> Result<(), OutOfMemory> {
 
 /// Asks for the places from this one on, but for the first so many, up to so many.
 fn ask_places(said: &mut Vec<u8>, next: u32, asked: u32, wanted: u32) -> Result<(), OutOfMemory>
-    requires next { next ≤ most_records + 1 }
+    requires next { next ≤ most_records widest + 1 }
     requires wanted { wanted ≤ 64 }
 {
     for number in asked..wanted {

@@ -8,10 +8,10 @@ use crate::client::{Client, MOST_UNREAD};
 use crate::commons::{Commons, Counts, Facts, NO_COUNTS};
 use crate::gate::Gate;
 use crate::lanes::{hand_at, next_answer, resume_at, take_at};
-use crate::page::Page;
+use crate::page::{Page, Steps};
 use crate::place::{Lists, Place};
 use crate::rights::Rights;
-use crate::watching::{Watchings, tell_page};
+use crate::watching::{Watchings, push_steps, tell_page};
 use crate::words::Subject;
 use std::alloc::{AllocError, Global};
 use std::collections::VecDeque;
@@ -369,6 +369,26 @@ impl Hub {
             }
             Err(_) => self.miss(asked),
         }
+    }
+
+    /// Whether some client may watch steps: then the executor is to note what it executes.
+    pub fn are_steps_watched(&self) -> bool {
+        !self.watchings.steps.is_empty()
+    }
+
+    /// The executor executed this: whole lines, before which so many were left out. They are pushed to who watches
+    /// steps.
+    pub fn push_steps(&mut self, left_out: u64, text: &[u8])
+        ensures { self.new ≡ self.old }
+    {
+        let steps = Steps::new(self.alloc, left_out, text);
+        push_steps(
+            &mut self.places,
+            &mut self.watchings.steps,
+            &steps,
+            &mut self.commons,
+            &mut self.lists.changed,
+        );
     }
 
     /// Hands on what was told.

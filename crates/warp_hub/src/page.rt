@@ -1,9 +1,12 @@
-//! What is pushed: pages of lines, and where in them a watcher goes on.
+//! What is pushed: pages of lines, where in them a watcher goes on, and lines of steps.
 
 use std::alloc::{AllocError, Global};
 
 /// What stands in front of a line that is pushed.
 const MARK: &[u8] = b"* ";
+
+/// What stands in front of a line of steps that is pushed.
+const STEP_MARK: &[u8] = b"* step ";
 
 /// The line that tells that the released outputs are frozen.
 pub(crate) const FROZEN: &[u8] = b"* frozen\n";
@@ -22,12 +25,12 @@ pub(crate) struct Page {
 }
 
 /// The lines of this text, each with the mark in front.
-pub(crate) fn marked(alloc: Global, text: &[u8]) -> Result<Vec<u8>, AllocError> {
+fn marked(alloc: Global, mark: &[u8], text: &[u8]) -> Result<Vec<u8>, AllocError> {
     let mut lines = Vec::new(alloc);
     let mut is_start = true;
     for byte in text {
         if is_start {
-            lines.extend_from_slice(MARK)?;
+            lines.extend_from_slice(mark)?;
         }
         lines.push(*byte)?;
         is_start = *byte == b'\n';
@@ -90,12 +93,53 @@ impl Page {
         } else {
             text.len()
         };
-        let text = marked(alloc, &text[..end])?;
+        let text = marked(alloc, MARK, &text[..end])?;
         Ok(Page {
             from,
             next,
             frozen,
             text,
         })
+    }
+}
+
+/// Lines of steps to be pushed.
+#[derive(Drop)]
+pub(crate) struct Steps {
+    /// How many lines were left out before them.
+    pub(crate) left_out: u64,
+    /// How many lines there are.
+    pub(crate) count: u64,
+    pub(crate) text: Vec<u8>,
+}
+
+/// How many lines this text has.
+fn lines_in(text: &[u8]) -> u64 {
+    let mut count = 0u64;
+    for byte in text {
+        if *byte == b'\n' {
+            count = count.saturating_add(1);
+        }
+    }
+    count
+}
+
+impl Steps {
+    /// The steps of this text, before which so many lines were left out. Where there is no memory for them they are left
+    /// out too.
+    pub(crate) fn new(alloc: Global, left_out: u64, text: &[u8]) -> Steps {
+        let count = lines_in(text);
+        match marked(alloc, STEP_MARK, text) {
+            Ok(text) => Steps {
+                left_out,
+                count,
+                text,
+            },
+            Err(_) => Steps {
+                left_out: left_out.saturating_add(count),
+                count: 0,
+                text: Vec::new(alloc),
+            },
+        }
     }
 }

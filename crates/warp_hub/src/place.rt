@@ -6,7 +6,7 @@ use crate::asker::ClientId;
 use crate::client::Client;
 use crate::commons::Commons;
 use crate::gate::Gate;
-use crate::page::Page;
+use crate::page::{Page, Steps};
 use crate::watches::{NO_NEWS, News};
 use crate::words::Subject;
 use std::collections::VecDeque;
@@ -29,6 +29,7 @@ pub(crate) struct Enlisted {
     pub(crate) vars: bool,
     pub(crate) horizon: bool,
     pub(crate) breach: bool,
+    pub(crate) steps: bool,
 }
 
 impl Enlisted {
@@ -40,6 +41,7 @@ impl Enlisted {
             Subject::Vars => self.vars,
             Subject::Horizon => self.horizon,
             Subject::Breach => self.breach,
+            Subject::Steps => self.steps,
         }
     }
 
@@ -51,6 +53,7 @@ impl Enlisted {
             Subject::Vars => self.vars = stands,
             Subject::Horizon => self.horizon = stands,
             Subject::Breach => self.breach = stands,
+            Subject::Steps => self.steps = stands,
         }
     }
 }
@@ -93,6 +96,7 @@ impl Place {
                 vars: false,
                 horizon: false,
                 breach: false,
+                steps: false,
             },
         }
     }
@@ -393,6 +397,37 @@ impl Place {
             return false;
         };
         client.push_latest(subject, version, text, commons)
+    }
+
+    /// Pushes lines of steps to the client, and lists it; one that watches no longer leaves the watchers. Whether it
+    /// watches.
+    pub(crate) fn push_steps(
+        &mut self,
+        key: u32,
+        steps: &Steps,
+        commons: &mut Commons,
+        changed: &mut VecDeque<u32>,
+    ) -> bool
+        ensures board { commons.new.reader ≡ commons.old.reader }
+        ensures same { self.new ≡ self.old }
+    {
+        if self.gives_steps(steps, commons) {
+            self.note(key, changed);
+            return true;
+        }
+        self.enlisted.set(Subject::Steps, false);
+        false
+    }
+
+    /// Pushes lines of steps to the client. Whether it watches.
+    fn gives_steps(&mut self, steps: &Steps, commons: &mut Commons) -> bool
+        ensures board { commons.new.reader ≡ commons.old.reader }
+        ensures same { self.new ≡ self.old }
+    {
+        let Some(client) = &mut self.client else {
+            return false;
+        };
+        client.push_steps(steps, commons)
     }
 
     /// The client that has it in this use goes. Whether there was one.

@@ -3,14 +3,29 @@ ghost use Rattle.std.specs.Prelude.{◌≡◌};
 
 use crate::client::{Client, MOST_UNREAD, Phase};
 use crate::commons::Commons;
-use crate::page::{FROZEN, Page, behind_lines};
+use crate::page::{FROZEN, Page, Steps, behind_lines};
 use crate::shared::Tail;
 use crate::watches::{Cursor, Given};
 use crate::words::Subject;
+use arrayvec::ArrayVec;
+use itoa::Buffer;
 use warp_watch::Question;
 
 /// More bytes do not wait for a client that is pushed to.
 const MOST_PUSHED: usize = 1 << 20;
+
+/// While so many bytes are to be written to a client, no lines of steps are pushed to it.
+const MOST_BEFORE_STEPS: usize = 1 << 18;
+
+/// The line that says how many lines of steps were left out.
+fn skipped_line(left_out: u64) -> ArrayVec<u8, 32> {
+    let mut digits = Buffer::new();
+    let mut line = ArrayVec::new();
+    let _ = line.try_extend_from_slice(b"* skipped ");
+    let _ = line.try_extend_from_slice(digits.format(left_out).as_bytes());
+    let _ = line.try_push(b'\n');
+    line
+}
 
 /// What a client whose bytes were too many is told at last.
 const GONE_SLOW: &[u8] = b"* gone slow\n";
@@ -154,6 +169,28 @@ impl Client {
         if is_due {
             self.push(text, commons);
         }
+        true
+    }
+
+    /// Pushes lines of steps, behind how many were left out before them; or counts them too, where much waits for it.
+    /// Whether it watches.
+    pub(crate) fn push_steps(&mut self, steps: &Steps, commons: &mut Commons) -> bool
+        ensures board { commons.new.reader ≡ commons.old.reader }
+        ensures rights { self.new.rights ≡ self.old.rights }
+    {
+        let Some(before) = self.watches.steps else {
+            return false;
+        };
+        let left_out = before.saturating_add(steps.left_out);
+        if steps.count == 0 || self.outbox.len() >= MOST_BEFORE_STEPS {
+            self.watches.steps = Some(left_out.saturating_add(steps.count));
+            return true;
+        }
+        self.watches.steps = Some(0);
+        if left_out > 0 {
+            self.push(&skipped_line(left_out), commons);
+        }
+        self.push(&steps.text, commons);
         true
     }
 

@@ -71,6 +71,8 @@ pub(crate) struct Watches {
     pub(crate) vars: Option<u64>,
     pub(crate) horizon: Option<u64>,
     pub(crate) breach: Option<u64>,
+    /// Where steps are watched: how many lines were left out since it was pushed any.
+    pub(crate) steps: Option<u64>,
 }
 
 /// Of what has one newest value: which a client watches that was not pushed any yet.
@@ -113,18 +115,20 @@ impl Watches {
             vars: None,
             horizon: None,
             breach: None,
+            steps: None,
         }
     }
 
-    /// How many things are watched, 0 to 5.
+    /// How many things are watched, 0 to 6.
     pub(crate) fn count(&self) -> u8
-        ensures { result ≤ 5 }
+        ensures { result ≤ 6 }
     {
         u8::from(self.log.is_some())
             + u8::from(self.released.is_some())
             + u8::from(self.vars.is_some())
             + u8::from(self.horizon.is_some())
             + u8::from(self.breach.is_some())
+            + u8::from(self.steps.is_some())
     }
 
     /// Whether this is watched.
@@ -135,6 +139,7 @@ impl Watches {
             Subject::Vars => self.vars.is_some(),
             Subject::Horizon => self.horizon.is_some(),
             Subject::Breach => self.breach.is_some(),
+            Subject::Steps => self.steps.is_some(),
         }
     }
 
@@ -148,6 +153,7 @@ impl Watches {
             Watch::Vars => self.vars = Some(0),
             Watch::Horizon => self.horizon = Some(0),
             Watch::Breach => self.breach = Some(0),
+            Watch::Steps => self.steps = Some(0),
         }
     }
 
@@ -159,6 +165,7 @@ impl Watches {
             Subject::Vars => self.vars = None,
             Subject::Horizon => self.horizon = None,
             Subject::Breach => self.breach = None,
+            Subject::Steps => self.steps = None,
         }
     }
 

@@ -3,7 +3,7 @@ ghost use Rattle.std.specs.Prelude.{◌≡◌};
 
 use crate::asker::ClientId;
 use crate::commons::Commons;
-use crate::page::Page;
+use crate::page::{Page, Steps};
 use crate::place::{Lists, Place};
 use crate::shared::{Latest, Tail};
 use crate::words::Subject;
@@ -19,6 +19,8 @@ pub(crate) struct Watchings {
     pub(crate) vars: Latest,
     pub(crate) horizon: Latest,
     pub(crate) breach: Latest,
+    /// The keys of those that watch steps, and of some that watch them no longer.
+    pub(crate) steps: Vec<u32>,
 }
 
 /// Puts a place into a list of watchers, once, if its client watches that. Where there is no memory for it its client
@@ -101,6 +103,46 @@ fn push_latest_to(
     places[at].push_latest(key, subject, version, text, commons, changed)
 }
 
+/// Pushes lines of steps to the watcher in this place. Whether it watches.
+fn push_steps_to(
+    places: &mut [Place],
+    key: u32,
+    steps: &Steps,
+    commons: &mut Commons,
+    changed: &mut VecDeque<u32>,
+) -> bool
+    ensures board { commons.new.reader ≡ commons.old.reader }
+    ensures places { places.new ≡ places.old }
+{
+    let at = key as usize;
+    if at >= places.len() {
+        return false;
+    }
+    places[at].push_steps(key, steps, commons, changed)
+}
+
+/// Pushes lines of steps to all watchers; those that watch no longer leave the list.
+pub(crate) fn push_steps(
+    places: &mut [Place],
+    watchers: &mut Vec<u32>,
+    steps: &Steps,
+    commons: &mut Commons,
+    changed: &mut VecDeque<u32>,
+)
+    ensures board { commons.new.reader ≡ commons.old.reader }
+    ensures places { places.new ≡ places.old }
+{
+    let mut at = 0;
+    while at < watchers.len() {
+        let key = watchers[at];
+        if push_steps_to(places, key, steps, commons, changed) {
+            at += 1;
+        } else {
+            watchers.swap_remove(at);
+        }
+    }
+}
+
 /// Takes on the newest value of a thing, and pushes it to all watchers that were not pushed it.
 fn push_latest(
     places: &mut [Place],
@@ -163,6 +205,7 @@ impl Watchings {
             vars: Latest::new(alloc, Question::Vars),
             horizon: Latest::new(alloc, Question::Horizon),
             breach: Latest::new(alloc, Question::Breaches),
+            steps: Vec::new(alloc),
         }
     }
 
@@ -175,6 +218,7 @@ impl Watchings {
         enlist(place, key, Subject::Vars, &mut self.vars.watchers);
         enlist(place, key, Subject::Horizon, &mut self.horizon.watchers);
         enlist(place, key, Subject::Breach, &mut self.breach.watchers);
+        enlist(place, key, Subject::Steps, &mut self.steps);
         let news = place.take_wish();
         self.vars.want(news.vars);
         self.horizon.want(news.horizon);

@@ -23,6 +23,8 @@ pub enum Subject {
     Horizon,
     /// `breach`: the broken origins.
     Breach,
+    /// `steps`: what the replica executes.
+    Steps,
 }
 
 /// What is to be watched, and from where on.
@@ -38,6 +40,8 @@ pub enum Watch {
     Horizon,
     /// `breach`: the broken origins, now and at each change.
     Breach,
+    /// `steps`: what the replica executes from now on.
+    Steps,
 }
 
 /// A word, but for `token T`.
@@ -100,6 +104,8 @@ fn subject_of(word: &[u8]) -> Option<Subject>
         Some(Subject::Horizon)
     } else if is_keyword(word, b"breach") {
         Some(Subject::Breach)
+    } else if is_keyword(word, b"steps") {
+        Some(Subject::Steps)
     } else {
         None
     }
@@ -116,6 +122,8 @@ fn watch_of_one(word: &[u8]) -> Option<Watch>
         Some(Watch::Horizon)
     } else if is_keyword(word, b"breach") {
         Some(Watch::Breach)
+    } else if is_keyword(word, b"steps") {
+        Some(Watch::Steps)
     } else {
         None
     }

@@ -48,7 +48,7 @@ impl From<AllocError> for Fault {
     }
 }
 
-/// The text of a first line, without its line feed: the version of program files, 1 or 2, and the program's fingerprint.
+/// The text of a first line, without its line feed: the version of program files, 1 to 3, and the program's fingerprint.
 pub fn first_line(alloc: Global, version: u32, fingerprint: &[u8]) -> Result<Vec<u8>, AllocError>
     ensures { IfOk result (λ made. made.items ≡ first_text version fingerprint.now) }
 {

@@ -39,7 +39,8 @@ fn journal(alloc: Global) -> Result<Vec<u8>, Fail> {
 fn is_text(rt: HostRuntime) -> Result<(), Fail> {
     let text = journal(rt.alloc())?;
     let begin =
-        b"warpd journal 1 2 0123456789abcdef0123456789abcdef0123456789abcdef0123456789abcdef\nevent 0 0 0 0 31\nevent 0 1 0 0 31\n= 2 389e5dc99db91f5b433862a6843b241b";
+        b"warpd journal 1 2 0123456789abcdef0123456789abcdef0123456789abcdef0123456789abcdef\n\
+          event 0 0 0 0 31\nevent 0 1 0 0 31\n= 2 389e5dc99db91f5b433862a6843b241b";
     assert!(rt; text.starts_with(begin));
     Ok(())
 }

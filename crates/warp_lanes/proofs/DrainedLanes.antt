@@ -5,6 +5,7 @@ use Rattle.std.specs.List.{AllByRecursion}
 use Rattle.std.proofs.Math.ListN.{set}
 use Rattle.std.proofs.lemmas.List.{append_assoc, set-set}
 use Rattle.std.proofs.lemmas.List.Elements.{All-contains, Contains-append_left}
+use Rattle.warp_tag.proofs.Forms.{records_widen}
 use Rattle.warp_tag.specs.Limits.{most_records}
 use Rattle.warp_step.specs.Program.{Program}
 use Rattle.warp_record.specs.declared.record.Record.{Record}
@@ -62,12 +63,12 @@ set_there (l ∷ lanes) (suc k) lane lane' e = set_there lanes k lane lane' (gri
 
 -- a line was answered, where the answer has its reply and the length of the log that it left
 pub answers_line : {T : Type 0} (facts : TimelineFacts T) (r : ReplicaState T) (said : Line) (answer : Answer) (r' : ReplicaState T)
-    → Answered facts r said answer.reply r' → answer.len ≡ length r'.records → answer.len ≤ most_records
+    → Answered facts r said answer.reply r' → answer.len ≡ length r'.records → answer.len ≤ most_records r'.program.form
     → AnswersLine facts r said answer r'
 answers_line facts r said answer r' given len few = record {
   given = given;
   len = len;
-  fits = (given.range, subst (λ n. SaysLength n answer.reply) (sym len) given.says, few);
+  fits = (given.range, subst (λ n. SaysLength n answer.reply) (sym len) given.says, omega (arith, few, records_widen r'.program.form));
 }
 
 -- a line that was given alone was answered

@@ -39,7 +39,7 @@ lane_id_code = coded× ring_id_code ring_id_code
 
 -- an answer that a lane may carry: a reply in range, and the length that it says, which a log may have
 abbrev pub IsAnswer : Answer → Type 0
-IsAnswer answer = IsReply widest answer.reply × SaysLength answer.len answer.reply × (answer.len ≤ most_records)
+IsAnswer answer = IsReply widest answer.reply × SaysLength answer.len answer.reply × (answer.len ≤ most_records widest)
 
 -- the lane of a port, the lines that it sent, and the answers that it fetched, each in order; and how many places for
 -- commands it knows to be free

@@ -5,7 +5,7 @@ use warp_record::Reply;
 /// A reply, and the log's length at which it was given.
 #[derive(Clone, Copy, Debug)]
 pub struct Answer {
-    /// The length of the log, at most 100,000.
+    /// The length of the log, at most the most records of the program's form.
     pub len: u32,
     /// The reply.
     pub reply: Reply,

@@ -20,8 +20,10 @@ ghost use Rattle.warp_lanes.specs.declared.turn.Turn.{Turn};
 use crate::answer::Answer;
 use crate::draining::drain;
 use crate::executor_end::Lane;
+use crate::making::LANE_PLACES;
 use crate::port::PortEnd;
 use crate::publish::{Published, news, publish_settled, rows_before};
+use crate::settling::{Settler, Uncounted};
 use crate::turn::Turn;
 use crate::visiting::{Unsent, visit};
 use arrayvec::ArrayVec;
@@ -104,7 +106,7 @@ impl<T: Timeline> Engine<T> {
         &self.replica
     }
 
-    /// How many records the log had when the engine was made, 0 to 100,000.
+    /// How many records the log had when the engine was made.
     pub fn began(&self) -> usize
         ensures { result ≡ self.now.began }
     {
@@ -156,6 +158,51 @@ impl<T: Timeline> Engine<T> {
         ensures lanes { length self.new.lanes ≡ length self.old.lanes }
         ensures ids { ids_of self.new.lanes ≡ ids_of self.old.lanes }
     {
+        self.visit_with(alloc, lane, board, LANE_PLACES, &mut Uncounted)
+    }
+
+    /// Serves the next command of a lane alone, as a visit would that finds no other, but that `settler` has the replica
+    /// execute what it brought.
+    pub fn visit_one<S: Settler<T>>(
+        &mut self,
+        alloc: Global,
+        lane: usize,
+        board: &Board,
+        settler: &mut S,
+    ) -> Turn
+        requires lane { lane < length self.old.lanes }
+        requires board { self.old.writer.board ≡ board.now }
+        ensures visits { Visits (facts_of T.settled T.refused T.floor T.SLACK) self.old lane result self.new }
+        ensures first { HasPlace self.old.lanes lane → result ≢ Turn.Stalled }
+        ensures program { self.new.replica.program ≡ self.old.replica.program }
+        ensures board { self.new.writer.board ≡ self.old.writer.board }
+        ensures began { self.new.began ≡ self.old.began }
+        ensures lanes { length self.new.lanes ≡ length self.old.lanes }
+        ensures ids { ids_of self.new.lanes ≡ ids_of self.old.lanes }
+    {
+        self.visit_with(alloc, lane, board, 1, settler)
+    }
+
+    /// Serves the commands of a lane that wait, at most so many.
+    fn visit_with<S: Settler<T>>(
+        &mut self,
+        alloc: Global,
+        lane: usize,
+        board: &Board,
+        most: usize,
+        settler: &mut S,
+    ) -> Turn
+        requires some { 0 < most }
+        requires lane { lane < length self.old.lanes }
+        requires board { self.old.writer.board ≡ board.now }
+        ensures visits { Visits (facts_of T.settled T.refused T.floor T.SLACK) self.old lane result self.new }
+        ensures first { HasPlace self.old.lanes lane → result ≢ Turn.Stalled }
+        ensures program { self.new.replica.program ≡ self.old.replica.program }
+        ensures board { self.new.writer.board ≡ self.old.writer.board }
+        ensures began { self.new.began ≡ self.old.began }
+        ensures lanes { length self.new.lanes ≡ length self.old.lanes }
+        ensures ids { ids_of self.new.lanes ≡ ids_of self.old.lanes }
+    {
         visit(
             &mut self.lanes[lane],
             &mut self.replica,
@@ -164,6 +211,8 @@ impl<T: Timeline> Engine<T> {
             &mut self.known_rows,
             board,
             &mut self.unsent,
+            most,
+            settler,
         )
     }
 

@@ -16,6 +16,7 @@ mod making;
 mod port;
 mod publish;
 mod sending;
+mod settling;
 #[cfg(test)]
 mod tests;
 mod turn;
@@ -29,4 +30,5 @@ pub use making::lane;
 pub use port::{Port, PortEnd};
 pub use publish::Published;
 pub use sending::may_be_sent;
+pub use settling::Settler;
 pub use turn::Turn;

@@ -21,7 +21,7 @@ use warp_tag::{Out, Tag};
 /// What publishing came to.
 #[derive(Clone, Copy, Debug, PartialEq, Eq)]
 pub enum Published {
-    /// So many of the released outputs stand on the board, 0 to 4,096.
+    /// So many of the released outputs stand on the board: all, or as many as it has room for.
     Rows(usize),
     /// The board is frozen, for good.
     Frozen,

@@ -15,6 +15,7 @@ use crate::answer::{Answer, AnswerRule};
 use crate::executor_end::Lane;
 use crate::making::LANE_PLACES;
 use crate::publish::{news, publish_settled, rows_before};
+use crate::settling::Settler;
 use crate::turn::Turn;
 use arrayvec::ArrayVec;
 use rtrb::{Consumer, Producer};
@@ -28,10 +29,10 @@ use warp_tag::Tag;
 /// The answers of a visit, before they are sent.
 pub(crate) type Unsent = ArrayVec<Answer, LANE_PLACES>;
 
-/// Answers the commands that wait, at most as many as there are places for answers, settles, publishes where that
-/// leaves the replica settled, and sends the answers. Of the board's rows the first `known_rows` are known to begin
-/// what is released, while it is not frozen.
-pub(crate) fn visit<T: Timeline>(
+/// Answers the commands that wait, at most as many as there are places for answers and as `most`, settles, publishes
+/// where that leaves the replica settled, and sends the answers. Of the board's rows the first `known_rows` are known to
+/// begin what is released, while it is not frozen.
+pub(crate) fn visit<T: Timeline, S: Settler<T>>(
     lane: &mut Lane,
     replica: &mut Replica<T>,
     alloc: Global,
@@ -39,7 +40,10 @@ pub(crate) fn visit<T: Timeline>(
     known_rows: &mut usize,
     board: &Board,
     unsent: &mut Unsent,
+    most: usize,
+    settler: &mut S,
 ) -> Turn
+    requires some { 0 < most }
     requires board { writer.old.board ≡ board.now }
     requires kept { KeepsBoard replica.old.program replica.old.records writer.old known_rows.old }
     ensures visits { VisitsLane (facts_of T.settled T.refused T.floor T.SLACK)
@@ -57,7 +61,7 @@ pub(crate) fn visit<T: Timeline>(
     if lane.commands.is_empty() {
         return Turn::Empty;
     }
-    let count = count_for(&lane.commands, &mut lane.answers);
+    let count = count_for(&lane.commands, &mut lane.answers, most);
     unsent.clear();
     answer_first(
         &mut lane.commands,
@@ -68,17 +72,19 @@ pub(crate) fn visit<T: Timeline>(
         known_rows,
         unsent,
     );
-    show(replica, alloc, writer, known_rows, board);
+    show(replica, alloc, writer, known_rows, board, settler);
     let _sent = lane.answers.push_entire_slice(unsent.as_slice());
     Turn::Served
 }
 
-/// How many of the commands that are known to be there can be answered: the other end is asked for more places only
-/// where too few are known.
+/// How many of the commands that are known to be there can be answered, at most so many: the other end is asked for more
+/// places only where too few are known.
 fn count_for(
     commands: &Consumer<Line, Global>,
     answers: &mut Producer<Answer, Global, AnswerRule>,
+    most: usize,
 ) -> usize
+    requires some { 0 < most }
     requires there { 0 < length (known_items commands.now) }
     requires free { 0 < known_free answers.old }
     ensures looked { ProducerLooked answers.old answers.new }
@@ -87,7 +93,7 @@ fn count_for(
     ensures free { result ≤ known_free answers.new }
     ensures most { result ≤ places }
 {
-    let waiting = commands.cached_slots().min(LANE_PLACES);
+    let waiting = commands.cached_slots().min(LANE_PLACES).min(most);
     let known = answers.cached_slots();
     if waiting <= known {
         return waiting;
@@ -151,12 +157,13 @@ fn answer_next<T: Timeline>(
 }
 
 /// Settles, and publishes where that leaves the replica settled.
-fn show<T: Timeline>(
+fn show<T: Timeline, S: Settler<T>>(
     replica: &mut Replica<T>,
     alloc: Global,
     writer: &mut Writer,
     known_rows: &mut usize,
     board: &Board,
+    settler: &mut S,
 )
     requires board { writer.old.board ≡ board.now }
     requires kept { KeepsBoard replica.old.program replica.old.records writer.old known_rows.old }
@@ -165,7 +172,7 @@ fn show<T: Timeline>(
         writer.old writer.new }
     ensures kept { KeepsBoard replica.new.program replica.new.records writer.new known_rows.new }
 {
-    let Ok(()) = replica.settle_uncounted(alloc) else {
+    let Ok(()) = settler.settle(alloc, replica) else {
         return;
     };
     publish_settled(replica, writer, known_rows, board);

@@ -1,12 +1,12 @@
 -- Why a file that was read is refused, and what its version says.
-use Rattle.std.proofs.Common.{◌≡◌, ℕ, ℤ, pos, negsuc, ◌+◌, ◌<◌, ◌^◌, sym, Bool, true, false, ◌&&◌, ◌||◌, ◌==◌, List, length, Some, inl, inr, refl, ap, ap₂, subst, ◌∙◌, nat_lt, ne_eqb, arith}
+use Rattle.std.proofs.Common.{◌≡◌, ◌⊎◌, ℕ, ℤ, pos, negsuc, ◌+◌, ◌<◌, ◌^◌, sym, Bool, true, false, ◌&&◌, ◌||◌, ◌==◌, List, length, Some, inl, inr, refl, ap, ap₂, subst, ◌∙◌, nat_lt, ne_eqb, arith}
 use Rattle.std.specs.Ordering.{int_eq}
 use Rattle.std.proofs.lemmas.Bool.{or_parts, or_from, and_left, and_right, true≢false, ltb-false, cond-true, cond-false, cases_order}
 use Rattle.std.proofs.lemmas.Bool.Decides.{Decides-int_eq}
 use Rattle.std.proofs.lemmas.List.{length-map}
 use Rattle.warp_tag.specs.Limits.{longest_stop, most_origins, most_variables, most_ports, most_actions, most_timers, most_reactions}
 use Rattle.warp_prog.specs.File.{File}
-use Rattle.warp_prog.specs.Limits.{first_version, last_version, file_form, is_outside, total, exceeds_limits}
+use Rattle.warp_prog.specs.Limits.{first_version, second_version, last_version, file_form, is_outside, total, exceeds_limits}
 use Rattle.warp_prog.specs.Numbered.{is_first_version, numbered, unordered, its_reactions, nothing_before}
 use Rattle.warp_prog.specs.Load.{IsFirst, lacks_order}
 use Rattle.warp_prog.specs.Undeclared.{is_undeclared}
@@ -32,32 +32,36 @@ few_reactions f h =
     let size = length-each its_reactions (λ r. length r.reactions) (λ b r. length-map r.reactions _) f.reactors nothing_before in
     omega arith
 
--- a file within the limits is of the first version or of the second
+-- a file within the limits is of the first version, of the second or of the last
 first-number : (n : ℤ) → int_eq n (pos first_version) ≡ true → n ≡ pos first_version
 first-number n h = (Decides-int_eq n (pos first_version)).0 h
 
-second-number : (n : ℤ) → is_outside (pos first_version) (pos last_version) n ≡ false → int_eq n (pos first_version) ≡ false → n ≡ pos last_version
-second-number (pos n) h e =
-    let parts = or_parts (nat_lt n 1) (nat_lt 2 n) h in
+later-number : (n : ℤ) → is_outside (pos first_version) (pos last_version) n ≡ false → int_eq n (pos first_version) ≡ false
+    → (n ≡ pos second_version) ⊎ (n ≡ pos last_version)
+later-number (pos n) h e =
+    let parts = or_parts (nat_lt n 1) (nat_lt 3 n) h in
     let low = ltb-false n 1 parts.0 in
-    let high = ltb-false 2 n parts.1 in
+    let high = ltb-false 3 n parts.1 in
     elim (cases_order n 2) [
-      | inl same ↦ ap pos same
+      | inl same ↦ inl (ap pos same)
       | inr (inl less) ↦
           (let one : n ≡ 1 = omega (arith, low, less) in
           absurd (true≢false (sym ((Decides-int_eq (pos n) (pos 1)).1 (ap pos one)) ∙ e)))
-      | inr (inr more) ↦ absurd (omega (arith, high, more))
+      | inr (inr more) ↦
+          (let three : n ≡ 3 = omega (arith, high, more) in
+          inr (ap pos three))
     ]
-second-number (negsuc n) h e = absurd (true≢false h)
+later-number (negsuc n) h e = absurd (true≢false h)
 
 pub first_version-is : (f : File) → is_first_version f ≡ true → f.version ≡ pos first_version
 first_version-is f h = first-number f.version h
 
-pub last_version-is : (f : File) → exceeds_limits f ≡ false → is_first_version f ≡ false → f.version ≡ pos last_version
-last_version-is f h e =
+pub later_version-is : (f : File) → exceeds_limits f ≡ false → is_first_version f ≡ false →
+    (f.version ≡ pos second_version) ⊎ (f.version ≡ pos last_version)
+later_version-is f h e =
     let numbers = or_parts (is_outside (pos first_version) (pos last_version) f.version || is_outside (pos 0) (pos (longest_stop (file_form f))) f.stop)
     (is_outside (pos 1) (pos (most_origins (file_form f))) f.origins) (limits_kept f h).0 in
-    second-number f.version (or_parts (is_outside (pos first_version) (pos last_version) f.version) (is_outside (pos 0) (pos (longest_stop (file_form f))) f.stop) numbers.0).0 e
+    later-number f.version (or_parts (is_outside (pos first_version) (pos last_version) f.version) (is_outside (pos 0) (pos (longest_stop (file_form f))) f.stop) numbers.0).0 e
 
 -- its fault of order is its first, and a use that is not declared where its reactions have an order
 none-of : (j : ℕ) (a b c d e : Bool) → a ≡ false → b ≡ false → c ≡ false → (j == 6 && d) ≡ false → (j == 7 && e) ≡ false →

@@ -30,6 +30,7 @@ use Rattle.warp_prog.specs.declared.scope.Before.{Before}
 use Rattle.warp_prog.proofs.Stands.{stand_all, reactor-there}
 use Rattle.warp_prog.proofs.Ranges.{all-pass, all-since, all-both, all-joined, in-range}
 use Rattle.warp_prog.proofs.Rules.{reaction-fits}
+use Rattle.warp_prog.proofs.RoomLemmas.{limits_kept}
 use Rattle.warp_prog.proofs.Eachs.{length-each, all-each, all-map, all-true, rising-each}
 use Rattle.warp_step.proofs.FileOrder.{file_order_admissible}
 use Rattle.warp_prog.proofs.Links.{link-fits, link-later, input-fits, output-fits, outputs-distinct, fed-distinct}
@@ -57,15 +58,13 @@ module _ (f : File) (h : IsFaultless f) where
 
   within : is_within_limits (numbered f) ≡ true
   within =
-      let parts = or_parts _ _ h.limits in
-      let totals = or_parts _ _ parts.0 in
-      let lists = or_parts _ _ totals.0 in
-      let n2 = or_parts _ _ lists.0 in
+      let kept = limits_kept f h.limits in
+      let n2 = or_parts _ _ kept.0 in
       let n1 = or_parts _ _ n2.0 in
-      let c3 = or_parts _ _ lists.1 in
+      let c3 = or_parts _ _ kept.1 in
       let c2 = or_parts _ _ c3.0 in
       let c1 = or_parts _ _ c2.0 in
-      let t4 = or_parts _ _ totals.1 in
+      let t4 = or_parts _ _ kept.2 in
       let t3 = or_parts _ _ t4.0 in
       let t2 = or_parts _ _ t3.0 in
       let t1 = or_parts _ _ t2.0 in
@@ -84,7 +83,7 @@ module _ (f : File) (h : IsFaultless f) where
 
   reactors-right : list_all (λ r. not (reactor_exceeds form r)) f.reactors ≡ true
   reactors-right =
-      let parts = or_parts _ _ (or_parts _ _ h.limits).1 in
+      let parts = or_parts _ _ (limits_kept f h.limits).3 in
       all-fail (reactor_exceeds form) f.reactors (or_parts _ _ parts.0).0
 
   actions-right : (r : ReactorPart) → not (reactor_exceeds form r) ≡ true →
@@ -175,7 +174,7 @@ module _ (f : File) (h : IsFaultless f) where
 
   links : (list_all (link_fits (numbered f)) (numbered f).links && list_all (input_fits (numbered f)) (numbered f).inputs && is_distinct (fed (numbered f))) ≡ true
   links =
-      let parts = or_parts _ _ (or_parts _ _ h.limits).1 in
+      let parts = or_parts _ _ (limits_kept f h.limits).3 in
       let delays = (or_parts _ _ parts.0).1 in
       let u3 = or_parts _ _ h.names in
       let u2 = or_parts _ _ u3.0 in

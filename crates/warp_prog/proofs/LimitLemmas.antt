@@ -2,25 +2,25 @@
 use Rattle.std.proofs.Common.{◌≡◌, Bool, true, false, ◌||◌, pos, sym, refl}
 use Rattle.warp_tag.specs.Limits.{longest_stop, most_origins}
 use Rattle.warp_prog.specs.File.{File}
-use Rattle.warp_prog.specs.Limits.{first_version, last_version, file_form, is_outside, lists_exceed, totals_exceed, parts_exceed, exceeds_limits}
+use Rattle.warp_prog.specs.Limits.{first_version, last_version, file_form, is_outside, lists_exceed, totals_exceed, parts_exceed, timers_exceed, exceeds_limits}
 use Rattle.warp_prog.specs.inner.Others.{others_exceed}
 
-some : (version stop origins lists totals parts : Bool) → ((stop || origins) || lists || totals || parts) ≡ true
-    → true ≡ (((version || stop) || origins) || lists || totals || parts)
-some true stop origins lists totals parts h = refl
-some false stop origins lists totals parts h = sym h
+some : (version stop origins lists totals parts timers : Bool) → ((stop || origins) || lists || totals || parts || timers) ≡ true
+    → true ≡ (((version || stop) || origins) || lists || totals || parts || timers)
+some true stop origins lists totals parts timers h = refl
+some false stop origins lists totals parts timers h = sym h
 
-none : (version stop origins lists totals parts : Bool) → ((stop || origins) || lists || totals || parts) ≡ false
-    → version ≡ (((version || stop) || origins) || lists || totals || parts)
-none true stop origins lists totals parts h = refl
-none false stop origins lists totals parts h = sym h
+none : (version stop origins lists totals parts timers : Bool) → ((stop || origins) || lists || totals || parts || timers) ≡ false
+    → version ≡ (((version || stop) || origins) || lists || totals || parts || timers)
+none true stop origins lists totals parts timers h = refl
+none false stop origins lists totals parts timers h = sym h
 
 pub some_other : (f : File) → others_exceed f ≡ true → true ≡ exceeds_limits f
 some_other f h =
     some (is_outside (pos first_version) (pos last_version) f.version) (is_outside (pos 0) (pos (longest_stop (file_form f))) f.stop)
-    (is_outside (pos 1) (pos (most_origins (file_form f))) f.origins) (lists_exceed f) (totals_exceed f.reactors) (parts_exceed f) h
+    (is_outside (pos 1) (pos (most_origins (file_form f))) f.origins) (lists_exceed f) (totals_exceed f.reactors) (parts_exceed f) (timers_exceed f) h
 
 pub no_other : (f : File) → others_exceed f ≡ false → is_outside (pos first_version) (pos last_version) f.version ≡ exceeds_limits f
 no_other f h =
     none (is_outside (pos first_version) (pos last_version) f.version) (is_outside (pos 0) (pos (longest_stop (file_form f))) f.stop)
-    (is_outside (pos 1) (pos (most_origins (file_form f))) f.origins) (lists_exceed f) (totals_exceed f.reactors) (parts_exceed f) h
+    (is_outside (pos 1) (pos (most_origins (file_form f))) f.origins) (lists_exceed f) (totals_exceed f.reactors) (parts_exceed f) (timers_exceed f) h

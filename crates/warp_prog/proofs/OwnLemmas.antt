@@ -25,6 +25,6 @@ few_outputs P h =
     let limits = (validity P h).limits in
     let rows = before_at_most P (P.stop + 1) in
     let stop = limits.stop in
-    let rows_few : own_rows P ≤ 10000001 = omega (arith, rows, stop) in
-    let product = mul-le (own_rows P) (length P.outputs) 10000001 64 rows_few limits.outputs in
+    let rows_few : own_rows P ≤ longest_stop widest + 1 = omega (arith, rows, stop) in
+    let product = mul-le (own_rows P) (length P.outputs) (longest_stop widest + 1) most_outputs rows_few limits.outputs in
     omega (arith, product)

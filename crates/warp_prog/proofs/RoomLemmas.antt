@@ -5,16 +5,17 @@ use Rattle.std.proofs.lemmas.Bool.{or_parts, ltb-false, ltb-true, lt-ltb, leb-tr
 use Rattle.warp_tag.specs.Limits.{longest_stop, most_origins, most_reactors, most_variables, most_ports, most_actions, most_timers, most_reactions, most_links, most_inputs, most_outputs}
 use Rattle.warp_tag.proofs.Forms.{origins_widen}
 use Rattle.warp_prog.specs.File.{File}
-use Rattle.warp_prog.specs.Limits.{first_version, last_version, file_form, total, is_outside, are_more_than, numbers_exceed, lists_exceed, totals_exceed, parts_exceed, exceeds_limits, reactor_exceeds, link_exceeds, origin_exceeds}
+use Rattle.warp_prog.specs.Limits.{first_version, last_version, file_form, total, is_outside, are_more_than, numbers_exceed, lists_exceed, totals_exceed, parts_exceed, timers_exceed, exceeds_limits, reactor_exceeds, link_exceeds, origin_exceeds}
 use Rattle.warp_prog.specs.Numbered.{nothing_before}
 use Rattle.warp_prog.specs.declared.file.InputPart.{InputPart}
 use Rattle.warp_prog.specs.inner.Room.{HaveRoom}
 use Rattle.warp_prog.proofs.Ranges.{all-since, in-range, is-origin}
 
--- the four parts of the limits
+-- four of the five parts of the limits
 pub limits_kept : (f : File) → exceeds_limits f ≡ false → (numbers_exceed f ≡ false) × (lists_exceed f ≡ false) × (totals_exceed f.reactors ≡ false) × (parts_exceed f ≡ false)
 limits_kept f h =
-    let three = or_parts (numbers_exceed f || lists_exceed f || totals_exceed f.reactors) (parts_exceed f) h in
+    let four = or_parts (numbers_exceed f || lists_exceed f || totals_exceed f.reactors || parts_exceed f) (timers_exceed f) h in
+    let three = or_parts (numbers_exceed f || lists_exceed f || totals_exceed f.reactors) (parts_exceed f) four.0 in
     let two = or_parts (numbers_exceed f || lists_exceed f) (totals_exceed f.reactors) three.0 in
     let one = or_parts (numbers_exceed f) (lists_exceed f) two.0 in
     (one.0, one.1, two.1, three.1)

@@ -1,12 +1,12 @@
 -- A file that goes past a limit: a number outside its range, too many things, or a body that is too deep or schedules
 -- too often. The version decides how wide the ranges are.
-use Rattle.std.specs.Prelude.{ℕ, ℤ, pos, ◌+◌, max, nat_lt, Bool, false, ◌||◌, List, [], ◌∷◌, ◌++◌, length, Option, Some, None, if◌then◌else◌}
+use Rattle.std.specs.Prelude.{ℕ, ℤ, pos, ◌+◌, ◌-◌, ◌/◌, max, nat_lt, unsigned_abs, Bool, false, ◌||◌, ◌==◌, List, [], ◌∷◌, ◌++◌, length, Option, Some, None, if◌then◌else◌}
 use Rattle.std.specs.List.{list_any}
 use Rattle.std.specs.Int.Signed.{le_z, lt_z}
 use Rattle.std.specs.Ordering.{int_eq}
 use Rattle.warp_tag.specs.Limits.{longest_stop, longest_period, most_origins, most_reactors, most_variables, most_ports, most_reactions, most_actions, most_timers, most_links, most_inputs, most_outputs, most_wishes}
 use Rattle.warp_tag.specs.declared.form.Form.{Form}
-use Rattle.warp_tag.specs.declared.form.Form.TheVariants.{One, Two}
+use Rattle.warp_tag.specs.declared.form.Form.TheVariants.{One, Two, Three}
 use Rattle.warp_prog.specs.File.{File, ReactorPart, ReactionPart, NamedTerm, Literal, Named, PresentNamed, OneNamed, TwoNamed, ChoiceNamed, NamedStatement, SetNamed, PutNamed, ScheduleNamed, ChooseNamed, NamedBody, NamedDone, NamedThen}
 use Rattle.warp_prog.specs.declared.file.ActionPart.{ActionPart}
 use Rattle.warp_prog.specs.declared.file.TimerPart.{TimerPart}
@@ -17,12 +17,17 @@ use Rattle.warp_prog.specs.declared.file.InputPart.{InputPart}
 abbrev pub first_version : ℕ
 first_version = 1
 
-abbrev pub last_version : ℕ
-last_version = 2
+abbrev pub second_version : ℕ
+second_version = 2
 
--- the form of a version: that of the first is the first, that of any other the second; one that is not known is refused itself
+abbrev pub last_version : ℕ
+last_version = 3
+
+-- the form of a version: that of the first is the first, that of the last the third, that of any other the second; one that
+-- is not known is refused itself
 abbrev pub form_of_version : ℤ → Form
-form_of_version version = if int_eq version (pos first_version) then One else Two
+form_of_version version =
+    if int_eq version (pos first_version) then One else (if int_eq version (pos last_version) then Three else Two)
 
 -- the form of a file, by its version
 abbrev pub file_form : File → Form
@@ -170,6 +175,35 @@ parts_exceed f =
     || list_any (link_exceeds (file_form f)) f.links
     || list_any (λ (i : InputPart). origin_exceeds f.origins i.origin) f.inputs
 
+-- so many outputs the timers of a file of the third form may put by themselves, and so many times they may be due
+abbrev pub most_own : ℕ
+most_own = 20000000
+
+-- how often a timer is due up to a stop: at its offset, and after each period again. The numbers of a file within the
+-- limits above are not negative
+abbrev pub times_due : ℤ → TimerPart → ℕ
+times_due stop t =
+    if nat_lt (unsigned_abs stop) (unsigned_abs t.offset) then 0
+    else (if unsigned_abs t.period == 0 then 1 else 1 + (unsigned_abs stop - unsigned_abs t.offset) / unsigned_abs t.period)
+
+-- how often the timers of a list are, added up
+abbrev pub all_due : ℤ → List TimerPart → ℕ
+all_due stop [] = 0
+all_due stop (t ∷ ts) = times_due stop t + all_due stop ts
+
+-- the timers of reactors are due too often: each time that one is, each of so many outputs may be put
+abbrev pub due_exceeds : ℤ → ℕ → List ReactorPart → Bool
+due_exceeds stop outputs rs = nat_lt (most_own / max 1 outputs) (total (λ r. all_due stop r.timers) rs)
+
+-- the timers of a file are; those of the first form and of the second never
+abbrev pub timers_exceed_in : Form → File → Bool
+timers_exceed_in One f = false
+timers_exceed_in Two f = false
+timers_exceed_in Three f = due_exceeds f.stop (length f.outputs) f.reactors
+
+abbrev pub timers_exceed : File → Bool
+timers_exceed f = timers_exceed_in (file_form f) f
+
 -- a file that goes past a limit
 abbrev pub exceeds_limits : File → Bool
-exceeds_limits f = numbers_exceed f || lists_exceed f || totals_exceed f.reactors || parts_exceed f
+exceeds_limits f = numbers_exceed f || lists_exceed f || totals_exceed f.reactors || parts_exceed f || timers_exceed f

@@ -6,7 +6,7 @@ use Rattle.warp_prog.specs.File.{File}
 use Rattle.warp_prog.specs.Shape.{file_of}
 use Rattle.warp_prog.specs.Reading.{longest_file, json_of}
 use Rattle.warp_prog.specs.Refusal.{number_of}
-use Rattle.warp_prog.specs.Limits.{first_version, last_version, exceeds_limits}
+use Rattle.warp_prog.specs.Limits.{first_version, second_version, last_version, exceeds_limits}
 use Rattle.warp_prog.specs.Names.{names_unknown}
 use Rattle.warp_prog.specs.Twice.{names_twice}
 use Rattle.warp_prog.specs.Backward.{leads_back}
@@ -74,5 +74,6 @@ IsRefused bytes Json = (length bytes ≤ longest_file) × (json_of bytes ≡ Non
 IsRefused bytes Limit = (longest_file < length bytes) ⊎ IsFaulty bytes (number_of Limit)
 IsRefused bytes Memory = length bytes ≤ longest_file
 IsRefused bytes Backward = IsFaultyFile bytes first_version (number_of Backward)
-IsRefused bytes Causality = IsFaultyFile bytes last_version (number_of Causality)
+IsRefused bytes Causality =
+    IsFaultyFile bytes second_version (number_of Causality) ⊎ IsFaultyFile bytes last_version (number_of Causality)
 IsRefused bytes e = IsFaulty bytes (number_of e)

@@ -1,7 +1,7 @@
 -- What the numbers of a program stand for, as one line of JSON.
 use Rattle.std.specs.Prelude.{ℕ, ◌+◌, List, [], ◌∷◌, ◌++◌, codes, decimal, map}
 use Rattle.warp_tag.specs.declared.form.Form.{Form}
-use Rattle.warp_tag.specs.declared.form.Form.TheVariants.{One, Two}
+use Rattle.warp_tag.specs.declared.form.Form.TheVariants.{One, Two, Three}
 use Rattle.warp_step.specs.Program.{Program}
 use Rattle.warp_step.specs.declared.parts.ProgramInput.{ProgramInput}
 use Rattle.warp_prog.specs.Canonical.{listed, quoted}
@@ -12,6 +12,7 @@ use Rattle.warp_prog.specs.File.{Word}
 abbrev pub form_number : Form → ℕ
 form_number One = 1
 form_number Two = 2
+form_number Three = 3
 
 -- a program input: its origin, and its label
 abbrev pub owned_text : ℕ → Word → List ℕ

@@ -3,7 +3,7 @@ use Rattle.std.specs.Prelude.{ℕ}
 use Rattle.warp_prog.specs.declared.error.LoadError.{LoadError}
 use Rattle.warp_prog.specs.declared.error.LoadError.TheVariants.{Json, Shape, Limit, Name, Twice, Backward, Causality, Undeclared, Memory}
 
--- the number of a fault: of the two faults of order each stands in files of one version alone
+-- the number of a fault: no version has both faults of order
 abbrev pub number_of : LoadError → ℕ
 number_of Json = 1
 number_of Shape = 2

@@ -6,7 +6,7 @@ ghost use Rattle.warp_prog.specs.OwnRows.{is_due, is_own, own_before, own_rows};
 use warp_step::{Program, Timer};
 
 /// How many rows a program makes by itself up to its stop: one for each time at which startup or one of its timers is
-/// due, 0 to 10,000,001.
+/// due. By its form these are at most 1,000,001, 10,000,001 or 15,625,000.
 pub fn own_rows(program: &Program) -> u64
     ensures { result ≡ own_rows program.now }
 {

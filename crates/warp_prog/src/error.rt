@@ -24,7 +24,7 @@ pub enum LoadError {
     /// A link without delay leads back, in a file of version 1.
     #[error("a link without delay leads back")]
     Backward,
-    /// No order of the reactions is admissible, in a file of version 2.
+    /// No order of the reactions is admissible, in a file of version 2 or 3.
     #[error("reactions wait for each other")]
     Causality,
     /// A body reads or writes what its reaction does not name.
@@ -39,7 +39,7 @@ impl LoadError {
     ghost use Rattle.std.specs.Prelude.{◌≡◌};
     ghost use Rattle.warp_prog.specs.Refusal.{number_of};
 
-    /// Its number, 1 to 8: 6 for the two faults of order, each of which stands in files of one version alone.
+    /// Its number, 1 to 8: 6 for the two faults of order, which no version has both.
     pub fn number(self) -> u8
         ensures { result ≡ number_of self }
     {

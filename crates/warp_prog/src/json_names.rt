@@ -54,6 +54,7 @@ fn form_number(form: Form) -> u64
     match form {
         Form::One => 1,
         Form::Two => 2,
+        Form::Three => 3,
     }
 }
 

@@ -13,6 +13,7 @@ ghost use Rattle.warp_prog.specs.inner.Others.{ends_exceed, others_exceed};
 ghost use Rattle.warp_prog.specs.declared.file.InputPart.{InputPart};
 
 pub(crate) mod body;
+pub(crate) mod timers;
 
 use crate::explain::limits::body::note_body;
 use crate::explain::limits::note_totals;
@@ -20,11 +21,12 @@ use crate::explain::reason::Reason;
 use crate::explain::trail::{Segment, Trail};
 use crate::file::{ActionPart, InputPart, LinkPart, ProgramFile, Reaction, Reactor, TimerPart};
 use crate::limits::body::body_exceeds;
+use crate::limits::timers::timers_exceed;
 use warp_tag::Form;
 
 pub(crate) const FIRST_VERSION: i64 = 1;
 
-pub(crate) const LAST_VERSION: i64 = 2;
+pub(crate) const LAST_VERSION: i64 = 3;
 
 pub(crate) const MOST_REACTORS: usize = 64;
 
@@ -54,12 +56,14 @@ pub(crate) enum LimitedThings {
     Reactions,
 }
 
-/// The form of a version: that of the first is the first, that of any other the second.
+/// The form of a version: that of the first is the first, that of the last the third, that of any other the second.
 pub(crate) fn form_of_version(version: i64) -> Form
     ensures { result ≡ form_of_version version }
 {
     if version == FIRST_VERSION {
         Form::One
+    } else if version == LAST_VERSION {
+        Form::Three
     } else {
         Form::Two
     }
@@ -86,8 +90,8 @@ fn most_origins(form: Form) -> i64
     form.most_origins() as i64
 }
 
-/// Whether a file goes past a limit: a number outside its range, too many things, or a body past its own limits.
-/// Whether its version is known is looked at last.
+/// Whether a file goes past a limit: a number outside its range, too many things, a body past its own limits, or timers
+/// that are due too often. Whether its version is known is looked at last.
 pub(crate) fn exceeds_limits(file: &ProgramFile, at: &mut Trail) -> bool
     ensures { result ≡ exceeds_limits (file_tree file.now) }
 {
@@ -113,6 +117,7 @@ fn others_exceed(file: &ProgramFile, at: &mut Trail) -> bool
         || lists_exceed(file, at)
         || any_total(&file.reactors, at)
         || parts_exceed(file, at)
+        || timers_exceed(file, at)
 }
 
 fn numbers_exceed(file: &ProgramFile, at: &mut Trail) -> bool

@@ -40,8 +40,8 @@ pub struct LabelledProgram {
 /// # Errors
 ///
 /// The first fault of the file: each is looked for in the whole file before the next. More than 1,048,576 bytes are
-/// refused at once, as past a limit. `Backward` comes for files of version 1 alone, `Causality` for those of version 2.
-/// `Memory` comes only where a growth was refused.
+/// refused at once, as past a limit. `Backward` comes for files of version 1 alone, `Causality` for those of versions 2
+/// and 3. `Memory` comes only where a growth was refused.
 pub fn load(alloc: Global, bytes: &[u8]) -> Result<Program, LoadError>
     ensures ok { IfOk result (λ program. IsLoaded bytes.now program) }
     ensures err { IfErr result (λ error. IsRefused bytes.now error) }
@@ -233,7 +233,7 @@ fn in_file_order<'f>(
     Ok(with_order(parts, order))
 }
 
-/// The same of a file of the second version.
+/// The same of a file of a later version.
 fn in_loader_order(alloc: Global, file: &ProgramFile) -> Result<Parts, LoadError>
     requires named { IsNamed (file_tree file.now) }
     requires version { is_first_version (file_tree file.now) ≡ false }

@@ -168,7 +168,7 @@ event_operands f a b c words r fits are =
 -- behind the tag of an announcement stand two counts
 pub announcement_operands : (f : Form) (a b c : List ℕ) (words : List (List ℕ)) (r : Record) → IsRecord f r
     → codes "announce" ∷ a ∷ b ∷ c ∷ words ≡ record_words r
-    → (events : ℕ) × (withdrawn : ℕ) × (events ≤ most_records) × (withdrawn ≤ most_records)
+    → (events : ℕ) × (withdrawn : ℕ) × (events ≤ most_records f) × (withdrawn ≤ most_records f)
     × (words ≡ decimal events ∷ decimal withdrawn ∷ [])
 announcement_operands f a b c words r fits are =
     let told = announcement_words f (a ∷ b ∷ c ∷ words) r fits are in

@@ -142,7 +142,7 @@ plain_flag true = refl
 plain_flag false = refl
 
 -- a length of a log and a count are plain
-counted : (log count : ℕ) → log ≤ most_records → count ≤ greatest_count → are_plain (decimal log ∷ decimal count ∷ []) ≡ true
+counted : (log count : ℕ) → log ≤ most_records widest → count ≤ greatest_count → are_plain (decimal log ∷ decimal count ∷ []) ≡ true
 counted log count log_fits count_fits =
     plain_number log (decimal count ∷ []) (omega (arith, log_fits)) (plain_number count [] (omega (arith, count_fits)) refl)
 

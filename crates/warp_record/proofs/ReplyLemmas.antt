@@ -4,10 +4,12 @@ use Rattle.std.specs.Fmt.{signed_decimal}
 use Rattle.std.specs.Str.{bytes_eq}
 use Rattle.std.proofs.lemmas.Bool.{true≢false, ne_eqb}
 use Rattle.std.proofs.lemmas.Fmt.{decimal_injective}
-use Rattle.warp_tag.specs.Limits.{greatest_count, most_records, most_rows}
+use Rattle.warp_tag.specs.Limits.{widest, greatest_count, most_records, most_rows}
 use Rattle.warp_tag.specs.Moment.{Moment, IsTagOf}
 use Rattle.warp_tag.specs.declared.form.Form.{Form}
+use Rattle.warp_tag.specs.declared.form.Form.TheVariants.{One, Two, Three}
 use Rattle.warp_tag.specs.declared.out.Out.{Out}
+use Rattle.warp_tag.proofs.Forms.{records_widen}
 use Rattle.warp_record.specs.declared.record.Record.{Record}
 use Rattle.warp_record.specs.declared.record.Record.TheVariants.{Event, Withdraw, Announce}
 use Rattle.warp_record.specs.declared.reply.Refusal.{Refusal}
@@ -21,8 +23,16 @@ use Rattle.warp_record.proofs.Wider.{reply_widens}
 use Rattle.warp_record.proofs.WordTexts.{is_one}
 
 -- the text of a number that a reply can name first is that of no other
-pub same_number : (m n : ℕ) → m ≤ most_records → n ≤ most_records → decimal m ≡ decimal n → m ≡ n
-same_number m n m_fits n_fits same = decimal_injective m n (omega arith) (omega arith) same
+pub same_number : (f : Form) (m n : ℕ) → m ≤ most_records f → n ≤ most_records f → decimal m ≡ decimal n → m ≡ n
+same_number f m n m_fits n_fits same =
+    let wide = records_widen f in
+    decimal_injective m n (omega (arith, m_fits, wide)) (omega (arith, n_fits, wide)) same
+
+-- the number of a refusal is one that a reply of any form can name first
+refusal_fits : (f : Form) (refusal : Refusal) → refusal_number refusal ≤ most_records f
+refusal_fits One refusal = omega (arith, refusal_number-le refusal)
+refusal_fits Two refusal = omega (arith, refusal_number-le refusal)
+refusal_fits Three refusal = omega (arith, refusal_number-le refusal)
 
 -- the reply is the one that its words say
 reply_is : (f : Form) (words : List (List ℕ)) (reply : Reply) → IsReply f reply → words ≡ reply_words reply → reply ≡ reply_said words
@@ -31,19 +41,19 @@ reply_is f words reply fits are = sym (reply_back reply (reply_widens f reply fi
 -- ---- replies that begin with a keyword
 
 pub taken_words : (f : Form) (text : List ℕ) (reply : Reply) → IsReply f reply → codes "taken" ∷ text ∷ [] ≡ reply_words reply
-    → (place : ℕ) × IsPlace place × (text ≡ decimal place)
+    → (place : ℕ) × IsPlace f place × (text ≡ decimal place)
 taken_words f text reply fits are =
     let is : reply ≡ Taken (number_at (codes "taken" ∷ text ∷ []) 1) = reply_is f _ reply fits are in
     (_, subst (IsReply f) is fits, ap (λ (ws : List (List ℕ)). get_or ws 1 []) (are ∙ ap reply_words is))
 
 pub known_words : (f : Form) (text : List ℕ) (reply : Reply) → IsReply f reply → codes "known" ∷ text ∷ [] ≡ reply_words reply
-    → (place : ℕ) × IsPlace place × (text ≡ decimal place)
+    → (place : ℕ) × IsPlace f place × (text ≡ decimal place)
 known_words f text reply fits are =
     let is : reply ≡ Known (number_at (codes "known" ∷ text ∷ []) 1) = reply_is f _ reply fits are in
     (_, subst (IsReply f) is fits, ap (λ (ws : List (List ℕ)). get_or ws 1 []) (are ∙ ap reply_words is))
 
 pub refused_words : (f : Form) (text : List ℕ) (reply : Reply) → IsReply f reply → codes "refused" ∷ text ∷ [] ≡ reply_words reply
-    → (refusal : Refusal) × (refusal_number refusal ≤ most_records) × (text ≡ decimal (refusal_number refusal))
+    → (refusal : Refusal) × (refusal_number refusal ≤ most_records widest) × (text ≡ decimal (refusal_number refusal))
 refused_words f text reply fits are =
     let is : reply ≡ Refused (refusal_of (number_at (codes "refused" ∷ text ∷ []) 1)) = reply_is f _ reply fits are in (
       _,
@@ -52,7 +62,7 @@ refused_words f text reply fits are =
     )
 
 pub var_words : (f : Form) (text value : List ℕ) (reply : Reply) → IsReply f reply → codes "var" ∷ text ∷ value ∷ [] ≡ reply_words reply
-    → (log : ℕ) × (z : ℤ) × (log ≤ most_records) × FitsSigned w64 z × (text ≡ decimal log) × (value ≡ signed_decimal z)
+    → (log : ℕ) × (z : ℤ) × (log ≤ most_records f) × FitsSigned w64 z × (text ≡ decimal log) × (value ≡ signed_decimal z)
 var_words f text value reply fits are =
     let is : reply ≡ Var (number_at (codes "var" ∷ text ∷ value ∷ []) 1) (signed_value value) = reply_is f _ reply fits are in
     let range = subst (IsReply f) is fits in
@@ -60,7 +70,7 @@ var_words f text value reply fits are =
     (_, _, range.0, range.1, ap (λ (ws : List (List ℕ)). get_or ws 1 []) same, ap (λ (ws : List (List ℕ)). get_or ws 2 []) same)
 
 pub breach_words : (f : Form) (text flag : List ℕ) (reply : Reply) → IsReply f reply → codes "breach" ∷ text ∷ flag ∷ [] ≡ reply_words reply
-    → (log : ℕ) × (broken : Bool) × (log ≤ most_records) × (text ≡ decimal log) × (flag ≡ flag_word broken)
+    → (log : ℕ) × (broken : Bool) × (log ≤ most_records f) × (text ≡ decimal log) × (flag ≡ flag_word broken)
 breach_words f text flag reply fits are =
     let words = codes "breach" ∷ text ∷ flag ∷ [] in
     let is : reply ≡ Breach (number_at words 1) (flag_at words 2) = reply_is f words reply fits are in
@@ -68,7 +78,7 @@ breach_words f text flag reply fits are =
     (_, _, subst (IsReply f) is fits, ap (λ (ws : List (List ℕ)). get_or ws 1 []) same, ap (λ (ws : List (List ℕ)). get_or ws 2 []) same)
 
 pub board_words : (f : Form) (text flag : List ℕ) (reply : Reply) → IsReply f reply → codes "board" ∷ text ∷ flag ∷ [] ≡ reply_words reply
-    → (count : ℕ) × (frozen : Bool) × (count ≤ most_rows) × (text ≡ decimal count) × (flag ≡ flag_word frozen)
+    → (count : ℕ) × (frozen : Bool) × (count ≤ most_rows f) × (text ≡ decimal count) × (flag ≡ flag_word frozen)
 board_words f text flag reply fits are =
     let words = codes "board" ∷ text ∷ flag ∷ [] in
     let is : reply ≡ Board (number_at words 1) (flag_at words 2) = reply_is f words reply fits are in
@@ -76,7 +86,7 @@ board_words f text flag reply fits are =
     (_, _, subst (IsReply f) is fits, ap (λ (ws : List (List ℕ)). get_or ws 1 []) same, ap (λ (ws : List (List ℕ)). get_or ws 2 []) same)
 
 pub horizon_words : (f : Form) (words : List (List ℕ)) (reply : Reply) → IsReply f reply → codes "horizon" ∷ words ≡ reply_words reply
-    → (log : ℕ) × (tag : Moment) × (log ≤ most_records) × IsTagOf f tag × (words ≡ decimal log ∷ tag_words tag)
+    → (log : ℕ) × (tag : Moment) × (log ≤ most_records f) × IsTagOf f tag × (words ≡ decimal log ∷ tag_words tag)
 horizon_words f words reply fits are =
     let is : reply ≡ Horizon (number_at (codes "horizon" ∷ words) 1) (tag_at (codes "horizon" ∷ words) 2) = reply_is f _ reply fits are in
     let range = subst (IsReply f) is fits in
@@ -89,14 +99,14 @@ row_words f words reply fits are =
     (_, subst (IsReply f) is fits, ap (λ (ws : List (List ℕ)). drop 1 ws) (are ∙ ap reply_words is))
 
 pub output_words : (f : Form) (words : List (List ℕ)) (reply : Reply) → IsReply f reply → codes "output" ∷ words ≡ reply_words reply
-    → (log : ℕ) × (out : Out) × (log ≤ most_records) × IsOut f out × (words ≡ decimal log ∷ out_words out)
+    → (log : ℕ) × (out : Out) × (log ≤ most_records f) × IsOut f out × (words ≡ decimal log ∷ out_words out)
 output_words f words reply fits are =
     let is : reply ≡ Output (number_at (codes "output" ∷ words) 1) (out_at (codes "output" ∷ words) 2) = reply_is f _ reply fits are in
     let range = subst (IsReply f) is fits in
     (_, _, range.0, range.1, ap (λ (ws : List (List ℕ)). drop 1 ws) (are ∙ ap reply_words is))
 
 pub log_words : (f : Form) (words : List (List ℕ)) (reply : Reply) → IsReply f reply → codes "log" ∷ words ≡ reply_words reply
-    → (log : ℕ) × (said : Record) × (log ≤ most_records) × IsRecord f said × (words ≡ decimal log ∷ record_words said)
+    → (log : ℕ) × (said : Record) × (log ≤ most_records f) × IsRecord f said × (words ≡ decimal log ∷ record_words said)
 log_words f words reply fits are =
     let is : reply ≡ Log (number_at (codes "log" ∷ words) 1) (record_said (drop 2 (codes "log" ∷ words))) = reply_is f _ reply fits are in
     let range = subst (IsReply f) is fits in
@@ -152,10 +162,10 @@ no_long_keyword word words reply more isnt are =
 
 -- the second of two or three words is a number
 second_word : (f : Form) (reply : Reply) → IsReply f reply → (eqb (length (reply_words reply)) 2 ≡ true)
-    → (n : ℕ) × (n ≤ most_records) × (get_or (reply_words reply) 1 [] ≡ decimal n)
+    → (n : ℕ) × (n ≤ most_records f) × (get_or (reply_words reply) 1 [] ≡ decimal n)
 second_word f (Taken place) fits two = (place, fits.1, refl)
 second_word f (Known place) fits two = (place, fits.1, refl)
-second_word f (Refused refusal) fits two = (refusal_number refusal, omega (arith, refusal_number-le refusal), refl)
+second_word f (Refused refusal) fits two = (refusal_number refusal, refusal_fits f refusal, refl)
 second_word f (Nothing log) fits two = (log, fits, refl)
 second_word f (Collected log) fits two = (log, fits, refl)
 second_word f (Var log value) fits two = absurd (true≢false (sym two))
@@ -173,7 +183,7 @@ second_word f (Row out) fits two = absurd (true≢false (sym two))
 second_word f NoRow fits two = absurd (true≢false (sym two))
 
 pub short_number : (f : Form) (word text : List ℕ) (reply : Reply) → IsReply f reply → word ∷ text ∷ [] ≡ reply_words reply
-    → (n : ℕ) × (n ≤ most_records) × (text ≡ decimal n)
+    → (n : ℕ) × (n ≤ most_records f) × (text ≡ decimal n)
 short_number f word text reply fits are =
     let told = second_word f reply fits (sym (ap (λ (ws : List (List ℕ)). eqb (length ws) 2) are)) in
     (told.0, told.1, ap (λ (ws : List (List ℕ)). get_or ws 1 []) are ∙ told.2)
@@ -185,7 +195,7 @@ is_counted words =
 
 -- the others of them are the length of a log and a count
 counted_words : (f : Form) (reply : Reply) → IsReply f reply → is_counted (reply_words reply) ≡ true
-    → (log : ℕ) × (count : ℕ) × (log ≤ most_records) × (count ≤ greatest_count)
+    → (log : ℕ) × (count : ℕ) × (log ≤ most_records f) × (count ≤ greatest_count)
     × (get_or (reply_words reply) 1 [] ≡ decimal log) × (get_or (reply_words reply) 2 [] ≡ decimal count)
 counted_words f (Outputs log count) fits is = (log, count, fits.0, fits.1, refl, refl)
 counted_words f (Released log count) fits is = (log, count, fits.0, fits.1, refl, refl)
@@ -208,7 +218,7 @@ counted_words f NoRow fits is = absurd (true≢false (sym is))
 
 pub middle_count : (f : Form) (word text more : List ℕ) (reply : Reply) → IsReply f reply → bytes_eq word (codes "var") ≡ false
     → bytes_eq word (codes "breach") ≡ false → bytes_eq word (codes "board") ≡ false → word ∷ text ∷ more ∷ [] ≡ reply_words reply
-    → (log : ℕ) × (count : ℕ) × (log ≤ most_records) × (count ≤ greatest_count) × (text ≡ decimal log) × (more ≡ decimal count)
+    → (log : ℕ) × (count : ℕ) × (log ≤ most_records f) × (count ≤ greatest_count) × (text ≡ decimal log) × (more ≡ decimal count)
 middle_count f word text more reply fits var breach board are =
     let counted : is_counted (word ∷ text ∷ more ∷ []) ≡ true = rw (var, breach, board) refl in
     let told = counted_words f reply fits (sym (ap is_counted are) ∙ counted) in (

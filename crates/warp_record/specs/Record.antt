@@ -25,8 +25,8 @@ pub record IsWithdrawal (f : Form) (origin : ℕ) (tag : Moment) : Type 0 where
 pub record IsAnnouncement (f : Form) (origin : ℕ) (tag : Moment) (events withdrawn : ℕ) : Type 0 where
   pub origin_fits : origin < most_origins f
   pub tag_fits : IsTagOf f tag
-  pub events_fit : events ≤ most_records
-  pub withdrawn_fit : withdrawn ≤ most_records
+  pub events_fit : events ≤ most_records f
+  pub withdrawn_fit : withdrawn ≤ most_records f
 
 -- the ranges of a record in a form
 abbrev pub IsRecord : Form → Record → Type 0

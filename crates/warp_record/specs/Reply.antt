@@ -27,13 +27,13 @@ refusal_number TooLong = 9
 refusal_number Busy = 10
 refusal_number NoBoard = 11
 
--- a place of the log
-abbrev pub IsPlace : ℕ → Type 0
-IsPlace place = (1 ≤ place) × (place ≤ most_records)
+-- a place of the log in a form
+abbrev pub IsPlace : Form → ℕ → Type 0
+IsPlace f place = (1 ≤ place) × (place ≤ most_records f)
 
--- the length of a log
-abbrev pub IsLength : ℕ → Type 0
-IsLength log = log ≤ most_records
+-- the length of a log in a form
+abbrev pub IsLength : Form → ℕ → Type 0
+IsLength f log = log ≤ most_records f
 
 -- the ranges of an output in a form
 pub record IsOut (f : Form) (out : Out) : Type 0 where
@@ -43,20 +43,20 @@ pub record IsOut (f : Form) (out : Out) : Type 0 where
 
 -- the ranges of a reply in a form
 abbrev pub IsReply : Form → Reply → Type 0
-IsReply f (Taken place) = IsPlace place
-IsReply f (Known place) = IsPlace place
+IsReply f (Taken place) = IsPlace f place
+IsReply f (Known place) = IsPlace f place
 IsReply f (Refused refusal) = Unit {0}
-IsReply f (Var log value) = IsLength log × FitsSigned w64 value
-IsReply f (Outputs log count) = IsLength log × (count ≤ greatest_count)
-IsReply f (Output log out) = IsLength log × IsOut f out
-IsReply f (Nothing log) = IsLength log
-IsReply f (Horizon log tag) = IsLength log × IsTagOf f tag
-IsReply f (Released log count) = IsLength log × (count ≤ greatest_count)
-IsReply f (Lost log count) = IsLength log × (count ≤ greatest_count)
-IsReply f (Breach log broken) = IsLength log
-IsReply f (Log log said) = IsLength log × IsRecord f said
-IsReply f (Collected log) = IsLength log
-IsReply f (Board count frozen) = count ≤ most_rows
+IsReply f (Var log value) = IsLength f log × FitsSigned w64 value
+IsReply f (Outputs log count) = IsLength f log × (count ≤ greatest_count)
+IsReply f (Output log out) = IsLength f log × IsOut f out
+IsReply f (Nothing log) = IsLength f log
+IsReply f (Horizon log tag) = IsLength f log × IsTagOf f tag
+IsReply f (Released log count) = IsLength f log × (count ≤ greatest_count)
+IsReply f (Lost log count) = IsLength f log × (count ≤ greatest_count)
+IsReply f (Breach log broken) = IsLength f log
+IsReply f (Log log said) = IsLength f log × IsRecord f said
+IsReply f (Collected log) = IsLength f log
+IsReply f (Board count frozen) = count ≤ most_rows f
 IsReply f (Row out) = IsOut f out
 IsReply f NoRow = Unit {0}
 

@@ -196,11 +196,13 @@ fn event_fields(bytes: &[u8], place: usize) -> Option<(u32, i64, usize)>
     Some((input, value, end + 1))
 }
 
-/// An announcement's counts, a space in front of each, and a line feed at the place, and the place behind these.
+/// An announcement's counts in range in this form, a space in front of each, and a line feed at the place, and the
+/// place behind these.
 #[inline(always)]
-fn count_fields(bytes: &[u8], place: usize) -> Option<(Count, Count, usize)>
+fn count_fields(form: Form, bytes: &[u8], place: usize) -> Option<(Count, Count, usize)>
     requires { place + 11 ≤ length bytes.now }
-    ensures { IfSome result (λ taken. (taken.0 ≤ most_records) × (taken.1 ≤ most_records) × (taken.2 ≤ place + 11)
+    ensures { IfSome result (λ taken. (taken.0 ≤ most_records form) × (taken.1 ≤ most_records form)
+        × (taken.2 ≤ place + 11)
         × (drop place bytes.now ≡ 32 ∷ decimal taken.0 ++ (32 ∷ decimal taken.1 ++ (10 ∷ drop taken.2 bytes.now)))) }
 {
     if bytes[place] != b' ' {
@@ -209,6 +211,9 @@ fn count_fields(bytes: &[u8], place: usize) -> Option<(Count, Count, usize)>
     let (some, behind) = short_number(bytes, place + 1)?;
     let gone = digit_field(bytes, behind)?;
     if bytes[behind + 2] != b'\n' {
+        return None;
+    }
+    if u64::from(form.most_records()) < some {
         return None;
     }
     let events = Count::new(some as u32)?;
@@ -273,7 +278,7 @@ fn front_record(form: Form, bytes: &[u8]) -> Option<(Record, usize)>
             Some((Record::Withdraw { origin, tag }, place + 1))
         }
         RecordKind::Announce => {
-            let (events, withdrawn, behind) = count_fields(bytes, place)?;
+            let (events, withdrawn, behind) = count_fields(form, bytes, place)?;
             Some((
                 Record::Announce {
                     origin,

@@ -1,7 +1,7 @@
 //! Laws of spellings: each line, record and reply has one, none with its line feed begins another with its line feed,
-//! and the wider form has all of the other's.
+//! and the widest form has all of the others'.
 ghost use Rattle.std.specs.Prelude.{◌≡◌, ℕ, List, [], ◌∷◌, ◌++◌};
-ghost use Rattle.warp_tag.specs.Limits.{widest};
+ghost use Rattle.warp_tag.specs.Limits.{wider, widest};
 ghost use Rattle.warp_tag.specs.Lists.{StartsWith};
 ghost use Rattle.warp_tag.specs.declared.form.Form.{Form};
 ghost use Rattle.warp_record.specs.declared.line.Line.{Line};
@@ -35,9 +35,17 @@ pub fn no_front()
 {}
 
 /// Whatever is in range in a form is in range in the widest. With the one spelling that says: each line, record and
-/// reply of the first form is the same one of the second.
+/// reply of a form is the same one of the widest.
 pub fn wider_line()
     ensures lines { (f : Form) (line : Line) → IsLine f line → IsLine widest line }
     ensures records { (f : Form) (said : Record) → IsRecord f said → IsRecord widest said }
     ensures replies { (f : Form) (reply : Reply) → IsReply f reply → IsReply widest reply }
+{}
+
+/// Whatever is in range in a form is in range in each wider one: so each line, record and reply of version 1 is the same
+/// one of version 2, and each of version 2 the same one of version 3.
+pub fn line_of_wider_form()
+    ensures lines { (f g : Form) (line : Line) → IsLine f line → IsLine (wider g f) line }
+    ensures records { (f g : Form) (said : Record) → IsRecord f said → IsRecord (wider g f) said }
+    ensures replies { (f g : Form) (reply : Reply) → IsReply f reply → IsReply (wider g f) reply }
 {}

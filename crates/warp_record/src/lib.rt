@@ -23,7 +23,9 @@ mod split;
 pub use count::{Count, MAX_COUNT};
 pub use feed::{Fed, Feed, MAX_LINE};
 pub use front::read_front;
-pub use law::{no_front, no_line_feed, one_reply_spelling, one_spelling, wider_line};
+pub use law::{
+    line_of_wider_form, no_front, no_line_feed, one_reply_spelling, one_spelling, wider_line,
+};
 pub use line::{Line, Look, Query, read_line};
 pub use number::read_u32;
 pub use record::{LAST_INPUT, Record, read_record, write_record};

@@ -57,7 +57,7 @@ pub enum Query {
     Released,
     /// `lost`: how much was lost, past the last microstep or the most pending entries.
     Lost,
-    /// `breach O`: whether the origin, 0 to 31 in form One and 0 to 63 in form Two, broke an announcement of its own.
+    /// `breach O`: whether the origin, 0 to 31 in form One and 0 to 63 in the others, broke an announcement of its own.
     Breach(u32),
     /// `log I`: the record at this place of the log, from 1.
     Log(u32),

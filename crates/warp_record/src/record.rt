@@ -9,7 +9,7 @@ ghost use Rattle.warp_tag.specs.Moment.{Moment, IsTagOf};
 ghost use Rattle.warp_record.specs.declared.record.Record.{Record};
 ghost use Rattle.warp_record.specs.Record.{IsRecord, record_words, record_spelling, tag_words};
 
-use crate::count::{Count, MAX_COUNT};
+use crate::count::Count;
 use crate::number::{append, append_number, append_u32, read_int, read_number, read_u32};
 use crate::room::{RECORD_ROOM, REPLY_ROOM};
 use crate::split::is_keyword;
@@ -32,7 +32,7 @@ pub(crate) const ANNOUNCE: &[u8] = b"announce";
 pub enum Record {
     /// An event `event O T M I V`: at its tag a program input has a value.
     Event {
-        /// Who says so: 0 to 31 in form One, 0 to 63 in form Two.
+        /// Who says so: 0 to 31 in form One, 0 to 63 in the others.
         origin: u32,
         /// When.
         tag: Tag,
@@ -43,7 +43,7 @@ pub enum Record {
     },
     /// A withdrawal `withdraw O T M`: no event of this name counts, whether it came before or comes later.
     Withdraw {
-        /// Who says so: 0 to 31 in form One, 0 to 63 in form Two.
+        /// Who says so: 0 to 31 in form One, 0 to 63 in the others.
         origin: u32,
         /// Of which tag.
         tag: Tag,
@@ -51,7 +51,7 @@ pub enum Record {
     /// An announcement `announce O T M E W`: before the tag the origin has so many names with an event and so many
     /// with a withdrawal, and will add none.
     Announce {
-        /// Who says so: 0 to 31 in form One, 0 to 63 in form Two.
+        /// Who says so: 0 to 31 in form One, 0 to 63 in the others.
         origin: u32,
         /// Before which tag.
         tag: Tag,
@@ -108,12 +108,12 @@ pub(crate) fn read_tag(form: Form, time: &[u8], micro: &[u8]) -> Option<Tag>
     Tag::new(time, micro)
 }
 
-/// The count whose word this is.
-fn read_count(word: &[u8]) -> Option<Count>
-    ensures found { IfSome result (λ count. (count ≤ most_records) × (word.now ≡ decimal count)) }
-    ensures none { IfNone result ((count : ℕ) → count ≤ most_records → word.now ≡ decimal count → ⊥) }
+/// The count in range in this form whose word this is.
+fn read_count(form: Form, word: &[u8]) -> Option<Count>
+    ensures found { IfSome result (λ count. (count ≤ most_records form) × (word.now ≡ decimal count)) }
+    ensures none { IfNone result ((count : ℕ) → count ≤ most_records form → word.now ≡ decimal count → ⊥) }
 {
-    Count::new(read_u32(word, MAX_COUNT)?)
+    Count::new(read_u32(word, form.most_records())?)
 }
 
 /// The input and the value whose words these are.
@@ -131,18 +131,18 @@ fn read_value(words: &[&[u8]]) -> Option<(u32, i64)>
     Some((input, value))
 }
 
-/// The counts whose words these are: of events, and of withdrawals.
-fn read_counts(words: &[&[u8]]) -> Option<(Count, Count)>
-    ensures found { IfSome result (λ counts. (counts.0 ≤ most_records) × (counts.1 ≤ most_records) ×
+/// The counts in range in this form whose words these are: of events, and of withdrawals.
+fn read_counts(form: Form, words: &[&[u8]]) -> Option<(Count, Count)>
+    ensures found { IfSome result (λ counts. (counts.0 ≤ most_records form) × (counts.1 ≤ most_records form) ×
         (map (λ word. word.now) words.now ≡ decimal counts.0 ∷ decimal counts.1 ∷ [])) }
-    ensures none { IfNone result ((events withdrawn : ℕ) → events ≤ most_records → withdrawn ≤ most_records →
+    ensures none { IfNone result ((events withdrawn : ℕ) → events ≤ most_records form → withdrawn ≤ most_records form →
         map (λ word. word.now) words.now ≡ decimal events ∷ decimal withdrawn ∷ [] → ⊥) }
 {
     let [events, withdrawn] = words else {
         return None;
     };
-    let events = read_count(events)?;
-    let withdrawn = read_count(withdrawn)?;
+    let events = read_count(form, events)?;
+    let withdrawn = read_count(form, withdrawn)?;
     Some((events, withdrawn))
 }
 
@@ -167,7 +167,7 @@ pub fn read_record(form: Form, words: &[&[u8]]) -> Option<Record>
             value,
         })
     } else if is_keyword(word, ANNOUNCE) {
-        let (events, withdrawn) = read_counts(operands)?;
+        let (events, withdrawn) = read_counts(form, operands)?;
         Some(Record::Announce {
             origin,
             tag,

@@ -7,7 +7,7 @@ ghost use Rattle.warp_record.specs.Number.{is_space};
 ghost use Rattle.warp_record.specs.Record.{IsRecord, record_words};
 ghost use Rattle.warp_record.specs.inner.Behind.{words_behind};
 
-use crate::count::{Count, MAX_COUNT};
+use crate::count::Count;
 use crate::cut::{are_four, cut_last_int, cut_number, cut_u32, is_at_end};
 use crate::record::{LAST_INPUT, Record, last_origin};
 use warp_tag::{Form, Tag};
@@ -91,6 +91,7 @@ pub(crate) fn read_event(form: Form, text: &[u8]) -> Option<Record>
     match form {
         Form::One => event_of(Form::One, text),
         Form::Two => event_of(Form::Two, text),
+        Form::Three => event_of(Form::Three, text),
     }
 }
 
@@ -139,8 +140,8 @@ pub(crate) fn read_announcement(form: Form, text: &[u8]) -> Option<Record>
 {
     let (origin, time, micro, text) = cut_name(form, text)?;
     let tag = Tag::new(time, micro)?;
-    let (events, text) = cut_u32(text, MAX_COUNT)?;
-    let (withdrawn, text) = cut_u32(text, MAX_COUNT)?;
+    let (events, text) = cut_u32(text, form.most_records())?;
+    let (withdrawn, text) = cut_u32(text, form.most_records())?;
     let events = Count::new(events)?;
     let withdrawn = Count::new(withdrawn)?;
     if is_at_end(text) {

@@ -40,9 +40,6 @@ const COLLECTED: &[u8] = b"collected";
 /// The last program output that a reply can name.
 const LAST_OUTPUT: u32 = 63;
 
-/// The most rows of a board.
-const MAX_ROWS: u32 = 4096;
-
 /// Why a line was refused. The numbers 1 to 11 stand in this order.
 #[derive(Clone, Copy, Debug, PartialEq, Eq)]
 pub enum Refusal {
@@ -71,7 +68,7 @@ pub enum Refusal {
     NoBoard,
 }
 
-/// The answer to a line. Lengths of a log and places in it are up to 100,000.
+/// The answer to a line. Lengths of a log and places in it are up to the form's most records.
 #[derive(Clone, Copy, Debug, PartialEq, Eq)]
 pub enum Reply {
     /// `taken P`: the record is new, and stands at this place of the log, from 1.
@@ -148,7 +145,7 @@ pub enum Reply {
     },
     /// `board C F`: what a board has.
     Board {
-        /// How many rows, up to 4,096.
+        /// How many rows, up to the form's most.
         count: u32,
         /// Whether it is frozen, 0 or 1.
         frozen: bool,
@@ -251,17 +248,17 @@ fn read_refused(number: &[u8]) -> Option<Reply>
     Some(Reply::Refused(refusal))
 }
 
-/// The reply in range in any form whose words are these two; `None` where there is none.
-fn read_short(word: &[u8], number: &[u8]) -> Option<Reply>
-    ensures found { (f : Form) → IfSome result
-        (λ reply. IsReply f reply × (word.now ∷ number.now ∷ [] ≡ reply_words reply)) }
-    ensures none { (f : Form) → IfNone result
-        ((reply : Reply) → IsReply f reply → word.now ∷ number.now ∷ [] ≡ reply_words reply → ⊥) }
+/// The reply in range in this form whose words are these two; `None` where there is none.
+fn read_short(form: Form, word: &[u8], number: &[u8]) -> Option<Reply>
+    ensures found { IfSome result
+        (λ reply. IsReply form reply × (word.now ∷ number.now ∷ [] ≡ reply_words reply)) }
+    ensures none { IfNone result
+        ((reply : Reply) → IsReply form reply → word.now ∷ number.now ∷ [] ≡ reply_words reply → ⊥) }
 {
     if is_keyword(word, REFUSED) {
         return read_refused(number);
     }
-    let number = read_u32(number, MAX_COUNT)?;
+    let number = read_u32(number, form.most_records())?;
     if is_keyword(word, NONE) {
         return Some(Reply::Nothing { log: number });
     }
@@ -285,48 +282,48 @@ fn read_short(word: &[u8], number: &[u8]) -> Option<Reply>
     None
 }
 
-/// The value that these words tell behind `var`; `None` where there is none.
-fn read_var(number: &[u8], value: &[u8]) -> Option<Reply>
-    ensures found { (f : Form) → IfSome result
-        (λ reply. IsReply f reply × (codes "var" ∷ number.now ∷ value.now ∷ [] ≡ reply_words reply)) }
-    ensures none { (f : Form) → IfNone result ((reply : Reply) → IsReply f reply →
+/// The value that these words tell behind `var` in this form; `None` where there is none.
+fn read_var(form: Form, number: &[u8], value: &[u8]) -> Option<Reply>
+    ensures found { IfSome result
+        (λ reply. IsReply form reply × (codes "var" ∷ number.now ∷ value.now ∷ [] ≡ reply_words reply)) }
+    ensures none { IfNone result ((reply : Reply) → IsReply form reply →
         codes "var" ∷ number.now ∷ value.now ∷ [] ≡ reply_words reply → ⊥) }
 {
-    let log = read_u32(number, MAX_COUNT)?;
+    let log = read_u32(number, form.most_records())?;
     let value = read_int(value)?;
     Some(Reply::Var { log, value })
 }
 
-/// What these words tell behind `breach`; `None` where there is nothing.
-fn read_breach(number: &[u8], flag: &[u8]) -> Option<Reply>
-    ensures found { (f : Form) → IfSome result
-        (λ reply. IsReply f reply × (codes "breach" ∷ number.now ∷ flag.now ∷ [] ≡ reply_words reply)) }
-    ensures none { (f : Form) → IfNone result ((reply : Reply) → IsReply f reply →
+/// What these words tell behind `breach` in this form; `None` where there is nothing.
+fn read_breach(form: Form, number: &[u8], flag: &[u8]) -> Option<Reply>
+    ensures found { IfSome result
+        (λ reply. IsReply form reply × (codes "breach" ∷ number.now ∷ flag.now ∷ [] ≡ reply_words reply)) }
+    ensures none { IfNone result ((reply : Reply) → IsReply form reply →
         codes "breach" ∷ number.now ∷ flag.now ∷ [] ≡ reply_words reply → ⊥) }
 {
-    let log = read_u32(number, MAX_COUNT)?;
+    let log = read_u32(number, form.most_records())?;
     let broken = read_flag(flag)?;
     Some(Reply::Breach { log, broken })
 }
 
-/// What these words tell behind `board`; `None` where there is nothing.
-fn read_board(number: &[u8], flag: &[u8]) -> Option<Reply>
-    ensures found { (f : Form) → IfSome result
-        (λ reply. IsReply f reply × (codes "board" ∷ number.now ∷ flag.now ∷ [] ≡ reply_words reply)) }
-    ensures none { (f : Form) → IfNone result ((reply : Reply) → IsReply f reply →
+/// What these words tell behind `board` in this form; `None` where there is nothing.
+fn read_board(form: Form, number: &[u8], flag: &[u8]) -> Option<Reply>
+    ensures found { IfSome result
+        (λ reply. IsReply form reply × (codes "board" ∷ number.now ∷ flag.now ∷ [] ≡ reply_words reply)) }
+    ensures none { IfNone result ((reply : Reply) → IsReply form reply →
         codes "board" ∷ number.now ∷ flag.now ∷ [] ≡ reply_words reply → ⊥) }
 {
-    let count = read_u32(number, MAX_ROWS)?;
+    let count = read_u32(number, form.most_rows())?;
     let frozen = read_flag(flag)?;
     Some(Reply::Board { count, frozen })
 }
 
-/// The reply in range in any form whose words are this one, the length of a log and a count; `None` where there is
+/// The reply in range in this form whose words are this one, the length of a log and a count; `None` where there is
 /// none.
-fn reply_of_count(word: &[u8], log: u32, count: u64) -> Option<Reply>
-    requires { log ≤ most_records }
-    ensures found { (f : Form) → IfSome result
-        (λ reply. IsReply f reply × (word.now ∷ decimal log ∷ decimal count ∷ [] ≡ reply_words reply)) }
+fn reply_of_count(form: Form, word: &[u8], log: u32, count: u64) -> Option<Reply>
+    requires { log ≤ most_records form }
+    ensures found { IfSome result
+        (λ reply. IsReply form reply × (word.now ∷ decimal log ∷ decimal count ∷ [] ≡ reply_words reply)) }
     ensures none { IfNone result
         ((word.now ≢ codes "outputs") × (word.now ≢ codes "released") × (word.now ≢ codes "lost")) }
 {
@@ -341,25 +338,25 @@ fn reply_of_count(word: &[u8], log: u32, count: u64) -> Option<Reply>
     }
 }
 
-/// The reply in range in any form whose words are these three; `None` where there is none.
-fn read_middle(word: &[u8], number: &[u8], field: &[u8]) -> Option<Reply>
-    ensures found { (f : Form) → IfSome result
-        (λ reply. IsReply f reply × (word.now ∷ number.now ∷ field.now ∷ [] ≡ reply_words reply)) }
-    ensures none { (f : Form) → IfNone result
-        ((reply : Reply) → IsReply f reply → word.now ∷ number.now ∷ field.now ∷ [] ≡ reply_words reply → ⊥) }
+/// The reply in range in this form whose words are these three; `None` where there is none.
+fn read_middle(form: Form, word: &[u8], number: &[u8], field: &[u8]) -> Option<Reply>
+    ensures found { IfSome result
+        (λ reply. IsReply form reply × (word.now ∷ number.now ∷ field.now ∷ [] ≡ reply_words reply)) }
+    ensures none { IfNone result
+        ((reply : Reply) → IsReply form reply → word.now ∷ number.now ∷ field.now ∷ [] ≡ reply_words reply → ⊥) }
 {
     if is_keyword(word, VAR) {
-        return read_var(number, field);
+        return read_var(form, number, field);
     }
     if is_keyword(word, BREACH) {
-        return read_breach(number, field);
+        return read_breach(form, number, field);
     }
     if is_keyword(word, BOARD) {
-        return read_board(number, field);
+        return read_board(form, number, field);
     }
-    let log = read_u32(number, MAX_COUNT)?;
+    let log = read_u32(number, form.most_records())?;
     let count = read_count(field)?;
-    reply_of_count(word, log, count)
+    reply_of_count(form, word, log, count)
 }
 
 /// The horizon that these words tell behind `horizon`; `None` where there is none.
@@ -372,7 +369,7 @@ fn read_horizon(form: Form, words: &[&[u8]]) -> Option<Reply>
     let [number, time, micro] = words else {
         return None;
     };
-    let log = read_u32(number, MAX_COUNT)?;
+    let log = read_u32(number, form.most_records())?;
     let tag = read_tag(form, time, micro)?;
     Some(Reply::Horizon { log, tag })
 }
@@ -398,7 +395,7 @@ fn read_told_output(form: Form, words: &[&[u8]]) -> Option<Reply>
     let [number, output @ ..] = words else {
         return None;
     };
-    let log = read_u32(number, MAX_COUNT)?;
+    let log = read_u32(number, form.most_records())?;
     let output = read_output(form, output)?;
     Some(Reply::Output { log, output })
 }
@@ -413,7 +410,7 @@ fn read_told_record(form: Form, words: &[&[u8]]) -> Option<Reply>
     let [number, record @ ..] = words else {
         return None;
     };
-    let log = read_u32(number, MAX_COUNT)?;
+    let log = read_u32(number, form.most_records())?;
     let record = read_record(form, record)?;
     Some(Reply::Log { log, record })
 }
@@ -464,8 +461,8 @@ fn read_words(form: Form, words: &[&[u8]]) -> Option<Reply>
 {
     match words {
         [word] => read_alone(word),
-        [word, number] => read_short(word, number),
-        [word, number, field] => read_middle(word, number, field),
+        [word, number] => read_short(form, word, number),
+        [word, number, field] => read_middle(form, word, number, field),
         [word, fields @ ..] => read_long(form, word, fields),
         [] => None,
     }

@@ -1,4 +1,5 @@
 pub mod Standings
+pub mod Rooms
 pub mod SomeHorizon
 pub mod Answering
 pub mod MergeProgress

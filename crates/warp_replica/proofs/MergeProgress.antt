@@ -8,6 +8,7 @@ use Rattle.std.proofs.lemmas.List.{append-nil, get_or-take, length-take, take_al
 use Rattle.std.proofs.lemmas.List.Elements.{All-contains, All-filter, Contains-append_left, Contains-append_cases}
 use Rattle.std.proofs.lemmas.List.Elements.{filter_more}
 use Rattle.std.proofs.lemmas.Option.{get_or_from_slice_get, none-some, slice_get-get_or, slice_get_within}
+use Rattle.warp_tag.specs.declared.form.Form.{Form}
 use Rattle.warp_step.specs.Program.{Program}
 use Rattle.warp_step.specs.Run.{Row}
 use Rattle.warp_record.specs.declared.record.Record.{Record}
@@ -135,18 +136,18 @@ module _ {T : Type 0} (stands_for : T → Standing → Type 0) (is_settled : T �
 
   -- one that was refused found no room
   pub stops : (P : Program) (refusal : Refusal) → Takes P now.records said (Err refusal) next.records → refusal_of P said ≡ None
-      → Merges old.records theirs (Err (i, refusal)) next.records
+      → Merges P.form old.records theirs (Err (i, refusal)) next.records
   stops P refusal taken fits = elim taken.0 [
     | inl why ↦ absurd (none-some refusal (sym fits ∙ why))
     | inr room ↦
         let lacks = subst (λ (l : List Record). ¬ Contains l said) (sym taken.1) room.0.1 in
-        ((said, at, lacks), taken.1 ∙ far.records, subst (λ (l : List Record). LacksRoom l refusal) (sym taken.1) room.1)
+        ((said, at, lacks), taken.1 ∙ far.records, subst (λ (l : List Record). LacksRoom P.form l refusal) (sym taken.1) room.1)
   ]
 
 -- with all of the other log
-pub ends : {T : Type 0} (stands_for : T → Standing → Type 0) (is_settled : T → Bool) (old new : ReplicaState T) (theirs : List Record) (i : ℕ)
-    → HasMerged stands_for is_settled old new theirs i → length theirs ≤ i → Merges old.records theirs (Ok i) new.records
-ends stands_for is_settled old new theirs i far all =
+pub ends : {T : Type 0} (stands_for : T → Standing → Type 0) (is_settled : T → Bool) (f : Form) (old new : ReplicaState T) (theirs : List Record) (i : ℕ)
+    → HasMerged stands_for is_settled old new theirs i → length theirs ≤ i → Merges f old.records theirs (Ok i) new.records
+ends stands_for is_settled f old new theirs i far all =
     let whole = take_all i theirs all in
     let within = far.within in
     (omega arith, far.records ∙ ap (merged old.records) whole)

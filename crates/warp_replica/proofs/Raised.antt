@@ -1,7 +1,10 @@
--- What a program raised to version 2 answers over a log.
-use Rattle.std.proofs.Common.{◌≡◌, ℕ, List, sym, ap, ◌∙◌}
-use Rattle.warp_step.specs.Program.{Program, raised}
+-- What a program raised to a wider form answers over a log.
+use Rattle.std.proofs.Common.{◌≡◌, inl, inr, ℕ, List, sym, ap, ◌∙◌}
+use Rattle.warp_tag.specs.declared.form.Form.{Form}
+use Rattle.warp_tag.specs.declared.form.Form.TheVariants.{Two}
+use Rattle.warp_step.specs.Program.{Program, raised, raised_to}
 use Rattle.warp_step.specs.Snapshot.{Snapshot}
+use Rattle.warp_step.specs.Run.{KeepsRun}
 use Rattle.warp_step.proofs.RaisedRuns.{run_raised}
 use Rattle.warp_record.specs.declared.line.Query.{Query}
 use Rattle.warp_record.specs.declared.line.Query.TheVariants as query
@@ -10,7 +13,7 @@ use Rattle.warp_record.specs.declared.reply.Reply.{Reply}
 use Rattle.warp_record.specs.declared.reply.Reply.TheVariants as reply
 use Rattle.warp_table.specs.Records.{Records, set_of}
 use Rattle.warp_replica.specs.Answers.{Answers, AreAnswers}
-use Rattle.warp_replica.specs.Gives.{GivesQuery}
+use Rattle.warp_replica.specs.Gives.{GivesQuery, KeepsReplies}
 use Rattle.warp_replica.proofs.Replies.{one_answer, one_reply}
 
 -- the loss that a reply tells
@@ -18,14 +21,15 @@ abbrev lost_told : Reply → ℕ
 lost_told (reply.Lost log count) = count
 lost_told other = 1
 
--- what the program answers where it lost nothing, the raised one answers
-raised_answers : (P : Program) (S : Records) (a : Answers) → AreAnswers P S a → a.state.lost ≡ 0 → AreAnswers (raised P) S a
-raised_answers P S a h none =
+-- what the program answers where raising keeps its run, the raised one answers
+raised_answers : (f : Form) (P : Program) (S : Records) (a : Answers) (h : AreAnswers P S a) → KeepsRun f P h.trace
+    → AreAnswers (raised_to f P) S a
+raised_answers f P S a h kept =
     record {
       events = h.events;
       live = h.live;
       trace = h.trace;
-      run = run_raised P h.events h.trace h.run (ap (λ (s : Snapshot). s.lost) (sym h.state) ∙ none);
+      run = run_raised f P h.events h.trace h.run kept;
       state = h.state;
       outputs = h.outputs;
       count = h.count;
@@ -34,18 +38,37 @@ raised_answers P S a h none =
       broken = h.broken;
     }
 
+-- where raising keeps the replies over a log, it keeps the run
+run_kept : (f : Form) (P : Program) (records : List Record) (a : Answers) (h : AreAnswers P (set_of records) a)
+    → KeepsReplies f P records → KeepsRun f P h.trace
+run_kept f P records a h (inl same) = inl same
+run_kept f P records a h (inr lost) =
+    let told = lost.1 in
+    let is : told.0 ≡ a = one_answer P (set_of records) told.0 a told.1 h in
+    let none : a.state.lost ≡ 0 = ap (λ (b : Answers). b.state.lost) (sym is) ∙ sym (ap lost_told told.2) in
+    inr (ap (λ (s : Snapshot). s.lost) (sym h.state) ∙ none)
+
 -- a reply to a query of the old program is one of the raised program
-pub raised_reply : (P : Program) (records : List Record) (log : ℕ) (asked : Query) (said : Reply)
-    → GivesQuery P records query.Lost (reply.Lost log 0) → GivesQuery P records asked said → GivesQuery (raised P) records asked said
-raised_reply P records log asked said lost given =
+pub raised_to_reply : (f : Form) (P : Program) (records : List Record) (asked : Query) (said : Reply)
+    → KeepsReplies f P records → GivesQuery P records asked said → GivesQuery (raised_to f P) records asked said
+raised_to_reply f P records asked said kept given =
     let a = given.0 in
-    let same : lost.0 ≡ a = one_answer P (set_of records) lost.0 a lost.1 given.1 in
-    let none : a.state.lost ≡ 0 = ap (λ (b : Answers). b.state.lost) (sym same) ∙ sym (ap lost_told lost.2) in
-    (a, raised_answers P (set_of records) a given.1 none, given.2)
+    (a, raised_answers f P (set_of records) a given.1 (run_kept f P records a given.1 kept), given.2)
 
 -- and the only one
+pub raised_to_only : (f : Form) (P : Program) (records : List Record) (asked : Query) (said other : Reply)
+    → KeepsReplies f P records → GivesQuery P records asked said → GivesQuery (raised_to f P) records asked other
+    → other ≡ said
+raised_to_only f P records asked said other kept given raised_given =
+    one_reply (raised_to f P) records asked other said raised_given (raised_to_reply f P records asked said kept given)
+
+-- so it is in version 2 where nothing was lost
+pub raised_reply : (P : Program) (records : List Record) (log : ℕ) (asked : Query) (said : Reply)
+    → GivesQuery P records query.Lost (reply.Lost log 0) → GivesQuery P records asked said → GivesQuery (raised P) records asked said
+raised_reply P records log asked said lost given = raised_to_reply Two P records asked said (inr (log, lost)) given
+
 pub raised_only : (P : Program) (records : List Record) (log : ℕ) (asked : Query) (said other : Reply)
     → GivesQuery P records query.Lost (reply.Lost log 0) → GivesQuery P records asked said → GivesQuery (raised P) records asked other
     → other ≡ said
 raised_only P records log asked said other lost given raised_given =
-    one_reply (raised P) records asked other said raised_given (raised_reply P records log asked said lost given)
+    raised_to_only Two P records asked said other (inr (log, lost)) given raised_given

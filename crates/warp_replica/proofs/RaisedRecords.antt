@@ -6,10 +6,11 @@ use Rattle.std.proofs.lemmas.Bool.Decides.{nat_tests}
 use Rattle.std.proofs.lemmas.List.{length-take-le, take_all, take_more}
 use Rattle.std.proofs.lemmas.List.Elements.{All-contains}
 use Rattle.std.proofs.lemmas.Option.{get_or_from_slice_get, none-some, slice_get_within}
-use Rattle.warp_tag.specs.Limits.{most_records}
+use Rattle.warp_tag.specs.Limits.{most_records, wider}
 use Rattle.warp_tag.specs.Moment.{Moment, is_before}
-use Rattle.warp_tag.proofs.Forms.{microstep_widens}
-use Rattle.warp_step.specs.Program.{Program, raised, top_of}
+use Rattle.warp_tag.specs.declared.form.Form.{Form}
+use Rattle.warp_tag.proofs.Forms.{microstep_kept, records_kept}
+use Rattle.warp_step.specs.Program.{Program, raised_to, top_of}
 use Rattle.warp_step.specs.Events.{is_declared, is_in_time, has_input, owns_input}
 use Rattle.warp_record.specs.declared.record.Record.{Record}
 use Rattle.warp_record.specs.declared.record.Record.TheVariants.{Event, Withdraw, Announce}
@@ -25,8 +26,8 @@ use Rattle.warp_replica.specs.declared.taking.Took.TheVariants.{New, Known}
 use Rattle.warp_replica.proofs.MergeProgress.{at_contained, others_before}
 
 -- a tag that is in time stays so
-still_in_time : (P : Program) (tag : Moment) → is_in_time P tag ≡ true → is_in_time (raised P) tag ≡ true
-still_in_time P tag h = let wider = microstep_widens P.form in grind (arith, nat_tests)
+still_in_time : (f : Form) (P : Program) (tag : Moment) → is_in_time P tag ≡ true → is_in_time (raised_to f P) tag ≡ true
+still_in_time f P tag h = let kept = microstep_kept f P.form in grind (arith, nat_tests)
 
 -- a microstep that is not past the last stays so
 not_past : (b : Bool) (m n k : ℕ) → m ≤ n → (b || nat_lt m k) ≡ false → (b || nat_lt n k) ≡ false
@@ -59,14 +60,14 @@ end_still true true more goes h = cc
 end_still false b more goes h = h
 
 -- what a program has no reason against, the raised program has none against
-pub raised_allows : (P : Program) (said : Record) → refusal_of P said ≡ None → refusal_of (raised P) said ≡ None
-raised_allows P (Event origin tag input value) h =
-    event_still (is_declared P origin) (is_in_time P tag) (has_input P input) (owns_input P origin input) (is_in_time (raised P) tag) (still_in_time P tag) h
-raised_allows P (Withdraw origin tag) h = name_still (is_declared P origin) (is_in_time P tag) (is_in_time (raised P) tag) (still_in_time P tag) h
-raised_allows P (Announce origin tag events withdrawn) h =
+pub raised_allows : (f : Form) (P : Program) (said : Record) → refusal_of P said ≡ None → refusal_of (raised_to f P) said ≡ None
+raised_allows f P (Event origin tag input value) h =
+    event_still (is_declared P origin) (is_in_time P tag) (has_input P input) (owns_input P origin input) (is_in_time (raised_to f P) tag) (still_in_time f P tag) h
+raised_allows f P (Withdraw origin tag) h = name_still (is_declared P origin) (is_in_time P tag) (is_in_time (raised_to f P) tag) (still_in_time f P tag) h
+raised_allows f P (Announce origin tag events withdrawn) h =
     end_still (is_declared P origin) (is_before (end_of P) tag || nat_lt (top_of P) tag.microstep)
-    (is_before (end_of P) tag || nat_lt (top_of (raised P)) tag.microstep)
-    (not_past (is_before (end_of P) tag) (top_of P) (top_of (raised P)) tag.microstep (microstep_widens P.form)) h
+    (is_before (end_of P) tag || nat_lt (top_of (raised_to f P)) tag.microstep)
+    (not_past (is_before (end_of P) tag) (top_of P) (top_of (raised_to f P)) tag.microstep (microstep_kept f P.form)) h
 
 -- The first records of another log are there, and no others.
 pub record HasFirst (theirs now : List Record) (count : ℕ) : Type 0 where
@@ -84,8 +85,8 @@ pub first_of_none : (theirs now : List Record) → now ≡ [] → HasFirst their
 first_of_none theirs now none = record { within = omega arith; records = none }
 
 -- what the old program took fits the raised one
-pub fits_raised : (P Q : Program) (said : Record) → Q ≡ raised P → refusal_of P said ≡ None → refusal_of Q said ≡ None
-fits_raised P Q said same fits = subst (λ (R : Program). refusal_of R said ≡ None) (sym same) (raised_allows P said fits)
+pub fits_raised : (f : Form) (P Q : Program) (said : Record) → Q ≡ raised_to f P → refusal_of P said ≡ None → refusal_of Q said ≡ None
+fits_raised f P Q said same fits = subst (λ (R : Program). refusal_of R said ≡ None) (sym same) (raised_allows f P said fits)
 
 goes_at : (old : Option Moment) → old ≡ None → (b : Bool) → (if b then None else old) ≡ None
 goes_at old none true = refl
@@ -115,17 +116,25 @@ module _ (P : Program) (theirs now next : List Record) (i : ℕ) (said : Record)
       }
   one_more (Known place) taken = absurd (lacks (at_contained now place said taken.1))
 
+-- the raised program has room for as many records
+pub room_raised : (f : Form) (P Q : Program) (theirs : List Record) → Q ≡ raised_to f P → length theirs ≤ most_records P.form
+    → length theirs ≤ most_records Q.form
+room_raised f P Q theirs same few =
+    let more = records_kept f P.form in
+    let wide : most_records Q.form ≡ most_records (wider f P.form) = ap (λ (R : Program). most_records R.form) same in
+    omega (arith, few, more, wide)
+
 -- what keeps it out is want of memory, since the log is not full
 module _ (P : Program) (theirs now next : List Record) (i : ℕ) (said : Record) (far : HasFirst theirs now i) (once : EachOnce theirs)
-    (few : length theirs ≤ most_records) (at : slice_get theirs i ≡ Some said) (fits : refusal_of P said ≡ None) where
-  not_full : ¬ (length now ≡ most_records)
+    (few : length theirs ≤ most_records P.form) (at : slice_get theirs i ≡ Some said) (fits : refusal_of P said ≡ None) where
+  not_full : ¬ (length now ≡ most_records P.form)
   not_full full =
       let within = slice_get_within theirs i said at in
       let long = ap length far.records in
       let short = length-take-le i theirs (omega arith) in
       omega arith
 
-  no_room : (refusal : Refusal) → LacksRoom now refusal → refusal ≡ NoMemory
+  no_room : (refusal : Refusal) → LacksRoom P.form now refusal → refusal ≡ NoMemory
   no_room NoMemory room = refl
   no_room LogFull room = absurd (not_full room)
   no_room other room = absurd room

@@ -5,7 +5,7 @@ use Rattle.std.proofs.lemmas.List.{drop_all, drop_more, length-take, map-append,
 use Rattle.std.proofs.lemmas.List.Elements.{All-contains, All-push}
 use Rattle.std.proofs.lemmas.List.Sums.{count_by-le-length, length-filter}
 use Rattle.std.proofs.lemmas.Option.{get_or_from_slice_get, slice_get_within}
-use Rattle.warp_tag.specs.Limits.{most_names, most_records}
+use Rattle.warp_tag.specs.Limits.{most_names, most_records, widest}
 use Rattle.warp_tag.specs.Moment.{Moment}
 use Rattle.warp_tag.specs.declared.entry.Entry.{Entry}
 use Rattle.warp_record.specs.declared.record.Record.{Record}
@@ -93,7 +93,7 @@ module _ {T : Type 0} (stands_for : T → Standing → Type 0) (P : Program) (na
   in_none value stands = record { table = []; stands = ([], stands); rest = refl; size = omega arith }
 
   -- there is room for the next one
-  pub in_room : (count : ℕ) (value : T) → AreIn stands_for P names count value → count < most_records
+  pub in_room : (count : ℕ) (value : T) → AreIn stands_for P names count value → count < most_records widest
       → (table : List Entry) × StandsWith stands_for value P table × (length table + 1 < most_names)
   in_room count value so few = (so.table, so.stands, omega (arith, so.size, few))
 

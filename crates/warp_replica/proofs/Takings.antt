@@ -6,6 +6,7 @@ use Rattle.std.proofs.lemmas.Bool.{both_ways, cases_Bool, cases_lt}
 use Rattle.std.proofs.lemmas.Option.{get_or_from_slice_get, slice_get-get_or, slice_get_within}
 use Rattle.warp_tag.specs.Limits.{most_records}
 use Rattle.warp_tag.specs.Moment.{is_before}
+use Rattle.warp_tag.specs.declared.form.Form.{Form}
 use Rattle.warp_step.specs.Program.{Program, top_of}
 use Rattle.warp_step.specs.Events.{is_declared, is_in_time, has_input, owns_input}
 use Rattle.warp_record.specs.declared.record.Record.{Record}
@@ -62,18 +63,18 @@ no_reason_memory P (Announce origin tag events withdrawn) =
     (neither (is_before (end_of P) tag || nat_lt (top_of P) tag.microstep) _ _ (λ e. cc) (λ e. cc)) (λ e. cc)
 
 -- room is wanting, memory apart, where the log is full
-full : (records : List Record) (refusal : Refusal) → LacksRoom records refusal → refusal ≢ NoMemory → (refusal ≡ LogFull) × (length records ≡ most_records)
-full records LogFull lacks other = (refl, lacks)
-full records NoMemory lacks other = absurd (other refl)
-full records Syntax lacks other = absurd lacks
-full records NoOrigin lacks other = absurd lacks
-full records PastStop lacks other = absurd lacks
-full records NoInput lacks other = absurd lacks
-full records NotYours lacks other = absurd lacks
-full records NoVar lacks other = absurd lacks
-full records TooLong lacks other = absurd lacks
-full records Busy lacks other = absurd lacks
-full records NoBoard lacks other = absurd lacks
+full : (f : Form) (records : List Record) (refusal : Refusal) → LacksRoom f records refusal → refusal ≢ NoMemory → (refusal ≡ LogFull) × (length records ≡ most_records f)
+full f records LogFull lacks other = (refl, lacks)
+full f records NoMemory lacks other = absurd (other refl)
+full f records Syntax lacks other = absurd lacks
+full f records NoOrigin lacks other = absurd lacks
+full f records PastStop lacks other = absurd lacks
+full f records NoInput lacks other = absurd lacks
+full f records NotYours lacks other = absurd lacks
+full f records NoVar lacks other = absurd lacks
+full f records TooLong lacks other = absurd lacks
+full f records Busy lacks other = absurd lacks
+full f records NoBoard lacks other = absurd lacks
 
 -- not taken, for this refusal
 abbrev failed : Refusal → Result Took Refusal
@@ -90,16 +91,16 @@ not_memory refusal other same = other (ap failed same)
 module _ (P : Program) (records : List Record) (said : Record) where
   -- why it does not come in
   abbrev Refuses : Refusal → Type 0
-  Refuses refusal = (refusal_of P said ≡ Some refusal) ⊎ (IsNew P records said × LacksRoom records refusal)
+  Refuses refusal = (refusal_of P said ≡ Some refusal) ⊎ (IsNew P records said × LacksRoom P.form records refusal)
 
   -- the program has no reason, or one
   no_reason : (refusal : Refusal) → refusal_of P said ≡ None → refusal_of P said ≡ Some refusal → ⊥
   no_reason refusal none reason = let never : None ≡ Some refusal = sym none ∙ reason in cc
 
   -- a new record of a log with room is refused for want of memory alone
-  new_refused : (refusal : Refusal) → IsNew P records said → length records < most_records → Refuses refusal → refusal ≢ NoMemory → ⊥
+  new_refused : (refusal : Refusal) → IsNew P records said → length records < most_records P.form → Refuses refusal → refusal ≢ NoMemory → ⊥
   new_refused refusal new room (inl reason) other = no_reason refusal new.0 reason
-  new_refused refusal new room (inr h) other = let most = (full records refusal h.1 other).1 in omega (arith, room, most)
+  new_refused refusal new room (inr h) other = let most = (full P.form records refusal h.1 other).1 in omega (arith, room, most)
 
   -- a known record is not refused
   known_refused : (place : ℕ) (refusal : Refusal) → refusal_of P said ≡ None → IsAt records place said → Refuses refusal → ⊥
@@ -115,7 +116,7 @@ module _ (P : Program) (records : List Record) (said : Record) where
   refused_once a b (inl h) (inl k) other_a other_b = let same : Some a ≡ Some b = sym h ∙ k in cc
   refused_once a b (inl h) (inr k) other_a other_b = absurd (no_reason a k.0.0 h)
   refused_once a b (inr h) (inl k) other_a other_b = absurd (no_reason b h.0.0 k)
-  refused_once a b (inr h) (inr k) other_a other_b = (full records a h.1 other_a).0 ∙ sym (full records b k.1 other_b).0
+  refused_once a b (inr h) (inr k) other_a other_b = (full P.form records a h.1 other_a).0 ∙ sym (full P.form records b k.1 other_b).0
 
   -- a record is taken in one way, but that memory may be wanting
   pub one_taking : (a b : Result Took Refusal) (left right : List Record) → EachOnce records → Takes P records said a left → Takes P records said b right
@@ -144,14 +145,14 @@ module _ (P : Program) (records : List Record) (said : Record) where
       (Ok (Known (has.0 + 1)), records, (none, (omega arith, found), refl), λ e. cc)
 
   -- new in the last place, or not at all where the log is full
-  taken_new : IsNew P records said → length records ≤ most_records → Taken
-  taken_new new limit = elim (cases_lt (length records) most_records) [
+  taken_new : IsNew P records said → length records ≤ most_records P.form → Taken
+  taken_new new limit = elim (cases_lt (length records) (most_records P.form)) [
     | inl room ↦ (Ok (New (length records + 1)), records ++ said ∷ [], (new, room, refl, refl), λ e. cc)
     | inr most ↦ (Err LogFull, records, (inr (new, omega (arith, limit, most)), refl), λ e. cc)
   ]
 
   -- there is a way, want of memory apart
-  pub some_taking : length records ≤ most_records → Taken
+  pub some_taking : length records ≤ most_records P.form → Taken
   some_taking limit = by (refusal_of P said) refl
     where
       by : (reason : Option Refusal) → refusal_of P said ≡ reason → Taken

@@ -2,8 +2,9 @@
 use Rattle.std.specs.Prelude.{◌≡◌, ◌⊎◌, ℕ, zero, suc, ◌+◌, ◌<◌, Bool, true, false, List, [], ◌∷◌, ◌++◌, length}
 use Rattle.std.specs.Prelude.{Contains, slice_get, Option, Some, None, Result, Ok, Err, if◌then◌else◌}
 use Rattle.std.specs.Option.{option_map, unwrap_or}
-use Rattle.warp_tag.specs.Limits.{most_records}
+use Rattle.warp_tag.specs.Limits.{last_microstep, most_records, wider}
 use Rattle.warp_tag.specs.Moment.{Moment}
+use Rattle.warp_tag.specs.declared.form.Form.{Form}
 use Rattle.warp_step.specs.Program.{Program}
 use Rattle.warp_step.specs.Events.{is_declared}
 use Rattle.warp_record.specs.declared.record.Record.{Record}
@@ -33,22 +34,22 @@ tag_of (Announce origin tag events withdrawn) = tag
 abbrev pub IsNew : Program → List Record → Record → Type 0
 IsNew P records said = (refusal_of P said ≡ None) × (¬ Contains records said)
 
--- why a new record may not come in: the log is full; or it is not, and want of memory is told
-abbrev pub LacksRoom : List Record → Refusal → Type 0
-LacksRoom records LogFull = length records ≡ most_records
-LacksRoom records NoMemory = length records < most_records
-LacksRoom records other = ⊥
+-- why a new record may not come into a log of a form: it is full; or it is not, and want of memory is told
+abbrev pub LacksRoom : Form → List Record → Refusal → Type 0
+LacksRoom f records LogFull = length records ≡ most_records f
+LacksRoom f records NoMemory = length records < most_records f
+LacksRoom f records other = ⊥
 
 -- How a record may be taken, and what the log is then: as the last one where it is new, at its place where it is known,
 -- and else not at all, for the program's first reason against it or for want of room.
 abbrev pub Takes : Program → List Record → Record → Result Took Refusal → List Record → Type 0
 Takes P records said (Ok (New place)) records' =
-    IsNew P records said × (length records < most_records) × (place ≡ length records + 1)
+    IsNew P records said × (length records < most_records P.form) × (place ≡ length records + 1)
     × (records' ≡ records ++ said ∷ [])
 Takes P records said (Ok (Known place)) records' =
     (refusal_of P said ≡ None) × IsAt records place said × (records' ≡ records)
 Takes P records said (Err refusal) records' =
-    ((refusal_of P said ≡ Some refusal) ⊎ (IsNew P records said × LacksRoom records refusal)) × (records' ≡ records)
+    ((refusal_of P said ≡ Some refusal) ⊎ (IsNew P records said × LacksRoom P.form records refusal)) × (records' ≡ records)
 
 -- the record came in
 abbrev pub came_in : Result Took Refusal → Bool
@@ -93,6 +94,13 @@ AsksPlace other = ⊥
 abbrev pub GivesQuery : Program → List Record → Query → Reply → Type 0
 GivesQuery P records asked answer =
     (a : Answers) × AreAnswers P (set_of records) a × (answer ≡ reply_to P records a asked)
+
+-- raising the program to this form leaves the replies over the log as they are: times have as many microsteps as before,
+-- or nothing was lost
+abbrev pub KeepsReplies : Form → Program → List Record → Type 0
+KeepsReplies f P records =
+    (last_microstep (wider f P.form) ≡ last_microstep P.form)
+    ⊎ ((log : ℕ) × GivesQuery P records query.Lost (reply.Lost log 0))
 
 -- On this log of this program the line may give this reply, and leave this log. Want of memory may stand before any
 -- query, before collecting, and where a new record would be taken. There is no board here.

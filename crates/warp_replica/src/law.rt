@@ -3,7 +3,8 @@
 ghost use Rattle.std.specs.Prelude.{◌≡◌, ◌≢◌, ◌≤◌, ◌<◌, ◌⊎◌, ◌++◌, ◌∷◌, [], ℕ, List, length, Option, Some, None};
 ghost use Rattle.std.specs.Prelude.{Result, Err};
 ghost use Rattle.warp_tag.specs.Limits.{most_records};
-ghost use Rattle.warp_step.specs.Program.{Program, raised};
+ghost use Rattle.warp_tag.specs.declared.form.Form.{Form};
+ghost use Rattle.warp_step.specs.Program.{Program, raised, raised_to};
 ghost use Rattle.warp_record.specs.declared.line.Query.{Query};
 ghost use Rattle.warp_record.specs.declared.record.Record.{Record};
 ghost use Rattle.warp_record.specs.declared.reply.Refusal.{Refusal};
@@ -14,7 +15,7 @@ ghost use Rattle.warp_table.specs.Log.{EachOnce};
 ghost use Rattle.warp_table.specs.Records.{Records, set_of, union};
 ghost use Rattle.warp_replica.specs.Answers.{Answers, AreAnswers};
 ghost use Rattle.warp_replica.specs.Desk.{LocalState, LocalGives};
-ghost use Rattle.warp_replica.specs.Gives.{GivesQuery, AsksPlace, Takes};
+ghost use Rattle.warp_replica.specs.Gives.{GivesQuery, AsksPlace, KeepsReplies, Takes};
 ghost use Rattle.warp_replica.specs.Merge.{merged};
 ghost use Rattle.warp_replica.specs.declared.taking.Took.{Took};
 
@@ -71,7 +72,7 @@ pub fn one_taking()
         (left right : List Record) →
         EachOnce records → Takes P records said a left → Takes P records said b right →
         a ≢ Err Refusal.NoMemory → b ≢ Err Refusal.NoMemory → (a ≡ b) × (left ≡ right) }
-    ensures some { (P : Program) (records : List Record) (said : Record) → length records ≤ most_records →
+    ensures some { (P : Program) (records : List Record) (said : Record) → length records ≤ most_records P.form →
         (a : Result Took Refusal) × (after : List Record) × Takes P records said a after × (a ≢ Err Refusal.NoMemory) }
 {}
 
@@ -94,4 +95,17 @@ pub fn raised_replies()
     ensures only { (P : Program) (records : List Record) (log : ℕ) (query : Query) (reply other : Reply) →
         GivesQuery P records Query.Lost (Reply.Lost log 0) → GivesQuery P records query reply →
         GivesQuery (raised P) records query other → other ≡ reply }
+{}
+
+/// A program raised to a form has no reason against a record that the program had none against. And where the old
+/// program lost nothing over a log, or its times have as many microsteps as the raised one's (as from version 2 to
+/// version 3), the raised one gives the same reply to every query over it, and no other.
+pub fn raised_to_replies()
+    ensures allowed { (f : Form) (P : Program) (said : Record) → refusal_of P said ≡ None →
+        refusal_of (raised_to f P) said ≡ None }
+    ensures same { (f : Form) (P : Program) (records : List Record) (query : Query) (reply : Reply) →
+        KeepsReplies f P records → GivesQuery P records query reply → GivesQuery (raised_to f P) records query reply }
+    ensures only { (f : Form) (P : Program) (records : List Record) (query : Query) (reply other : Reply) →
+        KeepsReplies f P records → GivesQuery P records query reply →
+        GivesQuery (raised_to f P) records query other → other ≡ reply }
 {}

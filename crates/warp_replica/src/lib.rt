@@ -4,8 +4,9 @@
 //! records and the timeline. `Local` is a replica without peers as a desk, which answers lines. What a query gives,
 //! but for one that asks for a place of the log, follows from the set of the records (`one_answer`, `same_replies`).
 //! While no origin breaks an announcement, what was released stays (`released_stays`, `released_agree`). A replica
-//! raised to version 2 answers as before where nothing was lost (`raised_replies`). What settling costs after records
-//! came is bounded (`rework_after_takes`).
+//! raised to version 2 or 3 answers as before where nothing was lost (`raised_replies`, `raised_to_replies`), and one
+//! raised from version 2 to 3 does so in any case. What settling costs after records came is bounded
+//! (`rework_after_takes`).
 #![tactic(auto)]
 
 mod asking;
@@ -24,7 +25,7 @@ mod taking;
 pub use idle::Idle;
 pub use law::{
     merging_joins, merging_laws, one_answer, one_reply, one_taking, pulled_record, raised_replies,
-    same_replies,
+    raised_to_replies, same_replies,
 };
 pub use local::Local;
 pub use names::names_in_order;

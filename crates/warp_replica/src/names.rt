@@ -1,6 +1,6 @@
 //! What is known of the names of a table, in their order.
 ghost use Rattle.std.specs.Prelude.{◌≡◌, ℕ, ◌≤◌, length, map, Some, All, Contains, IfOk};
-ghost use Rattle.warp_tag.specs.Limits.{most_records};
+ghost use Rattle.warp_tag.specs.Limits.{most_records, widest};
 ghost use Rattle.warp_tag.specs.Moment.{Moment};
 ghost use Rattle.warp_tag.specs.declared.entry.Entry.{Entry};
 ghost use Rattle.warp_table.specs.LogNames.{names_of, table_of};
@@ -19,7 +19,7 @@ pub fn names_in_order(alloc: Global, table: &Table) -> Result<Vec<Entry>, OutOfM
     ensures all { IfOk result
         (λ names. (origin : ℕ) (tag : Moment) (e : Entry) → Tells (set_of table.now) origin tag (Some e) →
         Contains names.items e) }
-    ensures few { IfOk result (λ names. length names.items ≤ most_records) }
+    ensures few { IfOk result (λ names. length names.items ≤ most_records widest) }
 {
     let mut names = all_names(alloc, table)?;
     names.sort_unstable_by_key(|name| (name.tag.time(), name.tag.micro(), name.origin));
@@ -33,7 +33,7 @@ fn all_names(alloc: Global, table: &Table) -> Result<Vec<Entry>, OutOfMemory>
     ensures all { IfOk result
         (λ names. (origin : ℕ) (tag : Moment) (e : Entry) → Tells (set_of table.now) origin tag (Some e) →
         Contains names.items e) }
-    ensures few { IfOk result (λ names. length names.items ≤ most_records) }
+    ensures few { IfOk result (λ names. length names.items ≤ most_records widest) }
 {
     let mut names = Vec::new(alloc);
     for number in 0..table.len() {

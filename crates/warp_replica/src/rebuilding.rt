@@ -1,7 +1,7 @@
 //! A timeline made anew from the names of a table, where a record came behind what the old one let go of.
 ghost use Rattle.std.specs.Prelude.{◌≡◌, ◌+◌, ◌<◌, ◌≤◌, [], fold, length, List, None};
 ghost use Rattle.std.specs.Prelude.{All, IfOk, OnOk};
-ghost use Rattle.warp_tag.specs.Limits.{most_names, most_records};
+ghost use Rattle.warp_tag.specs.Limits.{most_names, most_records, widest};
 ghost use Rattle.warp_tag.specs.Moment.{Moment};
 ghost use Rattle.warp_tag.specs.declared.entry.Entry.{Entry};
 ghost use Rattle.warp_step.specs.Run.{Row};
@@ -33,7 +33,7 @@ pub(crate) fn rebuilt<T: Timeline>(
 ) -> Result<T, OutOfMemory>
     requires allowed { AreAllowed program.now table.now }
     requires fits { refusal_of program.now «record».now ≡ None }
-    requires room { length table.now < most_records }
+    requires room { length table.now < most_records widest }
     ensures stands { IfOk result
         (λ t. StandsWith T.stands_for t program.now (with_record (table_of table.now) «record».now)) }
     ensures floor { IfOk result (λ t. T.floor t ≡ None) }
@@ -51,7 +51,7 @@ fn over_names<T: Timeline>(
     names: &[Entry],
 ) -> Result<T, OutOfMemory>
     requires allowed { All (IsAllowedName program.now) names.now }
-    requires few { length names.now ≤ most_records }
+    requires few { length names.now ≤ most_records widest }
     ensures stands { IfOk result (λ t. StandsWith T.stands_for t program.now (fold with_name [] names.now)) }
     ensures floor { IfOk result (λ t. T.floor t ≡ None) }
 {

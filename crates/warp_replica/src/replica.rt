@@ -46,7 +46,8 @@ pub struct Replica<T: Timeline> {
 }
 
 impl<T: Timeline> Model for Replica<T> {
-    ghost use Rattle.std.specs.Prelude.{List};
+    ghost use Rattle.std.specs.Prelude.{List, length, ◌≤◌};
+    ghost use Rattle.warp_tag.specs.Limits.{most_records};
     ghost use Rattle.warp_step.specs.Run.{Row};
     ghost use Rattle.warp_replica.specs.Replica.{AreAllowed, ReplicaState, replica_code, Stands};
 
@@ -57,7 +58,7 @@ impl<T: Timeline> Model for Replica<T> {
     ghost view = { λ r. record { program = r.program; records = r.table; timeline = r.timeline } };
 
     ghost invariant = { λ r.
-        AreAllowed r.program r.table
+        (AreAllowed r.program r.table × (length r.table ≤ most_records r.program.form))
         × ((done : List Row) × Stands T.stands_for (record {
           program = r.program;
           records = r.table;
@@ -81,13 +82,13 @@ impl<T: Timeline> Replica<T> {
         })
     }
 
-    /// What is known of any replica: its timeline stands for its program and its records, of which there are at most
-    /// 100,000, none twice and none against which the program has a reason. It does nothing.
+    /// What is known of any replica: its timeline stands for its program and its records, of which there are at most as
+    /// many as the program's form allows, none twice and none against which the program has a reason. It does nothing.
     pub fn valid(&self)
         ensures allowed { AreAllowed self.now.program self.now.records }
         ensures stands { (done : List Row) × Stands T.stands_for self.now done }
         ensures once { EachOnce self.now.records }
-        ensures bound { length self.now.records ≤ most_records }
+        ensures bound { length self.now.records ≤ most_records self.now.program.form }
     {
         // A look at the table shows it.
         let _length = self.table.len();
@@ -100,10 +101,10 @@ impl<T: Timeline> Replica<T> {
         &self.program
     }
 
-    /// How many records it took, 0 to 100,000.
+    /// How many records it took, at most as many as the program's form allows.
     pub fn len(&self) -> u32
         ensures value { result ≡ length self.now.records }
-        ensures bound { result ≤ most_records }
+        ensures bound { result ≤ most_records self.now.program.form }
     {
         self.table.len()
     }
@@ -150,7 +151,7 @@ impl<T: Timeline> Replica<T> {
         ensures reply { IsReply widest (told result) }
     {
         Table::check(&self.program, record)?;
-        if self.table.is_full() {
+        if self.table.is_full(self.program.form()) {
             return Took::known_or(&self.table, record, Refusal::LogFull);
         }
         match self.add(alloc, record) {
@@ -164,7 +165,7 @@ impl<T: Timeline> Replica<T> {
     #[inline(always)]
     fn add(&mut self, alloc: Global, record: &Record) -> Result<Took, OutOfMemory>
         requires allowed { refusal_of self.old.program «record».now ≡ None }
-        requires room { length self.old.records < most_records }
+        requires room { length self.old.records < most_records self.old.program.form }
         ensures takes { IfOk result
             (λ took. Takes self.old.program self.old.records «record».now (Ok took) self.new.records) }
         ensures err { OnErr result (self.new.records ≡ self.old.records) }
@@ -213,7 +214,7 @@ impl<T: Timeline> Replica<T> {
     #[inline(never)]
     fn add_behind(&mut self, alloc: Global, record: &Record) -> Result<Took, OutOfMemory>
         requires allowed { refusal_of self.old.program «record».now ≡ None }
-        requires room { length self.old.records < most_records }
+        requires room { length self.old.records < most_records self.old.program.form }
         requires origin { origin_of «record».now < most_origins widest }
         ensures takes { IfOk result
             (λ took. Takes self.old.program self.old.records «record».now (Ok took) self.new.records) }
@@ -528,7 +529,7 @@ impl<T: Timeline> Replica<T> {
         other: &Replica<U>,
     ) -> Result<u32, (u32, Refusal)>
         requires { self.old.program ≡ other.now.program }
-        ensures merges { Merges self.old.records other.now.records result self.new.records }
+        ensures merges { Merges self.old.program.form self.old.records other.now.records result self.new.records }
         ensures program { self.new.program ≡ self.old.program }
         ensures chain { TakeFirst T.stands_for T.floor T.SLACK T.drops self.old other.now.records self.new }
         ensures kept { self.new.records ≡ self.old.records → (done : List Row) → Stands T.stands_for self.old done →

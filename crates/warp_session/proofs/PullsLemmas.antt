@@ -1,5 +1,6 @@
 -- Lemmas on what the replies of a pull led to.
 use Rattle.std.proofs.Common.{◌≡◌, ℕ, ◌+◌, ◌<◌, ◌≤◌, max, List, [], ◌∷◌, ◌++◌, Option, append-nil, refl, subst, sym, ◌∙◌, arith}
+use Rattle.warp_tag.specs.declared.form.Form.{Form}
 use Rattle.warp_record.specs.declared.line.Line.{Line}
 use Rattle.warp_record.specs.declared.reply.Refusal.{Refusal}
 use Rattle.warp_record.specs.declared.reply.Reply.{Reply}
@@ -127,19 +128,19 @@ begun_behind quiet levels pulled.Strange asked front ended h none = subst (λ (e
 -- ---- turns
 
 -- where the connection ended it, there were no more than it may have
-pub turns_cut : (ended : PullEnd) (turns : ℕ) → IsCut ended → 0 < turns → turns ≤ most_turns → AreTurns ended turns
-turns_cut end.Fault turns cut some few = (some, few)
-turns_cut end.End turns cut some few = (some, few)
-turns_cut end.Quiet turns cut some few = absurd cut
-turns_cut end.Strange turns cut some few = absurd cut
-turns_cut (end.Held refusal) turns cut some few = absurd cut
-turns_cut end.TooManyTurns turns cut some few = absurd cut
-turns_cut end.NoMemory turns cut some few = absurd cut
+pub turns_cut : (f : Form) (ended : PullEnd) (turns : ℕ) → IsCut ended → 0 < turns → turns ≤ most_turns f → AreTurns f ended turns
+turns_cut f end.Fault turns cut some few = (some, few)
+turns_cut f end.End turns cut some few = (some, few)
+turns_cut f end.Quiet turns cut some few = absurd cut
+turns_cut f end.Strange turns cut some few = absurd cut
+turns_cut f (end.Held refusal) turns cut some few = absurd cut
+turns_cut f end.TooManyTurns turns cut some few = absurd cut
+turns_cut f end.NoMemory turns cut some few = absurd cut
 
 -- nor where an outcome did
-pub turns_behind : (quiet levels : ℕ) (outcome : Pulled) (ended : PullEnd) (turns : ℕ) → EndsBehind quiet levels outcome ended
-    → 0 < turns → turns ≤ most_turns → AreTurns ended turns
-turns_behind quiet levels pulled.Got ended turns h some few = absurd h
-turns_behind quiet levels pulled.Level ended turns h some few = subst (λ (e : PullEnd). AreTurns e turns) (sym h.0) (some, few)
-turns_behind quiet levels (pulled.Held refusal) ended turns h some few = subst (λ (e : PullEnd). AreTurns e turns) (sym h.0) (some, few)
-turns_behind quiet levels pulled.Strange ended turns h some few = subst (λ (e : PullEnd). AreTurns e turns) (sym h) (some, few)
+pub turns_behind : (f : Form) (quiet levels : ℕ) (outcome : Pulled) (ended : PullEnd) (turns : ℕ) → EndsBehind quiet levels outcome ended
+    → 0 < turns → turns ≤ most_turns f → AreTurns f ended turns
+turns_behind f quiet levels pulled.Got ended turns h some few = absurd h
+turns_behind f quiet levels pulled.Level ended turns h some few = subst (λ (e : PullEnd). AreTurns f e turns) (sym h.0) (some, few)
+turns_behind f quiet levels (pulled.Held refusal) ended turns h some few = subst (λ (e : PullEnd). AreTurns f e turns) (sym h.0) (some, few)
+turns_behind f quiet levels pulled.Strange ended turns h some few = subst (λ (e : PullEnd). AreTurns f e turns) (sym h) (some, few)

@@ -4,6 +4,7 @@ use Rattle.std.specs.Io.KnownBytes.{Appends, Consumes, IsAtEnd}
 use Rattle.std.specs.List.{flat_map}
 use Rattle.warp_tag.specs.Lists.{StartsWith}
 use Rattle.warp_tag.specs.declared.form.Form.{Form}
+use Rattle.warp_tag.specs.declared.form.Form.TheVariants.{One, Two, Three}
 use Rattle.warp_record.specs.declared.line.Line.{Line}
 use Rattle.warp_record.specs.declared.line.Line.TheVariants.{Ask}
 use Rattle.warp_record.specs.declared.line.Query.TheVariants.{Log}
@@ -20,9 +21,11 @@ use Rattle.warp_session.specs.declared.pulling.PullEnd.TheVariants as end
 use Rattle.warp_session.specs.Session.{AreWholeLines}
 use Rattle.warp_session.specs.Stream.{reads_more}
 
--- the most turns of a pull: one is a question to the other replica, or a read
-abbrev pub most_turns : ℕ
-most_turns = 1000000
+-- the most turns of a pull of a form: one is a question to the other replica, or a read
+abbrev pub most_turns : Form → ℕ
+most_turns One = 1000000
+most_turns Two = 1000000
+most_turns Three = 100000000
 
 -- the place that the other replica was asked for, its reply, if that reads, and what it led to
 pub record Heard : Type 0 where
@@ -124,15 +127,15 @@ HasAsked ended heard next begun written written-after =
 
 -- a pull that ended so had so many turns: `most_turns` where these came to no other end, none without memory, and else at least one
 -- and no more than that
-abbrev pub AreTurns : PullEnd → ℕ → Type 0
-AreTurns end.TooManyTurns turns = turns ≡ most_turns
-AreTurns end.NoMemory turns = turns ≡ 0
-AreTurns other turns = (0 < turns) × (turns ≤ most_turns)
+abbrev pub AreTurns : Form → PullEnd → ℕ → Type 0
+AreTurns f end.TooManyTurns turns = turns ≡ most_turns f
+AreTurns f end.NoMemory turns = turns ≡ 0
+AreTurns f other turns = (0 < turns) × (turns ≤ most_turns f)
 
 -- of a source that counts its reads: that many turns are these questions and the reads together
-abbrev pub HasTurned : PullEnd → ℕ → Option ℕ → Option ℕ → Type 0
-HasTurned ended asked reads reads-after =
-    (count : ℕ) × AreTurns ended (asked + count) × (reads-after ≡ reads_more count reads)
+abbrev pub HasTurned : Form → PullEnd → ℕ → Option ℕ → Option ℕ → Type 0
+HasTurned f ended asked reads reads-after =
+    (count : ℕ) × AreTurns f ended (asked + count) × (reads-after ≡ reads_more count reads)
 
 -- From this state of the desk pulling may end so, and leave that state: of some replies, which the bytes that were read spell, to
 -- questions that were written, and of which each led to its outcome; in no more turns than it may have.
@@ -141,7 +144,7 @@ abbrev pub PullsTo : {S : Type 0} → Form → (S → Line → Reply → S → T
 PullsTo f gives s quiet ended s' left left-after written written-after reads reads-after =
     (heard : List Heard) × (next : ℕ) × (begun : ℕ) × PullsAll gives s 1 heard next s' × EndsPull quiet heard ended
     × HasHeard f ended heard left left-after × HasAsked ended heard next begun written written-after
-    × HasTurned ended (length heard + begun) reads reads-after
+    × HasTurned f ended (length heard + begun) reads reads-after
 
 -- the counts of failed reads and of failed writes, before and after: one of them grew by one where pulling ended for that, and
 -- else none did

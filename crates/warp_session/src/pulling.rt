@@ -8,7 +8,7 @@ ghost use Rattle.warp_record.specs.Lines.{piece_of};
 ghost use Rattle.warp_record.specs.declared.reply.Reply.{Reply};
 ghost use Rattle.warp_record.specs.Reply.{IsReply};
 ghost use Rattle.warp_exchange.specs.Pulls.{Pulls};
-ghost use Rattle.warp_session.specs.Pull.{GoesOn, IsBegun, PullFails, PullsTo, SpellsReply, levels_with};
+ghost use Rattle.warp_session.specs.Pull.{GoesOn, IsBegun, PullFails, PullsTo, SpellsReply, levels_with, most_turns};
 ghost use Rattle.warp_session.specs.Pull.{question};
 ghost use Rattle.warp_session.specs.Stream.{CountsFailures, reads_more};
 ghost use Rattle.warp_session.specs.inner.Inbox.{CutsMore, InboxState, Moves, empty_inbox, pending, waiting};
@@ -25,8 +25,19 @@ use warp_exchange::{Desk, Pulled, Puller, is_passing};
 use warp_record::{Fed, Refusal, Reply, read_reply};
 use warp_tag::Form;
 
-/// The most turns of a pull: one is a question to the other replica, or a read.
-const MAX_TURNS: u32 = 1_000_000;
+/// The most turns of a pull of any form.
+const MAX_TURNS: u32 = 100_000_000;
+
+/// The most turns of a pull of this form: one is a question to the other replica, or a read.
+fn most_turns(form: Form) -> u32
+    ensures value { result ≡ most_turns form }
+    ensures range { result ≤ MAX_TURNS }
+{
+    match form {
+        Form::One | Form::Two => 1_000_000,
+        Form::Three => MAX_TURNS,
+    }
+}
 
 /// How a pull ended.
 #[derive(Clone, Copy, Debug, PartialEq, Eq)]
@@ -41,7 +52,8 @@ pub enum PullEnd {
     Fault,
     /// The bytes ended before a whole reply.
     End,
-    /// 1,000,000 turns came to no other end.
+    /// As many turns as the form of the desk's program allows came to no other end: 1,000,000, or 100,000,000 for
+    /// version 3.
     TooManyTurns,
     /// No memory was to be had; nothing was read or written.
     NoMemory,
@@ -262,7 +274,7 @@ impl Conversation {
             (W.failures sink.old) (W.failures sink.new) }
         ensures memory { result ≢ PullEnd.NoMemory }
     {
-        'turns: for _turn in 0..MAX_TURNS {
+        'turns: for _turn in 0..most_turns(form) {
             let fed = match self.turn(source, sink) {
                 Ok(fed) => fed,
                 Err(end) => return end,

@@ -26,7 +26,7 @@ use std::sync::atomic::{AtomicBool, Ordering};
 use std::thread;
 use std::thread::{Builder, JoinHandle, Promise, PromisedHandle, Scope, Threads};
 use std::time::Clock;
-use warp_board::{Board, MAX_ROWS, Reader, Writer, board, split_reader};
+use warp_board::{Board, Reader, Writer, board, split_reader};
 use warp_exchange::Desk;
 use warp_lanes::{Engine, Lane, lane};
 use warp_line::Timeline;
@@ -573,7 +573,7 @@ pub fn serve_sessions<
     ensures began { IfOk result (λ engine. engine.began ≡ 0) }
     // It had a lane for each session and each peer, and a board with room for so many rows.
     ensures lanes { IfOk result (λ engine. length engine.lanes ≡ sessions + vec_len peers) }
-    ensures room { IfOk result (λ engine. room_of engine.writer.board ≡ most_rows) }
+    ensures room { IfOk result (λ engine. room_of engine.writer.board ≡ most_rows program.form) }
     // Where the replica is settled, the board shows what is released; or there was no record to show anything of.
     ensures shown { IfOk result (λ engine. IsTrue (T.settled engine.replica.timeline) →
         (engine.replica.records ≡ []) ⊎ Shows engine) }
@@ -581,9 +581,9 @@ pub fn serve_sessions<
     ensures memory { result ≡ Err ServeFault.NoMemory → door.new ≡ door.old }
 {
     let room = Room::new(alloc, peers.len())?;
-    let (board, writer, reader) = board(alloc, MAX_ROWS)?;
-    let board = &board;
     let form = program.form();
+    let (board, writer, reader) = board(alloc, form.most_rows() as usize)?;
+    let board = &board;
     let (desks, lanes) = make_desks(rt, alloc, board, reader, form, sessions + peers.len())?;
     let executor = executor_for(alloc, program, lanes, board, writer)?;
     let served = serve_beside(rt, alloc, executor, desks, door, peers, gate, room)?;

@@ -1,23 +1,24 @@
--- A run that lost nothing is one of the program raised to version 2: the two differ only in what lands past the last
--- microstep of the first, and there that one counts a loss.
-use Rattle.std.proofs.Common.{◌≡◌, ◌⊎◌, inl, inr, ℕ, ℤ, ◌+◌, ◌≤◌, Bool, true, false, cond, ◌||◌, ◌==◌, nat_lt, nat_le, List, [], ◌∷◌, length, filter, Option, Some, None, IsTrue, if◌then◌else◌, refl, sym, ap, ◌∙◌, arith}
+-- A run that lost nothing, or whose program has as many microsteps as before, is one of the raised program: the two differ
+-- only in what lands past the last microstep of the first, and there that one counts a loss.
+use Rattle.std.proofs.Common.{◌≡◌, ◌⊎◌, inl, inr, ℕ, ℤ, ◌+◌, ◌≤◌, Bool, true, false, cond, ◌||◌, ◌==◌, nat_lt, nat_le, List, [], ◌∷◌, length, filter, Option, Some, None, IsTrue, if◌then◌else◌, refl, sym, ap, ◌∙◌, subst, arith}
 use Rattle.std.specs.Prelude.{pos, slice_get}
 use Rattle.std.specs.Option.{option_map_or}
 use Rattle.std.specs.List.{list_any}
 use Rattle.std.proofs.lemmas.Bool.{cases_Bool, leb-true, le-leb, ltb-false}
 use Rattle.warp_tag.specs.Landing.{landing}
-use Rattle.warp_tag.specs.Limits.{greatest_count, most_pending}
+use Rattle.warp_tag.specs.Limits.{greatest_count, last_microstep, most_pending, wider}
 use Rattle.warp_tag.specs.Moment.{Moment, is_same}
 use Rattle.warp_tag.specs.Table.{Event}
+use Rattle.warp_tag.specs.declared.form.Form.{Form}
 use Rattle.warp_tag.specs.declared.tag.Landing.{Landing}
 use Rattle.warp_tag.specs.declared.tag.Landing.TheVariants.{At, PastStop, PastMicro}
-use Rattle.warp_tag.proofs.Forms.{microstep_widens}
+use Rattle.warp_tag.proofs.Forms.{microstep_kept}
 use Rattle.warp_body.specs.Presence.{Presence, present_at, with_value}
 use Rattle.warp_body.specs.declared.place.Target.{Target}
 use Rattle.warp_body.specs.declared.place.Target.TheVariants as to
 use Rattle.warp_body.specs.declared.stmt.Wish.{Wish}
-use Rattle.warp_step.specs.Program.{Program, delay_of, raised, top_of}
-use Rattle.warp_step.specs.Run.{Row, Run, RunFrom, given_at, state_at_end}
+use Rattle.warp_step.specs.Program.{Program, delay_of, raised_to, top_of}
+use Rattle.warp_step.specs.Run.{KeepsRun, Row, Run, RunFrom, given_at, state_at_end}
 use Rattle.warp_step.specs.Snapshot.{Snapshot, entered_where, has_key, landed, start_state, with_entry, with_loss}
 use Rattle.warp_step.specs.Step.{Reacting, Step, absent, after_reactions, arrived, arrived_entries, delivered, no_wishes, outputs_after, outputs_from, port_of, present_first, react, reacted, repeats, state_after, with_all_wishes, with_links, with_repeats, with_wish, with_wishes, without_entries}
 use Rattle.warp_step.specs.declared.given_input.Given.{Given}
@@ -63,118 +64,130 @@ lands_alike true true false wider next later = let no : false ≡ true = wider r
 lands_alike true false wide wider next later = inr refl
 lands_alike false small wide wider next later = inl refl
 
--- what two programs make of a state, where the one lost nothing: the same, and nothing was lost before
-record Alike (old new other : Snapshot) : Type 0 where
-  pub same : other ≡ new
-  pub before : old.lost ≡ 0
+-- nothing was lost, or this holds of the program
+abbrev Fine : Type 0 → Snapshot → Type 0
+Fine same s = same ⊎ (s.lost ≡ 0)
 
-where_alike : (x y : Landing) → (x ≡ y) ⊎ (x ≡ PastMicro) → (k : Target) (v : ℤ) (s : Snapshot)
-    → (entered_where x k v s).lost ≡ 0 → Alike s (entered_where x k v s) (entered_where y k v s)
-where_alike x y (inl same) k v s h = record {
+-- what two programs make of a state that is fine: the same, and it was fine before
+record Alike (fine : Type 0) (old new other : Snapshot) : Type 0 where
+  pub same : other ≡ new
+  pub before : Fine fine old
+
+where_alike : (fine : Type 0) (x y : Landing) → (x ≡ y) ⊎ (x ≡ PastMicro) → (k : Target) (v : ℤ) (s : Snapshot)
+    → (entered_where x k v s).lost ≡ 0 → Alike fine s (entered_where x k v s) (entered_where y k v s)
+where_alike fine x y (inl same) k v s h = record {
   same = ap (λ (at : Landing). entered_where at k v s) (sym same);
-  before = where_none x k v s h;
+  before = inr (where_none x k v s h);
 }
-where_alike x y (inr lost) k v s h =
+where_alike fine x y (inr lost) k v s h =
     absurd (no_loss s (ap (λ (at : Landing). (entered_where at k v s).lost) (sym lost) ∙ h))
 
 -- so where one of two things is done
-chosen_alike : (b : Bool) (s new other : Snapshot) → (new.lost ≡ 0 → Alike s new other)
-    → (if b then new else s).lost ≡ 0 → Alike s (if b then new else s) (if b then other else s)
-chosen_alike true s new other alike h = alike h
-chosen_alike false s new other alike h = record { same = refl; before = h }
+chosen_alike : (fine : Type 0) (b : Bool) (s new other : Snapshot) → (Fine fine new → Alike fine s new other)
+    → Fine fine (if b then new else s) → Alike fine s (if b then new else s) (if b then other else s)
+chosen_alike fine true s new other alike h = alike h
+chosen_alike fine false s new other alike h = record { same = refl; before = h }
 
 -- and where the other program goes on from there
-then_alike : (more : Snapshot → Snapshot) (s new other end : Snapshot) → Alike s new other → Alike new end (more new)
-    → Alike s end (more other)
-then_alike more s new other end one rest = record { same = ap more one.same ∙ rest.same; before = one.before }
+then_alike : (fine : Type 0) (more : Snapshot → Snapshot) (s new other end : Snapshot) → Alike fine s new other
+    → Alike fine new end (more new) → Alike fine s end (more other)
+then_alike fine more s new other end one rest = record { same = ap more one.same ∙ rest.same; before = one.before }
 
-module _ (P : Program) where
+module _ (f : Form) (P : Program) where
+  -- times have as many microsteps as before
+  abbrev IsKept : Type 0
+  IsKept = last_microstep (wider f P.form) ≡ last_microstep P.form
+
   -- entries after a delay
-  landed_alike : (t : Moment) (delay : ℕ) (k : Target) (v : ℤ) (s : Snapshot) → (landed P t delay k v s).lost ≡ 0
-      → Alike s (landed P t delay k v s) (landed (raised P) t delay k v s)
-  landed_alike t delay k v s h =
-      let wider = microstep_widens P.form in
+  landed_alike : (t : Moment) (delay : ℕ) (k : Target) (v : ℤ) (s : Snapshot) → Fine IsKept (landed P t delay k v s)
+      → Alike IsKept s (landed P t delay k v s) (landed (raised_to f P) t delay k v s)
+  landed_alike t delay k v s (inl kept) = record {
+    same = ap (λ (top : ℕ). entered_where (landing P.stop top t delay) k v s) kept;
+    before = inl kept;
+  }
+  landed_alike t delay k v s (inr h) =
+      let wide = microstep_kept f P.form in
       let next = t.microstep + 1 in
-      let room : IsTrue (nat_le next (top_of P)) → IsTrue (nat_le next (top_of (raised P))) = λ small.
+      let room : IsTrue (nat_le next (top_of P)) → IsTrue (nat_le next (top_of (raised_to f P))) = λ small.
       let low : next ≤ top_of P = leb-true next (top_of P) small in
-      le-leb next (top_of (raised P)) (omega (low, wider, arith)) in
-      where_alike (landing P.stop (top_of P) t delay) (landing P.stop (top_of (raised P)) t delay)
-      (lands_alike (delay == 0) (nat_le next (top_of P)) (nat_le next (top_of (raised P))) room
+      le-leb next (top_of (raised_to f P)) (omega (low, wide, arith)) in
+      where_alike IsKept (landing P.stop (top_of P) t delay) (landing P.stop (top_of (raised_to f P)) t delay)
+      (lands_alike (delay == 0) (nat_le next (top_of P)) (nat_le next (top_of (raised_to f P))) room
       (At (record { time = t.time; microstep = next }))
       (if nat_le (t.time + delay) P.stop then At (record { time = t.time + delay; microstep = 0 }) else PastStop))
       k v s h
 
   -- timers that are pending again
   repeats_alike : (t : Moment) (present : Presence) (n : ℕ) (timers : List Timer) (s : Snapshot)
-      → (with_repeats P t present n timers s).lost ≡ 0
-      → Alike s (with_repeats P t present n timers s) (with_repeats (raised P) t present n timers s)
+      → Fine IsKept (with_repeats P t present n timers s)
+      → Alike IsKept s (with_repeats P t present n timers s) (with_repeats (raised_to f P) t present n timers s)
   repeats_alike t present n [] s h = record { same = refl; before = h }
   repeats_alike t present n (timer ∷ timers) s h =
       let again = repeats present n timer in
       let new = landed P t timer.period (to.Timer n) (pos 0) s in
-      let other = landed (raised P) t timer.period (to.Timer n) (pos 0) s in
+      let other = landed (raised_to f P) t timer.period (to.Timer n) (pos 0) s in
       let rest = repeats_alike t present (n + 1) timers (if again then new else s) h in
-      let one = chosen_alike again s new other (landed_alike t timer.period (to.Timer n) (pos 0) s) rest.before in
-      then_alike (with_repeats (raised P) t present (n + 1) timers) s _ _ _ one rest
+      let one = chosen_alike IsKept again s new other (landed_alike t timer.period (to.Timer n) (pos 0) s) rest.before in
+      then_alike IsKept (with_repeats (raised_to f P) t present (n + 1) timers) s _ _ _ one rest
 
   -- actions that reactions wish
-  wishes_alike : (t : Moment) (ws : List Wish) (s : Snapshot) → (with_wishes P t ws s).lost ≡ 0
-      → Alike s (with_wishes P t ws s) (with_wishes (raised P) t ws s)
+  wishes_alike : (t : Moment) (ws : List Wish) (s : Snapshot) → Fine IsKept (with_wishes P t ws s)
+      → Alike IsKept s (with_wishes P t ws s) (with_wishes (raised_to f P) t ws s)
   wishes_alike t [] s h = record { same = refl; before = h }
   wishes_alike t (w ∷ ws) s h =
       let rest = wishes_alike t ws (with_wish P t w s) h in
       let one = landed_alike t (delay_of P w.action + w.delay) (to.Action w.action) w.value s rest.before in
-      then_alike (with_wishes (raised P) t ws) s _ _ _ one rest
+      then_alike IsKept (with_wishes (raised_to f P) t ws) s _ _ _ one rest
 
-  all_wishes_alike : (t : Moment) (wss : List (List Wish)) (s : Snapshot) → (with_all_wishes P t wss s).lost ≡ 0
-      → Alike s (with_all_wishes P t wss s) (with_all_wishes (raised P) t wss s)
+  all_wishes_alike : (t : Moment) (wss : List (List Wish)) (s : Snapshot) → Fine IsKept (with_all_wishes P t wss s)
+      → Alike IsKept s (with_all_wishes P t wss s) (with_all_wishes (raised_to f P) t wss s)
   all_wishes_alike t [] s h = record { same = refl; before = h }
   all_wishes_alike t (ws ∷ wss) s h =
       let rest = all_wishes_alike t wss (with_wishes P t ws s) h in
       let one = wishes_alike t ws s rest.before in
-      then_alike (with_all_wishes (raised P) t wss) s _ _ _ one rest
+      then_alike IsKept (with_all_wishes (raised_to f P) t wss) s _ _ _ one rest
 
   -- values that links deliver
   delivered_alike : (t : Moment) (target : ℕ) (value : Option ℤ) (delay : Option ℕ) (s : Snapshot)
-      → (delivered P t target value delay s).lost ≡ 0
-      → Alike s (delivered P t target value delay s) (delivered (raised P) t target value delay s)
+      → Fine IsKept (delivered P t target value delay s)
+      → Alike IsKept s (delivered P t target value delay s) (delivered (raised_to f P) t target value delay s)
   delivered_alike t target None delay s h = record { same = refl; before = h }
   delivered_alike t target (Some v) None s h = record { same = refl; before = h }
   delivered_alike t target (Some v) (Some d) s h = landed_alike t d (to.Port target) v s h
 
-  links_alike : (t : Moment) (present : Presence) (ls : List Link) (s : Snapshot) → (with_links P t present ls s).lost ≡ 0
-      → Alike s (with_links P t present ls s) (with_links (raised P) t present ls s)
+  links_alike : (t : Moment) (present : Presence) (ls : List Link) (s : Snapshot) → Fine IsKept (with_links P t present ls s)
+      → Alike IsKept s (with_links P t present ls s) (with_links (raised_to f P) t present ls s)
   links_alike t present [] s h = record { same = refl; before = h }
   links_alike t present (l ∷ ls) s h =
       let value = present_at present (to.Port l.source) in
       let rest = links_alike t present ls (delivered P t l.target value l.delay s) h in
       let one = delivered_alike t l.target value l.delay s rest.before in
-      then_alike (with_links (raised P) t present ls) s _ _ _ one rest
+      then_alike IsKept (with_links (raised_to f P) t present ls) s _ _ _ one rest
 
   -- reactions do not look at the form
-  after_in : (ns : List ℕ) (now : Reacting) → after_reactions (raised P) ns now ≡ after_reactions P ns now
+  after_in : (ns : List ℕ) (now : Reacting) → after_reactions (raised_to f P) ns now ≡ after_reactions P ns now
   after_in [] now = refl
   after_in (n ∷ ns) now = after_in ns (option_map_or (λ rule. react n rule now) (slice_get P.reactions n) now)
 
-  arrived_in : (X : List Given) (present : Presence) → arrived (raised P) X present ≡ arrived P X present
+  arrived_in : (X : List Given) (present : Presence) → arrived (raised_to f P) X present ≡ arrived P X present
   arrived_in [] present = refl
   arrived_in (g ∷ gs) present = arrived_in gs (with_value (to.Port (port_of P g.input)) g.value present)
 
-  first_in : (s : Snapshot) (t : Moment) (X : List Given) → present_first (raised P) s t X ≡ present_first P s t X
+  first_in : (s : Snapshot) (t : Moment) (X : List Given) → present_first (raised_to f P) s t X ≡ present_first P s t X
   first_in s t X = arrived_in X (arrived_entries (filter (λ w. is_same w.tag t) s.pending) (absent P))
 
-  reacted_in : (s : Snapshot) (t : Moment) (X : List Given) → reacted (raised P) s t X ≡ reacted P s t X
+  reacted_in : (s : Snapshot) (t : Moment) (X : List Given) → reacted (raised_to f P) s t X ≡ reacted P s t X
   reacted_in s t X =
       let start : Presence → Reacting = λ p. record { vars = s.vars; present = p; wishes = no_wishes P } in
-      after_in P.order (start (present_first (raised P) s t X))
+      after_in P.order (start (present_first (raised_to f P) s t X))
       ∙ ap (λ (p : Presence). after_reactions P P.order (start p)) (first_in s t X)
 
-  outputs_in : (s : Snapshot) (t : Moment) (X : List Given) → outputs_after (raised P) s t X ≡ outputs_after P s t X
+  outputs_in : (s : Snapshot) (t : Moment) (X : List Given) → outputs_after (raised_to f P) s t X ≡ outputs_after P s t X
   outputs_in s t X = ap (λ (r : Reacting). outputs_from 0 t r.present P.outputs) (reacted_in s t X)
 
   -- a step that leaves nothing lost is one of both
-  state_alike : (s : Snapshot) (t : Moment) (X : List Given) → (state_after P s t X).lost ≡ 0
-      → Alike s (state_after P s t X) (state_after (raised P) s t X)
+  state_alike : (s : Snapshot) (t : Moment) (X : List Given) → Fine IsKept (state_after P s t X)
+      → Alike IsKept s (state_after P s t X) (state_after (raised_to f P) s t X)
   state_alike s t X h =
       let r = reacted P s t X in
       let first = present_first P s t X in
@@ -186,36 +199,36 @@ module _ (P : Program) where
       let wishes = all_wishes_alike t r.wishes begun links.before in
       let timers = repeats_alike t first 0 P.timers kept wishes.before in
       let from : Reacting → Snapshot → Snapshot = λ now u.
-      with_links (raised P) t now.present P.links (with_all_wishes (raised P) t now.wishes (record u { vars = now.vars })) in
+      with_links (raised_to f P) t now.present P.links (with_all_wishes (raised_to f P) t now.wishes (record u { vars = now.vars })) in
       record {
         same =
-            (λ i. from (reacted_in s t X i) (with_repeats (raised P) t (first_in s t X i) 0 P.timers kept))
+            (λ i. from (reacted_in s t X i) (with_repeats (raised_to f P) t (first_in s t X i) 0 P.timers kept))
             ∙ ap (λ (u : Snapshot). from r u) timers.same
-            ∙ ap (λ (u : Snapshot). with_links (raised P) t r.present P.links u) wishes.same ∙ links.same;
+            ∙ ap (λ (u : Snapshot). with_links (raised_to f P) t r.present P.links u) wishes.same ∙ links.same;
         before = timers.before;
       }
 
   -- so are the rows of a run that leaves nothing lost
   rows_alike : (E : List Event) (last : Option Moment) (s : Snapshot) (rows : List Row) → RunFrom P E last s rows
-      → (state_at_end s rows).lost ≡ 0 → (s.lost ≡ 0) × RunFrom (raised P) E last s rows
+      → Fine IsKept (state_at_end s rows) → Fine IsKept s × RunFrom (raised_to f P) E last s rows
   rows_alike E last s [] run h = (h, run)
   rows_alike E last s (row ∷ rows) run h =
       let X = given_at row.tag E in
       let rest = rows_alike E (Some row.tag) row.state rows run.2 h in
-      let here : (state_after P s row.tag X).lost ≡ 0 = ap (λ (u : Snapshot). u.lost) (sym run.1.state) ∙ rest.0 in
+      let here : Fine IsKept (state_after P s row.tag X) = subst (Fine IsKept) run.1.state rest.0 in
       let one = state_alike s row.tag X here in
-      let made : Step (raised P) s row.tag X row.state row.outputs = record {
+      let made : Step (raised_to f P) s row.tag X row.state row.outputs = record {
         state = run.1.state ∙ sym one.same;
         outputs = run.1.outputs ∙ sym (outputs_in s row.tag X);
       } in
       (one.before, (run.0, made, rest.1))
 
-  pub run_raised : (E : List Event) (trace : List Row) → Run P E trace → (state_at_end (start_state P) trace).lost ≡ 0
-      → Run (raised P) E trace
+  pub run_raised : (E : List Event) (trace : List Row) → Run P E trace → KeepsRun f P trace
+      → Run (raised_to f P) E trace
   run_raised E trace run h = (rows_alike E None (start_state P) trace run h).1
 
   -- and the raised program has no other
-  pub run_same : (E : List Event) (trace other : List Row) → Run P E trace → Run (raised P) E other
-      → (state_at_end (start_state P) trace).lost ≡ 0 → trace ≡ other
+  pub run_same : (E : List Event) (trace other : List Row) → Run P E trace → Run (raised_to f P) E other
+      → KeepsRun f P trace → trace ≡ other
   run_same E trace other run runs h =
-      one_rest (raised P) E None (start_state (raised P)) trace other (run_raised E trace run h) runs
+      one_rest (raised_to f P) E None (start_state (raised_to f P)) trace other (run_raised E trace run h) runs

@@ -1,8 +1,8 @@
 -- Codes of programs, so that a model's value may have one: a record is stored as its fields.
-use Rattle.std.specs.Prelude.{◌≡◌, ℕ, ℤ, Bool, true, false, List, Option, refl}
+use Rattle.std.specs.Prelude.{◌≡◌, ℕ, zero, suc, ℤ, Bool, List, Option, refl}
 use Rattle.std.specs.Coded.{Coded, code_by, coded×, coded_ℕ, coded_ℤ, coded_bool, coded_list, coded_option}
 use Rattle.warp_tag.specs.declared.form.Form.{Form}
-use Rattle.warp_tag.specs.declared.form.Form.TheVariants.{One, Two}
+use Rattle.warp_tag.specs.declared.form.Form.TheVariants.{One, Two, Three}
 use Rattle.warp_body.specs.Codes.{body_code, target_code}
 use Rattle.warp_body.specs.Effect.{Body}
 use Rattle.warp_body.specs.declared.place.Target.{Target}
@@ -48,21 +48,24 @@ rule_code =
     (λ p. record { reactor = p.0; triggers = p.1.0; reads = p.1.1.0; writes = p.1.1.1.0; body = p.1.1.1.1 })
     (λ _. refl)
 
--- whether a form is the second, and the form that it is then
-abbrev pub is_two : Form → Bool
-is_two One = false
-is_two Two = true
+-- a form as a number, and the form of a number
+abbrev pub form_index : Form → ℕ
+form_index One = 0
+form_index Two = 1
+form_index Three = 2
 
-abbrev pub form_of : Bool → Form
-form_of false = One
-form_of true = Two
+abbrev pub form_at : ℕ → Form
+form_at zero = One
+form_at (suc zero) = Two
+form_at (suc (suc n)) = Three
 
-abbrev read_form : (f : Form) → form_of (is_two f) ≡ f
+abbrev read_form : (f : Form) → form_at (form_index f) ≡ f
 read_form One = refl
 read_form Two = refl
+read_form Three = refl
 
 abbrev pub form_code : Coded Form
-form_code = code_by Bool coded_bool is_two form_of read_form
+form_code = code_by ℕ coded_ℕ form_index form_at read_form
 
 -- its form and three numbers, and nine lists
 abbrev pub Numbers : Type 0

@@ -1,7 +1,7 @@
 -- A program as definitions see it: its parts in file order, without where they lie in memory.
 use Rattle.std.specs.Prelude.{ℕ, ℤ, List, map, slice_get}
 use Rattle.std.specs.Option.{option_map_or}
-use Rattle.warp_tag.specs.Limits.{last_microstep}
+use Rattle.warp_tag.specs.Limits.{last_microstep, wider}
 use Rattle.warp_tag.specs.declared.form.Form.{Form}
 use Rattle.warp_tag.specs.declared.form.Form.TheVariants.{Two}
 use Rattle.warp_body.specs.Effect.{Body, statements_of}
@@ -63,6 +63,10 @@ delay_of P action = option_map_or (λ a. a.delay) (slice_get P.actions action) 0
 abbrev pub top_of : Program → ℕ
 top_of P = last_microstep P.form
 
--- the same program, of version 2
+-- the same program, of this form where it has not a wider one
+abbrev pub raised_to : Form → Program → Program
+raised_to f P = record P { form = wider f P.form }
+
+-- the same program, of version 2 where it has not a later one
 abbrev pub raised : Program → Program
-raised P = record P { form = Two }
+raised P = raised_to Two P

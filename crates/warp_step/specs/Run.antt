@@ -1,8 +1,10 @@
 -- The run of a program over its events.
-use Rattle.std.specs.Prelude.{◌≡◌, Bool, true, false, ◌&&◌, ◌||◌, IsTrue, List, [], ◌∷◌, map, filter, Option, Some, None}
+use Rattle.std.specs.Prelude.{◌≡◌, ◌⊎◌, Bool, true, false, ◌&&◌, ◌||◌, IsTrue, List, [], ◌∷◌, map, filter, Option, Some, None}
 use Rattle.std.specs.List.{flat_map, list_any}
 use Rattle.warp_tag.specs.Moment.{Moment, is_before, is_same}
 use Rattle.warp_tag.specs.Table.{Event}
+use Rattle.warp_tag.specs.Limits.{last_microstep, wider}
+use Rattle.warp_tag.specs.declared.form.Form.{Form}
 use Rattle.warp_step.specs.Program.{Program}
 use Rattle.warp_step.specs.Snapshot.{Snapshot, start_state}
 use Rattle.warp_step.specs.Step.{Step}
@@ -67,3 +69,8 @@ rows_until end rows = filter (λ row. is_before row.tag end) rows
 -- the outputs before a tag
 abbrev pub outputs_until : Moment → List Out → List Out
 outputs_until end outputs = filter (λ out. is_before out.tag end) outputs
+
+-- raising the program to this form leaves the run as it is: times have as many microsteps as before, or nothing was lost
+abbrev pub KeepsRun : Form → Program → List Row → Type 0
+KeepsRun f P trace =
+    (last_microstep (wider f P.form) ≡ last_microstep P.form) ⊎ ((state_at_end (start_state P) trace).lost ≡ 0)

@@ -2,16 +2,17 @@
 ghost use Rattle.std.specs.Prelude.{◌≡◌, ℕ, false, IsTrue, List, length, map, take};
 ghost use Rattle.std.specs.List.{list_all};
 ghost use Rattle.warp_tag.specs.Lists.{StartsWith};
+ghost use Rattle.warp_tag.specs.declared.form.Form.{Form};
 ghost use Rattle.warp_tag.specs.Moment.{Moment, is_before};
 ghost use Rattle.warp_tag.specs.Table.{Event};
-ghost use Rattle.warp_step.specs.Program.{Program, raised};
+ghost use Rattle.warp_step.specs.Program.{Program, raised, raised_to};
 ghost use Rattle.warp_step.specs.Events.{IsEventOf, IsNameOf};
 ghost use Rattle.warp_step.specs.Order.{file_order, in_order, is_admissible, leads_later};
 ghost use Rattle.warp_step.specs.Valid.{is_rising, is_valid, rule_fits};
 ghost use Rattle.warp_step.specs.Snapshot.{Snapshot, start_state};
 ghost use Rattle.warp_step.specs.Step.{outputs_after, reacted, state_after};
 ghost use Rattle.warp_step.specs.declared.given_input.Given.{Given};
-ghost use Rattle.warp_step.specs.Run.{Row, Run, events_until, rows_until, outputs_of, outputs_until, state_at_end};
+ghost use Rattle.warp_step.specs.Run.{KeepsRun, Row, Run, events_until, rows_until, outputs_of, outputs_until, state_at_end};
 
 /// A law: exactly one trace fits a program and its events.
 pub fn one_trace()
@@ -88,4 +89,24 @@ pub fn raised_run()
         IsEventOf (raised P) origin tag input }
     ensures takes_name { (P : Program) (origin : ℕ) (tag : Moment) → IsNameOf P origin tag →
         IsNameOf (raised P) origin tag }
+{}
+
+/// A law: a program raised to a form is valid and takes what it took, and where its run lost nothing, or its times have
+/// as many microsteps as before (as from version 2 to version 3), the raised program has the same run and no other, and
+/// so the same last state and outputs.
+pub fn raised_to_run()
+    ensures valid { (f : Form) (P : Program) → IsTrue (is_valid P) → IsTrue (is_valid (raised_to f P)) }
+    ensures run { (f : Form) (P : Program) (E : List Event) (trace : List Row) → Run P E trace → KeepsRun f P trace →
+        Run (raised_to f P) E trace }
+    ensures unique { (f : Form) (P : Program) (E : List Event) (trace other : List Row) → Run P E trace →
+        Run (raised_to f P) E other → KeepsRun f P trace → trace ≡ other }
+    ensures state { (f : Form) (P : Program) (E : List Event) (trace other : List Row) → Run P E trace →
+        Run (raised_to f P) E other → KeepsRun f P trace →
+        state_at_end (start_state (raised_to f P)) other ≡ state_at_end (start_state P) trace }
+    ensures outputs { (f : Form) (P : Program) (E : List Event) (trace other : List Row) → Run P E trace →
+        Run (raised_to f P) E other → KeepsRun f P trace → outputs_of other ≡ outputs_of trace }
+    ensures takes { (f : Form) (P : Program) (origin : ℕ) (tag : Moment) (input : ℕ) → IsEventOf P origin tag input →
+        IsEventOf (raised_to f P) origin tag input }
+    ensures takes_name { (f : Form) (P : Program) (origin : ℕ) (tag : Moment) → IsNameOf P origin tag →
+        IsNameOf (raised_to f P) origin tag }
 {}

@@ -1,7 +1,7 @@
 //! Programs: how the code keeps one, what it tells, copies and comparison.
 ghost use Rattle.std.specs.Prelude.{◌≡◌, ◌↔◌, ℕ, ◌<◌, ◌≤◌, IsTrue, IfOk, length, map};
 ghost use Rattle.warp_tag.specs.Limits.{last_microstep, longest_period, widest};
-ghost use Rattle.warp_step.specs.Program.{rule_of, delay_of, raised, top_of};
+ghost use Rattle.warp_step.specs.Program.{rule_of, delay_of, raised, raised_to, top_of};
 ghost use Rattle.warp_step.specs.Snapshot.{begins};
 ghost use Rattle.warp_step.specs.View.{program_of};
 ghost use Rattle.warp_step.specs.Valid.{is_valid};
@@ -182,13 +182,22 @@ impl Program {
     }
 
     /// The same program of version 2, whose limits are wider: where its run lost nothing, the run stays the same. Of a
-    /// program of version 2 it is a copy.
+    /// program of version 2, or of a later one, it is a copy.
     pub fn raise(alloc: Global, program: &Program) -> Result<Program, OutOfMemory>
         ensures { IfOk result (λ p. p ≡ raised program.now) }
     {
+        Program::raise_to(alloc, program, Form::Two)
+    }
+
+    /// The same program of this form, whose limits are wider: where its run lost nothing, or its times have as many
+    /// microsteps as before, the run stays the same (`raised_to_run`). Of a program of this form, or of a wider one, it
+    /// is a copy.
+    pub fn raise_to(alloc: Global, program: &Program, form: Form) -> Result<Program, OutOfMemory>
+        ensures { IfOk result (λ p. p ≡ raised_to form program.now) }
+    {
         let parts = program.parts.copy(alloc)?;
         Ok(Program {
-            parts: parts.raise(),
+            parts: parts.raise_to(form),
         })
     }
 
@@ -201,11 +210,11 @@ impl Program {
 }
 
 impl Parts {
-    /// The same parts, of version 2.
-    fn raise(mut self) -> Parts
-        ensures { program_of result ≡ raised (program_of self) }
+    /// The same parts, of this form where they have not a wider one.
+    fn raise_to(mut self, form: Form) -> Parts
+        ensures { program_of result ≡ raised_to form (program_of self) }
     {
-        self.form = Form::Two;
+        self.form = form.or_wider(self.form);
         self
     }
 

@@ -3,7 +3,7 @@ use Rattle.std.proofs.Common.{◌≡◌, ◌∙◌, ℕ, ◌-◌, ◌≤◌, [],
 use Rattle.std.proofs.lemmas.Bool.{false≢true}
 use Rattle.std.proofs.lemmas.List.{get_or_past}
 use Rattle.std.proofs.lemmas.Option.{slice_get_past}
-use Rattle.warp_tag.specs.Limits.{most_records}
+use Rattle.warp_tag.specs.Limits.{most_records, widest}
 use Rattle.warp_record.specs.declared.record.Record.{Record}
 use Rattle.warp_record.specs.declared.record.Record.TheVariants.{Event, Withdraw, Announce}
 use Rattle.warp_table.specs.Log.{IsAt}
@@ -22,7 +22,7 @@ not_placed said place at =
     let none : None ≡ Some said = sym (slice_get_past [] (place - 1) (omega arith)) ∙ at.1 in
     cc
 
-pub none_kept : (length {A = Record} [] ≤ most_records) × Keeps [] [] no_others × AreHeard [] []
+pub none_kept : (length {A = Record} [] ≤ most_records widest) × Keeps [] [] no_others × AreHeard [] []
 none_kept = (
   omega arith,
   record {

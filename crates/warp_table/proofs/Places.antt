@@ -14,7 +14,7 @@ use Rattle.std.specs.BTreeMap.{insert_entry, is_at as is_key}
 use Rattle.std.specs.Ordering.{is_eq, match_ordering}
 use Rattle.std.specs.declared.cmp.Ordering.{Ordering}
 use Rattle.std.specs.declared.cmp.Ordering.TheVariants.{Less, Equal, Greater}
-use Rattle.warp_tag.specs.Limits.{most_records}
+use Rattle.warp_tag.specs.Limits.{most_records, widest}
 use Rattle.warp_record.specs.declared.record.Record.{Record}
 use Rattle.warp_record.specs.declared.record.Record.TheVariants.{Event}
 use Rattle.warp_table.specs.Log.{EachOnce, IsAt}
@@ -231,8 +231,8 @@ not_there records names others said h none has =
     cc
 
 -- what is found is the record's place
-pub place_told : (records : List Record) (names : List (Name × Known)) (others : OtherPlaces) (said : Record) (found : Option ℕ) → KeepsPlaces records names others → length records ≤ most_records →
-    found ≡ place_in records names others said → IfSome found (λ place. IsAt records place said × (place ≤ most_records))
+pub place_told : (records : List Record) (names : List (Name × Known)) (others : OtherPlaces) (said : Record) (found : Option ℕ) → KeepsPlaces records names others → length records ≤ most_records widest →
+    found ≡ place_in records names others said → IfSome found (λ place. IsAt records place said × (place ≤ most_records widest))
 place_told records names others said None h few is = tt
 place_told records names others said (Some place) h few is =
     let at = h.so said place (sym is) in

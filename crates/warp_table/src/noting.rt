@@ -78,7 +78,7 @@ fn note_further_event(
     name: &Name,
     payload: (u32, i64),
 ) -> Result<Noted, OutOfMemory>
-    requires room { length records.now < most_records }
+    requires room { length records.now < most_records widest }
     requires kept { (before : ℕ × ℤ) ×
         IsAt records.now kept (Record.Event name.now.origin name.now.tag before.0 before.1) }
     ensures new { IfOk result (λ noted. IsTrue noted.added.is_new → (noted.added.place ≡ length records.now + 1) ×
@@ -129,7 +129,7 @@ fn noted_known(place: u32, event: u32) -> Noted
 
 /// What comes of the first event of a name, which goes behind these records.
 fn noted_first(records: &[Record]) -> Noted
-    requires { length records.now < most_records }
+    requires { length records.now < most_records widest }
     ensures { (result.added.place ≡ length records.now + 1) × (result.event ≡ length records.now + 1) ×
         IsTrue result.added.is_new }
 {
@@ -151,7 +151,7 @@ fn note_first_event(
     announcer: &mut Announcer,
     tag: Tag,
 ) -> Result<Noted, OutOfMemory>
-    requires room { length records.now < most_records }
+    requires room { length records.now < most_records widest }
     requires fresh { ¬ Contains announcer.old.events tag }
     ensures ok { IfOk result
         (λ noted. (noted.added.place ≡ length records.now + 1) × (noted.event ≡ length records.now + 1) ×
@@ -184,7 +184,7 @@ fn add_event(
     name: &Name,
     payload: (u32, i64),
 ) -> Result<Noted, OutOfMemory>
-    requires room { length records.now < most_records }
+    requires room { length records.now < most_records widest }
     requires kept { HoldsEvent records.now name.now (known_of name.now names.old).event }
     requires fresh { (known_of name.now names.old).event ≡ 0 → ¬ Contains announcer.old.events name.now.tag }
     ensures new { IfOk result (λ noted. IsTrue noted.added.is_new → (noted.added.place ≡ length records.now + 1) ×
@@ -225,7 +225,7 @@ fn note_event(
     name: &Name,
     payload: (u32, i64),
 ) -> Result<Noted, OutOfMemory>
-    requires room { length records.now < most_records }
+    requires room { length records.now < most_records widest }
     requires kept { HoldsEvent records.now name.now kept }
     requires fresh { kept ≡ 0 → ¬ Contains announcer.old.events name.now.tag }
     ensures new { IfOk result (λ noted. IsTrue noted.added.is_new → (noted.added.place ≡ length records.now + 1) ×
@@ -343,7 +343,7 @@ fn note_own(
     announcer: &mut Announcer,
     record: &Record,
 ) -> Result<Added, OutOfMemory>
-    requires room { length records.now < most_records }
+    requires room { length records.now < most_records widest }
     requires keeps { Keeps records.now names.old (places others.old) }
     requires heard { IsHeard (set_of records.now) (origin_of «record».now) announcer.old }
     ensures new { IfOk result
@@ -391,7 +391,7 @@ pub(crate) fn note(
     record: &Record,
 ) -> Result<Added, OutOfMemory>
     requires origin { origin_of «record».now < most_origins widest }
-    requires room { length records.now < most_records }
+    requires room { length records.now < most_records widest }
     requires keeps { Keeps records.now names.old (places others.old) }
     requires heard { AreHeard records.now announcers.old.items }
     ensures new { IfOk result
@@ -419,7 +419,7 @@ pub(crate) fn note_last(
     announcers: &mut Vec<Announcer>,
     record: &Record,
 ) -> bool
-    requires room { length records.now < most_records }
+    requires room { length records.now < most_records widest }
     requires keeps { Keeps records.now names.old (places others.now) }
     requires heard { AreHeard records.now announcers.old.items }
     ensures came { IsTrue result →

@@ -36,10 +36,10 @@ use std::alloc::Global;
 use std::marker::Model;
 use warp_record::{Record, Refusal};
 use warp_step::Program;
-use warp_tag::{Entry, OutOfMemory, Tag, is_lesser};
+use warp_tag::{Entry, Form, OutOfMemory, Tag, is_lesser};
 
-/// The most records that a table holds.
-pub const MAX_RECORDS: u32 = 100_000;
+/// The most records that a table holds, which are those of the widest form.
+pub const MAX_RECORDS: u32 = 10_000_000;
 
 /// Where a record stands that was added: its place, 1 to `MAX_RECORDS`, and whether it came in there or was there
 /// before.
@@ -74,7 +74,7 @@ pub struct Table {
 impl Model for Table {
     ghost use Rattle.std.specs.Prelude.{List, length, ◌≤◌};
     ghost use Rattle.warp_record.specs.declared.record.Record.{Record};
-    ghost use Rattle.warp_tag.specs.Limits.{most_records};
+    ghost use Rattle.warp_tag.specs.Limits.{most_records, widest};
     ghost use Rattle.warp_table.specs.inner.Heard.{AreHeard};
     ghost use Rattle.warp_table.specs.inner.Kept.{Keeps};
     ghost use Rattle.warp_table.specs.inner.Others.{places};
@@ -83,7 +83,7 @@ impl Model for Table {
 
     ghost view = { λ t. t.records.items };
 
-    ghost invariant = { λ t. (length t.records.items ≤ most_records) × Keeps t.records.items t.names (places t.others)
+    ghost invariant = { λ t. (length t.records.items ≤ most_records widest) × Keeps t.records.items t.names (places t.others)
         × AreHeard t.records.items t.announcers.items };
 }
 
@@ -125,34 +125,34 @@ impl Table {
     /// How many records there are, 0 to `MAX_RECORDS`.
     pub fn len(&self) -> u32
         ensures value { result ≡ length self.now }
-        ensures bound { result ≤ most_records }
+        ensures bound { result ≤ most_records widest }
         ensures once { EachOnce self.now }
     {
         self.records.len() as u32
     }
 
-    /// Whether it takes no further record, which is at `MAX_RECORDS` of them.
-    pub fn is_full(&self) -> bool
-        ensures full { IsTrue result ↔ (length self.now ≡ most_records) }
-        ensures bound { length self.now ≤ most_records }
+    /// Whether a log of this form takes no further record: it has as many as the form allows, or more.
+    pub fn is_full(&self, form: Form) -> bool
+        ensures full { IsTrue result ↔ (most_records form ≤ length self.now) }
+        ensures bound { length self.now ≤ most_records widest }
     {
-        self.len() == MAX_RECORDS
+        form.most_records() <= self.len()
     }
 
     /// The place of the record, from 1; `None` where it is not there.
     pub fn position(&self, record: &Record) -> Option<u32>
-        ensures found { IfSome result (λ place. IsAt self.now place «record».now × (place ≤ most_records)) }
+        ensures found { IfSome result (λ place. IsAt self.now place «record».now × (place ≤ most_records widest)) }
         ensures none { IfNone result (¬ Contains self.now «record».now) }
     {
         place_of(&self.records, &self.names, &self.others, record)
     }
 
     /// Adds a record where it is not there yet, notes what it says of its name and to its origin, and tells its place
-    /// and whether it is new. A record that was there stays in its place. An `Err` changes nothing. The table is not
-    /// full, and the origin is one of the wider form.
+    /// and whether it is new. A record that was there stays in its place. An `Err` changes nothing. The table has
+    /// not `MAX_RECORDS` yet, and the origin is one of the widest form.
     #[inline(always)]
     pub fn add(&mut self, record: &Record) -> Result<Added, OutOfMemory>
-        requires room { length self.old < most_records }
+        requires room { length self.old < most_records widest }
         requires origin { origin_of «record».now < most_origins widest }
         ensures new { IfOk result (λ added. IsTrue added.is_new →
             (¬ Contains self.old «record».now) × (added.place ≡ length self.old + 1) ×
@@ -183,7 +183,7 @@ impl Table {
     /// `add`, wherever the record goes.
     #[inline(never)]
     fn add_anywhere(&mut self, record: &Record) -> Result<Added, OutOfMemory>
-        requires room { length self.old < most_records }
+        requires room { length self.old < most_records widest }
         requires origin { origin_of «record».now < most_origins widest }
         ensures new { IfOk result (λ added. IsTrue added.is_new →
             (¬ Contains self.old «record».now) × (added.place ≡ length self.old + 1) ×
@@ -356,7 +356,7 @@ fn counts_less(one: Option<(u32, i64)>, other: (u32, i64)) -> bool
 /// Of the event at the place `kept` and a new one of the same name with this payload the one that counts less, which
 /// goes to the others.
 pub(crate) fn part(records: &[Record], kept: u32, record: &Record, payload: (u32, i64)) -> Parted
-    requires { length records.now < most_records }
+    requires { length records.now < most_records widest }
     ensures { result ≡ parted_of records.now kept «record».now payload }
 {
     let place = records.len() as u32 + 1;

@@ -1,15 +1,18 @@
 //! Forms: how wide the numbers of a program, its lines and its replies are.
-ghost use Rattle.std.specs.Prelude.{◌≡◌};
+ghost use Rattle.std.specs.Prelude.{◌≡◌, ◌≤◌};
 ghost use Rattle.warp_tag.specs.Limits as limits;
 
 /// The limits that a program, its lines and its replies keep to. A program of version 1 has the first, one of version 2
-/// the second. Whatever is in range in the first is in range in the second.
+/// the second, one of version 3 the third. Whatever is in range in one is in range in each behind it.
 #[derive(Clone, Copy, Debug, PartialEq, Eq)]
 pub enum Form {
-    /// A stop of up to 1,000,000, microsteps 0 to 15, 32 origins.
+    /// A stop of up to 1,000,000, microsteps 0 to 15, 32 origins, logs of 100,000 records, boards of 4,096 rows.
     One,
-    /// A stop of up to 10,000,000, microsteps 0 to 255, 64 origins.
+    /// A stop of up to 10,000,000, microsteps 0 to 255, 64 origins, logs and boards as in the first.
     Two,
+    /// A stop of up to 15,624,999, microsteps and origins as in the second, logs of 10,000,000 records, boards of
+    /// 1,048,576 rows.
+    Three,
 }
 
 impl Form {
@@ -20,6 +23,7 @@ impl Form {
         match self {
             Form::One => 1_000_000,
             Form::Two => 10_000_000,
+            Form::Three => 15_624_999,
         }
     }
 
@@ -30,6 +34,7 @@ impl Form {
         match self {
             Form::One => 1_000_001,
             Form::Two => 10_000_001,
+            Form::Three => 15_625_000,
         }
     }
 
@@ -39,7 +44,7 @@ impl Form {
     {
         match self {
             Form::One => 15,
-            Form::Two => 255,
+            Form::Two | Form::Three => 255,
         }
     }
 
@@ -50,6 +55,7 @@ impl Form {
         match self {
             Form::One => 1_000_000,
             Form::Two => 10_000_000,
+            Form::Three => 15_624_999,
         }
     }
 
@@ -59,7 +65,40 @@ impl Form {
     {
         match self {
             Form::One => 32,
-            Form::Two => 64,
+            Form::Two | Form::Three => 64,
+        }
+    }
+
+    /// The most records of a log.
+    pub fn most_records(self) -> u32
+        ensures value { result ≡ limits.most_records self }
+        ensures range { result ≤ limits.most_records limits.widest }
+    {
+        match self {
+            Form::One | Form::Two => 100_000,
+            Form::Three => 10_000_000,
+        }
+    }
+
+    /// The most rows of a board.
+    pub fn most_rows(self) -> u32
+        ensures value { result ≡ limits.most_rows self }
+        ensures range { (1 ≤ result) × (result ≤ limits.most_rows limits.widest) }
+    {
+        match self {
+            Form::One | Form::Two => 4_096,
+            Form::Three => 1_048_576,
+        }
+    }
+
+    /// The wider of the two.
+    pub fn or_wider(self, other: Form) -> Form
+        ensures { result ≡ limits.wider self other }
+    {
+        match (self, other) {
+            (Form::One, other) => other,
+            (Form::Two, Form::Three) => Form::Three,
+            (form, _) => form,
         }
     }
 }

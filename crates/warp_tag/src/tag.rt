@@ -10,19 +10,19 @@ use std::hash::{Hash, Hasher};
 use std::marker::Model;
 
 /// The last time that a program of any form can have as its stop, in the program's own unit.
-pub const MAX_STOP: u64 = 10_000_000;
+pub const MAX_STOP: u64 = 15_624_999;
 
 /// The last time of a tag: one past the last stop, so that "everything up to the stop" has an end.
-pub const MAX_TIME: u64 = 10_000_001;
+pub const MAX_TIME: u64 = 15_625_000;
 
 /// The last microstep of a time, in the widest form.
 pub const LAST_MICROSTEP: u32 = 255;
 
 /// The longest delay, offset or period that a program of any form can name.
-pub const MAX_PERIOD: u64 = 10_000_000;
+pub const MAX_PERIOD: u64 = 15_624_999;
 
 /// The longest delay that a call of `Tag::after` is given: two delays of a program, added.
-pub const MAX_DELAY: u64 = 20_000_000;
+pub const MAX_DELAY: u64 = 31_249_998;
 
 /// How many microsteps a time has room for in the number of a tag.
 const MICROSTEPS: u32 = 256;

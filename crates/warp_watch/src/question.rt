@@ -38,7 +38,7 @@ pub enum Question {
 pub struct Told {
     /// The question.
     pub question: Question,
-    /// How many records the log had, 0 to 100,000: N in the lines.
+    /// How many records the log had: N in the lines.
     pub len: u32,
     /// Of a page: the first place or number from where it began that it does not tell. Else 0.
     pub next: u32,

@@ -1,7 +1,7 @@
 //! Telling what was asked.
 ghost use Rattle.std.specs.Prelude.{◌≡◌, ◌≤◌, ◌-◌, ◌++◌, [], IfOk, IsTrue, OnOk, drop, if◌then◌else◌, length, slice_get};
 ghost use Rattle.std.specs.Prelude.{take};
-ghost use Rattle.warp_tag.specs.Limits.{most_records};
+ghost use Rattle.warp_tag.specs.Limits.{most_records, widest};
 ghost use Rattle.warp_table.specs.Records.{set_of};
 ghost use Rattle.warp_replica.specs.Answers.{Answers, AreAnswers};
 ghost use Rattle.warp_watch.specs.Lines.{frozen_line, output_lines, page_count, release_line};
@@ -52,7 +52,7 @@ struct Page {
 
 /// Where the page that is asked for ends, of a log of this length.
 fn page_of(len: u32, shown: &Shown, question: &Question) -> Page
-    requires { len ≤ most_records }
+    requires { len ≤ most_records widest }
     ensures next { result.next ≡ next_of len shown.now question.now }
     ensures last { result.is_last ≡ tells_frozen shown.now question.now }
 {

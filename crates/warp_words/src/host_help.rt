@@ -20,10 +20,12 @@ All clients share one replica, as in `warpd serve`. Beside its lines a host know
   watch released I    the released outputs from I on, likewise
   watch vars, watch horizon, watch breach
                       what is now, and each change
+  watch steps         what is executed from then on, as `warpd trace --steps` prints it
   unwatch WHAT        no more of it: watching K, as a watch is answered too
   token T             who may send what: may *, may read, or may ORIGIN ..
 
-What is watched is pushed in lines that begin with `* `. A client for which more than a mebibyte
+What is watched is pushed in lines that begin with `* `. Steps that are not read in time are left
+out, and counted: `* skipped N`. A client for which more than a mebibyte
 waits is told `* gone slow` and closed.
 
 Over HTTP: / (a page), /program.json, /names.json, /healthz, and /metrics for Prometheus. A page

@@ -22,8 +22,8 @@ without asking the replica:
               board COUNT 0, or board COUNT 1
   row INDEX   a row, from 0: row TIME MICROSTEP PORT VALUE, or none
 
-A row on the board stays there. The board has room for 4,096 rows, and is frozen for good once
-a record takes back what was released.
+A row on the board stays there. The board has room for 4,096 rows, of a program of version 3 for
+1,048,576, and is frozen for good once a record takes back what was released.
 
 From each PEER, the HOST:PORT of another server, the log is pulled in the background. Connecting
 to all peers takes ten seconds at most, beside the lookup of their names. A pull ends once the

@@ -45,7 +45,7 @@ union_here made said here = let all : (r : Record) → union made (set_of (said 
 -- a record that is answered `taken` is new to a log with room, and comes behind it
 record CameIn (P : Program) (log : List Record) (said : Record) (after : List Record) : Type 0 where
   new : IsNew P log said
-  room : length log < most_records
+  room : length log < most_records P.form
   is : after ≡ log ++ said ∷ []
 
 came_in : (P : Program) (log : List Record) (said : Record) (place : ℕ) (after : List Record)
@@ -166,7 +166,7 @@ module _ (P : Program) (w : World) (replica : ℕ) (log : List Record) (at : log
   may_put_by (Err refusal) after taking ample =
       kept (reply.Refused refusal) after (Err refusal, taking, refl) taking.1 (refused_not refusal) ample
 
-  pub may_put : length log ≤ most_records → MayPut
+  pub may_put : length log ≤ most_records P.form → MayPut
   may_put few =
       let may = may_take P log said few in
       may_put_by may.0 may.1 may.2 may.3

@@ -43,7 +43,7 @@ module _ (P : Program) (count : ℕ) (moves : List Move) where
       → IsWithin (set_of log) (world_after P count moves).made
   front_within i replica log at said h =
       let front = world_after P count (take i moves) in
-      let sound = All_at (IsSoundLog front.made) front.logs replica log (sound_after P count (take i moves)).logs at in
+      let sound = All_at (IsSoundLog P.form front.made) front.logs replica log (sound_after P count (take i moves)).logs at in
       made_by_end i said (sound.within said h)
 
   -- the moves of a longer front are those of a shorter one, and some more

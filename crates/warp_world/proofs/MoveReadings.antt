@@ -4,6 +4,7 @@ use Rattle.std.specs.Str.Parse.{digits_value}
 use Rattle.std.proofs.lemmas.Fmt.{decimal_is_IsNumeral, decimal_injective}
 use Rattle.warp_tag.specs.Limits.{most_records}
 use Rattle.warp_tag.specs.declared.form.Form.{Form}
+use Rattle.warp_tag.proofs.Forms.{records_widen}
 use Rattle.warp_record.specs.declared.record.Record.{Record}
 use Rattle.warp_record.specs.Record.{IsRecord, record_words}
 use Rattle.warp_record.proofs.LineWords.{words_of_record}
@@ -30,7 +31,8 @@ move_said words =
 move_back : (f : Form) (next : Move) → IsMove f next → move_said (move_words next) ≡ next
 move_back f (Make replica said) fits = rw (value replica (omega (arith, fits.0)), record_back said (record_widens f said fits.1)) refl
 move_back f (Carry from place to) fits =
-    rw (value from (omega (arith, fits.0)), value place (omega (arith, fits.1)), value to (omega (arith, fits.2))) refl
+    let within = records_widen f in
+    rw (value from (omega (arith, fits.0)), value place (omega (arith, fits.1, within)), value to (omega (arith, fits.2))) refl
 move_back f (Collect replica) fits = rw (value replica (omega (arith, fits))) refl
 move_back f (Settle replica) fits = rw (value replica (omega (arith, fits))) refl
 move_back f (Restart replica) fits = rw (value replica (omega (arith, fits))) refl
@@ -58,7 +60,7 @@ make_words f words next fits are =
     (_, _, range.0, range.1, ap (λ (ws : List (List ℕ)). drop 1 ws) (are ∙ ap move_words is))
 
 pub carry_words : (f : Form) (words : List (List ℕ)) (next : Move) → IsMove f next → codes "carry" ∷ words ≡ move_words next
-    → (from : ℕ) × (place : ℕ) × (to : ℕ) × (from < most_replicas) × (place ≤ most_records) × (to < most_replicas)
+    → (from : ℕ) × (place : ℕ) × (to : ℕ) × (from < most_replicas) × (place ≤ most_records f) × (to < most_replicas)
     × (words ≡ decimal from ∷ decimal place ∷ decimal to ∷ [])
 carry_words f words next fits are =
     let all : List (List ℕ) = codes "carry" ∷ words in

@@ -1,6 +1,7 @@
 -- The words of a move and of a number of replicas: they are few, and they are plain.
 use Rattle.std.proofs.Common.{◌≡◌, ℕ, ◌<◌, ◌≤◌, true, [], ◌∷◌, length, decimal, refl, arith}
 use Rattle.warp_tag.specs.declared.form.Form.{Form}
+use Rattle.warp_tag.proofs.Forms.{records_widen}
 use Rattle.warp_record.specs.Record.{record_words}
 use Rattle.warp_record.proofs.LineWords.{words_of_record}
 use Rattle.warp_record.proofs.Wider.{record_widens}
@@ -22,8 +23,9 @@ few_words (Restart replica) = (omega arith, omega arith)
 pub plain_move : (f : Form) (next : Move) → IsMove f next → are_plain (move_words next) ≡ true
 plain_move f (Make replica said) fits = plain_number replica (record_words said) (omega (arith, fits.0)) (plain_record said (record_widens f said fits.1))
 plain_move f (Carry from place to) fits =
+    let within = records_widen f in
     plain_number from (decimal place ∷ decimal to ∷ []) (omega (arith, fits.0))
-    (plain_number place (decimal to ∷ []) (omega (arith, fits.1)) (plain_number to [] (omega (arith, fits.2)) refl))
+    (plain_number place (decimal to ∷ []) (omega (arith, fits.1, within)) (plain_number to [] (omega (arith, fits.2)) refl))
 plain_move f (Collect replica) fits = plain_number replica [] (omega (arith, fits)) refl
 plain_move f (Settle replica) fits = plain_number replica [] (omega (arith, fits)) refl
 plain_move f (Restart replica) fits = plain_number replica [] (omega (arith, fits)) refl

@@ -8,6 +8,7 @@ use Rattle.std.proofs.lemmas.List.Elements.{All-replicate, All-set, All-weaker, 
 use Rattle.std.proofs.lemmas.List.Quantifiers.{all_pairs_push}
 use Rattle.std.proofs.lemmas.Option.{get_or_from_slice_get, slice_get_within}
 use Rattle.warp_tag.specs.Limits.{most_records}
+use Rattle.warp_tag.specs.declared.form.Form.{Form}
 use Rattle.warp_step.specs.Program.{Program}
 use Rattle.warp_record.specs.declared.record.Record.{Record}
 use Rattle.warp_table.specs.Announced.{IsWithin}
@@ -22,22 +23,22 @@ use Rattle.warp_world.specs.World.{World, after_carry, after_make, log_entry, ha
 use Rattle.warp_world.specs.declared.moves.Move.{Move}
 use Rattle.warp_world.specs.declared.moves.Move.TheVariants.{Make, Carry, Collect, Settle, Restart}
 
--- a log as it may be where these records were made
-pub record IsSoundLog (made : Records) (log : List Record) : Type 0 where
+-- a log as it may be in a form where these records were made
+pub record IsSoundLog (f : Form) (made : Records) (log : List Record) : Type 0 where
   pub once : EachOnce log
-  pub few : length log ≤ most_records
+  pub few : length log ≤ most_records f
   pub within : IsWithin (set_of log) made
 
 -- a world as it may be
 pub record IsSound (P : Program) (w : World) : Type 0 where
-  pub logs : All (IsSoundLog w.made) w.logs
+  pub logs : All (IsSoundLog P.form w.made) w.logs
   pub taken : (said : Record) → IsIn w.made said → refusal_of P said ≡ None
 
 -- why a log takes a record
 pub record HasRoomFor (P : Program) (log : List Record) (said : Record) : Type 0 where
   pub fits : refusal_of P said ≡ None
   pub lacks : set_of log said ≡ false
-  pub room : length log < most_records
+  pub room : length log < most_records P.form
 
 -- an option that has nothing
 none_is : {X : Type 0} (o : Option X) → is_none o ≡ true → o ≡ None
@@ -46,12 +47,12 @@ none_is (Some x) h = absurd (both_ways false refl h)
 
 pub takes_in_is : (P : Program) (log : List Record) (said : Record) → takes_in P log said ≡ true → HasRoomFor P log said
 takes_in_is P log said h =
-    let outer = and_parts (is_none (refusal_of P said)) (not (set_of log said) && nat_lt (length log) most_records) h in
-    let inner = and_parts (not (set_of log said)) (nat_lt (length log) most_records) outer.1 in
+    let outer = and_parts (is_none (refusal_of P said)) (not (set_of log said) && nat_lt (length log) (most_records P.form)) h in
+    let inner = and_parts (not (set_of log said)) (nat_lt (length log) (most_records P.form)) outer.1 in
     record {
       fits = none_is (refusal_of P said) outer.0;
       lacks = not-true (set_of log said) inner.0;
-      room = ltb-true (length log) most_records inner.1;
+      room = ltb-true (length log) (most_records P.form) inner.1;
     }
 
 -- what holds of each of a list holds of the one at a place
@@ -75,8 +76,8 @@ within_more made log said within here other h =
     ]
 
 -- a log that takes a record that was made
-sound_grown : (P : Program) (made : Records) (log : List Record) (said : Record) → IsSoundLog made log → HasRoomFor P log said → IsIn made said
-    → IsSoundLog made (log ++ said ∷ [])
+sound_grown : (P : Program) (made : Records) (log : List Record) (said : Record) → IsSoundLog P.form made log → HasRoomFor P log said → IsIn made said
+    → IsSoundLog P.form made (log ++ said ∷ [])
 sound_grown P made log said s fits here = record {
   once = all_pairs_push (λ a b. a ≡ b → ⊥) log said s.once (λ k d l same. both_ways (set_of log said) fits.lacks
       ((in_set log said).0 (subst (λ (r : Record). Contains log r) same (Contains-get_or log k d l))));
@@ -85,12 +86,12 @@ sound_grown P made log said s fits here = record {
 }
 
 -- a log as it was where more was made
-sound_wider : (made more : Records) (log : List Record) → IsWithin made more → IsSoundLog made log → IsSoundLog more log
-sound_wider made more log wider s = record { once = s.once; few = s.few; within = λ said h. wider said (s.within said h) }
+sound_wider : (f : Form) (made more : Records) (log : List Record) → IsWithin made more → IsSoundLog f made log → IsSoundLog f more log
+sound_wider f made more log wider s = record { once = s.once; few = s.few; within = λ said h. wider said (s.within said h) }
 
 -- an empty log
-sound_empty : (made : Records) → IsSoundLog made []
-sound_empty made = record {
+sound_empty : (f : Form) (made : Records) → IsSoundLog f made []
+sound_empty f made = record {
   once = λ i j d lt l. absurd (omega (arith, l));
   few = omega arith;
   within = λ said h. absurd (Contains-nil said ((in_set [] said).1 h));
@@ -99,7 +100,7 @@ sound_empty made = record {
 -- the world before the first move is one
 pub sound_new : (P : Program) (count : ℕ) → IsSound P (new_world count)
 sound_new P count = record {
-  logs = All-replicate (IsSoundLog (set_of [])) count [] (sound_empty (set_of []));
+  logs = All-replicate (IsSoundLog P.form (set_of [])) count [] (sound_empty P.form (set_of []));
   taken = λ said h. absurd (Contains-nil said ((in_set [] said).1 h));
 }
 
@@ -114,12 +115,12 @@ either_world P false one other h k = k
 
 module _ (P : Program) (w : World) (s : IsSound P w) where
   -- a replica has another log
-  sound_with : (replica : ℕ) (log : List Record) → IsSoundLog w.made log → IsSound P (with_log replica log w)
-  sound_with replica log fair = record { logs = All-set (IsSoundLog w.made) w.logs replica log fair s.logs; taken = s.taken }
+  sound_with : (replica : ℕ) (log : List Record) → IsSoundLog P.form w.made log → IsSound P (with_log replica log w)
+  sound_with replica log fair = record { logs = All-set (IsSoundLog P.form w.made) w.logs replica log fair s.logs; taken = s.taken }
 
   -- the log of a replica
-  sound_at : (replica : ℕ) (log : List Record) → log_of w replica ≡ Some log → IsSoundLog w.made log
-  sound_at replica log at = All_at (IsSoundLog w.made) w.logs replica log s.logs at
+  sound_at : (replica : ℕ) (log : List Record) → log_of w replica ≡ Some log → IsSoundLog P.form w.made log
+  sound_at replica log at = All_at (IsSoundLog P.form w.made) w.logs replica log s.logs at
 
   -- what was made, and one more
   sound_more : (replica : ℕ) (said : Record) (log : List Record) → log_of w replica ≡ Some log → HasRoomFor P log said
@@ -129,9 +130,9 @@ module _ (P : Program) (w : World) (s : IsSound P w) where
       let wider : IsWithin w.made more = λ other h. or_left (w.made other) (set_of (said ∷ []) other) h in
       let here : IsIn more said = or_right (w.made said) (set_of (said ∷ []) said) ((in_set (said ∷ []) said).0 (Contains-here said [])) in
       record {
-        logs = All-set (IsSoundLog more) w.logs replica (log ++ said ∷ [])
-            (sound_grown P more log said (sound_wider w.made more log wider (sound_at replica log at)) fits here)
-            (All-weaker (IsSoundLog w.made) (IsSoundLog more) (λ old. sound_wider w.made more old wider) w.logs s.logs);
+        logs = All-set (IsSoundLog P.form more) w.logs replica (log ++ said ∷ [])
+            (sound_grown P more log said (sound_wider P.form w.made more log wider (sound_at replica log at)) fits here)
+            (All-weaker (IsSoundLog P.form w.made) (IsSoundLog P.form more) (λ old. sound_wider P.form w.made more old wider) w.logs s.logs);
         taken = λ other h. elim (or_cases (w.made other) (set_of (said ∷ []) other) h) [
           | inl old ↦ s.taken other old
           | inr new ↦ subst (λ (r : Record). refusal_of P r ≡ None) (only_one said other new) fits.fits
@@ -154,7 +155,7 @@ module _ (P : Program) (w : World) (s : IsSound P w) where
       (λ h. sound_with to (log ++ said ∷ []) (sound_grown P w.made log said (sound_at to log at) (takes_in_is P log said h) (made said refl))) s
 
   -- the record at a place of a log was made
-  made_at : (log : List Record) (place : ℕ) (said : Record) → IsSoundLog w.made log → record_at log place ≡ Some said → IsIn w.made said
+  made_at : (log : List Record) (place : ℕ) (said : Record) → IsSoundLog P.form w.made log → record_at log place ≡ Some said → IsIn w.made said
   made_at log zero said fair at = absurd (some_not_none said (sym at))
   made_at log (suc index) said fair at =
       fair.within said ((in_set log said).0 (index, slice_get_within log index said at, get_or_from_slice_get log index said said at))
@@ -172,7 +173,7 @@ module _ (P : Program) (w : World) (s : IsSound P w) where
       sound_carry to (log_entry w from place) (log_of w to) (λ said found. made_entry from place (log_of w from) said refl found) refl
   sound_happens (Collect replica) = s
   sound_happens (Settle replica) = s
-  sound_happens (Restart replica) = sound_with replica [] (sound_empty w.made)
+  sound_happens (Restart replica) = sound_with replica [] (sound_empty P.form w.made)
 
 -- and so do all
 pub sound_fold : (P : Program) (w : World) (moves : List Move) → IsSound P w → IsSound P (fold (happens P) w moves)

@@ -6,6 +6,7 @@ use Rattle.std.proofs.lemmas.Bool.{and_from, cases_Bool, le-ltb, lt-ltb, ltb-tru
 use Rattle.std.proofs.lemmas.Bool.Decides.{nat_tests}
 use Rattle.std.proofs.lemmas.Option.{get_or_from_slice_get, slice_get-get_or, slice_get_within}
 use Rattle.warp_tag.specs.Limits.{most_records}
+use Rattle.warp_tag.specs.declared.form.Form.{Form}
 use Rattle.warp_tag.specs.Moment.{is_before}
 use Rattle.warp_step.specs.Program.{Program, top_of}
 use Rattle.warp_step.specs.Events.{is_declared, is_in_time, has_input, owns_input}
@@ -28,18 +29,18 @@ abbrev pub log_with : Program → List Record → Record → List Record
 log_with P log said = if takes_in P log said then log ++ said ∷ [] else log
 
 -- why a log other than a full one lacks room
-full : (log : List Record) (refusal : Refusal) → LacksRoom log refusal → refusal ≢ NoMemory → (refusal ≡ LogFull) × (length log ≡ most_records)
-full log LogFull lacks other = (refl, lacks)
-full log NoMemory lacks other = absurd (other refl)
-full log Syntax lacks other = absurd lacks
-full log NoOrigin lacks other = absurd lacks
-full log PastStop lacks other = absurd lacks
-full log NoInput lacks other = absurd lacks
-full log NotYours lacks other = absurd lacks
-full log NoVar lacks other = absurd lacks
-full log TooLong lacks other = absurd lacks
-full log Busy lacks other = absurd lacks
-full log NoBoard lacks other = absurd lacks
+full : (f : Form) (log : List Record) (refusal : Refusal) → LacksRoom f log refusal → refusal ≢ NoMemory → (refusal ≡ LogFull) × (length log ≡ most_records f)
+full f log LogFull lacks other = (refl, lacks)
+full f log NoMemory lacks other = absurd (other refl)
+full f log Syntax lacks other = absurd lacks
+full f log NoOrigin lacks other = absurd lacks
+full f log PastStop lacks other = absurd lacks
+full f log NoInput lacks other = absurd lacks
+full f log NotYours lacks other = absurd lacks
+full f log NoVar lacks other = absurd lacks
+full f log TooLong lacks other = absurd lacks
+full f log Busy lacks other = absurd lacks
+full f log NoBoard lacks other = absurd lacks
 
 -- that memory was wanting
 abbrev is_memory : Option Refusal → Bool
@@ -73,21 +74,21 @@ module _ (P : Program) (log : List Record) (said : Record) where
   decided taken h = ap (λ b. if b then log ++ said ∷ [] else log) h
 
   -- a new record of a log with room is taken in
-  pub new_in : IsNew P log said → length log < most_records → takes_in P log said ≡ true
+  pub new_in : IsNew P log said → length log < most_records P.form → takes_in P log said ≡ true
   new_in new room =
       let lacks : not (set_of log said) ≡ true = elim (cases_Bool (set_of log said)) [
         | inl there ↦ absurd (new.1 ((in_set log said).1 there))
         | inr missing ↦ ap not missing
       ] in
-      and_from (is_none (refusal_of P said)) (not (set_of log said) && nat_lt (length log) most_records) (ap (λ o. is_none o) new.0)
-      (and_from (not (set_of log said)) (nat_lt (length log) most_records) lacks (lt-ltb (length log) most_records room))
+      and_from (is_none (refusal_of P said)) (not (set_of log said) && nat_lt (length log) (most_records P.form)) (ap (λ o. is_none o) new.0)
+      (and_from (not (set_of log said)) (nat_lt (length log) (most_records P.form)) lacks (lt-ltb (length log) (most_records P.form) room))
 
   -- a known one is not
   pub known_out : (place : ℕ) → IsAt log place said → takes_in P log said ≡ false
   known_out place at =
       let has : Contains log said =
       (place - 1, slice_get_within log (place - 1) said at.1, get_or_from_slice_get log (place - 1) said said at.1) in
-      ap (λ b. is_none (refusal_of P said) && (not b && nat_lt (length log) most_records)) ((in_set log said).0 has)
+      ap (λ b. is_none (refusal_of P said) && (not b && nat_lt (length log) (most_records P.form))) ((in_set log said).0 has)
       ∙ and-false (is_none (refusal_of P said))
 
   pub taken_ok : (took : Took) (after : List Record) → Takes P log said (Ok took) after → after ≡ log_with P log said
@@ -95,11 +96,11 @@ module _ (P : Program) (log : List Record) (said : Record) where
   taken_ok (Known place) after h = h.2 ∙ sym (decided false (known_out place h.1))
 
   -- one that is refused for another reason than want of memory is not taken in either
-  pub refused_out : (refusal : Refusal) → refusal ≢ NoMemory → (refusal_of P said ≡ Some refusal) ⊎ (IsNew P log said × LacksRoom log refusal)
+  pub refused_out : (refusal : Refusal) → refusal ≢ NoMemory → (refusal_of P said ≡ Some refusal) ⊎ (IsNew P log said × LacksRoom P.form log refusal)
       → takes_in P log said ≡ false
-  refused_out refusal other (inl reason) = ap (λ (o : Option Refusal). is_none o && (not (set_of log said) && nat_lt (length log) most_records)) reason
+  refused_out refusal other (inl reason) = ap (λ (o : Option Refusal). is_none o && (not (set_of log said) && nat_lt (length log) (most_records P.form))) reason
   refused_out refusal other (inr lacks) =
-      let within : nat_lt (length log) most_records ≡ false = le-ltb (length log) most_records (omega (arith, (full log refusal lacks.1 other).1)) in
+      let within : nat_lt (length log) (most_records P.form) ≡ false = le-ltb (length log) (most_records P.form) (omega (arith, (full P.form log refusal lacks.1 other).1)) in
       rw (within, and-false (not (set_of log said))) (and-false (is_none (refusal_of P said)))
 
   pub taken : (answer : Result Took Refusal) (after : List Record) → answer ≢ Err NoMemory → Takes P log said answer after → after ≡ log_with P log said
@@ -107,7 +108,7 @@ module _ (P : Program) (log : List Record) (said : Record) where
   taken (Err refusal) after other h = h.1 ∙ sym (decided false (refused_out refusal (λ is. other (ap refused is)) h.0))
 
   -- one for which memory was wanting would have been
-  would : (refusal_of P said ≡ Some NoMemory) ⊎ (IsNew P log said × LacksRoom log NoMemory) → takes_in P log said ≡ true
+  would : (refusal_of P said ≡ Some NoMemory) ⊎ (IsNew P log said × LacksRoom P.form log NoMemory) → takes_in P log said ≡ true
   would (inl reason) = absurd (true≢false (sym (ap is_memory reason) ∙ no_reason P said))
   would (inr lacks) = new_in lacks.0 lacks.1
 
@@ -121,12 +122,12 @@ module _ (P : Program) (log : List Record) (said : Record) where
       (result : Result Took Refusal) × (after : List Record)
       × Takes P log said result after × (told result ≢ tell.Refused NoMemory)
 
-  by_room : refusal_of P said ≡ None → (¬ Contains log said) → length log ≤ most_records → MayTake
-  by_room fits new few = elim (cases_Bool (nat_lt (length log) most_records)) [
+  by_room : refusal_of P said ≡ None → (¬ Contains log said) → length log ≤ most_records P.form → MayTake
+  by_room fits new few = elim (cases_Bool (nat_lt (length log) (most_records P.form))) [
     | inl room ↦ (
       Ok (New (length log + 1)),
       log ++ said ∷ [],
-      ((fits, new), ltb-true (length log) most_records room, refl, refl),
+      ((fits, new), ltb-true (length log) (most_records P.form) room, refl, refl),
       λ same. let no : ⊥ = cc in no,
     )
     | inr full ↦ (
@@ -144,7 +145,7 @@ module _ (P : Program) (log : List Record) (said : Record) where
       ap (slice_get log) back ∙ slice_get-get_or log there.0 said there.1 ∙ ap Some there.2 in
       (Ok (Known (there.0 + 1)), log, (fits, (omega arith, at), refl), λ same. let no : ⊥ = cc in no)
 
-  by_reason : (reason : Option Refusal) → refusal_of P said ≡ reason → length log ≤ most_records → MayTake
+  by_reason : (reason : Option Refusal) → refusal_of P said ≡ reason → length log ≤ most_records P.form → MayTake
   by_reason (Some refusal) is few = (
     Err refusal,
     log,
@@ -158,5 +159,5 @@ module _ (P : Program) (log : List Record) (said : Record) where
     | inr missing ↦ by_room is (λ there. true≢false (sym ((in_set log said).0 there) ∙ missing)) few
   ]
 
-  pub may_take : length log ≤ most_records → MayTake
+  pub may_take : length log ≤ most_records P.form → MayTake
   may_take few = by_reason (refusal_of P said) refl few

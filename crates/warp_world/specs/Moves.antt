@@ -13,7 +13,7 @@ most_replicas = 16
 -- the ranges of a move in a form
 abbrev pub IsMove : Form → Move → Type 0
 IsMove f (Make replica said) = (replica < most_replicas) × IsRecord f said
-IsMove f (Carry from place to) = (from < most_replicas) × (place ≤ most_records) × (to < most_replicas)
+IsMove f (Carry from place to) = (from < most_replicas) × (place ≤ most_records f) × (to < most_replicas)
 IsMove f (Collect replica) = replica < most_replicas
 IsMove f (Settle replica) = replica < most_replicas
 IsMove f (Restart replica) = replica < most_replicas

@@ -30,7 +30,7 @@ with_log replica log w = record w { logs = slice_set w.logs replica log }
 
 -- A log takes the record: the program has no reason against it, the log has no such record yet, and it is not full.
 abbrev pub takes_in : Program → List Record → Record → Bool
-takes_in P log said = is_none (refusal_of P said) && (not (set_of log said) && nat_lt (length log) most_records)
+takes_in P log said = is_none (refusal_of P said) && (not (set_of log said) && nat_lt (length log) (most_records P.form))
 
 -- A record made at a replica is one of all that were made, and the last of the replica's log. Where there is no such replica,
 -- or its log does not take the record, nothing happens.

@@ -28,6 +28,8 @@ pub struct Recorder {
 }
 
 impl Model for Recorder {
+    ghost use Rattle.std.specs.Prelude.{length, ◌≤◌};
+    ghost use Rattle.warp_tag.specs.Limits.{most_records};
     ghost use Rattle.warp_replica.specs.Desk.{LocalState};
     ghost use Rattle.warp_replica.specs.Replica.{AreAllowed};
     ghost use Rattle.warp_world.specs.Recorded.{recorded_code};
@@ -38,7 +40,7 @@ impl Model for Recorder {
 
     ghost view = { λ r. record { program = r.program; records = r.table } };
 
-    ghost invariant = { λ r. AreAllowed r.program r.table };
+    ghost invariant = { λ r. AreAllowed r.program r.table × (length r.table ≤ most_records r.program.form) };
 }
 
 impl Recorder {
@@ -59,10 +61,10 @@ impl Recorder {
         &self.program
     }
 
-    /// How many records it took, 0 to 100,000.
+    /// How many records it took, at most as many as the program's form allows.
     pub fn len(&self) -> u32
         ensures value { result ≡ length self.now.records }
-        ensures bound { result ≤ most_records }
+        ensures bound { result ≤ most_records self.now.program.form }
     {
         self.table.len()
     }
@@ -90,7 +92,7 @@ impl Recorder {
         ensures reply { IsReply widest (told result) }
     {
         Table::check(&self.program, record)?;
-        if self.table.is_full() {
+        if self.table.is_full(self.program.form()) {
             return Took::known_or(&self.table, record, Refusal::LogFull);
         }
         origin_in_range(&self.program, record);

@@ -13,7 +13,7 @@ ghost use Rattle.warp_world.specs.declared.moves.Move.{Move};
 use crate::fault::ScheduleFault;
 use crate::moves::Move;
 use std::alloc::Global;
-use warp_record::{MAX_COUNT, is_keyword, read_record, read_u32, split_words};
+use warp_record::{is_keyword, read_record, read_u32, split_words};
 use warp_tag::Form;
 
 /// The most bytes of a schedule file.
@@ -106,7 +106,7 @@ fn read_carry(form: Form, words: &[&[u8]]) -> Option<Move>
         return None;
     };
     let from = read_replica(from)?;
-    let place = read_u32(place, MAX_COUNT)?;
+    let place = read_u32(place, form.most_records())?;
     let to = read_replica(to)?;
     Some(Move::Carry { from, place, to })
 }

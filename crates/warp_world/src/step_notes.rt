@@ -28,6 +28,14 @@ pub struct StepNotes<L: Ledger> {
     stood: Option<Tag>,
     /// How many of these steps are not after it.
     again: u64,
+    /// How many steps are noted now, those that are left out too.
+    steps: u64,
+    /// While the lines have so many bytes, steps are left out.
+    most: usize,
+    /// How many steps were left out.
+    left_out: u64,
+    /// Whether the step that is being made is left out.
+    is_left_out: bool,
     /// Whether a growth was refused.
     lacks: bool,
 }
@@ -44,11 +52,20 @@ impl<L: Ledger> Meter for StepNotes<L> {
         if is_through(self.stood, tag) {
             self.again = self.again.saturating_add(1);
         }
+        self.steps = self.steps.saturating_add(1);
+        self.is_left_out = self.lines.len() >= self.most;
+        if self.is_left_out {
+            self.left_out = self.left_out.saturating_add(1);
+            return;
+        }
         let noted = self.note_before(state, given);
         self.lacks |= noted.is_err();
     }
 
     fn look_after(&mut self, state: &State, outputs: &[Out]) {
+        if self.is_left_out {
+            return;
+        }
         let noted = self.note_after(state, outputs);
         self.lacks |= noted.is_err();
     }
@@ -68,6 +85,10 @@ impl<L: Ledger> StepNotes<L> {
             lines: Vec::new(alloc),
             stood: None,
             again: 0,
+            steps: 0,
+            most: usize::MAX,
+            left_out: 0,
+            is_left_out: false,
             lacks: false,
         }
     }
@@ -76,6 +97,27 @@ impl<L: Ledger> StepNotes<L> {
     pub fn begin(&mut self, stood: Option<Tag>) {
         self.stood = stood;
         self.again = 0;
+    }
+
+    /// The same, and lets go of what was noted. Once the next steps have lines of so many bytes, those behind them are
+    /// counted and left out.
+    pub fn begin_within(&mut self, stood: Option<Tag>, most: usize) {
+        self.begin(stood);
+        self.most = most;
+        self.steps = 0;
+        self.left_out = 0;
+        self.lacks = false;
+        self.lines.clear();
+    }
+
+    /// How many steps were made since `begin_within`, those that were left out too.
+    pub fn steps(&self) -> u64 {
+        self.steps
+    }
+
+    /// How many of them were left out.
+    pub fn left_out(&self) -> u64 {
+        self.left_out
     }
 
     /// Appends what was noted since the last call, after a line on the going back, where the run went back to `back`

@@ -11,13 +11,13 @@ ghost use Rattle.warp_table.specs.Records.{IsIn, set_of};
 ghost use Rattle.warp_world.specs.World.{log_of, world_after};
 ghost use Rattle.warp_world.specs.declared.moves.Move.{Move};
 
-/// In every world each log has each record once and at most 100,000, each of them one that was made; and the program
-/// takes each record that was made.
+/// In every world each log has each record once and at most as many as the program's form allows, each of them one
+/// that was made; and the program takes each record that was made.
 pub fn logs_are_made()
     ensures once { (P : Program) (count : ℕ) (moves : List Move) (replica : ℕ) (log : List Record) →
         log_of (world_after P count moves) replica ≡ Some log → EachOnce log }
     ensures few { (P : Program) (count : ℕ) (moves : List Move) (replica : ℕ) (log : List Record) →
-        log_of (world_after P count moves) replica ≡ Some log → length log ≤ most_records }
+        log_of (world_after P count moves) replica ≡ Some log → length log ≤ most_records P.form }
     ensures within { (P : Program) (count : ℕ) (moves : List Move) (replica : ℕ) (log : List Record) →
         log_of (world_after P count moves) replica ≡ Some log → IsWithin (set_of log) (world_after P count moves).made }
     ensures taken { (P : Program) (count : ℕ) (moves : List Move) (said : Record) →

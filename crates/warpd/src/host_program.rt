@@ -7,6 +7,7 @@ ghost use Rattle.warp_step.specs.Twice.{twice};
 ghost use Rattle.warpd.specs.Outcome.{IsFrontOf, IsNamed, IsNone, refused_outcome};
 
 use crate::file_bytes::{first_bytes, without_file};
+use crate::labelled::names_for_a_trace;
 use crate::outcome::Outcome;
 use crate::program_file::{ENOUGH, TWICE, built_in, refused};
 use crate::telling::{tell_file, tell_of_file};
@@ -17,6 +18,7 @@ use std::io::{Eprint, Read};
 use warp_prog::{LoadError, NamedProgram, explanation, fingerprint, load_named, names_line};
 use warp_step::Program;
 use warp_tag::Form;
+use warp_world::Labels;
 
 /// A program, the bytes of its file, and what is told of it.
 #[derive(Drop)]
@@ -27,6 +29,8 @@ pub(crate) struct HostedProgram {
     pub(crate) identity: Vec<u8>,
     pub(crate) names: Vec<u8>,
     pub(crate) names_json: Vec<u8>,
+    /// The names that steps are told by.
+    pub(crate) labels: Labels,
 }
 
 /// What is told of a program.
@@ -71,8 +75,10 @@ fn built_in_hosted(alloc: Global) -> Result<HostedProgram, Outcome>
     let Ok(named) = load_named(alloc, TWICE.as_bytes()) else {
         return Err(Outcome::Memory);
     };
-    match told_of(alloc, &named) {
-        Ok(told) => Ok(with_told(program, bytes, told)),
+    let told = told_of(alloc, &named);
+    let NamedProgram { labels, .. } = named;
+    match told {
+        Ok(told) => Ok(with_told(program, bytes, told, labels)),
         Err(_) => Err(Outcome::Memory),
     }
 }
@@ -138,15 +144,24 @@ fn with_file(alloc: Global, named: NamedProgram, bytes: Vec<u8>) -> Result<Hoste
     ensures err { IfErr result (λ outcome. outcome ≡ Outcome.Memory) }
 {
     let told = told_of(alloc, &named);
-    let NamedProgram { program, .. } = named;
+    let NamedProgram {
+        program,
+        labels,
+        ..
+    } = named;
     match told {
-        Ok(told) => Ok(with_told(program, bytes, told)),
+        Ok(told) => Ok(with_told(program, bytes, told, labels)),
         Err(_) => Err(Outcome::Memory),
     }
 }
 
-/// A program with the bytes of its file and what is told of it.
-fn with_told(program: Program, bytes: Vec<u8>, told: Told) -> HostedProgram
+/// A program with the bytes of its file, what is told of it, and the names of its parts.
+fn with_told(
+    program: Program,
+    bytes: Vec<u8>,
+    told: Told,
+    labels: warp_prog::Labels,
+) -> HostedProgram
     ensures { result.program ≡ program }
 {
     let Told {
@@ -160,6 +175,7 @@ fn with_told(program: Program, bytes: Vec<u8>, told: Told) -> HostedProgram
         identity,
         names,
         names_json,
+        labels: names_for_a_trace(labels),
     }
 }
 
@@ -197,6 +213,7 @@ pub(crate) fn version_of(form: Form) -> u32 {
     match form {
         Form::One => 1,
         Form::Two => 2,
+        Form::Three => 3,
     }
 }
 

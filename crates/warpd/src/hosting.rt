@@ -7,6 +7,7 @@ use crate::host_program::{HostedProgram, fingerprint_in, hosted_program, version
 use crate::host_words::{HostPlan, host_plan};
 use crate::outcome::{Outcome, outcome_of_hosting, outcome_of_journal};
 use crate::service::Host;
+use crate::stepping::{LastRow, Stepping};
 use crate::streams::Streams;
 use crate::telling::tell_listen;
 use arrayvec::ArrayString;
@@ -20,6 +21,7 @@ use warp_line::Timeline;
 use warp_replica::Replica;
 use warp_session::{Sink, Source, write_all};
 use warp_words::HostJob;
+use warp_world::Labels;
 
 /// The version that an operator is told: what `--version` prints.
 const VERSION: &str = "1.2.0";
@@ -29,6 +31,7 @@ const VERSION: &str = "1.2.0";
 struct Prepared<T: Timeline> {
     replica: Replica<T>,
     facts: Facts,
+    labels: Labels,
     options: Options,
     bytes: Vec<u8>,
     names_json: Vec<u8>,
@@ -39,7 +42,7 @@ struct Prepared<T: Timeline> {
 /// Hosts the program that the job names.
 pub(crate) fn host_job<
     P: Host + Net<Listener = net::TcpListener, Stream = net::TcpStream>,
-    T: Timeline + Send + Drop,
+    T: Stepping + Send + Drop,
     R: Source,
     W: Sink,
 >(rt: &P, alloc: Global, job: &HostJob<'_>, streams: &mut Streams<R, W>) -> Outcome
@@ -54,7 +57,7 @@ pub(crate) fn host_job<
 /// Hosts the program of this name, as the plan has it.
 fn host_named<
     P: Host + Net<Listener = net::TcpListener, Stream = net::TcpStream>,
-    T: Timeline + Send + Drop,
+    T: Stepping + Send + Drop,
     R: Source,
     W: Sink,
 >(rt: &P, alloc: Global, name: &str, plan: HostPlan, streams: &mut Streams<R, W>) -> Outcome
@@ -69,7 +72,7 @@ fn host_named<
 /// Hosts this program, as the plan has it.
 fn host_planned<
     P: Host + Net<Listener = net::TcpListener, Stream = net::TcpStream>,
-    T: Timeline + Send + Drop,
+    T: Stepping + Send + Drop,
     R: Source,
     W: Sink,
 >(
@@ -129,6 +132,7 @@ fn prepare<P: Host, T: Timeline>(
         identity,
         names,
         names_json,
+        labels,
     } = hosted;
     let peers = u32::try_from(plan.peers.len()).unwrap_or(u32::MAX);
     let most_clients = plan.clients.saturating_add(peers);
@@ -148,6 +152,7 @@ fn prepare<P: Host, T: Timeline>(
             most_clients,
             tokens,
         },
+        labels,
         bytes,
         names_json,
         address: plan.address,
@@ -204,7 +209,7 @@ fn say_host<R: Source, W: Sink>(
 /// Listens, says so, and hosts.
 fn host_at<
     P: Host + Net<Listener = net::TcpListener, Stream = net::TcpStream>,
-    T: Timeline + Send + Drop,
+    T: Stepping + Send + Drop,
     R: Source,
     W: Sink,
 >(rt: &P, alloc: Global, prepared: Prepared<T>, streams: &mut Streams<R, W>) -> Outcome
@@ -233,7 +238,7 @@ fn host_at<
 /// Hosts at this listener.
 fn host_on<
     P: Host + Net<Listener = net::TcpListener, Stream = net::TcpStream>,
-    T: Timeline + Send + Drop,
+    T: Stepping + Send + Drop,
 >(
     rt: &P,
     alloc: Global,
@@ -246,6 +251,7 @@ fn host_on<
     let Prepared {
         replica,
         facts,
+        labels,
         options,
         bytes,
         names_json,
@@ -260,7 +266,9 @@ fn host_on<
         names_json,
         names: Names::new(own, address.port(), origins),
     };
-    outcome_of_hosting(host::<P, T>(rt, alloc, replica, facts, served, listener, options))
+    outcome_of_hosting(host::<P, T, LastRow>(
+        rt, alloc, replica, facts, labels, served, listener, options,
+    ))
 }
 
 /// The address as a page names it: an IPv6 address stands in brackets.

@@ -98,6 +98,7 @@ fn form_of(first: &[u8]) -> Option<Form> {
     match rest.get(..2)? {
         b"1 " => Some(Form::One),
         b"2 " => Some(Form::Two),
+        b"3 " => Some(Form::Three),
         _ => None,
     }
 }

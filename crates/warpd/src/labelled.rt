@@ -90,7 +90,7 @@ fn bytes_labelled(alloc: Global, bytes: &[u8]) -> Result<Labelled, Outcome>
 }
 
 /// The names that a trace writes.
-fn names_for_a_trace(labels: warp_prog::Labels) -> Labels
+pub(crate) fn names_for_a_trace(labels: warp_prog::Labels) -> Labels
     ensures { result ≡ trace_names labels }
 {
     let warp_prog::Labels {

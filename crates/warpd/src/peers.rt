@@ -8,6 +8,7 @@ use std::io::{self, Eprint, ErrorKind};
 use std::net::{Net, SocketAddr, TcpListener, TcpStream, ToSocketAddrs};
 use std::time::{Clock, Duration};
 use warp_session::{Peer, PullEnd};
+use warp_tag::Form;
 
 /// So many replies in a row that a peer's log has no more end the pull from it.
 const QUIET: u32 = 500;
@@ -107,9 +108,9 @@ pub(crate) fn tell_failed<X: Eprint>(rt: &X, peer: u32) {
     let _ = eprintln!(rt; "peer {peer} failed");
 }
 
-/// Tells on standard error how the pull from this peer ended.
-pub(crate) fn tell_end<X: Eprint>(rt: &X, peer: u32, end: PullEnd) {
-    let told = words_for(end);
+/// Tells on standard error how the pull from this peer ended, for a program of this form.
+pub(crate) fn tell_end<X: Eprint>(rt: &X, peer: u32, end: PullEnd, form: Form) {
+    let told = words_for(end, form);
     let _ = match end {
         PullEnd::Held(refusal) => eprintln!(rt;
             "peer {peer}: {told} (refused {})",
@@ -119,14 +120,17 @@ pub(crate) fn tell_end<X: Eprint>(rt: &X, peer: u32, end: PullEnd) {
     };
 }
 
-/// How a pull ended, in words.
-fn words_for(end: PullEnd) -> &'static str {
+/// How a pull for a program of this form ended, in words.
+fn words_for(end: PullEnd, form: Form) -> &'static str {
     match end {
         PullEnd::Quiet => "it had nothing new for 500 times in a row",
         PullEnd::Strange => "it sent what answers no question of a pull",
         PullEnd::Held(_) => "a record of its log does not come in here",
         PullEnd::Fault => "its connection failed, or it was silent for too long",
         PullEnd::End => "it closed its connection",
+        PullEnd::TooManyTurns if form == Form::Three => {
+            "100,000,000 questions and reads came to no end"
+        }
         PullEnd::TooManyTurns => "1,000,000 questions and reads came to no end",
         PullEnd::NoMemory => "there was no memory to begin",
     }

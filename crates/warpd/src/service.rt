@@ -19,6 +19,7 @@ use warp_lanes::Engine;
 use warp_line::Timeline;
 use warp_session::{Door, DoorFault, Open, Peer, PullEnd, ServeFault, serve_sessions};
 use warp_step::Program;
+use warp_tag::Form;
 
 /// The most sessions and peers together.
 const MOST_LANES: usize = 16;
@@ -84,6 +85,8 @@ struct Entrance<'a, X: Eprint + Clock> {
     rt: &'a X,
     listener: TcpListener,
     tells_pulls: bool,
+    /// The form of the program.
+    form: Form,
 }
 
 impl<'a, X: Eprint + Clock> Door for Entrance<'a, X> {
@@ -107,7 +110,7 @@ impl<'a, X: Eprint + Clock> Door for Entrance<'a, X> {
             tell_failed(self.rt, peer);
         }
         if self.tells_pulls {
-            tell_end(self.rt, peer, end);
+            tell_end(self.rt, peer, end, self.form);
         }
     }
 }
@@ -192,6 +195,7 @@ fn serve_with<X: Host, T: Timeline + Send + Drop>(
         rt,
         listener,
         tells_pulls: service.tells_pulls,
+        form: program.form(),
     };
     serve_sessions(
         rt,

@@ -6,6 +6,7 @@ ghost use Rattle.warpd.specs.Outcome.{failures_with};
 use std::alloc::Global;
 use std::marker::Brand;
 use std::sync::ledger::{Blank, Ledger};
+use warp_host::Progress;
 use warp_line::Timeline;
 use warp_replica::Replica;
 use warp_run::Warp;
@@ -21,6 +22,15 @@ pub(crate) trait Stepping: Timeline {
 impl Stepping for Warp {
     fn last_done(&self) -> Option<Tag> {
         self.last()
+    }
+}
+
+/// Tells how far a timeline is done whose steps can be printed.
+pub(crate) struct LastRow;
+
+impl<T: Stepping> Progress<T> for LastRow {
+    fn last_done(timeline: &T) -> Option<Tag> {
+        timeline.last_done()
     }
 }
 

@@ -154,7 +154,7 @@ class Main:
         delay = None
         if it.after:
             value = self.program.constant(self.main.scope, it.after, self.constants)
-            delay = ranged(self.report, value, 0, self.program.limits.delay, it.after.at, "the delay")
+            delay = self.program.ranged(self.report, value, "delay", it.after.at, "the delay")
         sources = [self._port(place, Kind.OUTPUT) for place in it.sources]
         targets = [self._port(place, Kind.INPUT) for place in it.targets]
         if not it.is_broadcast and len(sources) != len(targets):

@@ -38,8 +38,10 @@ class Head:
         if "stop" not in self.found and self.report.errors == before:
             hint = "write `target warpd { stop: 100 }`: the last time that is executed"
             self.report.error(self.file.at, "the program has no stop", hint)
-        program.version = self._number("version", 2, 1, 2)
-        program.stop = self._number("stop", 0, 0, program.limits.stop)
+        program.version = self._number("version", 2, 1, 3)
+        if "stop" in self.found:
+            it = self.found["stop"].value
+            program.stop = program.ranged(self.report, self._value(it), "stop", it.at, "`stop`")
         program.origins = self._number("origins", 0, 1, program.limits.origins)
 
     def _property(self, it: tree.Property) -> None:
@@ -62,8 +64,10 @@ class Head:
         it = self.found.get(name)
         if not it:
             return default
-        value = self.program.constant(Scope(self.report, self.program.unit), it.value, {})
-        return ranged(self.report, value, least, most, it.value.at, f"`{name}`")
+        return ranged(self.report, self._value(it.value), least, most, it.value.at, f"`{name}`")
+
+    def _value(self, it: tree.Expression) -> Optional[int]:
+        return self.program.constant(Scope(self.report, self.program.unit), it, {})
 
     def _constants(self) -> None:
         scope, constants = Scope(self.report, self.program.unit), self.program.constants

@@ -9,7 +9,7 @@ from typing import Optional
 from . import tree
 from .faults import Report, listed
 from .lowering import Body
-from .model import Instance, Program, ranged
+from .model import Instance, Program
 from .scope import count_of
 from .tree import At
 from .values import depth, depth_of_list, schedules
@@ -56,7 +56,7 @@ class Writer:
         return times + [0] * (len(meanings) - len(times))
 
     def _time(self, value: int, at: At, what: str) -> int:
-        return ranged(self.report, value, 0, self.program.limits.delay, at, what)
+        return self.program.ranged(self.report, value, "delay", at, what)
 
     def _variable(self, number: int) -> str:
         """The name of the compiler's variable with this number: one that the reactor has not."""

@@ -21,7 +21,11 @@ class Limits(NamedTuple):
     origins: int
 
 
-LIMITS = {1: Limits(1_000_000, 1_000_000, 32), 2: Limits(10_000_000, 10_000_000, 64)}
+LIMITS = {
+    1: Limits(1_000_000, 1_000_000, 32),
+    2: Limits(10_000_000, 10_000_000, 64),
+    3: Limits(15_624_999, 15_624_999, 64),
+}
 
 
 @dataclass
@@ -107,6 +111,13 @@ class Program:
     def limits(self) -> Limits:
         return LIMITS[self.version]
 
+    def ranged(self, report: Report, value: Optional[int], limit: str, at: At, what: str) -> int:
+        """The value of a time, 0 to this limit of the version; where it is more, a later version that takes it is told."""
+        later = [it for it in LIMITS if it > self.version and value is not None and value <= getattr(LIMITS[it], limit)]
+        hint = f"in version {later[0]} it may be: " if later else ""
+        hint += "" if not later else "leave `version: 1` out" if later[0] == 2 else f"write `target warpd {{ version: {later[0]}, .. }}`"
+        return ranged(report, value, 0, getattr(self.limits, limit), at, what, hint if later and value > 0 else "")
+
     def lowered(self, it: tree.Expression, names: dict[str, int]) -> int:
         """The value of a constant that was checked."""
         return lowered(it, names, self.unit or 1)
@@ -138,9 +149,11 @@ class Program:
         }
 
 
-def ranged(report: Report, value: Optional[int], least: int, most: int, at: At, what: str) -> int:
+def ranged(
+    report: Report, value: Optional[int], least: int, most: int, at: At, what: str, hint: str = ""
+) -> int:
     """The value, or the least one where it is out of range, which is told."""
     if value is None or least <= value <= most:
         return least if value is None else value
-    report.error(at, f"{what} is {value}: {least} to {most} is allowed")
+    report.error(at, f"{what} is {value}: {least} to {most} is allowed", hint)
     return least

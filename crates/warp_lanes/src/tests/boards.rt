@@ -1,6 +1,6 @@
 //! An engine's board: what is released is published, as far as there is room, until a late record freezes it.
 ghost use Rattle.std.specs.Prelude.{◌≡◌, ◌≤◌, false, length};
-ghost use Rattle.warp_tag.specs.Limits.{most_rows};
+ghost use Rattle.warp_tag.specs.Limits.{most_rows, widest};
 
 use crate::tests::steps::{announcement, at, end, engine, engine_of_one, event, same, told};
 use crate::{Engine, Port, Published, may_be_sent};
@@ -145,7 +145,7 @@ fn publish_and_freeze<T: Timeline>(
 /// The same on a new board with room for so many rows.
 fn publish_on<T: Timeline + Drop>(rt: &impl Abort, alloc: Global, room: usize, counts: (u32, usize))
     requires least { 1 ≤ room }
-    requires most { room ≤ most_rows }
+    requires most { room ≤ most_rows widest }
 {
     let (board, writer, mut reader) = board(alloc, room).expect(rt, "memory");
     let (mut engine, mut port) = engine_of_one::<T>(rt, alloc, writer);

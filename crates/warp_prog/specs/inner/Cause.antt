@@ -1,20 +1,21 @@
 -- What a file that was read is refused for, and what of it is known before its reactions are ordered: for the proof of
 -- loading alone.
-use Rattle.std.specs.Prelude.{◌≡◌, pos, false, Some}
+use Rattle.std.specs.Prelude.{◌≡◌, ◌⊎◌, pos, false, Some}
 use Rattle.warp_prog.specs.File.{File}
 use Rattle.warp_prog.specs.Refusal.{number_of}
-use Rattle.warp_prog.specs.Limits.{first_version, last_version, exceeds_limits}
+use Rattle.warp_prog.specs.Limits.{first_version, second_version, last_version, exceeds_limits}
 use Rattle.warp_prog.specs.Names.{names_unknown}
 use Rattle.warp_prog.specs.Twice.{names_twice}
 use Rattle.warp_prog.specs.Load.{IsFirst}
 use Rattle.warp_prog.specs.declared.error.LoadError.{LoadError}
 use Rattle.warp_prog.specs.declared.error.LoadError.TheVariants.{Backward, Causality, Memory}
 
--- it has this fault first, and is of the version that has it; or memory was wanting
+-- it has this fault first, and is of a version that has it; or memory was wanting
 abbrev pub IsCause : File → LoadError → Type 0
 IsCause f Memory = Unit {0}
 IsCause f Backward = IsFirst (Some f) (number_of Backward) × (f.version ≡ pos first_version)
-IsCause f Causality = IsFirst (Some f) (number_of Causality) × (f.version ≡ pos last_version)
+IsCause f Causality =
+    IsFirst (Some f) (number_of Causality) × ((f.version ≡ pos second_version) ⊎ (f.version ≡ pos last_version))
 IsCause f e = IsFirst (Some f) (number_of e)
 
 -- it has none of the faults 3 to 5

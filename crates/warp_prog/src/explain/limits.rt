@@ -2,6 +2,7 @@
 ghost use Rattle.std.specs.Prelude.{◌≡◌, true};
 
 pub(crate) mod body;
+pub(crate) mod timers;
 
 use crate::explain::reason::Reason;
 use crate::explain::trail::{Segment, Trail};

@@ -20,8 +20,8 @@ warning: startup and timers may make more than 1,000,000 outputs, which the firs
 const ROUND: &str = "\
 warning: one time may have a row at each microstep: actions or links lead round without delay\n";
 
-/// How many outputs a program puts at most in the rows that it makes by itself, 0 to 640,000,064: as many in each as
-/// it has.
+/// How many outputs a program puts at most in the rows that it makes by itself: as many in each as it has. By its form
+/// these are at most 64,000,064, 640,000,064 or 1,000,000,000.
 #[tactic(auto, using(crate::proofs::OwnLemmas::few_outputs))]
 pub(crate) fn own_outputs(program: &Program) -> u64
     ensures { result ≡ own_outputs program.now }

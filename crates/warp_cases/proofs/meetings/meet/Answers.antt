@@ -1,5 +1,6 @@
 -- Merging joins the sets, and then both have all records of both.
 use Rattle.std.proofs.Common.{◌≡◌, ℕ, Bool, true, false, ◌||◌, List, Result, Ok, refl, sym, ap, subst, ◌∙◌}
+use Rattle.warp_tag.specs.declared.form.Form.{Form}
 use Rattle.warp_record.specs.declared.record.Record.{Record}
 use Rattle.warp_record.specs.declared.reply.Refusal.{Refusal}
 use Rattle.warp_table.specs.Records.{set_of, union}
@@ -14,10 +15,10 @@ again false true = refl
 again false false = refl
 
 -- a log that merged another one has the records of both
-joined : (a b after : List Record) (r : Result ℕ (ℕ × Refusal)) (count : ℕ) → r ≡ Ok count → Merges a b r after
-    → set_of after ≡ union (set_of a) (set_of b)
-joined a b after r count is h =
-    let merges = subst (λ (o : Result ℕ (ℕ × Refusal)). Merges a b o after) is h in ap set_of merges.1 ∙ merged_set a b
+joined : (f : Form) (a b after : List Record) (r : Result ℕ (ℕ × Refusal)) (count : ℕ) → r ≡ Ok count
+    → Merges f a b r after → set_of after ≡ union (set_of a) (set_of b)
+joined f a b after r count is h =
+    let merges = subst (λ (o : Result ℕ (ℕ × Refusal)). Merges f a b o after) is h in ap set_of merges.1 ∙ merged_set a b
 
 pub returns-clause-records : goal.returns-clause-records
 returns-clause-records g c =
@@ -25,8 +26,8 @@ returns-clause-records g c =
     let other = c.args.other.now.records in
     let first = c.merge.new.self.records in
     let second = c.merge-2.new.self.records in
-    let has = joined one other first c.merge.result c.in-Ok._count c.in-Ok.is c.merge.ensures.merges in
-    let also = joined other first second c.merge-2.result c.in-Ok-merge._more c.in-Ok-merge.is c.merge-2.ensures.merges in
+    let has = joined _ one other first c.merge.result c.in-Ok._count c.in-Ok.is c.merge.ensures.merges in
+    let also = joined _ other first second c.merge-2.result c.in-Ok-merge._more c.in-Ok-merge.is c.merge-2.ensures.merges in
     let all : union (set_of one) (set_of other) ≡ union (set_of other) (union (set_of one) (set_of other)) =
     λ i said. again (set_of one said) (set_of other said) i in
     ap set_of c.settle_uncounted.ensures.records ∙ has ∙ all ∙ ap (union (set_of other)) (sym has) ∙ sym also

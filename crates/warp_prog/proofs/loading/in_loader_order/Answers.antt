@@ -4,7 +4,7 @@ use Rattle.std.proofs.lemmas.List.{length-map}
 use Rattle.warp_step.specs.Program.{rule_of}
 use Rattle.warp_step.specs.View.{program_of}
 use Rattle.warp_prog.specs.View.{file_tree}
-use Rattle.warp_prog.proofs.CauseLemmas.{few_parts, last_version-is, second_lacks, order_first}
+use Rattle.warp_prog.proofs.CauseLemmas.{few_parts, later_version-is, second_lacks, order_first}
 use Rattle.warp_prog.proofs.loading.in_loader_order.Goals as goal
 
 pub loader_order-requires : goal.loader_order-requires
@@ -23,7 +23,7 @@ returns-then-len-clause-err c =
     lt-ltb (length o.items) (length P.reactions)
     (omega (arith, c.if-len.true, c.len.ensures, c.len-2.ensures, o.ok.0, c.in-Ok.parts.reactions.ok.0, size)) in
     let lacks = second_lacks f P o.items (length P.reactions) c.in-Ok.ensures c.requires.version c.in-Ok-loader_order.ensures refl ∙ short in
-    (order_first f c.requires.named lacks, last_version-is f c.requires.named.limits c.requires.version)
+    (order_first f c.requires.named lacks, later_version-is f c.requires.named.limits c.requires.version)
 
 pub returns-clause-order : goal.returns-clause-order
 returns-clause-order c =

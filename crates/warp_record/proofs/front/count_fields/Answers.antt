@@ -1,5 +1,5 @@
 use Rattle.std.proofs.Common.{◌≡◌, ◌+◌, ◌∷◌, ◌++◌, List, ℕ, drop, decimal, sym, ap, ◌∙◌, arith}
-use Rattle.warp_record.proofs.FrontLines.{byte_more, space_more}
+use Rattle.warp_record.proofs.FrontLines.{byte_more, small_count, space_more}
 use Rattle.warp_record.proofs.front.count_fields.Goals as goal
 
 pub returns : goal.returns
@@ -18,7 +18,7 @@ returns c =
     let ends = gone.ensures.1 ∙ ap (λ (l : List ℕ). 32 ∷ decimal gone.gone ++ l) feed in
     let counts = space ∙ ap (λ (l : List ℕ). 32 ∷ l) (some.ensures.2 ∙ ap (λ (l : List ℕ). decimal some.some ++ l) ends) in (
       omega (arith, events.0, events.1),
-      omega (arith, withdrawn.0, withdrawn.1),
+      omega (arith, withdrawn.1, small_count c.args.form gone.gone gone.ensures.0),
       omega (arith, some.ensures.1),
       counts ∙ ap (λ (n : ℕ). 32 ∷ decimal n ++ (32 ∷ decimal gone.gone ++ rest)) (sym events.1)
           ∙ ap (λ (n : ℕ). 32 ∷ decimal c.in_ok-events.events ++ (32 ∷ decimal n ++ rest)) (sym withdrawn.1),

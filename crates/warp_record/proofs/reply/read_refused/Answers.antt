@@ -1,4 +1,5 @@
 use Rattle.std.proofs.Common.{◌∙◌, sym}
+use Rattle.warp_tag.specs.Limits.{widest}
 use Rattle.warp_record.proofs.ReplyLemmas.{refused_words, same_number}
 use Rattle.warp_record.proofs.reply.read_refused.Goals as goal
 
@@ -15,4 +16,4 @@ returns-in_err-refusal-clause-none c = λ f.
     (λ reply fits are.
     let told = refused_words f c.args.number.now reply fits are in
     let read = c.in_ok-number.ensures.found in
-    c.in_err-refusal.ensures.none told.0 (same_number _ _ told.1 read.0 (sym told.2 ∙ read.1)))
+    c.in_err-refusal.ensures.none told.0 (same_number widest _ _ told.1 read.0 (sym told.2 ∙ read.1)))

@@ -14,7 +14,7 @@ returns-in_err-log-clause-none c =
     (λ reply fits are.
     let told = log_words c.args.form (texts c.args.words.now) reply fits are in
     let same = sym (first_text c.args.words.now c.in-len1-up.len_at_least) ∙ told.4 in
-    c.in_err-log.ensures.none told.0 told.2 (ap (λ (ws : List (List ℕ)). get_or ws 0 []) same))
+    c.in_err-log.ensures.none told.0 (omega (arith, told.2, c.most_records.ensures)) (ap (λ (ws : List (List ℕ)). get_or ws 0 []) same))
 
 pub returns-in_err-record-clause-none : goal.returns-in_err-record-clause-none
 returns-in_err-record-clause-none c =

@@ -1,13 +1,12 @@
-use Rattle.std.specs.Vec.{vec_capacity}
 use Rattle.std.proofs.Common.{◌≡◌, map, ℕ, ◌+◌, ◌-◌, ◌<◌, get_or, arith, sym, ap, ◌∙◌, subst, length, List, set, drop}
 use Rattle.std.proofs.lemmas.List.{with_items_is}
 use Rattle.warp_tag.specs.declared.entry.Entry.{Entry}
 use Rattle.warp_arena.specs.declared.node.Node.{Node}
-use Rattle.warp_arena.specs.Places.{Place, Contents, Room}
+use Rattle.warp_arena.specs.Places.{Place, Contents}
 use Rattle.warp_arena.specs.Changes.{Unthreaded, CanUnthread}
 use Rattle.warp_arena.specs.Shape.{AreHints, AreUsed, IsHinted, entry_at, place_at, threads_of, contents_of, next_in, by_tag, of_origin}
 use Rattle.warp_arena.proofs.Removed.{leaving_of, unthreadable, first_declared, first_read, whole_removed, contents_removed}
-use Rattle.warp_arena.proofs.Hinted.{hints_below, used_left}
+use Rattle.warp_arena.proofs.Hinted.{used_left}
 use Rattle.warp_arena.proofs.Walks.{room_of, threads}
 use Rattle.warp_arena.proofs.arena.Arena.free_first.Goals as goal
 
@@ -56,21 +55,15 @@ invariant_of-self c =
     let contents = contents_removed a l c.unthread_node.new.nodes c.index-2.result.now c.unthread_node.new.ends c.unthread_node.new.own_ends o c.touched_without.result r.is_own r.own_is c.touched_without.ensures change in
     let place : ℕ → Place = place_at (threads a).entry in
     let entry' : ℕ → Entry = entry_at c.unthread_node.new.nodes in
-    subst (λ ns. IsHinted (threads_of ns own c.unthread_node.new.ends a.ends.next) (a.used - 1) c.forget_hint.new.hints.items c.forget_own_hint.new.hints.items) (sym items) (record {
+    subst (λ ns. IsHinted (threads_of ns own c.unthread_node.new.ends a.ends.next) (a.used - 1) a.hints.items a.own_hints.items) (sym items) (record {
       whole = whole;
       used =
           subst (AreUsed entry') (sym (ap (λ v. v.places) contents ∙ ap (λ is. drop 1 (map place is)) l.parts))
           (used_left (threads a).entry entry' (place a.ends.next) (map place l.rest) change.here change.entries
           (subst (AreUsed (threads a).entry) (ap (map place) l.parts) c.self.invariant.used));
-      hinted = subst (λ n. AreHints n c.forget_hint.new.hints.items) (sym change.len) (c.forget_hint.ensures.below (length a.nodes.items) c.self.invariant.hinted);
-      own_hinted = subst (λ n. AreHints n c.forget_own_hint.new.hints.items) (sym change.len) (c.forget_own_hint.ensures.below (length a.nodes.items) c.self.invariant.own_hinted);
+      hinted = subst (λ n. AreHints n a.hints.items) (sym change.len) c.self.invariant.hinted;
+      own_hinted = subst (λ n. AreHints n a.own_hints.items) (sym change.len) c.self.invariant.own_hinted;
     })
-
-pub forget_own_hint-requires : goal.forget_own_hint-requires
-forget_own_hint-requires c =
-    let a = c.self.inside in
-    subst (λ ns. (k d : ℕ) → k < length a.own_hints.items → get_or a.own_hints.items k d < length ns) (sym c.deref.ensures.value)
-    (hints_below (length a.nodes.items) a.own_hints.items c.self.invariant.own_hinted)
 
 pub returns : goal.returns
 returns c =
@@ -81,9 +74,6 @@ returns c =
     let change = subst (λ ns. Unthreaded ns c.unthread_node.new.nodes a.ends c.unthread_node.new.ends c.index-2.result.now.ends c.unthread_node.new.own_ends a.ends.next a.free)
     c.deref_mut.ensures.value c.unthread_node.ensures in
     let items = with_items_is a.nodes c.unthread_node.new.nodes (omega (arith, change.len, a.nodes.ok.0)) in
-    let room : Room = record { nodes = vec_capacity a.nodes; hints = vec_capacity c.forget_hint.new.hints; own_hints = vec_capacity c.forget_own_hint.new.hints } in
-    let same : room ≡ room_of a = λ i. record { nodes = vec_capacity a.nodes; hints = c.forget_hint.ensures.room i; own_hints = c.forget_own_hint.ensures.room i } in
-    ap (λ ns. contents_of (threads_of ns (set a.by_origin.items o (record { ends = c.unthread_node.new.own_ends; touched = c.touched_without.result })) c.unthread_node.new.ends a.ends.next) (a.used - 1) room) items
-    ∙ ap (λ r. contents_of (threads_of c.unthread_node.new.nodes (set a.by_origin.items o (record { ends = c.unthread_node.new.own_ends; touched = c.touched_without.result })) c.unthread_node.new.ends a.ends.next) (a.used - 1) r) same
+    ap (λ ns. contents_of (threads_of ns (set a.by_origin.items o (record { ends = c.unthread_node.new.own_ends; touched = c.touched_without.result })) c.unthread_node.new.ends a.ends.next) (a.used - 1) (room_of a)) items
     ∙ contents_removed a l c.unthread_node.new.nodes c.index-2.result.now c.unthread_node.new.ends c.unthread_node.new.own_ends o c.touched_without.result r.is_own r.own_is c.touched_without.ensures change
     ∙ ap (λ v. let w : Contents = record { origins = v.origins; places = drop 1 v.places; free = v.free + 1; room = v.room } in w) c.self.view_is

@@ -1,6 +1,7 @@
-use Rattle.std.proofs.Common.{◌≡◌, ◌-◌, false, List, None, refl, sym, ap, subst, ◌∙◌, length, arith, rules}
+use Rattle.std.proofs.Common.{◌≡◌, ◌<◌, ◌-◌, false, List, None, refl, sym, ap, subst, ◌∙◌, length, arith, rules}
 use Rattle.std.proofs.lemmas.Option.{slice_get_within}
 use Rattle.std.proofs.lemmas.List.Elements.{All-push}
+use Rattle.warp_tag.specs.Limits.{most_records}
 use Rattle.warp_tag.specs.Table.{live}
 use Rattle.warp_step.specs.Run.{Row}
 use Rattle.warp_record.specs.declared.record.Record.{Record}
@@ -12,6 +13,7 @@ use Rattle.warp_table.proofs.Sizes.{length-table_of, table_more}
 use Rattle.warp_replica.specs.Replica.{AreAllowed, ReplicaState, standing_of, Stands}
 use Rattle.warp_replica.specs.Floor.{comes_behind}
 use Rattle.warp_replica.specs.Gives.{tag_of}
+use Rattle.warp_replica.proofs.Rooms.{grown, room_widens}
 use Rattle.warp_replica.proofs.Standings.{with_more}
 use Rattle.warp_replica.proofs.replica.Replica.add.Goals as goal
 
@@ -29,13 +31,15 @@ returns-in_err-added g c = search rules
 pub prepare-requires : goal.prepare-requires
 prepare-requires g c =
     let few = length-table_of c.self.inside.table in
-    (_, c.self.invariant.1.1, omega (arith, few, ap (λ r. length r.records) c.self.view_is, c.requires.room))
+    let room = room_widens c.args.self.now.program.form _ c.requires.room in
+    (_, c.self.invariant.1.1, omega (arith, few, ap (λ r. length r.records) c.self.view_is, room))
 
 pub returns-then-not-added-clause-reply : goal.returns-then-not-added-clause-reply
 returns-then-not-added-clause-reply g c =
     let at = (c.in_ok-added.ensures.known (not_true c.in_ok-added.added.is_new c.if-not-added.true)).0 in
     let within = slice_get_within c.self.inside.table (c.in_ok-added.added.place - 1) c.args.record.now at.1 in
-    (at.0, omega (arith, within, c.requires.room, ap (λ r. length r.records) c.self.view_is))
+    let room = room_widens c.args.self.now.program.form _ c.requires.room in
+    (at.0, omega (arith, within, room, ap (λ r. length r.records) c.self.view_is))
 
 pub returns-clause-new : goal.returns-clause-new
 returns-clause-new g c came ahead done stood =
@@ -74,13 +78,14 @@ invariant_of-self-2 g c =
     let P = c.self.inside.program in
     let fits = subst (λ r. refusal_of r.program said ≡ None) (sym is) c.requires.allowed in
     let allowed = All-push
-    (λ (one : Record). refusal_of P one ≡ None) c.self.inside.table said c.self.invariant.0 fits in
+    (λ (one : Record). refusal_of P one ≡ None) c.self.inside.table said c.self.invariant.0.0 fits in
+    let room = subst (λ r. length r.records < most_records r.program.form) (sym is) c.requires.room in
+    let added = (c.in_ok-added.ensures.new (not_false c.in_ok-added.added.is_new c.if-not-added.false)).2 in
     let done = c.self.invariant.1.0 in
     let ahead = subst (λ r. comes_behind (g.T.Timeline.floor r.timeline) said ≡ false) is
     (sym c.comes_behind.ensures ∙ c.if-comes_behind.false) in
     let more = returns-clause-new g c refl ahead done
     (subst (λ r. Stands g.T.Timeline.stands_for r done) is c.self.invariant.1.1) in (
-      subst (AreAllowed P)
-          (sym (c.in_ok-added.ensures.new (not_false c.in_ok-added.added.is_new c.if-not-added.false)).2) allowed,
+      (subst (AreAllowed P) (sym added) allowed, grown P.form c.self.inside.table c.add.new.self said added room),
       (more.0, more.1),
     )

@@ -1,9 +1,12 @@
-use Rattle.std.proofs.Common.{◌≡◌, ◌+◌, None, Ok, Err, sym, subst, ◌∙◌, arith}
+use Rattle.std.proofs.Common.{◌≡◌, ◌+◌, None, Ok, Err, sym, ap, subst, ◌∙◌, arith}
 use Rattle.std.proofs.lemmas.Option.{slice_get_within}
+use Rattle.warp_tag.specs.declared.form.Form.{Form}
+use Rattle.warp_step.specs.Program.{Program}
 use Rattle.warp_table.specs.Check.{refusal_of}
 use Rattle.warp_table.specs.Log.{IsAt}
 use Rattle.warp_replica.proofs.Answering.{allowed_at}
 use Rattle.warp_replica.specs.Chain.{Taking, TakesIn}
+use Rattle.warp_replica.specs.Merge.{Merges}
 use Rattle.warp_replica.proofs.MergeChains.{goes, stopped, taken}
 use Rattle.warp_replica.proofs.MergeProgress.{at_next, at_end, ends, goes_on, stops}
 use Rattle.warp_replica.proofs.replica.Replica.merge.Goals as goal
@@ -18,8 +21,9 @@ returns-in-Err-clause-merges g c =
     let same : c.args.other.now.program ≡ P = sym c.requires ∙ sym c.loop-record.invariant.far.program in
     let fits = subst (λ p. refusal_of p said ≡ None) same
     (allowed_at c.args.other.now.program theirs c.valid.ensures.allowed i said at) in
-    stops g.T.Timeline.stands_for g.T.Timeline.settled c.args.self.now c.loop-record.self c.take.new.self theirs i said c.loop-record.invariant.far c.valid.ensures.once at
-    c.take.ensures.program P c.in-Err.refusal c.in-Err.ensures.takes fits
+    subst (λ (f : Form). Merges f c.args.self.now.records theirs (Err (i, c.in-Err.refusal)) c.take.new.self.records) (ap (λ (p : Program). p.form) c.loop-record.invariant.far.program)
+    (stops g.T.Timeline.stands_for g.T.Timeline.settled c.args.self.now c.loop-record.self c.take.new.self theirs i said c.loop-record.invariant.far c.valid.ensures.once at
+    c.take.ensures.program P c.in-Err.refusal c.in-Err.ensures.takes fits)
 
 pub returns-in-Err-clause-chain : goal.returns-in-Err-clause-chain
 returns-in-Err-clause-chain g c =
@@ -65,4 +69,4 @@ returns-clause-merges g c =
     let i = c.loop-record.count in
     let all = at_end theirs i
     (subst (λ r. (said : _) → ¬ IsAt r.records (i + 1) said) c.other.view_is c.in_default.ensures.none) in
-    ends g.T.Timeline.stands_for g.T.Timeline.settled c.args.self.now c.loop-record.self theirs i c.loop-record.invariant.far all
+    ends g.T.Timeline.stands_for g.T.Timeline.settled c.args.self.now.program.form c.args.self.now c.loop-record.self theirs i c.loop-record.invariant.far all

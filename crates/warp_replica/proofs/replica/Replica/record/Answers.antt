@@ -12,7 +12,7 @@ use Rattle.warp_replica.proofs.replica.Replica.record.Goals as goal
 pub record_in_range-requires : goal.record_in_range-requires
 record_in_range-requires g c =
     let r = c.self.inside in
-    allowed_at r.program r.table c.self.invariant.0 (c.args.place - 1) c.in-Some.record c.in-Some.ensures.found.1
+    allowed_at r.program r.table c.self.invariant.0.0 (c.args.place - 1) c.in-Some.record c.in-Some.ensures.found.1
 
 pub returns-in-Some-clause-gives : goal.returns-in-Some-clause-gives
 returns-in-Some-clause-gives g c =

@@ -3,7 +3,7 @@ use Rattle.std.proofs.Common.{refl, ◌∙◌, arith}
 use Rattle.std.proofs.lemmas.Option.{slice_get_within}
 use Rattle.warp_replica.proofs.Answering.{allowed_at}
 use Rattle.warp_replica.proofs.MergeProgress.{at_next, at_end}
-use Rattle.warp_replica.proofs.RaisedRecords.{all_first, fits_raised, first_of_none, floor_stays, no_memory, one_more}
+use Rattle.warp_replica.proofs.RaisedRecords.{all_first, fits_raised, first_of_none, floor_stays, no_memory, one_more, room_raised}
 use Rattle.warp_replica.proofs.replica.Replica.take_all.Goals as goal
 
 pub loop-record-init : goal.loop-record-init
@@ -26,9 +26,11 @@ returns-in-Err-clause-refusal g c =
     let i = c.loop-record.count in
     let at = at_next theirs i said c.in-Some.ensures.found in
     let allowed = allowed_at c.args.other.now.program theirs c.valid.ensures.allowed i said at in
-    let fits = fits_raised c.args.other.now.program c.loop-record.self.program said (c.loop-record.invariant.program ∙ c.requires.program) allowed in
+    let same = c.loop-record.invariant.program ∙ c.requires.program in
+    let fits = fits_raised c.args.form c.args.other.now.program c.loop-record.self.program said same allowed in
+    let few = room_raised c.args.form c.args.other.now.program c.loop-record.self.program theirs same c.valid.ensures.bound in
     no_memory c.loop-record.self.program theirs c.loop-record.self.records c.take.new.self.records i said c.loop-record.invariant.first
-    c.valid.ensures.once c.valid.ensures.bound at fits c.in-Err.refusal c.in-Err.ensures.takes
+    c.valid.ensures.once few at fits c.in-Err.refusal c.in-Err.ensures.takes
 
 pub loop-record-smaller : goal.loop-record-smaller
 loop-record-smaller g c =

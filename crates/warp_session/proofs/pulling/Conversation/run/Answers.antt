@@ -40,7 +40,7 @@ returns-in-Err-clause-pulls g c =
       has_asked c.args.form _ _ _ _ was.heard (pend ++ e.front.0) _ c.in-Err.end place 1 talked e.front.1,
       (
         was.count + waiting c.turns.self.waits,
-        turns_cut c.in-Err.end ((length was.heard + 1) + (was.count + waiting c.turns.self.waits)) e.cut.0 (omega arith)
+        turns_cut c.args.form c.in-Err.end ((length was.heard + 1) + (was.count + waiting c.turns.self.waits)) e.cut.0 (omega arith)
             (omega (arith, was.turns, c.turns-test.true)),
         c.turn.ensures.reads ∙ ap (reads_more (waiting c.turns.self.waits)) was.counted ∙ reads_more-add was.count (waiting c.turns.self.waits) _,
       ),
@@ -131,7 +131,7 @@ returns-in-Some-end_of-clause-pulls g c =
           (none_pending c.in-Ok.fed c.in-Some.fed c.hear-pulled.new.self.waits next c.in-Some.is (h.others.1 ∙ c.in-Ok.ensures.waits))),
       (
         was.count + waiting c.turns.self.waits,
-        turns_behind c.args.quiet c.hear-pulled.new.self.levels outcome c.in-Some-end_of.end
+        turns_behind c.args.form c.args.quiet c.hear-pulled.new.self.levels outcome c.in-Some-end_of.end
             ((length heard + 0) + (was.count + waiting c.turns.self.waits)) c.in-Some-end_of.ensures.some
             (omega (arith, length-append was.heard (one ∷ []))) (omega (arith, turns, c.turns-test.true)),
         c.turn.ensures.reads ∙ ap (reads_more (waiting c.turns.self.waits)) was.counted ∙ reads_more-add was.count (waiting c.turns.self.waits) _,

@@ -1,6 +1,6 @@
 -- of no records nothing is kept
 use Rattle.std.proofs.Common.{◌≤◌, List, [], length, sym, subst}
-use Rattle.warp_tag.specs.Limits.{most_records}
+use Rattle.warp_tag.specs.Limits.{most_records, widest}
 use Rattle.warp_record.specs.declared.record.Record.{Record}
 use Rattle.warp_table.specs.declared.names.Name.{Name}
 use Rattle.warp_table.specs.declared.rows.Known.{Known}
@@ -12,7 +12,7 @@ use Rattle.warp_table.proofs.table.Table.new.Goals as goal
 
 pub invariant_of-result : goal.invariant_of-result
 invariant_of-result c =
-    subst (λ (rs : List Record). (length rs ≤ most_records) × Keeps rs c.new-2.result (places c.new-3.result) × AreHeard rs c.new-4.result.items) (sym c.new.ensures.items)
-    (subst (λ (ns : List (Name × Known)). (length {A = Record} [] ≤ most_records) × Keeps [] ns (places c.new-3.result) × AreHeard [] c.new-4.result.items) (sym c.new-2.ensures)
-    (subst (λ (ps : OtherPlaces). (length {A = Record} [] ≤ most_records) × Keeps [] [] ps × AreHeard [] c.new-4.result.items) (sym c.new-3.ensures)
-    (subst (λ (hs : List Heard). (length {A = Record} [] ≤ most_records) × Keeps [] [] no_others × AreHeard [] hs) (sym c.new-4.ensures.items) none_kept)))
+    subst (λ (rs : List Record). (length rs ≤ most_records widest) × Keeps rs c.new-2.result (places c.new-3.result) × AreHeard rs c.new-4.result.items) (sym c.new.ensures.items)
+    (subst (λ (ns : List (Name × Known)). (length {A = Record} [] ≤ most_records widest) × Keeps [] ns (places c.new-3.result) × AreHeard [] c.new-4.result.items) (sym c.new-2.ensures)
+    (subst (λ (ps : OtherPlaces). (length {A = Record} [] ≤ most_records widest) × Keeps [] [] ps × AreHeard [] c.new-4.result.items) (sym c.new-3.ensures)
+    (subst (λ (hs : List Heard). (length {A = Record} [] ≤ most_records widest) × Keeps [] [] no_others × AreHeard [] hs) (sym c.new-4.ensures.items) none_kept)))

@@ -1,7 +1,7 @@
 -- what is found is the record's place
 use Rattle.std.proofs.Common.{◌≡◌, ◌≤◌, List, Contains, ap, subst, ◌∙◌}
 use Rattle.std.specs.Prelude.{IfNone, IfSome}
-use Rattle.warp_tag.specs.Limits.{most_records}
+use Rattle.warp_tag.specs.Limits.{most_records, widest}
 use Rattle.warp_record.specs.declared.record.Record.{Record}
 use Rattle.warp_table.specs.Log.{IsAt}
 use Rattle.warp_table.specs.inner.Others.{places}
@@ -15,7 +15,7 @@ found c = c.place_of.ensures ∙ ap (λ (rs : List Record). place_in rs c.self.i
 pub returns-clause-found : goal.returns-clause-found
 returns-clause-found c =
     let is = c.self.inside in
-    subst (λ (rs : List Record). IfSome c.place_of.result (λ place. IsAt rs place c.args.record.now × (place ≤ most_records))) c.self.view_is
+    subst (λ (rs : List Record). IfSome c.place_of.result (λ place. IsAt rs place c.args.record.now × (place ≤ most_records widest))) c.self.view_is
     (place_told is.records.items is.names (places is.others) c.args.record.now c.place_of.result c.self.invariant.1.places c.self.invariant.0 (found c))
 
 pub returns-clause-none : goal.returns-clause-none

@@ -5,7 +5,7 @@ use Rattle.std.proofs.lemmas.Option.{slice_get-get_or}
 use Rattle.warp_replica.specs.Answered.{facts_of}
 use Rattle.warp_lanes.proofs.Serving.{has_place, same_ids}
 use Rattle.warp_lanes.proofs.VisitedLanes.{visit_keeps, visits_board, visits_id, visits_program}
-use Rattle.warp_lanes.proofs.engine.Engine.visit.Goals as goal
+use Rattle.warp_lanes.proofs.engine.Engine.visit_with.Goals as goal
 
 pub invariant_of-self : goal.invariant_of-self
 invariant_of-self g c =

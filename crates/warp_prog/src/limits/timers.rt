@@ -1,0 +1,85 @@
+//! Files whose timers may put more outputs by themselves than a run should hold. Only those of version 3 have this limit.
+ghost use Rattle.std.specs.Prelude.{◌≡◌, ◌≤◌, ◌-◌, ◌/◌, length, map, max, nat_lt, SomeIff};
+ghost use Rattle.warp_prog.specs.Limits.{most_own, times_due, all_due, total, due_exceeds, timers_exceed};
+ghost use Rattle.warp_prog.specs.View.{file_tree, reactor_tree};
+
+use crate::explain::limits::timers::note_timers;
+use crate::explain::trail::Trail;
+use crate::file::{ProgramFile, Reactor, TimerPart};
+use crate::limits::form_of_version;
+use warp_tag::Form;
+
+/// So many outputs the timers of a file may put by themselves, and so many times they may be due.
+pub(crate) const MOST_OWN: u64 = 20_000_000;
+
+/// Whether the timers of a file are due too often.
+pub(crate) fn timers_exceed(file: &ProgramFile, at: &mut Trail) -> bool
+    ensures { result ≡ timers_exceed (file_tree file.now) }
+{
+    match form_of_version(file.version) {
+        Form::One | Form::Two => false,
+        Form::Three => due_exceeds(file, at),
+    }
+}
+
+/// Whether they are by the limit of version 3.
+fn due_exceeds(file: &ProgramFile, at: &mut Trail) -> bool
+    ensures { let f = file_tree file.now in result ≡ due_exceeds f.stop (length f.outputs) f.reactors }
+{
+    let room = most_due(file.outputs.len());
+    are_due_more(&file.reactors, file.stop, room)
+        && note_timers(&file.reactors, file.stop, file.outputs.len(), at)
+}
+
+/// How often the timers of a file with so many outputs may be due.
+pub(crate) fn most_due(outputs: usize) -> u64
+    ensures { result ≡ most_own / max 1 outputs }
+{
+    MOST_OWN / outputs.max(1) as u64
+}
+
+/// Whether the timers of all reactors together are due more often than this.
+fn are_due_more(reactors: &[Reactor], stop: i64, most: u64) -> bool
+    ensures { result ≡ nat_lt most (total (λ r. all_due stop r.timers) (map reactor_tree reactors.now)) }
+{
+    room_after_all(reactors, stop, most).is_none()
+}
+
+/// The room that is left of so much after each time that a timer of these reactors is due; `None` where it is not enough.
+fn room_after_all(reactors: &[Reactor], stop: i64, room: u64) -> Option<u64>
+    ensures { let n = total (λ r. all_due stop r.timers) (map reactor_tree reactors.now) in
+        SomeIff result (n ≤ room) (room - n) }
+{
+    let mut left = room;
+    for reactor in reactors {
+        left = room_after_timers(&reactor.timers, stop, left)?;
+    }
+    Some(left)
+}
+
+/// The same of these timers.
+pub(crate) fn room_after_timers(timers: &[TimerPart], stop: i64, room: u64) -> Option<u64>
+    ensures { let n = all_due stop timers.now in SomeIff result (n ≤ room) (room - n) }
+{
+    let mut left = room;
+    for timer in timers {
+        left = room_after_timer(timer, stop, left)?;
+    }
+    Some(left)
+}
+
+/// The same of a timer.
+pub(crate) fn room_after_timer(timer: &TimerPart, stop: i64, room: u64) -> Option<u64>
+    ensures { let n = times_due stop timer.now in SomeIff result (n ≤ room) (room - n) }
+{
+    let end = stop.unsigned_abs();
+    let offset = timer.offset.unsigned_abs();
+    let period = timer.period.unsigned_abs();
+    if end < offset {
+        return Some(room);
+    }
+    if period == 0 {
+        return room.checked_sub(1);
+    }
+    room.checked_sub(1)?.checked_sub((end - offset) / period)
+}
