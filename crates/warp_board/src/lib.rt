@@ -16,6 +16,6 @@ mod writer;
 
 pub use make::board;
 pub use reader::{Reader, join_readers, split_reader};
-pub use shared::{Board, MAX_ROWS};
+pub use shared::Board;
 pub use spell::{PORTS, read_row, spell_row};
 pub use writer::{Full, Writer, meet};

@@ -9,9 +9,6 @@ use atomic_table::Table;
 use std::alloc::Global;
 use std::marker::Model;
 
-/// The most rows for which a board can have room.
-pub const MAX_ROWS: usize = 1_048_576;
-
 pub(crate) type Seat = atomic_table::Seat<(), Notes>;
 
 /// The words that the writer and the readers of one board share: the count, the flag, and two words for each row.

@@ -49,7 +49,7 @@ impl Timeline for Plain {
       | inr s ↦ none_front m.done trace (MatchBool-at_false _ _ s h.rows)
     ] };
 
-    /// No run has more rows: each stands at a tag of its own, at a time of at most 10,000,000 and a microstep of at
+    /// No run has more rows: each stands at a tag of its own, at a time of at most 15,624,999 and a microstep of at
     /// most 255.
     const SLACK: u64 = 4_000_000_000;
 

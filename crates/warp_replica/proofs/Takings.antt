@@ -63,7 +63,7 @@ no_reason_memory P (Announce origin tag events withdrawn) =
     (neither (is_before (end_of P) tag || nat_lt (top_of P) tag.microstep) _ _ (λ e. cc) (λ e. cc)) (λ e. cc)
 
 -- room is wanting, memory apart, where the log is full
-full : (f : Form) (records : List Record) (refusal : Refusal) → LacksRoom f records refusal → refusal ≢ NoMemory → (refusal ≡ LogFull) × (length records ≡ most_records f)
+pub full : (f : Form) (records : List Record) (refusal : Refusal) → LacksRoom f records refusal → refusal ≢ NoMemory → (refusal ≡ LogFull) × (length records ≡ most_records f)
 full f records LogFull lacks other = (refl, lacks)
 full f records NoMemory lacks other = absurd (other refl)
 full f records Syntax lacks other = absurd lacks

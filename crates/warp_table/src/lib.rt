@@ -25,4 +25,4 @@ pub use law::{
     in_set, is_table, joined, known_by_set, live_by_set, live_once, names_once, one_set, one_size,
     one_table, told_once,
 };
-pub use table::{Added, MAX_RECORDS, Table};
+pub use table::{Added, Table};

@@ -38,11 +38,7 @@ use warp_record::{Record, Refusal};
 use warp_step::Program;
 use warp_tag::{Entry, Form, OutOfMemory, Tag, is_lesser};
 
-/// The most records that a table holds, which are those of the widest form.
-pub const MAX_RECORDS: u32 = 10_000_000;
-
-/// Where a record stands that was added: its place, 1 to `MAX_RECORDS`, and whether it came in there or was there
-/// before.
+/// Where a record stands that was added: its place, from 1, and whether it came in there or was there before.
 #[derive(Clone, Copy)]
 pub struct Added {
     /// The place.
@@ -59,9 +55,10 @@ pub(crate) struct Parted {
     pub(crate) event: u32,
 }
 
-/// Records in the order of taking, each once, at most `MAX_RECORDS`. It is seen as their list. Beside them it keeps
-/// what is known of each name, the places of the records that no name keeps, and for each origin up to the greatest
-/// of a record an `Announcer`: which of its names came, what it announced, and how far that is reached.
+/// Records in the order of taking, each once, at most as many as a log of the widest form has. It is seen as their
+/// list. Beside them it keeps what is known of each name, the places of the records that no name keeps, and for each
+/// origin up to the greatest of a record an `Announcer`: which of its names came, what it announced, and how far that
+/// is reached.
 #[derive(Drop)]
 pub struct Table {
     records: Vec<Record>,
@@ -122,7 +119,7 @@ impl Table {
         }
     }
 
-    /// How many records there are, 0 to `MAX_RECORDS`.
+    /// How many records there are, at most those of a log of the widest form.
     pub fn len(&self) -> u32
         ensures value { result ≡ length self.now }
         ensures bound { result ≤ most_records widest }
@@ -149,7 +146,7 @@ impl Table {
 
     /// Adds a record where it is not there yet, notes what it says of its name and to its origin, and tells its place
     /// and whether it is new. A record that was there stays in its place. An `Err` changes nothing. The table has
-    /// not `MAX_RECORDS` yet, and the origin is one of the widest form.
+    /// fewer than a log of the widest form can, and the origin is one of the widest form.
     #[inline(always)]
     pub fn add(&mut self, record: &Record) -> Result<Added, OutOfMemory>
         requires room { length self.old < most_records widest }

@@ -13,13 +13,14 @@ use Rattle.warp_step.specs.Events.{is_declared, is_in_time, has_input, owns_inpu
 use Rattle.warp_record.specs.declared.record.Record.{Record}
 use Rattle.warp_record.specs.declared.record.Record.TheVariants.{Event, Withdraw, Announce}
 use Rattle.warp_record.specs.declared.reply.Refusal.{Refusal}
-use Rattle.warp_record.specs.declared.reply.Refusal.TheVariants.{Syntax, NoOrigin, PastStop, NoInput, NotYours, NoVar, LogFull, NoMemory, TooLong, Busy, NoBoard}
+use Rattle.warp_record.specs.declared.reply.Refusal.TheVariants.{LogFull, NoMemory}
 use Rattle.warp_table.specs.Check.{end_of, refusal_of}
 use Rattle.warp_table.specs.Log.{IsAt}
 use Rattle.warp_table.specs.Records.{set_of}
 use Rattle.warp_table.proofs.Sets.{in_set}
 use Rattle.warp_record.specs.declared.reply.Reply.TheVariants as tell
 use Rattle.warp_replica.specs.Gives.{IsNew, LacksRoom, Takes, told}
+use Rattle.warp_replica.proofs.Takings.{full}
 use Rattle.warp_replica.specs.declared.taking.Took.{Took}
 use Rattle.warp_replica.specs.declared.taking.Took.TheVariants.{New, Known}
 use Rattle.warp_world.specs.World.{takes_in}
@@ -27,20 +28,6 @@ use Rattle.warp_world.specs.World.{takes_in}
 -- what a log is where its taking in is decided
 abbrev pub log_with : Program → List Record → Record → List Record
 log_with P log said = if takes_in P log said then log ++ said ∷ [] else log
-
--- why a log other than a full one lacks room
-full : (f : Form) (log : List Record) (refusal : Refusal) → LacksRoom f log refusal → refusal ≢ NoMemory → (refusal ≡ LogFull) × (length log ≡ most_records f)
-full f log LogFull lacks other = (refl, lacks)
-full f log NoMemory lacks other = absurd (other refl)
-full f log Syntax lacks other = absurd lacks
-full f log NoOrigin lacks other = absurd lacks
-full f log PastStop lacks other = absurd lacks
-full f log NoInput lacks other = absurd lacks
-full f log NotYours lacks other = absurd lacks
-full f log NoVar lacks other = absurd lacks
-full f log TooLong lacks other = absurd lacks
-full f log Busy lacks other = absurd lacks
-full f log NoBoard lacks other = absurd lacks
 
 -- that memory was wanting
 abbrev is_memory : Option Refusal → Bool
