@@ -13,7 +13,7 @@ use Rattle.warp_step.specs.Events.{is_declared, is_in_time, has_input, owns_inpu
 use Rattle.warp_record.specs.declared.record.Record.{Record}
 use Rattle.warp_record.specs.declared.record.Record.TheVariants.{Event, Withdraw, Announce}
 use Rattle.warp_record.specs.declared.reply.Refusal.{Refusal}
-use Rattle.warp_record.specs.declared.reply.Refusal.TheVariants.{LogFull, NoMemory}
+use Rattle.warp_record.specs.declared.reply.Refusal.TheVariants.{NotYours, PastStop, LogFull, NoMemory}
 use Rattle.warp_table.specs.Check.{end_of, refusal_of}
 use Rattle.warp_table.specs.Log.{IsAt}
 use Rattle.warp_table.specs.Records.{set_of}
