@@ -73,20 +73,27 @@ function drawFacts() {
 }
 
 function originsNow() {
-  const known = [...client.names.inputs.map(it => it.origin), ...replica.origins, ...Array(limits.origins).keys()]
+  const known = [...client.names.inputs.map(it => it.origin), ...replica.origins.keys(), ...Array(limits.origins).keys()]
   return [...new Set(known)].sort((one, other) => one - other)
+}
+
+/** What an origin announced, and how far that is reached. */
+function reachWords(reach) {
+  const tags = [reach?.announced, reach?.tag].map(tag => (tag ? tagText(tag) : "-"))
+  if (reach?.announced && reach.isLost) tags[1] = "not known"
+  return tags
 }
 
 function drawOrigins() {
   const body = at("origins")
   const origins = originsNow()
   while (body.childElementCount > origins.length) body.lastElementChild.remove()
-  while (body.childElementCount < origins.length) body.insertRow().append(...[0, 1, 2].map(() => document.createElement("td")))
+  while (body.childElementCount < origins.length) body.insertRow().append(...[0, 1, 2, 3].map(() => document.createElement("td")))
   origins.forEach((origin, number) => {
-    const announced = replica.announced.get(origin)
     const isBroken = replica.broken.has(origin)
     const inputs = client.names.inputs.filter(it => it.origin === origin).map(it => it.name)
-    const words = [`${origin}`, inputs.join(", "), (announced ? tagText(announced) : "-") + (isBroken ? ", broken" : "")]
+    const words = [`${origin}`, inputs.join(", "), ...reachWords(replica.origins.get(origin))]
+    if (isBroken) words[2] += ", broken"
     body.children[number].className = isBroken ? "bad" : ""
     words.forEach((word, cell) => (body.children[number].children[cell].textContent = word))
   })
@@ -104,8 +111,8 @@ function drawOpen() {
 function drawTimeline() {
   const length = Math.min(Number(at("span").value), replica.records.length)
   const records = Array.from({ length }, (_, age) => replica.records.at(age))
-  const { announced, horizon } = replica
-  const shown = { records, origins: originsNow(), announced, horizon, micros: program?.version > 1 ? 256 : 16 }
+  const { origins: reaches, horizon } = replica
+  const shown = { records, origins: originsNow(), reaches, horizon, micros: program?.version > 1 ? 256 : 16 }
   timeline.draw(shown)
   at("timeline").setAttribute("aria-label", inWords(shown, replica.late))
 }
@@ -253,7 +260,7 @@ function lineOfForm() {
 function warn() {
   const kind = at("kind").value
   const origin = kind === "event" ? client.names.inputs[at("input").value]?.origin : Number(at("origin").value)
-  const word = kind !== "announce" && at("time").value && replica.announced.get(origin)
+  const word = kind !== "announce" && at("time").value && replica.origins.get(origin)?.announced
   const isLate = word && orderOf({ time: at("time").value, micro: at("micro").value }, word) < 0
   put("warning", isLate ? `Origin ${origin} announced ${tagText(word)}: this breaks its word.` : "")
 }

@@ -1,6 +1,7 @@
 // What is seen of a replica: kept from the pushes of its host, and no more of it than is shown.
 
 import { Last, MOST } from "./lists.js"
+import { Reach } from "./reach.js"
 import { orderOf } from "./tags.js"
 
 const OPEN_SHOWN = 20
@@ -20,7 +21,7 @@ export class Replica {
     this.acts.clear()
     this.released.clear()
     Object.assign(this, { log: 0, newest: null, late: 0, lastLate: null, horizon: null, values: [], frozen: false })
-    Object.assign(this, { changed: new Set(), broken: new Set(), announced: new Map(), origins: new Set() })
+    Object.assign(this, { changed: new Set(), broken: new Set(), origins: new Map() })
     Object.assign(this, { outputs: 0, lost: 0, asked: [], askedFrom: 0 })
     this.clearSteps()
   }
@@ -44,18 +45,14 @@ export class Replica {
   takeRecord({ place, record }) {
     if (place !== this.log + 1) return
     this.log = place
-    this.origins.add(record.origin)
+    if (!this.origins.has(record.origin)) this.origins.set(record.origin, new Reach())
+    this.origins.get(record.origin).take(record)
     const item = { place, record, back: null }
-    if (record.kind === "announce") this.#takeAnnounced(record)
-    else if (this.newest && orderOf(record, this.newest) < 0) this.#takeLate(item)
-    else this.newest = { time: record.time, micro: record.micro }
     this.records.add(item)
-    if (record.kind !== "announce") this.acts.add(item)
-  }
-
-  #takeAnnounced({ origin, time, micro }) {
-    const before = this.announced.get(origin)
-    if (!before || orderOf(before, { time, micro }) < 0) this.announced.set(origin, { time, micro })
+    if (record.kind === "announce") return
+    this.acts.add(item)
+    if (this.newest && orderOf(record, this.newest) < 0) this.#takeLate(item)
+    else this.newest = { time: record.time, micro: record.micro }
   }
 
   #takeLate(item) {

@@ -5,7 +5,7 @@ use http::HeaderValue;
 /// What the page may do in a browser: its own style and script alone, told by their SHA-256, and connect to its host.
 const POLICY: &str = "\
 default-src 'none'; \
-script-src 'sha256-CmcXxC21bwUDic7YKmVoZBSciqC82m1LbnyqllC4L2Y='; \
+script-src 'sha256-zUVLFtQYA2vLHom+GNjNxtNeGx92aLLyuKWE2FhhAgU='; \
 style-src 'sha256-w6wrpSjQQo2ITNrYMfX6Z7+uynafgFVJ8u9XhCCqJFo='; \
 connect-src 'self'; \
 img-src data:; \
@@ -37,7 +37,7 @@ const PAGE: &[u8] = br##"<!doctype html>
 </dl>
 <table>
 <caption>Origins</caption>
-<thead><tr><th scope="col">Origin</th><th scope="col">Inputs</th><th scope="col">Announced</th></tr></thead>
+<thead><tr><th scope="col">Origin</th><th scope="col">Inputs</th><th scope="col">Announced</th><th scope="col">Reached</th></tr></thead>
 <tbody id="origins"></tbody>
 </table>
 </section>
@@ -57,7 +57,8 @@ const PAGE: &[u8] = br##"<!doctype html>
 <summary>What the marks mean</summary>
 <ul>
 <li>From left to right are tags (a time, and behind a dot a microstep); each origin has a lane. A dot is an event at its tag, a cross a withdrawal.</li>
-<li>A bracket is the greatest tag that the origin announced.</li>
+<li>A bracket is the greatest tag that the origin announced, a green one the greatest whose announcement is reached: as many
+events and withdrawals before it came in as it says.</li>
 <li>The dashed line is the horizon. Outputs before it are released, and never taken back while no origin breaks its word.</li>
 <li>An arrow, and a dot in its colour, is an event or a withdrawal that came late: its tag lies before another that was
 already in the log. The replica goes back from there, and executes again what comes after the late tag.</li>
@@ -548,6 +549,61 @@ if (item.children[at].textContent !== word) item.children[at].textContent = word
 })
 return item
 }
+class Reach {
+announced = null
+tag = null
+isLost = false
+#names = { event: new Map(), withdraw: new Map() }
+#before = { event: 0, withdraw: 0 }
+#waiting = []
+take(record) {
+if (record.kind !== "announce") this.#takeName(record)
+else this.#takeWord(record)
+if (this.#names.event.size + this.#names.withdraw.size + this.#waiting.length > MOST) this.#lose()
+}
+#isBehind(tag) {
+return this.isLost || (this.tag !== null && orderOf(tag, this.tag) < 0)
+}
+#takeName({ kind, time, micro }) {
+const tag = { time, micro }
+const names = this.#names[kind]
+if (this.#isBehind(tag) || names.has(tagText(tag))) return
+names.set(tagText(tag), tag)
+for (const word of this.#waiting) if (orderOf(tag, word.tag) < 0) word.missing[kind] -= 1
+this.#goOn()
+}
+#takeWord({ time, micro, events, withdrawn }) {
+const tag = { time, micro }
+if (!this.announced || orderOf(this.announced, tag) < 0) this.announced = tag
+if (this.#isBehind(tag)) return
+const missing = { event: events - this.#countBefore("event", tag), withdraw: withdrawn - this.#countBefore("withdraw", tag) }
+this.#waiting.push({ tag, missing })
+this.#goOn()
+}
+#countBefore(kind, tag) {
+let count = this.#before[kind]
+for (const name of this.#names[kind].values()) if (orderOf(name, tag) < 0) count += 1
+return count
+}
+#goOn() {
+const reached = this.#waiting.filter(({ missing }) => missing.event <= 0 && missing.withdraw <= 0).map(it => it.tag)
+if (!reached.length) return
+this.tag = reached.reduce((one, other) => (orderOf(one, other) < 0 ? other : one))
+this.#waiting = this.#waiting.filter(({ tag }) => orderOf(this.tag, tag) < 0)
+for (const kind of ["event", "withdraw"]) {
+for (const [text, name] of this.#names[kind]) {
+if (!this.#isBehind(name)) continue
+this.#names[kind].delete(text)
+this.#before[kind] += 1
+}
+}
+}
+#lose() {
+this.isLost = true
+this.#waiting = []
+for (const names of Object.values(this.#names)) names.clear()
+}
+}
 const OPEN_SHOWN = 20
 class Replica {
 constructor() {
@@ -561,7 +617,7 @@ this.records.clear()
 this.acts.clear()
 this.released.clear()
 Object.assign(this, { log: 0, newest: null, late: 0, lastLate: null, horizon: null, values: [], frozen: false })
-Object.assign(this, { changed: new Set(), broken: new Set(), announced: new Map(), origins: new Set() })
+Object.assign(this, { changed: new Set(), broken: new Set(), origins: new Map() })
 Object.assign(this, { outputs: 0, lost: 0, asked: [], askedFrom: 0 })
 this.clearSteps()
 }
@@ -579,17 +635,14 @@ this.lastRollback = rollback
 takeRecord({ place, record }) {
 if (place !== this.log + 1) return
 this.log = place
-this.origins.add(record.origin)
+if (!this.origins.has(record.origin)) this.origins.set(record.origin, new Reach())
+this.origins.get(record.origin).take(record)
 const item = { place, record, back: null }
-if (record.kind === "announce") this.#takeAnnounced(record)
-else if (this.newest && orderOf(record, this.newest) < 0) this.#takeLate(item)
-else this.newest = { time: record.time, micro: record.micro }
 this.records.add(item)
-if (record.kind !== "announce") this.acts.add(item)
-}
-#takeAnnounced({ origin, time, micro }) {
-const before = this.announced.get(origin)
-if (!before || orderOf(before, { time, micro }) < 0) this.announced.set(origin, { time, micro })
+if (record.kind === "announce") return
+this.acts.add(item)
+if (this.newest && orderOf(record, this.newest) < 0) this.#takeLate(item)
+else this.newest = { time: record.time, micro: record.micro }
 }
 #takeLate(item) {
 item.back = this.newest
@@ -661,7 +714,7 @@ constructor(canvas) {
 this.#canvas = canvas
 this.#pen = canvas.getContext("2d")
 }
-draw({ records, origins, announced, horizon, micros }) {
+draw({ records, origins, reaches, horizon, micros }) {
 const lane = Math.max(5, Math.min(24, 260 / Math.max(1, origins.length)))
 const late = records.filter(it => it.back).slice(0, ARROWS)
 const width = this.#canvas.clientWidth
@@ -673,7 +726,10 @@ const x = tag => GUTTER + (tag.time + tag.micro / micros - low) * scale
 const plan = { low, high, x, lane, lanes, width, origins, top: 16 }
 this.#back(plan, horizon)
 this.#axis(plan)
-for (const [origin, tag] of announced) this.#bracket(plan, origin, tag)
+for (const [origin, { announced, tag }] of reaches) {
+this.#bracket(plan, "faint", origin, announced)
+this.#bracket(plan, "good", origin, tag)
+}
 for (let at = records.length - 1; at >= 0; at -= 1) this.#record(plan, records[at])
 late.forEach((it, at) => this.#arrow(plan, it, at))
 }
@@ -734,13 +790,13 @@ this.#line("faint", [at, y], [at, y + 4])
 this.#text("faint", `${time}`, Math.min(at, width - half), y + 16, "center")
 }
 }
-#bracket({ x, top, lane, origins, low, high }, origin, tag) {
+#bracket({ x, top, lane, origins, low, high }, colour, origin, tag) {
 const number = origins.indexOf(origin)
-if (number < 0 || tag.time < low || tag.time > high) return
+if (number < 0 || !tag || tag.time < low || tag.time > high) return
 const [at, y, half] = [x(tag), top + (number + 0.5) * lane, Math.max(2, lane * 0.32)]
-this.#line("faint", [at, y - half], [at, y + half], { width: 1.5 })
-this.#line("faint", [at - 4, y - half], [at, y - half], { width: 1.5 })
-this.#line("faint", [at - 4, y + half], [at, y + half], { width: 1.5 })
+this.#line(colour, [at, y - half], [at, y + half], { width: 1.5 })
+this.#line(colour, [at - 4, y - half], [at, y - half], { width: 1.5 })
+this.#line(colour, [at - 4, y + half], [at, y + half], { width: 1.5 })
 }
 #record({ x, top, lane, origins }, { record, back }) {
 if (record.kind === "announce") return
@@ -844,19 +900,24 @@ const waiting = Math.max(0, outputs - released.added)
 put("counts", `${released.added} released${frozen ? ", frozen: an origin broke its word" : ""}, ${waiting} not yet${lost ? `, ${lost} lost` : ""}`)
 }
 function originsNow() {
-const known = [...client.names.inputs.map(it => it.origin), ...replica.origins, ...Array(limits.origins).keys()]
+const known = [...client.names.inputs.map(it => it.origin), ...replica.origins.keys(), ...Array(limits.origins).keys()]
 return [...new Set(known)].sort((one, other) => one - other)
+}
+function reachWords(reach) {
+const tags = [reach?.announced, reach?.tag].map(tag => (tag ? tagText(tag) : "-"))
+if (reach?.announced && reach.isLost) tags[1] = "not known"
+return tags
 }
 function drawOrigins() {
 const body = at("origins")
 const origins = originsNow()
 while (body.childElementCount > origins.length) body.lastElementChild.remove()
-while (body.childElementCount < origins.length) body.insertRow().append(...[0, 1, 2].map(() => document.createElement("td")))
+while (body.childElementCount < origins.length) body.insertRow().append(...[0, 1, 2, 3].map(() => document.createElement("td")))
 origins.forEach((origin, number) => {
-const announced = replica.announced.get(origin)
 const isBroken = replica.broken.has(origin)
 const inputs = client.names.inputs.filter(it => it.origin === origin).map(it => it.name)
-const words = [`${origin}`, inputs.join(", "), (announced ? tagText(announced) : "-") + (isBroken ? ", broken" : "")]
+const words = [`${origin}`, inputs.join(", "), ...reachWords(replica.origins.get(origin))]
+if (isBroken) words[2] += ", broken"
 body.children[number].className = isBroken ? "bad" : ""
 words.forEach((word, cell) => (body.children[number].children[cell].textContent = word))
 })
@@ -872,8 +933,8 @@ shown.forEach((row, number) => fillRow(list.children[number], row))
 function drawTimeline() {
 const length = Math.min(Number(at("span").value), replica.records.length)
 const records = Array.from({ length }, (_, age) => replica.records.at(age))
-const { announced, horizon } = replica
-const shown = { records, origins: originsNow(), announced, horizon, micros: program?.version > 1 ? 256 : 16 }
+const { origins: reaches, horizon } = replica
+const shown = { records, origins: originsNow(), reaches, horizon, micros: program?.version > 1 ? 256 : 16 }
 timeline.draw(shown)
 at("timeline").setAttribute("aria-label", inWords(shown, replica.late))
 }
@@ -995,7 +1056,7 @@ return `announce ${at("origin").value} ${tag} ${digits("events")} ${digits("with
 function warn() {
 const kind = at("kind").value
 const origin = kind === "event" ? client.names.inputs[at("input").value]?.origin : Number(at("origin").value)
-const word = kind !== "announce" && at("time").value && replica.announced.get(origin)
+const word = kind !== "announce" && at("time").value && replica.origins.get(origin)?.announced
 const isLate = word && orderOf({ time: at("time").value, micro: at("micro").value }, word) < 0
 put("warning", isLate ? `Origin ${origin} announced ${tagText(word)}: this breaks its word.` : "")
 }
