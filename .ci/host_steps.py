@@ -103,6 +103,12 @@ def read_lines(talk, lines):
         lines.append(line.decode().removesuffix("\n"))
 
 
+def counted(lines):
+    """How many of these lines tell what was executed, and how many more they say were left out."""
+    skipped = [int(line.split()[2]) for line in lines if line.startswith("* skipped ")]
+    return len(lines) - len(skipped), sum(skipped)
+
+
 def steps_left_out():
     """A watcher that does not read holds up nobody, and is told how many lines of steps were left out for it; the others are there in order."""
     with tempfile.TemporaryDirectory() as folder, Hosted(program=long_program(folder)) as host:
@@ -112,19 +118,19 @@ def steps_left_out():
         writer.stream([f"event 0 {at} 0 0 1" for at in range(1, MANY + 1)])
         print(f"{MANY:,} records while steps are watched: {time.monotonic() - began:.1f} seconds, {host.memory():.0f} MiB")
         holds(host.memory() < 200, f"{host.memory()} MiB are taken")
-        lines, last = [], MANY
+        lines = []
         reader = threading.Thread(target=read_lines, args=(lazy, lines), daemon=True)
         reader.start()
-        # What is left out is told before the next step that there is room for.
-        is_told = False
-        while not is_told:
-            last += 1
-            same(writer.ask(f"event 0 {last} 0 0 1"), f"taken {last}", "one record more")
-            until = time.monotonic() + 0.5
-            while not is_told and time.monotonic() < until:
-                is_told = bool(lines) and f'"tag":[{last},0]' in lines[-1]
-                time.sleep(0.01)
-            holds(last < MANY + 1_000, "the newest step is never told")
+        # What is left out is told once there is room, also where no step follows.
+        wait_for(lambda: sum(counted(lines)) == MANY, "all steps are told or counted")
+        holds(lines[-1].startswith("* skipped "), f"the last line: {lines[-1]}")
+        # Who watches from then on is told of nothing that was before.
+        newer = host.talk()
+        same(newer.ask("watch steps"), "watching 1", "another watch")
+        last = MANY + 1
+        same(writer.ask(f"event 0 {last} 0 0 1"), f"taken {last}", "one record more")
+        same(json.loads(next_steps(newer, 1)[0])["tag"], [last, 0], "its step")
+        wait_for(lambda: f'"tag":[{last},0]' in lines[-1], "its step for the first watcher")
         lazy.socket.shutdown(socket.SHUT_RDWR)
         reader.join()
         told, left_out = 0, 0

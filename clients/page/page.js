@@ -78,10 +78,9 @@ function originsNow() {
 }
 
 /** What an origin announced, and how far that is reached. */
-function reachWords(reach) {
-  const tags = [reach?.announced, reach?.tag].map(tag => (tag ? tagText(tag) : "-"))
-  if (reach?.announced && reach.isLost) tags[1] = "not known"
-  return tags
+function reachWords({ announced, tag, isLeast }) {
+  if (!announced) return ["-", "-"]
+  return [tagText(announced), `${isLeast ? "at least " : ""}${tag ? tagText(tag) : "-"}`]
 }
 
 function drawOrigins() {
@@ -92,8 +91,7 @@ function drawOrigins() {
   origins.forEach((origin, number) => {
     const isBroken = replica.broken.has(origin)
     const inputs = client.names.inputs.filter(it => it.origin === origin).map(it => it.name)
-    const words = [`${origin}`, inputs.join(", "), ...reachWords(replica.origins.get(origin))]
-    if (isBroken) words[2] += ", broken"
+    const words = [`${origin}${isBroken ? ", broken" : ""}`, inputs.join(", "), ...reachWords(replica.reachOf(origin))]
     body.children[number].className = isBroken ? "bad" : ""
     words.forEach((word, cell) => (body.children[number].children[cell].textContent = word))
   })
@@ -111,8 +109,8 @@ function drawOpen() {
 function drawTimeline() {
   const length = Math.min(Number(at("span").value), replica.records.length)
   const records = Array.from({ length }, (_, age) => replica.records.at(age))
-  const { origins: reaches, horizon } = replica
-  const shown = { records, origins: originsNow(), reaches, horizon, micros: program?.version > 1 ? 256 : 16 }
+  const { horizon } = replica
+  const shown = { records, origins: originsNow(), reachOf: it => replica.reachOf(it), horizon, micros: program?.version > 1 ? 256 : 16 }
   timeline.draw(shown)
   at("timeline").setAttribute("aria-label", inWords(shown, replica.late))
 }
@@ -138,7 +136,7 @@ const rowsText = count => `${count} ${count === 1 ? "row" : "rows"}`
 /** Tells the last rollback in words, where steps are watched. */
 function tellAgain() {
   const { rollbacks, again, lastRollback, skipped } = replica
-  const lost = skipped ? ` ${skipped} lines were left out.` : ""
+  const lost = skipped ? ` ${skipped} lines were left out, and rollbacks among these are not counted.` : ""
   if (!steps) return put("again", "")
   if (!lastRollback) return put("again", `No rollback so far.${lost}`)
   const { from, to, again: last } = lastRollback

@@ -9,7 +9,7 @@ export class Reach {
   announced = null
   /** The greatest tag whose announcement is reached. */
   tag = null
-  /** Whether there are more names, or announcements to wait for, than are kept: how far it is from here on is not known. */
+  /** Whether there are more names, or announcements to wait for, than are kept: it may be farther from here on. */
   isLost = false
   #names = { event: new Map(), withdraw: new Map() }
   #before = { event: 0, withdraw: 0 }
@@ -25,7 +25,7 @@ export class Reach {
     return this.isLost || (this.tag !== null && orderOf(tag, this.tag) < 0)
   }
 
-  /** A name before the tag that is reached is known, or breaks the origin's word. */
+  /** A name before the tag that is reached is known, or breaks the origin's word: then it may be farther too. */
   #takeName({ kind, time, micro }) {
     const tag = { time, micro }
     const names = this.#names[kind]

@@ -94,6 +94,14 @@ export class Replica {
     return this.asked.slice(this.released.added - this.askedFrom)
   }
 
+  /** What an origin announced, how far that is reached, and whether it may be farther: the horizon is the least of all. */
+  reachOf(origin) {
+    const { announced = null, tag = null, isLost = false } = this.origins.get(origin) ?? {}
+    const isLeast = isLost || this.broken.has(origin)
+    const isBehind = isLeast && this.horizon && (!tag || orderOf(tag, this.horizon) < 0)
+    return { announced, tag: isBehind ? this.horizon : tag, isLeast }
+  }
+
   /** How many names of an origin have an event, and a withdrawal, before a tag; null where not the whole log is kept. */
   countBefore(origin, tag) {
     if (this.log > MOST) return null

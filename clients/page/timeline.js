@@ -39,7 +39,7 @@ export class Timeline {
   }
 
   /** Draws these records, the newest first, and what is known of origins and the horizon. */
-  draw({ records, origins, reaches, horizon, micros }) {
+  draw({ records, origins, reachOf, horizon, micros }) {
     const lane = Math.max(5, Math.min(24, 260 / Math.max(1, origins.length)))
     const late = records.filter(it => it.back).slice(0, ARROWS)
     const width = this.#canvas.clientWidth
@@ -51,11 +51,12 @@ export class Timeline {
     const plan = { low, high, x, lane, lanes, width, origins, top: 16 }
     this.#back(plan, horizon)
     this.#axis(plan)
-    for (const [origin, { announced, tag }] of reaches) {
-      this.#bracket(plan, "faint", origin, announced)
-      this.#bracket(plan, "good", origin, tag)
-    }
     for (let at = records.length - 1; at >= 0; at -= 1) this.#record(plan, records[at])
+    origins.forEach((origin, number) => {
+      const { announced, tag } = reachOf(origin)
+      this.#bracket(plan, "faint", number, announced)
+      this.#bracket(plan, "good", number, tag)
+    })
     late.forEach((it, at) => this.#arrow(plan, it, at))
   }
 
@@ -122,13 +123,12 @@ export class Timeline {
     }
   }
 
-  #bracket({ x, top, lane, origins, low, high }, colour, origin, tag) {
-    const number = origins.indexOf(origin)
-    if (number < 0 || !tag || tag.time < low || tag.time > high) return
+  #bracket({ x, top, lane, low, high }, colour, number, tag) {
+    if (!tag || tag.time < low || tag.time > high) return
     const [at, y, half] = [x(tag), top + (number + 0.5) * lane, Math.max(2, lane * 0.32)]
-    this.#line(colour, [at, y - half], [at, y + half], { width: 1.5 })
-    this.#line(colour, [at - 4, y - half], [at, y - half], { width: 1.5 })
-    this.#line(colour, [at - 4, y + half], [at, y + half], { width: 1.5 })
+    this.#line(colour, [at, y - half], [at, y + half], { width: 2 })
+    this.#line(colour, [at - 4, y - half], [at, y - half], { width: 2 })
+    this.#line(colour, [at - 4, y + half], [at, y + half], { width: 2 })
   }
 
   #record({ x, top, lane, origins }, { record, back }) {

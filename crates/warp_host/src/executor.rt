@@ -174,6 +174,15 @@ impl<'a, T: Timeline> Executor<'a, T> {
         }
     }
 
+    /// Tells how many lines of steps were left out, where none was told behind them.
+    fn tell_left_out(&mut self) {
+        let len = self.engine.replica().len();
+        let taken = self.bells.step_bytes();
+        if self.ends.telling.tell_left_out(self.alloc, len, taken) {
+            self.bells.wake_loop();
+        }
+    }
+
     /// Sleeps, unless there is something to do.
     fn rest<X: Wait + Clock, L: Ledger, P: Progress<T>>(
         &mut self,
@@ -181,6 +190,7 @@ impl<'a, T: Timeline> Executor<'a, T> {
         noter: &mut Noter<L, P>,
     ) {
         self.note();
+        self.tell_left_out();
         self.bells.executor_sleeps();
         if self.work(noter) {
             self.bells.executor_wakes();

@@ -184,13 +184,13 @@ fn traffic(seen: &Seen) -> [Row<'static>; 9] {
         number(
             b"warpd_pushes_total",
             COUNTER,
-            b"Lines that were pushed to who watches.",
+            b"Pieces of one or more lines that were pushed to who watches.",
             seen.pushes,
         ),
         number(
             b"warpd_refused_total",
             COUNTER,
-            b"Replies that refuse a line.",
+            b"Lines that the host itself refused, before its replica.",
             seen.refused,
         ),
         number(

@@ -5,7 +5,7 @@ use http::HeaderValue;
 /// What the page may do in a browser: its own style and script alone, told by their SHA-256, and connect to its host.
 const POLICY: &str = "\
 default-src 'none'; \
-script-src 'sha256-zUVLFtQYA2vLHom+GNjNxtNeGx92aLLyuKWE2FhhAgU='; \
+script-src 'sha256-WUgKuJhJzo42Q6jHkWv753f6CsmQnsglaPnJvcI5zS0='; \
 style-src 'sha256-w6wrpSjQQo2ITNrYMfX6Z7+uynafgFVJ8u9XhCCqJFo='; \
 connect-src 'self'; \
 img-src data:; \
@@ -58,15 +58,16 @@ const PAGE: &[u8] = br##"<!doctype html>
 <ul>
 <li>From left to right are tags (a time, and behind a dot a microstep); each origin has a lane. A dot is an event at its tag, a cross a withdrawal.</li>
 <li>A bracket is the greatest tag that the origin announced, a green one the greatest whose announcement is reached: as many
-events and withdrawals before it came in as it says.</li>
+events and withdrawals before it came in as it says. Of an origin that broke its word, or sent more before its first
+announcement than is kept here, the page says how far that is at least.</li>
 <li>The dashed line is the horizon. Outputs before it are released, and never taken back while no origin breaks its word.</li>
 <li>An arrow, and a dot in its colour, is an event or a withdrawal that came late: its tag lies before another that was
 already in the log. The replica goes back from there, and executes again what comes after the late tag.</li>
 <li>Arrows are read off the log alone. An arrow leads from the greatest tag of an event or a withdrawal that was there to
 the late one's own. What was executed again may be less (several records may come in one piece, and where the state is as
 it was, the replica goes on from there) or more (timers and actions may lie behind that tag).</li>
-<li>With "Watch what is executed" the host says of each rollback from which tag it went back, to which that is done, and how many
-rows it executed that are not after the first of these.</li>
+<li>With "Watch what is executed" the host says of each rollback which tag was the last that it had executed, to which it went back
+(somewhat before the late one), and how many rows up to the first of these it executed again.</li>
 </ul>
 </details>
 </section>
@@ -674,6 +675,12 @@ Object.assign(this, { outputs: count, lost: lost.count, asked: rows.filter(Boole
 get open() {
 return this.asked.slice(this.released.added - this.askedFrom)
 }
+reachOf(origin) {
+const { announced = null, tag = null, isLost = false } = this.origins.get(origin) ?? {}
+const isLeast = isLost || this.broken.has(origin)
+const isBehind = isLeast && this.horizon && (!tag || orderOf(tag, this.horizon) < 0)
+return { announced, tag: isBehind ? this.horizon : tag, isLeast }
+}
 countBefore(origin, tag) {
 if (this.log > MOST) return null
 const names = { event: new Set(), withdraw: new Set() }
@@ -714,7 +721,7 @@ constructor(canvas) {
 this.#canvas = canvas
 this.#pen = canvas.getContext("2d")
 }
-draw({ records, origins, reaches, horizon, micros }) {
+draw({ records, origins, reachOf, horizon, micros }) {
 const lane = Math.max(5, Math.min(24, 260 / Math.max(1, origins.length)))
 const late = records.filter(it => it.back).slice(0, ARROWS)
 const width = this.#canvas.clientWidth
@@ -726,11 +733,12 @@ const x = tag => GUTTER + (tag.time + tag.micro / micros - low) * scale
 const plan = { low, high, x, lane, lanes, width, origins, top: 16 }
 this.#back(plan, horizon)
 this.#axis(plan)
-for (const [origin, { announced, tag }] of reaches) {
-this.#bracket(plan, "faint", origin, announced)
-this.#bracket(plan, "good", origin, tag)
-}
 for (let at = records.length - 1; at >= 0; at -= 1) this.#record(plan, records[at])
+origins.forEach((origin, number) => {
+const { announced, tag } = reachOf(origin)
+this.#bracket(plan, "faint", number, announced)
+this.#bracket(plan, "good", number, tag)
+})
 late.forEach((it, at) => this.#arrow(plan, it, at))
 }
 #size(width, height) {
@@ -790,13 +798,12 @@ this.#line("faint", [at, y], [at, y + 4])
 this.#text("faint", `${time}`, Math.min(at, width - half), y + 16, "center")
 }
 }
-#bracket({ x, top, lane, origins, low, high }, colour, origin, tag) {
-const number = origins.indexOf(origin)
-if (number < 0 || !tag || tag.time < low || tag.time > high) return
+#bracket({ x, top, lane, low, high }, colour, number, tag) {
+if (!tag || tag.time < low || tag.time > high) return
 const [at, y, half] = [x(tag), top + (number + 0.5) * lane, Math.max(2, lane * 0.32)]
-this.#line(colour, [at, y - half], [at, y + half], { width: 1.5 })
-this.#line(colour, [at - 4, y - half], [at, y - half], { width: 1.5 })
-this.#line(colour, [at - 4, y + half], [at, y + half], { width: 1.5 })
+this.#line(colour, [at, y - half], [at, y + half], { width: 2 })
+this.#line(colour, [at - 4, y - half], [at, y - half], { width: 2 })
+this.#line(colour, [at - 4, y + half], [at, y + half], { width: 2 })
 }
 #record({ x, top, lane, origins }, { record, back }) {
 if (record.kind === "announce") return
@@ -903,10 +910,9 @@ function originsNow() {
 const known = [...client.names.inputs.map(it => it.origin), ...replica.origins.keys(), ...Array(limits.origins).keys()]
 return [...new Set(known)].sort((one, other) => one - other)
 }
-function reachWords(reach) {
-const tags = [reach?.announced, reach?.tag].map(tag => (tag ? tagText(tag) : "-"))
-if (reach?.announced && reach.isLost) tags[1] = "not known"
-return tags
+function reachWords({ announced, tag, isLeast }) {
+if (!announced) return ["-", "-"]
+return [tagText(announced), `${isLeast ? "at least " : ""}${tag ? tagText(tag) : "-"}`]
 }
 function drawOrigins() {
 const body = at("origins")
@@ -916,8 +922,7 @@ while (body.childElementCount < origins.length) body.insertRow().append(...[0, 1
 origins.forEach((origin, number) => {
 const isBroken = replica.broken.has(origin)
 const inputs = client.names.inputs.filter(it => it.origin === origin).map(it => it.name)
-const words = [`${origin}`, inputs.join(", "), ...reachWords(replica.origins.get(origin))]
-if (isBroken) words[2] += ", broken"
+const words = [`${origin}${isBroken ? ", broken" : ""}`, inputs.join(", "), ...reachWords(replica.reachOf(origin))]
 body.children[number].className = isBroken ? "bad" : ""
 words.forEach((word, cell) => (body.children[number].children[cell].textContent = word))
 })
@@ -933,8 +938,8 @@ shown.forEach((row, number) => fillRow(list.children[number], row))
 function drawTimeline() {
 const length = Math.min(Number(at("span").value), replica.records.length)
 const records = Array.from({ length }, (_, age) => replica.records.at(age))
-const { origins: reaches, horizon } = replica
-const shown = { records, origins: originsNow(), reaches, horizon, micros: program?.version > 1 ? 256 : 16 }
+const { horizon } = replica
+const shown = { records, origins: originsNow(), reachOf: it => replica.reachOf(it), horizon, micros: program?.version > 1 ? 256 : 16 }
 timeline.draw(shown)
 at("timeline").setAttribute("aria-label", inWords(shown, replica.late))
 }
@@ -955,7 +960,7 @@ touch()
 const rowsText = count => `${count} ${count === 1 ? "row" : "rows"}`
 function tellAgain() {
 const { rollbacks, again, lastRollback, skipped } = replica
-const lost = skipped ? ` ${skipped} lines were left out.` : ""
+const lost = skipped ? ` ${skipped} lines were left out, and rollbacks among these are not counted.` : ""
 if (!steps) return put("again", "")
 if (!lastRollback) return put("again", `No rollback so far.${lost}`)
 const { from, to, again: last } = lastRollback

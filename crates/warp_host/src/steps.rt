@@ -118,6 +118,21 @@ impl Telling {
         MOST_WAITING.saturating_sub(waiting) as usize
     }
 
+    /// Tells how many lines were left out last, where some were and there is room for that; whether it did.
+    pub(crate) fn tell_left_out(&mut self, alloc: Global, len: u32, taken: u64) -> bool {
+        if self.left_out == 0 || self.room(taken) == 0 {
+            return false;
+        }
+        let left_out = self.left_out;
+        self.left_out = 0;
+        let told = Executed {
+            len,
+            left_out,
+            text: Vec::new(alloc),
+        };
+        self.ring.push(told).is_ok()
+    }
+
     /// So many lines more are left out.
     fn leave_out(&mut self, lines: u64) {
         self.left_out = self.left_out.saturating_add(lines);

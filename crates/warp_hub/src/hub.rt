@@ -567,6 +567,7 @@ impl Hub {
         };
         let was_full = who.outbox.len() >= MOST_UNREAD;
         place.written(client.round, count);
+        place.push_skipped(client.key, &mut self.commons, &mut self.lists.changed);
         if !was_full {
             return;
         }

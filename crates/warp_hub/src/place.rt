@@ -430,6 +430,33 @@ impl Place {
         client.push_steps(steps, commons)
     }
 
+    /// Pushes to the client how many lines of steps were left out for it, where not much waits for it any more, and
+    /// lists it.
+    pub(crate) fn push_skipped(
+        &mut self,
+        key: u32,
+        commons: &mut Commons,
+        changed: &mut VecDeque<u32>,
+    )
+        ensures board { commons.new.reader ≡ commons.old.reader }
+        ensures same { self.new ≡ self.old }
+    {
+        if self.gives_skipped(commons) {
+            self.note(key, changed);
+        }
+    }
+
+    /// Pushes to the client how many lines of steps were left out for it, where not much waits for it. Whether it did.
+    fn gives_skipped(&mut self, commons: &mut Commons) -> bool
+        ensures board { commons.new.reader ≡ commons.old.reader }
+        ensures same { self.new ≡ self.old }
+    {
+        match &mut self.client {
+            Some(client) => client.push_skipped(commons),
+            None => false,
+        }
+    }
+
     /// The client that has it in this use goes. Whether there was one.
     pub(crate) fn leave(&mut self, round: u64) -> bool {
         if self.round != round || self.client.is_none() {

@@ -182,15 +182,29 @@ impl Client {
             return false;
         };
         let left_out = before.saturating_add(steps.left_out);
-        if steps.count == 0 || self.outbox.len() >= MOST_BEFORE_STEPS {
+        self.watches.steps = Some(left_out);
+        if self.outbox.len() >= MOST_BEFORE_STEPS {
             self.watches.steps = Some(left_out.saturating_add(steps.count));
             return true;
         }
-        self.watches.steps = Some(0);
-        if left_out > 0 {
-            self.push(&skipped_line(left_out), commons);
+        self.push_skipped(commons);
+        if steps.count > 0 {
+            self.push(&steps.text, commons);
         }
-        self.push(&steps.text, commons);
+        true
+    }
+
+    /// Pushes how many lines of steps were left out for it, where some were and not much waits for it. Whether it did.
+    pub(crate) fn push_skipped(&mut self, commons: &mut Commons) -> bool
+        ensures board { commons.new.reader ≡ commons.old.reader }
+        ensures rights { self.new.rights ≡ self.old.rights }
+    {
+        let left_out = self.watches.steps.unwrap_or(0);
+        if left_out == 0 || self.outbox.len() >= MOST_BEFORE_STEPS {
+            return false;
+        }
+        self.watches.steps = Some(0);
+        self.push(&skipped_line(left_out), commons);
         true
     }
 
