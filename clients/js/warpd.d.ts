@@ -59,7 +59,12 @@ export interface StepMade extends Tag {
   pending: number
 }
 
-/** The host went back, from the last tag that was done; `to` is null for the start of the run. `again` counts the steps that follow, up to `from`. */
+/**
+ * The host went back, from the last tag that was done. `to` is the last that was done after going back, and so stays done:
+ * that of a checkpoint, which may lie up to sixteen rows before the late tag, or null for the start of the run. `again`
+ * counts the steps that follow, up to `from`. Which record it was is not told; pushes of other watches may come before or
+ * after.
+ */
 export interface Rollback {
   from: Tag
   to: Tag | null
@@ -72,6 +77,10 @@ export interface Pushes {
   vars: { log: number; values: Value[] }
   horizon: { log: number } & Tag
   breach: { log: number; origins: number[] }
+  /**
+   * `skipped` lines were left out, since they were not read fast enough, or one record made more than may wait. Rollbacks
+   * may be among them, and fewer than `again` steps may follow one: who rebuilds a state asks `readVars` anew.
+   */
   steps: StepMade | { rollback: Rollback; skipped?: undefined } | { skipped: number; rollback?: undefined }
 }
 

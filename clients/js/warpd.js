@@ -9,7 +9,8 @@
 //
 // Values of events, variables and outputs have 64 bits and are BigInt; all other numbers are numbers. Where a value is
 // given, a number will do. Lines are sent at once, and answered in their order. After a lost connection the client
-// connects again, sends again what was not answered (records are safe to repeat) and watches on from where it was.
+// connects again, sends again what was not answered (records are safe to repeat) and watches on from where it was; but
+// steps go on from the new connection, and what was executed meanwhile is not told.
 
 const MEANINGS = {
   1: "the line is none, or out of range",
@@ -140,7 +141,11 @@ export function replyOf(text, line) {
 
 const valuesOf = values => Object.fromEntries(Object.entries(values).map(([name, value]) => [name, BigInt(value)]))
 
-/** A step, or a going back before steps, of its JSON: a value may have more digits than a number keeps. */
+/**
+ * A step, or a going back before steps, of its JSON: a value may have more digits than a number keeps. `to` is the last
+ * tag that was done after going back: that of a checkpoint, up to sixteen rows before the late tag, or null for the start
+ * of the run.
+ */
 function executedOf(text) {
   const { tag, rollback, given, due, changed, outputs, pending } = JSON.parse(text.replace(/":(-?\d+)/g, '":"$1"'))
   if (rollback) {
@@ -507,7 +512,9 @@ export class Client {
   /**
    * Watches "log" or "released" (from place 1, number 0, or `from` on), "vars", "horizon", "breach", or "steps" (what
    * the host executes from then on). Calls back for each push, and is an async iterator over them; `stop()` ends it. A
-   * second watch of the same takes the first's place. What cannot be watched is a RangeError.
+   * second watch of the same takes the first's place. What cannot be watched is a RangeError. Of steps some are left out,
+   * as `{ skipped }` tells, where they are not read fast enough, or one record makes more than may wait: rollbacks may be
+   * among them, and fewer than `again` steps may follow one.
    */
   watch(what, callback = null, { from = { log: 1, released: 0 }[what] ?? null } = {}) {
     number("subject of a watch", what, SUBJECTS)

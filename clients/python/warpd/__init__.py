@@ -33,8 +33,9 @@ from os import PathLike
 from typing import NamedTuple, Optional, Union
 
 __all__ = [
-    "Announce", "Announcer", "Board", "Breach", "Carrier", "Client", "Collected", "Count", "Differ", "Ended", "Entry", "Event", "Horizon", "HostClient",
-    "Known", "Names", "Nothing", "Output", "Record", "Refused", "Row", "Shape", "Tag", "Taken", "Var", "Withdraw", "carry",
+    "Announce", "Announcer", "Board", "Breach", "Broken", "Carrier", "Client", "Collected", "Count", "Differ", "Due", "Ended", "Entry", "Event", "Frozen",
+    "Horizon", "HostClient", "Known", "Logged", "Names", "Nothing", "Output", "Push", "Record", "Refused", "Released", "Rollback", "Row", "Shape",
+    "Skipped", "Step", "Tag", "Taken", "Var", "Variables", "Withdraw", "carry",
 ]
 
 MEANINGS = {
@@ -57,7 +58,8 @@ FULL = 7
 
 
 class Refused(Exception):
-    """A line that was refused: its number (1 to 11), what that means, and the line. Nothing was changed."""
+    """A line that was refused: its number (1 to 11, 13 and 14; there is no 12), what that means, and the line. Nothing was
+    changed."""
 
     def __init__(self, number: int, line: str):
         super().__init__(f"refused {number}: {MEANINGS.get(number, 'unknown')}: {line}")
@@ -734,4 +736,6 @@ def carry(addresses: Sequence[tuple[str, int]], pause: float = 0.05, timeout: fl
         carrier.close()
 
 
-from .hosted import HostClient  # noqa: E402 (which stands on all of this)
+from .hosted import (  # noqa: E402 (which stands on all of this)
+    Broken, Due, Frozen, HostClient, Logged, Push, Released, Rollback, Skipped, Step, Variables,
+)

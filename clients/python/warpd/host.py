@@ -12,7 +12,8 @@ HEAD = "warpd"
 
 
 class Program(NamedTuple):
-    """A program as a server shows it: its shape in words, and its fingerprint, where the server knows the word."""
+    """A program as a server shows it: its shape in words, and its version and fingerprint with a dash between, where the
+    server knows the word."""
 
     shape: str
     fingerprint: Optional[str]
@@ -43,4 +44,9 @@ class Program(NamedTuple):
         return self.shape == other.shape and len(known) < 2
 
     def __str__(self) -> str:
-        return f"{self.shape}, fingerprint {self.fingerprint or 'unknown'}"
+        version, _, digits = (self.fingerprint or "").partition("-")
+        if not digits:
+            return f"{self.shape}, fingerprint {self.fingerprint or 'unknown'}"
+        # The host tells its version, where the shape only tells the first from the others.
+        _, _, *rest = self.shape.split(" ")
+        return " ".join(["version", version, *rest]) + f", fingerprint {digits}"

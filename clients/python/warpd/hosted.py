@@ -14,7 +14,7 @@ from collections import deque
 from collections.abc import Iterator
 from typing import NamedTuple, Optional, Union
 
-from . import Client, Ended, Horizon, Names, Output, Record, Refused, Tag, record_of, reply_of
+from . import Client, Ended, Horizon, Names, Output, Record, Tag, record_of, reply_of
 
 # What can be watched, and where it begins where no place is given.
 SUBJECTS = {"log": 1, "released": 0, "vars": None, "horizon": None, "breach": None, "steps": None}
@@ -88,8 +88,10 @@ class Step(NamedTuple):
 
 
 class Rollback(NamedTuple):
-    """A push: the host went back, from the last tag that was done; `to_tag` is None for the start of the run. So many of the
-    steps that follow are not after `from_tag`."""
+    """A push: the host went back, from the last tag that was done. `to_tag` is the last that was done after going back, and
+    so stays done: that of a checkpoint, which may lie up to sixteen rows before the late tag, or None for the start of the
+    run. So many of the steps that follow are not after `from_tag`. Which record it was is not told; pushes of other
+    watches may come before or after."""
 
     from_tag: Tag
     to_tag: Optional[Tag]
@@ -97,7 +99,8 @@ class Rollback(NamedTuple):
 
 
 class Skipped(NamedTuple):
-    """A push: so many lines of steps were left out, since they were not read fast enough."""
+    """A push: so many lines of steps were left out, since they were not read fast enough, or one record made more than may
+    wait. Rollbacks may be among them, and fewer than `again` steps may follow one: who rebuilds a state asks `vars` anew."""
 
     count: int
 
@@ -110,6 +113,20 @@ def _subject(what: str) -> str:
     if what not in SUBJECTS:
         raise ValueError(f"{what!r} is nothing to watch; there are: {', '.join(SUBJECTS)}")
     return what
+
+
+def _start_of(what: str, start: Optional[int]) -> Optional[int]:
+    """Where a watch begins; a ValueError where a start is given to what has none."""
+    first = SUBJECTS[_subject(what)]
+    if start is None:
+        return first
+    if first is None:
+        raise ValueError(f"{what!r} has no start; these have one: {', '.join(it for it, begin in SUBJECTS.items() if begin is not None)}")
+    return start
+
+
+def _watch_line(what: str, place: Optional[int]) -> str:
+    return f"watch {what}" if place is None else f"watch {what} {place}"
 
 
 def _step_of(told: dict) -> Union[Step, Rollback]:
@@ -150,7 +167,9 @@ def _taken_from(waiting: deque[Push]) -> list[Push]:
 
 
 class HostClient(Client):
-    """Lines to one host, and their answers, as of any `Client`. Names are those that the host tells."""
+    """Lines to one host, and their answers, as of any `Client`. Names are those that the host tells. `reconnect` says the
+    token again and watches on from where it was; but steps go on from the new connection, and what was executed meanwhile is
+    not told."""
 
     def __init__(self, host: str, port: int, timeout: Optional[float] = 10.0, token: Optional[str] = None):
         """Connects, says the token, if there is one, and asks for the names. A refused token is a `Refused`."""
@@ -164,7 +183,7 @@ class HostClient(Client):
         try:
             self._greet()
             for what, place in self._next.items():
-                self._word(f"watch {what}" if place is None else f"watch {what} {place}")
+                self._word(_watch_line(what, place))
         except BaseException:
             self.close()
             raise
@@ -223,15 +242,13 @@ class HostClient(Client):
 
     def watch(self, what: str, start: Optional[int] = None) -> Iterator[Push]:
         """Watches "log" or "released" (from `start` on, or from the first), "vars", "horizon", "breach", or "steps" (what
-        the host executes from then on), and gives each push. The next one is waited for without an end; `pushed` has what came without waiting. What is not taken waits
-        in memory, up to `unwatch`. Watching the same again begins anew."""
-        place = SUBJECTS[_subject(what)] if start is None else start
+        the host executes from then on), and gives each push. The next one is waited for without an end; `pushed` has what
+        came without waiting. What is not taken waits in memory, up to `unwatch`. Watching the same again begins anew; where
+        that is refused, the watch that was there goes on. A start for what has none is a ValueError."""
+        place = _start_of(what, start)
+        # Up to the answer pushes are those of the watch that was there; it goes on where this one is refused.
+        self._word(_watch_line(what, place))
         self._waiting[what], self._next[what] = deque(), place
-        try:
-            self._word(f"watch {what}" if place is None else f"watch {what} {place}")
-        except Refused:
-            del self._waiting[what], self._next[what]
-            raise
         return self._pushes(what, self._waiting[what])
 
     def _pushes(self, what: str, waiting: deque[Push]) -> Iterator[Push]:
