@@ -518,6 +518,7 @@ export class Client {
    */
   watch(what, callback = null, { from = { log: 1, released: 0 }[what] ?? null } = {}) {
     number("subject of a watch", what, SUBJECTS)
+    if (from !== null && what !== "log" && what !== "released") throw new RangeError(`a watch of ${what} has no start`)
     this.#watches.get(what)?.end()
     const watch = new Watch(this, what, from, callback)
     this.#watches.set(what, watch)

@@ -5,7 +5,7 @@ use http::HeaderValue;
 /// What the page may do in a browser: its own style and script alone, told by their SHA-256, and connect to its host.
 const POLICY: &str = "\
 default-src 'none'; \
-script-src 'sha256-WUgKuJhJzo42Q6jHkWv753f6CsmQnsglaPnJvcI5zS0='; \
+script-src 'sha256-BHdpeZ+45UB5aJJunUMyL8nHrCz9CgwVY3nrLIiddfI='; \
 style-src 'sha256-w6wrpSjQQo2ITNrYMfX6Z7+uynafgFVJ8u9XhCCqJFo='; \
 connect-src 'self'; \
 img-src data:; \
@@ -442,6 +442,7 @@ return this.ask("program")
 }
 watch(what, callback = null, { from = { log: 1, released: 0 }[what] ?? null } = {}) {
 number("subject of a watch", what, SUBJECTS)
+if (from !== null && what !== "log" && what !== "released") throw new RangeError(`a watch of ${what} has no start`)
 this.#watches.get(what)?.end()
 const watch = new Watch(this, what, from, callback)
 this.#watches.set(what, watch)

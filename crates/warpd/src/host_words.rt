@@ -1,5 +1,8 @@
 //! What the words and the files of a host say, before its program is looked at.
-ghost use Rattle.std.specs.Prelude.{IfErr};
+ghost use Rattle.std.specs.Prelude.{◌≡◌, IfErr, IfOk};
+ghost use Rattle.std.specs.Net.Socket.{socket_ip};
+ghost use Rattle.std.specs.Option.{is_some};
+ghost use Rattle.warp_host.specs.Listening.{MayListen};
 ghost use Rattle.warpd.specs.Outcome.{KeepsFromHosting};
 
 use crate::origins::is_origin;
@@ -126,7 +129,8 @@ fn tokens_of<X: Files + Eprint>(
     word: Option<&str>,
     which: TokenFile,
 ) -> Result<Option<TokenText>, Outcome>
-    ensures { IfErr result KeepsFromHosting }
+    ensures file { IfOk result (λ file. is_some file ≡ is_some word.entry) }
+    ensures fault { IfErr result KeepsFromHosting }
 {
     let Some(name) = word else {
         return Ok(None);
@@ -294,7 +298,8 @@ pub(crate) fn host_plan<X: Files + Eprint>(
     alloc: Global,
     job: &HostJob<'_>,
 ) -> Result<HostPlan, Outcome>
-    ensures { IfErr result KeepsFromHosting }
+    ensures listens { IfOk result (λ plan. MayListen (socket_ip plan.address) (is_some plan.tokens) «job».now.is_open) }
+    ensures fault { IfErr result KeepsFromHosting }
 {
     let address = address_of(rt, job.listen)?;
     if !may_listen(address.ip(), job.tokens.is_some(), job.is_open) {
