@@ -137,7 +137,7 @@ def file(dice, version):
     reaction = {"on": INPUTS[:1], "reads": INPUTS[1:] + ACTIONS + TIMERS, "writes": OUTPUTS + ACTIONS}
     reactor = {
         "name": "r", "vars": [[name, 0] for name in VARIABLES], "inputs": INPUTS, "outputs": OUTPUTS,
-        "actions": [[name, 0] for name in ACTIONS], "timers": [[name, 0, 1] for name in TIMERS],
+        "actions": [[name, 0] for name in ACTIONS], "timers": [[name, 0, longest] for name in TIMERS],
         "reactions": [{**reaction, "body": one} for one in bodies]}
     return json.dumps({"version": version, "stop": longest, "origins": 1, "reactors": [reactor]}), bodies
 
