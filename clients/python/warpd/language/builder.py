@@ -17,7 +17,8 @@ UNITS = {
 
 
 def shown(token: Token) -> str:
-    return "{=" if token.type == "BODY" else str(token)
+    """The token; of one that takes in what follows, how it begins."""
+    return {"BODY": "{=", "OPEN": str(token)[:2]}.get(token.type, str(token))
 
 
 def place_of(token: Token) -> At:

@@ -25,6 +25,7 @@ class Report:
     def __init__(self, file: str, text: str):
         self.file, self.lines = file, text.split("\n")
         self.faults: list[Fault] = []
+        self.told: set[Fault] = set()
 
     def error(self, at: At, text: str, hint: str = "") -> None:
         self._add(Fault(at, "error", text, hint))
@@ -33,7 +34,8 @@ class Report:
         self._add(Fault(at, "warning", text, hint))
 
     def _add(self, fault: Fault) -> None:
-        if fault not in self.faults:
+        if fault not in self.told:
+            self.told.add(fault)
             self.faults.append(fault)
 
     @property

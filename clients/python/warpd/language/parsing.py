@@ -119,12 +119,12 @@ class Parser:
             return [*tokens[:number], Token.new_borrow_pos("SEMICOLON", ";", before), *tokens[number:]]
         else:
             self._unexpected(tokens, stopped)
-        return [] if token.type == "$END" or token == "{=" else _without(tokens, number)
+        return [] if token.type in ("$END", "OPEN") else _without(tokens, number)
 
     def _foreign(self, tokens: list[Token], number: int, table: dict):
         """A word that is not of this language, where it begins or near where it stopped, with what to say of it."""
         for token in (tokens[_start(tokens, number)], tokens[number], tokens[number - 1]):
-            key = {"STRING": '"', "ATTRIBUTE": "@"}.get(token.type, token)
+            key = {"STRING": '"', "ATTRIBUTE": "@"}.get(token.type, shown(token))
             if key in table and token != "@origin":
                 return token, table[key]
         return None

@@ -20,6 +20,7 @@ STRUCTURE = {
     "++": ("`++` is not there", "write `+= 1`"),
     '"': ("warpd has no texts: each value is an integer of 64 bits", ""),
     "{=": ("this `{=` is never closed", "a body ends with `=}`"),
+    "/*": ("this `/*` is never closed", "a comment ends with `*/`"),
     "@": ("warpd knows no such attribute", "`@origin(0)` stands before an `input` of main"),
 }
 
@@ -52,6 +53,7 @@ BODY = {
     ">>": ("warpd has no operators on bits", "divide by a power of two: `/` rounds so that nothing negative is left"),
     "->": ("a body is no target code", "`a->value` is `a`, and `a->is_present` is `present(a)`"),
     ".": ("a body speaks of its own reactor alone", "declare an input or an output, and connect it in main"),
+    "/*": ("this `/*` is never closed", "a comment ends with `*/`"),
     '"': ("warpd has no texts: each value is an integer of 64 bits", ""),
 }
 
