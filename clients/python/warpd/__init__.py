@@ -50,6 +50,8 @@ WINDOW = 256
 MOST_ROWS_OF_3, MOST_ROWS = 1_048_576, 4_096
 # A record that no program takes: its time is behind every stop, and before version 3 it is no line.
 BEHIND_EACH_STOP = "event 0 15625000 0 0 0"
+# No reply and no push has more bytes; of what is none, an error shows so many letters.
+LONGEST, SHOWN = 1 << 22, 200
 # No program has more, of any version.
 MOST_ORIGINS, MOST_VARIABLES = 64, 256
 # Refusals that pass: the line may be sent again.
@@ -261,7 +263,12 @@ def reply_of(text: str, line: str):
         kinds = {"taken": Taken, "known": Known, "var": Var, "outputs": Count, "released": Count, "lost": Count, "collected": Collected}
         return kinds[word](*numbers)
     except (KeyError, IndexError, TypeError, ValueError):
-        raise Ended(f"no reply to {line!r}: {text!r}") from None
+        raise Ended(f"no reply to {line!r}: {cut(text)}") from None
+
+
+def cut(text: str) -> str:
+    """The beginning of a text, as an error shows it."""
+    return repr(text if len(text) <= SHOWN else text[:SHOWN] + "..")
 
 
 def _one_line(line: Union[str, Record]) -> str:
@@ -372,11 +379,11 @@ class Client:
 
     def _text(self, line: str) -> str:
         try:
-            text = self._replies.readline()
+            text = self._replies.readline(LONGEST)
         except (OSError, ValueError) as error:
             raise Ended(str(error)) from error
         if not text.endswith(b"\n"):
-            raise Ended(f"no reply to {line!r}")
+            raise Ended(f"no reply to {line!r}" + f": a line of more than {LONGEST} bytes" * (len(text) == LONGEST))
         return text[:-1].decode("ascii", "replace")
 
     def _reply(self, line: str):

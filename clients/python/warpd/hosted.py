@@ -11,11 +11,14 @@ from __future__ import annotations
 import json
 import select
 from collections import deque
-from collections.abc import Iterator
-from typing import NamedTuple, Optional, Union
+from collections.abc import Callable, Iterator
+from typing import NamedTuple, Optional, TypeVar, Union
 
-from . import Client, Ended, Horizon, Names, Output, Record, Tag, record_of, reply_of
+from . import Client, Ended, Horizon, Names, Output, Record, Tag, cut, record_of, reply_of
 
+Answer = TypeVar("Answer")
+# What reading a text raises that is not of its form.
+MALFORMED = (AttributeError, KeyError, IndexError, TypeError, ValueError, RecursionError)
 # What can be watched, and where it begins where no place is given.
 SUBJECTS = {"log": 1, "released": 0, "vars": None, "horizon": None, "breach": None, "steps": None}
 
@@ -160,6 +163,29 @@ def _push_of(text: str) -> Optional[tuple[str, Push]]:
     return None
 
 
+def _names_of(text: str) -> Names:
+    told = json.loads(text)
+    made = Names(told["vars"], [(int(origin), name) for origin, name in told["inputs"]], told["outputs"])
+    if not all(isinstance(name, str) for name in (*made.vars, *made.outputs, *(name for _, name in made.inputs))):
+        raise ValueError(text)
+    return made
+
+
+def _program_of(text: str) -> Program:
+    version, fingerprint = text.split(" ")
+    return Program(int(version), fingerprint)
+
+
+def _variables_of(text: str) -> Variables:
+    log, *values = map(int, text.split(" "))
+    return Variables(log, tuple(values))
+
+
+def _releases_of(text: str) -> Releases:
+    log, count, frozen = map(int, text.split(" "))
+    return Releases(log, count, bool(frozen))
+
+
 def _taken_from(waiting: deque[Push]) -> list[Push]:
     found = list(waiting)
     waiting.clear()
@@ -191,8 +217,7 @@ class HostClient(Client):
     def _greet(self) -> None:
         if self._token is not None:
             self._word(f"token {self._token}")
-        told = json.loads(self._word("names").partition(" ")[2])
-        self.names = Names(told["vars"], [(origin, name) for origin, name in told["inputs"]], told["outputs"])
+        self.names = self._told("names", _names_of)
 
     def _text(self, line: str) -> str:
         """The next reply; pushes in front of it are kept for who watches."""
@@ -203,8 +228,8 @@ class HostClient(Client):
     def _keep(self, text: str) -> None:
         try:
             found = _push_of(text)
-        except (KeyError, IndexError, TypeError, ValueError):
-            raise Ended(f"no push: {text!r}") from None
+        except MALFORMED:
+            raise Ended(f"no push: {cut(text)}") from None
         if found is None:
             return
         what, push = found
@@ -220,20 +245,23 @@ class HostClient(Client):
             raise reply_of(text, line)
         return text
 
-    def _numbers(self, line: str) -> list[int]:
-        return [int(it) for it in self._word(line).split(" ")[1:]]
+    def _told(self, line: str, meaning: Callable[[str], Answer]) -> Answer:
+        """What the reply to one line means behind its first word; the client is closed where it means nothing."""
+        text = self._word(line)
+        try:
+            return meaning(text.partition(" ")[2])
+        except MALFORMED:
+            self.close()
+            raise Ended(f"no reply to {line!r}: {cut(text)}") from None
 
     def program(self) -> Program:
-        _, version, fingerprint = self._word("program").split(" ")
-        return Program(int(version), fingerprint)
+        return self._told("program", _program_of)
 
     def vars(self) -> Variables:
-        log, *values = self._numbers("vars")
-        return Variables(log, tuple(values))
+        return self._told("vars", _variables_of)
 
     def releases(self) -> Releases:
-        log, count, frozen = self._numbers("releases")
-        return Releases(log, count, bool(frozen))
+        return self._told("releases", _releases_of)
 
     def release(self, index: int) -> Optional[Output]:
         """The released output of this number, from 0."""
@@ -265,7 +293,7 @@ class HostClient(Client):
     def _next_push(self, what: str) -> None:
         text = super()._text(f"watch {what}")
         if not text.startswith("* "):
-            raise Ended(f"no push: {text!r}")
+            raise Ended(f"no push: {cut(text)}")
         self._keep(text[2:])
 
     def pushed(self, what: str) -> list[Push]:
