@@ -3,12 +3,13 @@
 
 from __future__ import annotations
 
+import re
 from typing import NamedTuple, Optional
 
 from . import Client, reply_of
 
-# What begins a stream's first entry, which no record begins with.
-HEAD = "warpd"
+# A stream's first entry, which is no record.
+HEAD = re.compile(r"warpd 1 (version [12]\+? origins \d+ variables \d+) program (?:unknown|(\d+-[0-9a-f]{64}))", re.ASCII)
 
 
 class Program(NamedTuple):
@@ -30,13 +31,11 @@ class Program(NamedTuple):
     @classmethod
     def read(cls, head: str) -> Optional[Program]:
         """That of a stream's first entry; none where it is no such text."""
-        words = head.split(" ")
-        if len(words) != 10 or words[:2] != [HEAD, "1"] or words[8] != "program":
-            return None
-        return cls(" ".join(words[2:8]), None if words[9] == "unknown" else words[9])
+        found = HEAD.fullmatch(head)
+        return cls(*found.groups()) if found else None
 
     def head(self) -> str:
-        return f"{HEAD} 1 {self.shape} program {self.fingerprint or 'unknown'}"
+        return f"warpd 1 {self.shape} program {self.fingerprint or 'unknown'}"
 
     def fits(self, other: Program) -> bool:
         """Whether both may be one program: their shapes are the same, and their fingerprints, if both are known."""

@@ -24,7 +24,7 @@ from itertools import islice
 from typing import Optional
 
 from .. import Refused
-from ..host import HEAD, Program
+from ..host import Program
 from .servers import Server
 from .state import State
 from .streams import START, Lost, Stream, Unreachable
@@ -196,7 +196,7 @@ class Feed:
         if not self._fits(self._head):
             program = Program.read(self._head)
             raise Stopped(f"the stream is of another program than the server {self.name}: "
-                          f"it has {str(program or self._head)}; {self.name} has {self._program}")
+                          f"it has {program or shown(self._head)}; {self.name} has {self._program}")
 
     def _fits(self, head: Optional[str]) -> bool:
         program = Program.read(head) if head else self._program
@@ -216,7 +216,7 @@ class Feed:
             return False, 0
         fresh: dict[str, None] = {}
         for text in texts:
-            if text.startswith(HEAD + " "):
+            if Program.read(text):
                 if _tells_more(text, self._head):
                     self._head = text
                     self._compare()
@@ -274,7 +274,7 @@ class Feed:
         if letter not in self._buried:
             self._dead.append([letter])
             self._buried.add(letter)
-            self._tell(f"a dead letter: {Refused(number, text[:LETTER])}")
+            self._tell(f"a dead letter: {Refused(number, shown(text))}")
 
     def _stop_unless_passing(self, refused: Refused) -> None:
         if refused.number not in FOR_NOW:
@@ -312,6 +312,12 @@ class Feed:
             self._stream.append(texts)
 
 
+def shown(text: str) -> str:
+    """A text as it may be told: what is no letter, sign or space is spelled, and only its beginning stands there."""
+    spelled = "".join(it if it.isprintable() else ascii(it)[1:-1] for it in text[:LETTER + 1])
+    return spelled if len(spelled) <= LETTER else spelled[:LETTER] + ".."
+
+
 class _Troubles:
     """Tells of a trouble that lasts a second, once, and of its end."""
 
@@ -324,7 +330,7 @@ class _Troubles:
         now = time.monotonic()
         if now - self._since.setdefault(what, now) >= 1 and what not in self._told:
             self._told.add(what)
-            self._tell(f"{what} cannot be had, and is asked again and again: {fault}")
+            self._tell(f"{what} cannot be had, and is asked again and again: {shown(str(fault))}")
 
     def over(self) -> None:
         for what in self._told:

@@ -9,7 +9,7 @@ import time
 from collections.abc import Iterator
 from typing import Optional
 
-from .. import Ended, reply_of
+from .. import Ended, cut, reply_of
 from ..host import Program
 from ..hosted import HostClient
 
@@ -37,6 +37,9 @@ class Server(HostClient):
             if self.knows_tokens and answer.startswith("refused "):
                 raise reply_of(answer, "token ..")
         self.shown = Program.of(self)
+        # Else its first entry would be read by no feed, and be appended again and again.
+        if Program.read(self.shown.head()) != self.shown:
+            raise Ended(f"no program: {cut(str(self.shown))}")
 
     @property
     def is_host(self) -> bool:
