@@ -266,6 +266,11 @@ def reply_of(text: str, line: str):
         raise Ended(f"no reply to {line!r}: {cut(text)}") from None
 
 
+def spelled(text: str) -> str:
+    """A text of others as it may be shown: what is no letter, sign or space is spelled."""
+    return "".join(it if it.isprintable() else ascii(it)[1:-1] for it in text)
+
+
 def cut(text: str) -> str:
     """The beginning of a text, as an error shows it."""
     return repr(text if len(text) <= SHOWN else text[:SHOWN] + "..")

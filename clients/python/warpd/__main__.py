@@ -6,7 +6,7 @@ import time
 from collections.abc import Sequence
 from pathlib import Path
 
-from . import Carrier, Differ
+from . import Carrier, Differ, spelled
 
 USAGE = """usage: python3 -m warpd carry [--until-equal] HOST:PORT HOST:PORT..
        python3 -m warpd feed --server HOST:PORT --stream URL [--state FILE] [--token-file FILE] [-- COMMAND..]
@@ -29,7 +29,7 @@ def carry_command(words: Sequence[str]) -> int:
         return usage()
     carrier = Carrier(
         [(host, int(port)) for host, _, port in addresses],
-        tell=lambda text: print(f"carry: {text}", file=sys.stderr, flush=True))
+        tell=lambda text: print(f"carry: {spelled(text)}", file=sys.stderr, flush=True))
     try:
         while True:
             if not carrier.round():
@@ -39,7 +39,7 @@ def carry_command(words: Sequence[str]) -> int:
     except KeyboardInterrupt:
         pass
     except Differ as difference:
-        print(f"carry: {difference}", file=sys.stderr)
+        print(f"carry: {spelled(str(difference))}", file=sys.stderr)
         return 1
     finally:
         status = int(carrier.amiss)

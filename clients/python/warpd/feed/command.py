@@ -11,6 +11,7 @@ from pathlib import Path
 from typing import Optional
 from urllib.parse import urlsplit, urlunsplit
 
+from .. import spelled
 from . import DEAD, Feed, State, Stopped, Unusable, opened
 
 EPILOG = """URL is redis://HOST:PORT/NAME, or postgresql://USER@HOST:PORT/DATABASE/TABLE. NAME.dead has what no server takes,
@@ -51,7 +52,7 @@ def named(url: str) -> str:
 
 
 def tell(text: str) -> None:
-    print(f"feed: {text}", file=sys.stderr, flush=True)
+    print(f"feed: {spelled(text)}", file=sys.stderr, flush=True)
 
 
 class Child:

@@ -23,7 +23,7 @@ from dataclasses import dataclass, field
 from itertools import islice
 from typing import Optional
 
-from .. import Refused
+from .. import Refused, spelled
 from ..host import Program
 from .servers import Server
 from .state import State
@@ -314,8 +314,8 @@ class Feed:
 
 def shown(text: str) -> str:
     """A text as it may be told: what is no letter, sign or space is spelled, and only its beginning stands there."""
-    spelled = "".join(it if it.isprintable() else ascii(it)[1:-1] for it in text[:LETTER + 1])
-    return spelled if len(spelled) <= LETTER else spelled[:LETTER] + ".."
+    it = spelled(text[:LETTER + 1])
+    return it if len(it) <= LETTER else it[:LETTER] + ".."
 
 
 class _Troubles:
