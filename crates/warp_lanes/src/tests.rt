@@ -1,10 +1,9 @@
-//! What no clause says of lanes: worked rows, that ports and an engine in threads of their own see each other, and that
-//! what two ports are told is one history, by a list that the test keeps.
+//! What no clause says of lanes: worked rows, and that what two ports are told is one history, by a list that the test
+//! keeps.
 mod boards;
 mod draining;
 mod history;
 mod judge;
 mod rings;
 mod steps;
-mod threads;
 mod visits;

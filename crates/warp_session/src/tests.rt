@@ -1,7 +1,5 @@
-//! What no contract says of serving and a full lane: that calls return, that sessions meet, when a gate is called, and what a door
-//! hears.
+//! What no contract says of a full lane, and when a gate is called.
 
 mod desks;
 mod gates;
 mod memory;
-mod servers;

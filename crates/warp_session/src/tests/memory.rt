@@ -1,24 +1,10 @@
-//! Connections over memory: what was sent on each, what it was answered, a door that gives them out, and a gate by
-//! which sessions meet.
+//! A connection over memory: what was sent on it, and what is written to it.
 ghost use Rattle.std.specs.Prelude.{◌≤◌, length};
 
-use crate::door::{Door, DoorFault, Gate};
-use crate::pulling::PullEnd;
 use crate::stream::{Failed, Sink, Source};
 use std::alloc::Global;
 use std::process::Abort;
-use std::sync::atomic::{AtomicBool, Ordering};
 use std::sync::{Mutex, Wait};
-use std::thread;
-use std::time::{Clock, Duration};
-
-/// How often something is waited for, a millisecond each time, before it is given up.
-const TURNS: u32 = 10_000;
-
-/// Waits for the length of such a turn.
-fn wait_a_turn(rt: &impl Clock) {
-    thread::sleep(rt, Duration::from_millis(1));
-}
 
 /// A connection: what the other end sent, behind which nothing follows, and what was written to it.
 #[derive(Drop)]
@@ -41,11 +27,6 @@ impl<'a> Talk<'a> {
         let rest = self.sent.as_bytes();
         let written = &self.written;
         (Sent { rest }, Written { rt, written })
-    }
-
-    /// Whether just this was written.
-    pub(crate) fn holds(&self, rt: &impl Wait, text: &str) -> bool {
-        self.written.lock(rt).as_slice() == text.as_bytes()
     }
 }
 
@@ -98,97 +79,5 @@ impl<'a, X: Wait + Abort> Sink for Written<'a, X> {
             .extend_from_slice(piece)
             .expect(self.rt, "memory");
         Ok(piece.len())
-    }
-}
-
-/// A door to which these connections come, one after another. It notes how the last pull ended, and how many did.
-#[derive(Drop)]
-pub(crate) struct Lobby<'a, X: Wait + Abort> {
-    rt: &'a X,
-    talks: &'a [Talk<'a>],
-    next: usize,
-    pub(crate) ended: Option<(u32, PullEnd)>,
-    pub(crate) count: u32,
-}
-
-impl<'a, X: Wait + Abort> Lobby<'a, X> {
-    pub(crate) fn new(rt: &'a X, talks: &'a [Talk<'a>]) -> Lobby<'a, X> {
-        Lobby {
-            rt,
-            talks,
-            next: 0,
-            ended: None,
-            count: 0,
-        }
-    }
-}
-
-impl<'a, X: Wait + Abort + Sync> Door for Lobby<'a, X> {
-    type R = Sent<'a>;
-
-    type W = Written<'a, X>;
-
-    fn next(&mut self) -> Result<(Sent<'a>, Written<'a, X>), DoorFault> {
-        let Some(talk) = self.talks.get(self.next) else {
-            return Err(DoorFault);
-        };
-        self.next = self.next.saturating_add(1);
-        Ok(talk.both(self.rt))
-    }
-
-    fn pull_ended(&mut self, peer: u32, end: PullEnd) {
-        self.ended = Some((peer, end));
-        self.count = self.count.saturating_add(1);
-    }
-}
-
-/// A gate that holds the first ask of each session but one until a certain ask of that one was answered; it lets go
-/// where this takes too long.
-#[derive(Drop)]
-pub(crate) struct Meeting<'a, X: Clock> {
-    rt: &'a X,
-    session: u32,
-    ask: u64,
-    has_met: AtomicBool,
-    gave_up: AtomicBool,
-}
-
-impl<'a, X: Clock> Meeting<'a, X> {
-    /// All others wait until this session was answered this ask.
-    pub(crate) fn new(rt: &'a X, session: u32, ask: u64) -> Meeting<'a, X> {
-        Meeting {
-            rt,
-            session,
-            ask,
-            has_met: AtomicBool::new(false),
-            gave_up: AtomicBool::new(false),
-        }
-    }
-
-    /// Whether that ask was answered, and all that waited for it saw this.
-    pub(crate) fn was_seen(&self) -> bool {
-        let has_met = self.has_met.load(Ordering::SeqCst);
-        has_met && !self.gave_up.load(Ordering::SeqCst)
-    }
-}
-
-impl<'a, X: Clock> Gate for Meeting<'a, X> {
-    fn before_ask(&self, session: u32, n: u64) {
-        if session == self.session || n > 0 {
-            return;
-        }
-        for _turn in 0..TURNS {
-            if self.has_met.load(Ordering::SeqCst) {
-                return;
-            }
-            wait_a_turn(self.rt);
-        }
-        self.gave_up.store(true, Ordering::SeqCst);
-    }
-
-    fn after_reply(&self, session: u32, n: u64) {
-        if session == self.session && n == self.ask {
-            self.has_met.store(true, Ordering::SeqCst);
-        }
     }
 }

@@ -3,28 +3,20 @@
 ghost use Rattle.std.specs.Prelude.{◌+◌, ◌≤◌, length, vec_len};
 ghost use Rattle.warp_lanes.specs.Engine.{most_lanes};
 
-use crate::door::{Gate, Open, Peer};
-use crate::pulling::PullEnd;
-use crate::serving::serve_sessions;
 use crate::tests::memory::{Lobby, Meeting, Sent, Talk, Written};
+use crate::tests::steps::{total, twice};
 use std::alloc::Global;
 use std::process::Abort;
 use std::sync::Wait;
 use std::thread::Threads;
 use std::time::{Clock, Duration};
-use warp_lanes::Engine;
-use warp_line::{Plain, Timeline};
-use warp_record::{Query, Reply};
-use warp_step::Program;
-
-/// What an engine answers to `var 0` in the end.
-fn total<T: Timeline>(rt: &impl Abort, alloc: Global, engine: &mut Engine<T>) -> Reply {
-    engine.settle(alloc).expect(rt, "memory");
-    engine.replica().answer(Query::Var(0))
-}
+use warp_line::Timeline;
+use warp_record::Reply;
+use warp_run::Warp;
+use warp_session::{Gate, Open, Peer, PullEnd, serve_sessions};
 
 /// Serves sessions of the program `twice`, and tells what its engine then answers to `var 0`.
-fn serve<'a, X: Threads + Wait + Clock + Abort + Sync, T: Timeline + Send, G: Gate + Sync>(
+fn serve<'a, X: Threads + Wait + Clock + Abort + Sync, T: Timeline + Send + Drop, G: Gate + Sync>(
     rt: &'a X,
     alloc: Global,
     lobby: &mut Lobby<'a, X>,
@@ -34,7 +26,7 @@ fn serve<'a, X: Threads + Wait + Clock + Abort + Sync, T: Timeline + Send, G: Ga
 ) -> Reply
     requires { sessions + vec_len peers ≤ most_lanes }
 {
-    let program = Program::twice(alloc).expect(rt, "memory");
+    let program = twice(rt, alloc);
     let mut engine = serve_sessions::<X, T, Lobby<'a, X>, G>(
         rt, alloc, program, lobby, sessions, peers, gate,
     ).expect(rt, "an engine");
@@ -114,17 +106,18 @@ fn are_told<X: Wait + Abort>(rt: &X, talks: &[Talk<'_>]) {
     assert!(rt; talks.last().is_some_and(|talk| talk.holds(rt, "taken 1\n")));
 }
 
-/// Serves a session for each of these clients, of which all wait for the last, and comes to this.
-fn serve_meeting<'a, X: Threads + Wait + Clock + Abort + Sync, T: Timeline + Send>(
+/// Serves a session for each of these clients, of which all wait until the last was answered this ask, and comes to this.
+fn serve_meeting<'a, X: Threads + Wait + Clock + Abort + Sync, T: Timeline + Send + Drop>(
     rt: &'a X,
     alloc: Global,
     talks: &'a [Talk<'a>],
+    ask: u64,
     wanted: Reply,
 ) {
     let are_few = talks.len() <= 16;
     assert!(rt; are_few);
     let sessions = talks.len();
-    let gate = Meeting::new(rt, sessions.saturating_sub(1) as u32, 0);
+    let gate = Meeting::new(rt, sessions.saturating_sub(1) as u32, ask);
     let mut lobby = Lobby::new(rt, talks);
     let reply = serve::<X, T, Meeting<'a, X>>(
         rt,
@@ -139,20 +132,20 @@ fn serve_meeting<'a, X: Threads + Wait + Clock + Abort + Sync, T: Timeline + Sen
 }
 
 /// Sessions that send these lines meet: each is told a place of its own, and the engine comes to what is wanted.
-fn meet<X: Threads + Wait + Clock + Abort + Sync, T: Timeline + Send>(
+fn meet<X: Threads + Wait + Clock + Abort + Sync, T: Timeline + Send + Drop>(
     rt: &X,
     alloc: Global,
     lines: &[&str],
     wanted: Reply,
 ) {
     let talks = talks(rt, alloc, lines);
-    serve_meeting::<X, T>(rt, alloc, &talks, wanted);
+    serve_meeting::<X, T>(rt, alloc, &talks, 0, wanted);
     are_told(rt, &talks);
 }
 
 #[test]
 fn sixteen_sessions_meet(rt: HostRuntime) {
-    meet::<HostRuntime, Plain>(&rt, rt.alloc(), &SIXTEEN, ALL);
+    meet::<HostRuntime, Warp>(&rt, rt.alloc(), &SIXTEEN, ALL);
 }
 
 /// What two clients send: an event of each origin.
@@ -163,7 +156,34 @@ const BOTH: Reply = Reply::Var { log: 2, value: -5 };
 
 #[test]
 fn two_sessions_meet(rt: HostRuntime) {
-    meet::<HostRuntime, Plain>(&rt, rt.alloc(), &TWO, BOTH);
+    meet::<HostRuntime, Warp>(&rt, rt.alloc(), &TWO, BOTH);
+}
+
+/// What two clients send who ask for the place that they were told; the first one waits until the second has both replies.
+const READERS: [&str; 2] = ["event 0 5 0 0 3\nlog 2\n", "event 1 2 0 1 4\nlog 1\n"];
+
+/// What each of them is told: its own record.
+const READ: [&str; 2] = [
+    "taken 2\nlog 2 event 0 5 0 0 3\n",
+    "taken 1\nlog 1 event 1 2 0 1 4\n",
+];
+
+/// Each of two sessions reads its own record back.
+fn read_both<X: Threads + Wait + Clock + Abort + Sync, T: Timeline + Send + Drop>(
+    rt: &X,
+    alloc: Global,
+) {
+    let talks = talks(rt, alloc, &READERS);
+    serve_meeting::<X, T>(rt, alloc, &talks, 1, BOTH);
+    assert_eq!(rt; talks.len(), READ.len());
+    for (talk, text) in talks.iter().zip(READ) {
+        assert!(rt; talk.holds(rt, text));
+    }
+}
+
+#[test]
+fn read_back(rt: HostRuntime) {
+    read_both::<HostRuntime, Warp>(&rt, rt.alloc());
 }
 
 /// What a peer replies: both records, and three times that there is no further one.
@@ -171,7 +191,7 @@ const REPLIES: &str =
     "log 2 event 0 5 0 0 3\nlog 2 event 1 2 0 1 4\nnone 2\nnone 2\nnone 2\nlog 3 withdraw 0 5 0\n";
 
 /// A server without sessions pulls from this peer until it was quiet three times, and the door hears it.
-fn pulls<'a, X: Threads + Wait + Clock + Abort + Sync, T: Timeline + Send>(
+fn pulls<'a, X: Threads + Wait + Clock + Abort + Sync, T: Timeline + Send + Drop>(
     rt: &'a X,
     alloc: Global,
     talk: &'a Talk<'a>,
@@ -195,5 +215,5 @@ fn pulls<'a, X: Threads + Wait + Clock + Abort + Sync, T: Timeline + Send>(
 #[test]
 fn a_door_hears_of_a_pull(rt: HostRuntime) {
     let talk = Talk::new(rt.alloc(), REPLIES);
-    pulls::<HostRuntime, Plain>(&rt, rt.alloc(), &talk);
+    pulls::<HostRuntime, Warp>(&rt, rt.alloc(), &talk);
 }

@@ -2,22 +2,18 @@
 ghost use Rattle.std.specs.Prelude.{◌≡◌, ◌≤◌, [], ◌∷◌, Some, length, slice_get};
 ghost use Rattle.warp_lanes.specs.Engine.{AreFresh, ids_of, most_lanes};
 
-use crate::tests::draining::drain;
-use crate::tests::steps::{
-    TOTAL, at, end, engine, engine_of_two, event, fresh_lane, same, told, unseen_writer,
-};
-use crate::{Answer, Engine, Lane, Port, PortEnd, Turn};
+use crate::tests::lanes::{drain, engine_of, engine_of_two, fresh_lane, told};
+use crate::tests::steps::{TURNS, at, end, event, same, total};
 use std::alloc::Global;
 use std::process::Abort;
 use std::thread;
 use std::thread::Threads;
 use std::time::{Clock, Duration};
-use warp_line::{Plain, Timeline};
+use warp_lanes::{Answer, Engine, Lane, Port, PortEnd, Turn};
+use warp_line::Timeline;
 use warp_record::{Line, Query, Reply};
+use warp_run::Warp;
 use warp_tag::Out;
-
-/// How often each side looks, a millisecond apart, before it gives up.
-const TURNS: u32 = 10_000;
 
 /// Sends a line, and waits for its answer, which is its place; 0 where it gives up, or the answer is another.
 fn place_of<R: Clock>(rt: &R, port: &mut Port, line: Line) -> u32
@@ -146,12 +142,6 @@ fn drain_both<T: Timeline>(
     same(rt, &drain(rt, alloc, engine, 1, second.end).len(), &0);
 }
 
-/// What the total is, once all is executed.
-fn total<T: Timeline>(rt: &impl Abort, alloc: Global, engine: &mut Engine<T>) -> Reply {
-    engine.settle(alloc).expect(rt, "memory");
-    engine.replica().answer(Query::Var(0))
-}
-
 /// Two ports send an event each, are answered, end and are drained, and both events count in the order of their tags.
 fn meet_over<T: Timeline + Drop, R: Threads + Clock + Abort + Sync>(
     rt: &R,
@@ -183,7 +173,7 @@ fn meet<T: Timeline + Drop, R: Threads + Clock + Abort + Sync>(rt: &R, alloc: Gl
 
 #[test]
 fn two_ports_meet(rt: HostRuntime) {
-    meet::<Plain, HostRuntime>(&rt, rt.alloc());
+    meet::<Warp, HostRuntime>(&rt, rt.alloc());
 }
 
 /// How many ports there are in the second test, as many as an engine may have lanes.
@@ -242,7 +232,7 @@ fn has_each_place(rt: &impl Abort, askers: &[Asker]) {
 
 /// What the first port is told after all.
 fn tells_all<T: Timeline>(rt: &impl Abort, alloc: Global, engine: &mut Engine<T>, port: &mut Port) {
-    let reply = told(rt, alloc, engine, port, TOTAL);
+    let reply = told(rt, alloc, engine, port, Line::Ask(Query::Var(0)));
     same(rt, &reply, &Reply::Var { log: 64, value: -1 });
     let reply = told(rt, alloc, engine, port, Line::Ask(Query::Outputs));
     same(rt, &reply, &Reply::Outputs { log: 64, count: 64 });
@@ -291,7 +281,7 @@ fn has_all<T: Timeline>(
 /// Sixteen ports send four events each, and each event counts.
 fn meet_all<T: Timeline + Drop, R: Threads + Clock + Abort + Sync>(rt: &R, alloc: Global) {
     let (askers, lanes) = make_lanes(rt, alloc);
-    let engine = engine::<T>(rt, alloc, lanes, unseen_writer(rt, alloc));
+    let engine = engine_of::<T>(rt, alloc, lanes);
     let (mut askers, (mut engine, served)) = ask_all(rt, alloc, askers, engine);
     same(rt, &served, &64);
     has_all(rt, alloc, &mut engine, &mut askers);
@@ -299,5 +289,5 @@ fn meet_all<T: Timeline + Drop, R: Threads + Clock + Abort + Sync>(rt: &R, alloc
 
 #[test]
 fn sixteen_ports_meet(rt: HostRuntime) {
-    meet_all::<Plain, HostRuntime>(&rt, rt.alloc());
+    meet_all::<Warp, HostRuntime>(&rt, rt.alloc());
 }
