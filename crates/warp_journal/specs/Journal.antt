@@ -31,14 +31,21 @@ old_first_text version fingerprint = codes "warpd journal 1 " ++ decimal version
 
 -- whether the sums of a journal with this first line tell when they were written, which are those of form 2
 abbrev pub tells_seconds : List ℕ → Bool
-tells_seconds first = bytes_eq (take 16 first) (codes "warpd journal 2 ")
+tells_seconds first = bytes_eq (codes "warpd journal 2 ") (take 16 first)
 
--- the text of a sum, without its line feed: how many records stand before it, the digest of all that stands before it,
--- and the second of UTC at which it was written, where it tells that
+-- the text of a sum of form 1, without its line feed: how many records stand before it, and the digest of all that stands
+-- before it
+abbrev pub plain_sum : ℕ → List ℕ → List ℕ
+plain_sum count before = codes "= " ++ decimal count ++ codes " " ++ encode_lower (sha256 before)
+
+-- that text, and the second of UTC at which it was written where it tells that
+abbrev pub with_second : Bool → List ℕ → ℕ → List ℕ
+with_second false plain second = plain
+with_second true plain second = plain ++ (codes " " ++ decimal second)
+
+-- the text of a sum, without its line feed
 abbrev pub sum_text : Bool → ℕ → List ℕ → ℕ → List ℕ
-sum_text false count before second = codes "= " ++ decimal count ++ codes " " ++ encode_lower (sha256 before)
-sum_text true count before second =
-    (codes "= " ++ decimal count ++ codes " " ++ encode_lower (sha256 before)) ++ codes " " ++ decimal second
+sum_text seconds count before second = with_second seconds (plain_sum count before) second
 
 -- a line: its text, and a line feed
 abbrev pub line_of : List ℕ → List ℕ
@@ -46,7 +53,7 @@ line_of text = text ++ 10 ∷ []
 
 -- the text of a line begins as that of a sum does
 abbrev pub begins_sum : List ℕ → Bool
-begins_sum text = bytes_eq (take 2 text) (codes "= ")
+begins_sum text = bytes_eq (codes "= ") (take 2 text)
 
 -- The text is a journal of these records that begins with this line: it has that line alone; or a shorter one, and
 -- behind that a record's line or the line of a sum.

@@ -1,5 +1,5 @@
 -- What reading the bytes of a journal keeps of them, what is said of the rest, and what a repair keeps.
-use Rattle.std.specs.Prelude.{◌≡◌, ◌≢◌, ◌⊎◌, ℕ, suc, ◌-◌, ◌≤◌, ◌<◌, Bool, true, false, ◌||◌, List, [], ◌∷◌, ◌++◌, codes, length, take, drop, Option, Some}
+use Rattle.std.specs.Prelude.{◌≡◌, ◌≢◌, ◌⊎◌, ℕ, suc, ◌≤◌, ◌<◌, Bool, true, false, ◌||◌, List, [], ◌∷◌, ◌++◌, length, take, drop, Option, Some, None}
 use Rattle.warp_tag.specs.declared.form.Form.{Form}
 use Rattle.warp_record.specs.Lines.{IsOneLine}
 use Rattle.warp_record.specs.Record.{record_spelling}
@@ -75,3 +75,10 @@ abbrev pub IsRepaired : List ℕ → List ℕ → List Record → Ending → Fro
 IsRepaired first text records (Damaged fault.WrongSum) kept = SumsTo first text records kept.bytes kept.records
 IsRepaired first text records (Cut fault.WrongSum) kept = SumsTo first text records kept.bytes kept.records
 IsRepaired first text records ending kept = (kept.bytes ≡ length text) × (kept.records ≡ length records)
+
+-- why a journal is damaged that ends so, if it is
+abbrev pub damage_of : Ending → Option Fault
+damage_of (Damaged why) = Some why
+damage_of Whole = None
+damage_of Torn = None
+damage_of (Cut why) = None

@@ -1,12 +1,13 @@
 //! The text of a journal, written and read a line at a time.
 ghost use Rattle.std.specs.Prelude.{◌≡◌, ◌⊎◌, ◌≤◌, ◌<◌, [], ◌∷◌, ◌++◌, List, ℕ, IfOk, IfErr, IfSome, IfNone, OnOk, OnErr};
-ghost use Rattle.std.specs.Prelude.{◌↔◌, ◌^◌, ⊥, false, IsTrue, None, Option, length, codes, decimal};
+ghost use Rattle.std.specs.Prelude.{◌^◌, None, Option, length, codes, decimal};
 ghost use Rattle.warp_tag.specs.declared.form.Form.{Form};
 ghost use Rattle.warp_record.specs.Record.{IsRecord, record_spelling};
 ghost use Rattle.warp_record.specs.declared.record.Record.{Record};
 ghost use Rattle.sha2.specs.Hashers.{Holds256};
-ghost use Rattle.warp_journal.specs.Journal.{IsFaultOf, IsNext, IsWrong, Keeps, begins_sum, first_text, line_of, most_written};
-ghost use Rattle.warp_journal.specs.Journal.{old_first_text, sum_text, tells_seconds, with_found};
+ghost use Rattle.warp_journal.specs.Journal.{IsFaultOf, IsNext, IsWrong, Keeps, begins_sum, first_text, line_of};
+ghost use Rattle.warp_journal.specs.Journal.{most_written, old_first_text, plain_sum, sum_text, tells_seconds};
+ghost use Rattle.warp_journal.specs.Journal.{with_found, with_second};
 
 use itoa::Buffer;
 use sha2::{Digest, Sha256};
@@ -17,12 +18,6 @@ use warp_tag::Form;
 
 /// The most records of a journal.
 const MOST_WRITTEN: u32 = 4_000_000_000;
-
-/// What the first line of a journal begins with that is written now, of form 2: its sums tell when they were written.
-const FRONT: &[u8] = b"warpd journal 2 ";
-
-/// What that of one of form 1 begins with, whose sums tell nothing more.
-const OLD_FRONT: &[u8] = b"warpd journal 1 ";
 
 /// What a journal's next line depends on: the sum over all of its text, how many records it has, and its form.
 #[derive(Drop)]
@@ -61,7 +56,7 @@ pub fn first_line(alloc: Global, version: u32, fingerprint: &[u8]) -> Result<Vec
     ensures { IfOk result (λ made. made.items ≡ first_text version fingerprint.now) }
 {
     let mut number = Buffer::new();
-    let mut text = Vec::from_slice(alloc, FRONT)?;
+    let mut text = Vec::from_slice(alloc, b"warpd journal 2 ")?;
     text.extend_from_slice(number.format(version).as_bytes())?;
     text.extend_from_slice(b" ")?;
     text.extend_from_slice(fingerprint)?;
@@ -77,7 +72,7 @@ pub fn old_first_line(
     ensures { IfOk result (λ made. made.items ≡ old_first_text version fingerprint.now) }
 {
     let mut number = Buffer::new();
-    let mut text = Vec::from_slice(alloc, OLD_FRONT)?;
+    let mut text = Vec::from_slice(alloc, b"warpd journal 1 ")?;
     text.extend_from_slice(number.format(version).as_bytes())?;
     text.extend_from_slice(b" ")?;
     text.extend_from_slice(fingerprint)?;
@@ -86,8 +81,7 @@ pub fn old_first_line(
 
 /// The text of a sum that tells no second, without its line feed.
 fn sum_line(alloc: Global, sum: &Sha256, count: u32) -> Result<Vec<u8>, AllocError>
-    ensures { (before : List ℕ) → Holds256 sum.now before →
-        IfOk result (λ made. (second : ℕ) → made.items ≡ sum_text false count before second) }
+    ensures { (before : List ℕ) → Holds256 sum.now before → IfOk result (λ made. made.items ≡ plain_sum count before) }
 {
     let digest = sum.clone()?.finalize();
     let digits = hex::encode(alloc, digest)?;
@@ -101,7 +95,7 @@ fn sum_line(alloc: Global, sum: &Sha256, count: u32) -> Result<Vec<u8>, AllocErr
 
 /// Puts the second behind the text of a sum.
 fn add_second(text: &mut Vec<u8>, second: u64) -> Result<(), AllocError>
-    ensures { OnOk result (text.new.items ≡ text.old.items ++ codes " " ++ decimal second) }
+    ensures { OnOk result (text.new.items ≡ text.old.items ++ (codes " " ++ decimal second)) }
 {
     let mut number = Buffer::new();
     text.extend_from_slice(b" ")?;
@@ -109,28 +103,43 @@ fn add_second(text: &mut Vec<u8>, second: u64) -> Result<(), AllocError>
     Ok(())
 }
 
-/// Whether these bytes are a number of at most 64 bits, as it is spelled.
-fn is_number(bytes: &[u8]) -> bool
-    ensures { IsTrue result ↔ ((number : ℕ) × (number < 2 ^ 64) × (bytes.now ≡ decimal number)) }
+/// The number of at most 64 bits that these bytes spell.
+fn read_number(bytes: &[u8]) -> Option<u64>
+    ensures found { IfSome result (λ number. (number < 2 ^ 64) × (bytes.now ≡ decimal number)) }
+    ensures none { IfNone result ((number : ℕ) → number < 2 ^ 64 → bytes.now ≡ decimal number → ⊥) }
 {
     let Ok(text) = str::from_utf8(bytes) else {
-        return false;
+        return None;
     };
     let Ok(number) = text.parse::<u64>() else {
-        return false;
+        return None;
     };
     let mut spelled = Buffer::new();
-    spelled.format(number).as_bytes() == bytes
+    if spelled.format(number).as_bytes() == bytes {
+        Some(number)
+    } else {
+        None
+    }
 }
 
-/// Whether this is a space and a second.
-fn is_second(text: &[u8]) -> bool
-    ensures { IsTrue result ↔ ((second : ℕ) × (second < 2 ^ 64) × (text.now ≡ codes " " ++ decimal second)) }
+/// The second of which this is the number, behind a space.
+fn read_second(text: &[u8]) -> Option<u64>
+    ensures found { IfSome result (λ second. (second < 2 ^ 64) × (text.now ≡ codes " " ++ decimal second)) }
+    ensures none { IfNone result ((second : ℕ) → second < 2 ^ 64 → text.now ≡ codes " " ++ decimal second → ⊥) }
 {
-    match text.strip_prefix(b" ") {
-        Some(digits) => is_number(digits),
-        None => false,
+    read_number(text.strip_prefix(b" ")?)
+}
+
+/// The second that this text tells behind that of a sum, where it tells one; if not, 0 where it is that.
+fn second_of(plain: &[u8], tells_second: bool, text: &[u8]) -> Option<u64>
+    ensures found { IfSome result (λ second. (second < 2 ^ 64) × (text.now ≡ with_second tells_second plain.now second)) }
+    ensures none { IfNone result ((second : ℕ) → second < 2 ^ 64 →
+        text.now ≡ with_second tells_second plain.now second → ⊥) }
+{
+    if tells_second {
+        return read_second(text.strip_prefix(plain)?);
     }
+    if text == plain { Some(0) } else { None }
 }
 
 /// Whether the text of a line begins as that of a sum does.
@@ -180,7 +189,7 @@ impl Journal {
         Journal {
             sum,
             count: 0,
-            tells_seconds: first.starts_with(FRONT),
+            tells_seconds: first.starts_with(b"warpd journal 2 "),
         }
     }
 
@@ -298,25 +307,11 @@ impl Journal {
             text.now ≡ sum_text self.old.tells_seconds self.old.count before second → ⊥)
             × IsFaultOf text.now fault)) }
     {
-        if !self.is_sum_here(alloc, text)? {
+        let line = sum_line(alloc, &self.sum, self.count)?;
+        let Some(_second) = second_of(&line, self.tells_seconds, text) else {
             return Err(fault_of(text));
-        }
+        };
         self.go_on(text);
         Ok(None)
-    }
-
-    /// Whether this is the text of the sum over all that stands before it, written in some second.
-    fn is_sum_here(&self, alloc: Global, text: &[u8]) -> Result<bool, AllocError>
-        ensures { IfOk result (λ is. (before : List ℕ) → Holds256 self.now.sum before → IsTrue is ↔ ((second : ℕ)
-            × (second < 2 ^ 64) × (text.now ≡ sum_text self.now.tells_seconds self.now.count before second))) }
-    {
-        let line = sum_line(alloc, &self.sum, self.count)?;
-        if !self.tells_seconds {
-            return Ok(line.as_slice() == text);
-        }
-        let Some(rest) = text.strip_prefix(line.as_slice()) else {
-            return Ok(false);
-        };
-        Ok(is_second(rest))
     }
 }

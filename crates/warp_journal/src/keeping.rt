@@ -1,8 +1,10 @@
 //! A journal that is kept in a file: what waits to be written, and how much is on the disk.
-ghost use Rattle.std.specs.Prelude.{◌≡◌, [], ◌∷◌, ◌++◌, List, ℕ, Option, IfOk, IfSome, OnOk, OnErr, length};
+ghost use Rattle.std.specs.Prelude.{◌≡◌, [], ◌∷◌, ◌++◌, List, ℕ, Option, IfOk, IfSome, OnOk, OnErr, length, ◌%◌, ◌==◌};
 ghost use Rattle.std.specs.Io.KnownBytes.{append_known};
 ghost use Rattle.warp_record.specs.declared.record.Record.{Record};
-ghost use Rattle.warp_journal.specs.Journal.{Keeps, added, line_of, sum_text, tells_seconds};
+ghost use Rattle.warp_journal.specs.Journal.{Keeps, added, line_of, most_unsummed, sum_text};
+ghost use Rattle.warp_journal.specs.Journal.{tells_seconds};
+ghost use Rattle.warp_record.specs.Record.{record_spelling};
 ghost use Rattle.warp_journal.specs.Keeping.{IsBegun, KeepsAll, OnDisk};
 
 use crate::journal::Journal;
@@ -43,6 +45,13 @@ pub struct Keeper<D: Disk> {
     journal: Journal,
     // Lines that are not written yet.
     waiting: Vec<u8>,
+}
+
+/// Whether a sum stands behind so many records, whatever the batch.
+fn is_due(count: u32) -> bool
+    ensures { result ≡ (count % most_unsummed == 0) }
+{
+    count % MOST_UNSUMMED == 0
 }
 
 impl<D: Disk> Keeper<D> {
@@ -88,13 +97,29 @@ impl<D: Disk> Keeper<D> {
             self.new.waiting.items ≡ self.old.waiting.items ++ added first text (length records) «record».now second) }
         ensures disk { self.new.disk ≡ self.old.disk }
     {
-        if self.journal.write(record, &mut self.waiting).is_err() {
-            return Err(Failed);
-        }
-        if self.journal.len() % MOST_UNSUMMED == 0 {
+        self.take_record(record)?;
+        if is_due(self.journal.len()) {
             self.take_sum(second)?;
+            return Ok(());
         }
         Ok(())
+    }
+
+    /// Takes a record alone.
+    fn take_record(&mut self, record: &Record) -> Result<(), Failed>
+        ensures takes { OnOk result ((first : List ℕ) (records : List Record) → KeepsAll D.written first self.old records →
+            KeepsAll D.written first self.new (records ++ «record».now ∷ [])) }
+        ensures line { OnOk result (self.new.waiting.items
+            ≡ self.old.waiting.items ++ line_of (record_spelling «record».now)) }
+        ensures journal { OnOk result ((first text : List ℕ) (records : List Record) →
+            Keeps first self.old.journal text records →
+            Keeps first self.new.journal (text ++ line_of (record_spelling «record».now)) (records ++ «record».now ∷ [])) }
+        ensures disk { self.new.disk ≡ self.old.disk }
+    {
+        match self.journal.write(record, &mut self.waiting) {
+            Ok(()) => Ok(()),
+            Err(_) => Err(Failed),
+        }
     }
 
     /// Takes a sum over all so far, of this second of UTC, whose line waits to be written.
@@ -105,7 +130,6 @@ impl<D: Disk> Keeper<D> {
             self.new.waiting.items
             ≡ self.old.waiting.items ++ line_of (sum_text (tells_seconds first) (length records) text second)) }
         ensures disk { self.new.disk ≡ self.old.disk }
-        ensures count { self.new.journal.count ≡ self.old.journal.count }
     {
         match self
             .journal
@@ -144,7 +168,8 @@ impl<D: Disk> Keeper<D> {
         ensures none { OnOk result (self.new.waiting.items ≡ []) }
     {
         self.take_sum(second)?;
-        self.write()
+        let count = self.write()?;
+        Ok(count)
     }
 
     /// Ends a batch so, and brings it to the disk. How many records are there then.

@@ -1,12 +1,13 @@
 //! Reading what a journal's file has, in pieces: which of its bytes are kept, and why the rest is not.
-ghost use Rattle.std.specs.Prelude.{◌≡◌, ◌+◌, ◌^◌, ◌<◌, ◌≤◌, ℕ, ◌++◌, [], List, IfOk, IfErr, IfSome, IfNone, OnOk, OnErr};
-ghost use Rattle.std.specs.Prelude.{◌⊎◌, ◌×◌, Option, Err, length, take, drop};
+ghost use Rattle.std.specs.Prelude.{◌≡◌, ◌+◌, ◌^◌, ◌<◌, ◌≤◌, ◌||◌, ℕ, suc, ◌++◌, [], List, IfOk, IfErr, IfSome, IfNone, OnOk, OnErr};
+ghost use Rattle.std.specs.Prelude.{◌⊎◌, ◌↔◌, IsTrue, Err, Option, Some, None, length, take, drop, min, OnSome, MatchOption};
 ghost use Rattle.warp_tag.specs.declared.form.Form.{Form};
 ghost use Rattle.warp_record.specs.Lines.{IsOneLine};
 ghost use Rattle.warp_record.specs.declared.record.Record.{Record};
-ghost use Rattle.warp_journal.specs.Journal.{line_of};
-ghost use Rattle.warp_journal.specs.Reading.{IsRead, IsRepaired};
-ghost use Rattle.warp_journal.specs.Pieces.{IsAt, IsEnding, Reads};
+ghost use Rattle.sha2.specs.Hashers.{Holds256};
+ghost use Rattle.warp_journal.specs.Journal.{IsWrong, begins_sum, line_of};
+ghost use Rattle.warp_journal.specs.Reading.{IsRead, IsRepaired, IsRest, damage_of, most_torn};
+ghost use Rattle.warp_journal.specs.Pieces.{IsAt, IsKept, IsSaid, IsWhole, Reads, most_held};
 
 use crate::journal::{Fault, Journal, fault_of, is_sum};
 use memchr::memchr;
@@ -90,7 +91,7 @@ fn next_line(bytes: &[u8]) -> Option<&[u8]>
 }
 
 /// What came of the lines behind those that are kept.
-#[derive(Clone, Copy)]
+#[derive(Clone, Copy, Drop)]
 struct Rest {
     /// Why the first of them does not go on.
     fault: Fault,
@@ -100,7 +101,34 @@ struct Rest {
     has_sum: bool,
 }
 
-/// The lines of a journal, as far as they came.
+impl Rest {
+    /// Takes a whole line more, of which these are the first bytes.
+    fn take(&mut self, text: &[u8])
+        ensures behind { (count : ℕ) → self.old.behind ≡ min count (suc most_torn) →
+            self.new.behind ≡ min (suc count) (suc most_torn) }
+        ensures sums { self.new.has_sum ≡ (self.old.has_sum || begins_sum text.now) }
+        ensures fault { self.new.fault ≡ self.old.fault }
+    {
+        if self.behind <= MOST_TORN {
+            self.behind += 1;
+        }
+        let sums = is_sum(text);
+        self.has_sum = self.has_sum || sums;
+    }
+
+    /// What is said of them.
+    fn ending(&self) -> Ending
+        ensures { IsSaid self.now result }
+    {
+        if self.has_sum || self.behind > MOST_TORN {
+            Ending::Damaged(self.fault)
+        } else {
+            Ending::Cut(self.fault)
+        }
+    }
+}
+
+/// The whole lines of a journal that came.
 #[derive(Drop)]
 struct Lines {
     form: Form,
@@ -109,8 +137,162 @@ struct Lines {
     summed: Front,
     journal: Journal,
     rest: Option<Rest>,
-    /// The first bytes of the line that is not whole.
-    held: Vec<u8>,
+}
+
+impl Lines {
+    /// Takes a line, if it goes on with the journal. At an `Err` all is as before.
+    fn go_on(&mut self, alloc: Global, text: &[u8], records: &mut Vec<Record>) -> Result<(), Fault>
+        ensures goes { OnOk result ((first before : List ℕ) (given : List Record) → IsOneLine text.now →
+            IsKept first before (given ++ records.old.items) self.old →
+            IsKept first (before ++ line_of text.now) (given ++ records.new.items) self.new) }
+        ensures other { (self.new.form ≡ self.old.form) × (self.new.rest ≡ self.old.rest) }
+        ensures same { OnErr result ((self.new ≡ self.old) × (records.new.items ≡ records.old.items)) }
+        ensures err { IfErr result (λ fault. (fault ≡ Fault.NoMemory)
+            ⊎ ((before : List ℕ) → Holds256 self.old.journal.sum before →
+            IsWrong self.old.form self.old.journal.tells_seconds self.old.journal.count before text.now fault)) }
+    {
+        records.reserve(1)?;
+        let kept = bytes_with(self.kept, text)?;
+        let lines = one_more(self.lines)?;
+        let found = self.journal.read(alloc, self.form, text)?;
+        self.kept = kept;
+        self.lines = lines;
+        let Some(record) = found else {
+            self.summed = Front {
+                bytes: kept,
+                records: self.journal.len(),
+            };
+            return Ok(());
+        };
+        records.push_reserved(record);
+        Ok(())
+    }
+
+    /// Takes a whole line of which these are the first 129 bytes, if it goes on with the journal; why it does not.
+    fn go_on_with(
+        &mut self,
+        alloc: Global,
+        text: &[u8],
+        records: &mut Vec<Record>,
+    ) -> Result<Option<Fault>, NotRead>
+        ensures goes { IfOk result (λ why. why ≡ None →
+            (first before line : List ℕ) (given : List Record) → IsOneLine line → text.now ≡ take most_held line →
+            IsKept first before (given ++ records.old.items) self.old →
+            IsKept first (before ++ line_of line) (given ++ records.new.items) self.new) }
+        ensures other { (self.new.form ≡ self.old.form) × (self.new.rest ≡ self.old.rest) }
+        ensures same { IfOk result (λ why. OnSome why
+            ((self.new ≡ self.old) × (records.new.items ≡ records.old.items))) }
+        ensures wrong { IfOk result (λ why. IfSome why (λ fault. (before line : List ℕ) →
+            text.now ≡ take most_held line → Holds256 self.old.journal.sum before →
+            IsWrong self.old.form self.old.journal.tells_seconds self.old.journal.count before line fault)) }
+        ensures err { IfErr result (λ why. why ≡ NotRead.NoMemory) }
+    {
+        if text.len() > MAX_LINE {
+            return Ok(Some(fault_of(text)));
+        }
+        let Err(fault) = self.go_on(alloc, text, records) else {
+            return Ok(None);
+        };
+        if fault == Fault::NoMemory {
+            return Err(NotRead::NoMemory);
+        }
+        Ok(Some(fault))
+    }
+
+    /// Takes a whole line of which these are the first 129 bytes.
+    fn take_line(
+        &mut self,
+        alloc: Global,
+        text: &[u8],
+        records: &mut Vec<Record>,
+    ) -> Result<(), NotRead>
+        ensures takes { OnOk result ((first before line : List ℕ) (given : List Record) → IsOneLine line →
+            text.now ≡ take most_held line → IsWhole first before (given ++ records.old.items) self.old →
+            IsWhole first (before ++ line_of line) (given ++ records.new.items) self.new) }
+        ensures form { self.new.form ≡ self.old.form }
+        ensures err { IfErr result (λ why. why ≡ NotRead.NoMemory) }
+    {
+        if let Some(rest) = &mut self.rest {
+            rest.take(text);
+            return Ok(());
+        }
+        if let Some(fault) = self.go_on_with(alloc, text, records)? {
+            self.rest = Some(Rest {
+                fault,
+                behind: 0,
+                has_sum: is_sum(text),
+            });
+        }
+        Ok(())
+    }
+}
+
+/// So many bytes, and those of a line with this text.
+fn bytes_with(kept: u64, text: &[u8]) -> Result<u64, AllocError>
+    ensures { IfOk result (λ bytes. bytes ≡ kept + length (line_of text.now)) }
+{
+    let line = (text.len() as u64).checked_add(1).ok_or(AllocError)?;
+    kept.checked_add(line).ok_or(AllocError)
+}
+
+/// One more than so many lines.
+fn one_more(lines: u64) -> Result<u64, AllocError>
+    ensures { IfOk result (λ more. more ≡ lines + 1) }
+{
+    lines.checked_add(1).ok_or(AllocError)
+}
+
+/// Whether nothing is held of a line.
+fn is_fresh(held: &Vec<u8>) -> bool
+    ensures { IsTrue result ↔ (length held.now.items ≡ 0) }
+{
+    held.is_empty()
+}
+
+/// Holds more bytes of a line that is not whole yet, as long as there are few of it.
+fn hold(held: &mut Vec<u8>, bytes: &[u8]) -> Result<(), AllocError>
+    ensures { OnOk result ((line : List ℕ) → held.old.items ≡ take most_held line →
+        held.new.items ≡ take most_held (line ++ bytes.now)) }
+{
+    let room = MOST_HELD.saturating_sub(held.len());
+    held.extend_from_slice(first_bytes(bytes, room))?;
+    Ok(())
+}
+
+/// So many of these bytes, or all where there are fewer.
+fn first_bytes(bytes: &[u8], count: usize) -> &[u8]
+    ensures { result.now ≡ take count bytes.now }
+{
+    if count < bytes.len() {
+        &bytes[..count]
+    } else {
+        bytes
+    }
+}
+
+/// What stands behind so many of these bytes.
+fn behind(bytes: &[u8], count: usize) -> &[u8]
+    ensures { result.now ≡ drop count bytes.now }
+{
+    if count < bytes.len() {
+        &bytes[count..]
+    } else {
+        b""
+    }
+}
+
+/// How many of these bytes are of the first line, of which this is left; `None` where they are of another.
+fn front_of(left: &[u8], bytes: &[u8]) -> Option<usize>
+    ensures some { IfSome result (λ many. (many ≡ min (length left.now) (length bytes.now))
+        × (take many left.now ≡ take many bytes.now)) }
+    ensures none { IfNone result ((more behind : List ℕ) → bytes.now ++ more ≡ left.now ++ behind → ⊥) }
+{
+    let many = left.len().min(bytes.len());
+    if left[..many] == bytes[..many] {
+        Some(many)
+    } else {
+        None
+    }
 }
 
 /// Reads a journal of a program of this form in pieces.
@@ -121,130 +303,8 @@ pub struct Reading {
     /// How many bytes of it came.
     came: usize,
     lines: Lines,
-}
-
-impl Lines {
-    /// Takes a line that goes on with the journal, if it does; whether it does.
-    fn go_on(
-        &mut self,
-        alloc: Global,
-        text: &[u8],
-        records: &mut Vec<Record>,
-    ) -> Result<(), Fault> {
-        records.reserve(1)?;
-        let kept = behind(self.kept, text)?;
-        match self.journal.read(alloc, self.form, text)? {
-            Some(record) => records.push_reserved(record),
-            None => self.summed = Front {
-                bytes: kept,
-                records: self.journal.len(),
-            },
-        }
-        self.kept = kept;
-        self.lines = self.lines.saturating_add(1);
-        Ok(())
-    }
-
-    /// Takes a whole line, without its line feed.
-    fn take_text(
-        &mut self,
-        alloc: Global,
-        text: &[u8],
-        records: &mut Vec<Record>,
-    ) -> Result<(), NotRead> {
-        if let Some(rest) = &mut self.rest {
-            rest.take(text);
-            return Ok(());
-        }
-        let fault = if text.len() > MAX_LINE {
-            fault_of(text)
-        } else {
-            match self.go_on(alloc, text, records) {
-                Ok(()) => return Ok(()),
-                Err(fault) => fault,
-            }
-        };
-        if fault == Fault::NoMemory {
-            return Err(NotRead::NoMemory);
-        }
-        self.rest = Some(Rest {
-            fault,
-            behind: 0,
-            has_sum: is_sum(text),
-        });
-        Ok(())
-    }
-
-    /// Takes bytes of the line that is not whole yet.
-    fn hold(&mut self, bytes: &[u8]) -> Result<(), AllocError> {
-        let room = MOST_HELD - self.held.len().min(MOST_HELD);
-        self.held.extend_from_slice(&bytes[..bytes.len().min(room)])
-    }
-
-    /// Takes what ends the line that is not whole, up to its line feed.
-    fn take_end(
-        &mut self,
-        alloc: Global,
-        text: &[u8],
-        records: &mut Vec<Record>,
-    ) -> Result<(), NotRead> {
-        if self.held.is_empty() {
-            return self.take_text(alloc, text, records);
-        }
-        self.hold(text)?;
-        let line = self.held.clone()?;
-        self.held.clear();
-        self.take_text(alloc, &line, records)
-    }
-
-    /// Takes the next piece.
-    fn take(
-        &mut self,
-        alloc: Global,
-        bytes: &[u8],
-        records: &mut Vec<Record>,
-    ) -> Result<(), NotRead> {
-        let mut at = 0;
-        while let Some(text) = next_line(&bytes[at..]) {
-            self.take_end(alloc, text, records)?;
-            at += text.len() + 1;
-        }
-        self.hold(&bytes[at..])?;
-        Ok(())
-    }
-
-    /// What is said of what stands behind what is kept.
-    fn ending(&self) -> Ending {
-        match self.rest {
-            Some(rest) => rest.ending(),
-            None if self.held.is_empty() => Ending::Whole,
-            None => Ending::Torn,
-        }
-    }
-}
-
-impl Rest {
-    /// Takes a whole line more.
-    fn take(&mut self, text: &[u8]) {
-        if self.behind <= MOST_TORN {
-            self.behind += 1;
-        }
-        self.has_sum |= is_sum(text);
-    }
-
-    /// What is said of them.
-    fn ending(&self) -> Ending {
-        if self.has_sum || self.behind > MOST_TORN {
-            Ending::Damaged(self.fault)
-        } else {
-            Ending::Cut(self.fault)
-        }
-    }
-}
-
-/// So many bytes, and those of a line with this text.
-fn behind(kept: u64, text: &[u8]) -> Result<u64, AllocError> {
-    kept.checked_add(text.len() as u64 + 1).ok_or(AllocError)
+    /// The first bytes of the line that is not whole.
+    held: Vec<u8>,
 }
 
 impl Reading {
@@ -256,6 +316,10 @@ impl Reading {
         let mut line = Vec::from_slice(alloc, first)?;
         line.push(b'\n')?;
         let kept = line.len() as u64;
+        let summed = Front {
+            bytes: kept,
+            records: 0,
+        };
         Ok(Reading {
             first: line,
             came: 0,
@@ -263,15 +327,60 @@ impl Reading {
                 form,
                 kept,
                 lines: 1,
-                summed: Front {
-                    bytes: kept,
-                    records: 0,
-                },
+                summed,
                 journal: Journal::begin(first),
                 rest: None,
-                held: Vec::new(alloc),
             },
+            held: Vec::new(alloc),
         })
+    }
+
+    /// Takes what ends the line that is not whole, up to its line feed.
+    fn take_end(
+        &mut self,
+        alloc: Global,
+        text: &[u8],
+        records: &mut Vec<Record>,
+    ) -> Result<(), NotRead>
+        ensures takes { OnOk result ((first before : List ℕ) (given : List Record) → IsOneLine text.now →
+            IsAt first before (given ++ records.old.items) self.old →
+            IsAt first (before ++ line_of text.now) (given ++ records.new.items) self.new) }
+        ensures same { OnOk result ((self.new.first ≡ self.old.first) × (self.new.came ≡ self.old.came)
+            × (self.new.lines.form ≡ self.old.lines.form)) }
+        ensures err { IfErr result (λ why. why ≡ NotRead.NoMemory) }
+    {
+        if is_fresh(&self.held) {
+            let line = first_bytes(text, MOST_HELD);
+            self.lines.take_line(alloc, line, records)?;
+            return Ok(());
+        }
+        hold(&mut self.held, text)?;
+        self.lines.take_line(alloc, &self.held, records)?;
+        self.held.clear();
+        Ok(())
+    }
+
+    /// Takes bytes that stand behind those that came.
+    fn take_behind(
+        &mut self,
+        alloc: Global,
+        bytes: &[u8],
+        records: &mut Vec<Record>,
+    ) -> Result<(), NotRead>
+        ensures takes { OnOk result ((first before : List ℕ) (given : List Record) →
+            IsAt first before (given ++ records.old.items) self.old →
+            IsAt first (before ++ bytes.now) (given ++ records.new.items) self.new) }
+        ensures same { OnOk result ((self.new.first ≡ self.old.first) × (self.new.came ≡ self.old.came)
+            × (self.new.lines.form ≡ self.old.lines.form)) }
+        ensures err { IfErr result (λ why. why ≡ NotRead.NoMemory) }
+    {
+        let mut at = 0;
+        while let Some(text) = next_line(&bytes[at..]) {
+            self.take_end(alloc, text, records)?;
+            at += text.len() + 1;
+        }
+        hold(&mut self.held, &bytes[at..])?;
+        Ok(())
     }
 
     /// Takes the next piece of the file, and puts the records of its whole lines that are kept behind these. At an `Err`
@@ -289,22 +398,32 @@ impl Reading {
             Reads form first before given self.old →
             (more behind : List ℕ) → (before ++ bytes.now) ++ more ≡ line_of first ++ behind → ⊥ }
     {
-        let behind = self.behind_first(bytes)?;
-        self.lines.take(alloc, behind, records)
-    }
-
-    /// Takes what these bytes have of the first line; what stands behind it.
-    fn behind_first<'b>(&mut self, bytes: &'b [u8]) -> Result<&'b [u8], NotRead> {
-        let left = &self.first[self.came..];
-        let many = left.len().min(bytes.len());
-        if left[..many] != bytes[..many] {
+        let left = behind(&self.first, self.came);
+        let Some(many) = front_of(left, bytes) else {
             return Err(NotRead::OtherFirst);
-        }
+        };
         self.came += many;
-        Ok(&bytes[many..])
+        self.take_behind(alloc, &bytes[many..], records)?;
+        Ok(())
     }
 
-    /// What was read, where no more comes: the only error is another first line.
+    /// What is said of what stands behind what is kept.
+    fn ending(&self) -> Ending
+        ensures { (first bytes : List ℕ) (records : List Record) → IsAt first bytes records self.now →
+            IsRest self.now.lines.form self.now.lines.journal (take self.now.lines.kept bytes)
+            (drop self.now.lines.kept bytes) result }
+    {
+        if let Some(rest) = self.lines.rest {
+            return rest.ending();
+        }
+        if is_fresh(&self.held) {
+            Ending::Whole
+        } else {
+            Ending::Torn
+        }
+    }
+
+    /// What was read, where no more comes: the only error is another first line, or one that is not whole.
     pub fn end(self) -> Result<Found, NotRead>
         ensures read { IfOk result (λ found. (form : Form) (first bytes : List ℕ) (records : List Record) →
             Reads form first bytes records self → IsRead form first bytes records found) }
@@ -315,7 +434,7 @@ impl Reading {
         if self.came < self.first.len() {
             return Err(NotRead::OtherFirst);
         }
-        let ending = self.lines.ending();
+        let ending = self.ending();
         let Lines {
             kept,
             lines,
@@ -335,7 +454,9 @@ impl Reading {
 
 impl Ending {
     /// Why the journal is damaged, if it is: then no start drops what stands behind what is kept, but a repair alone.
-    pub fn damage(self) -> Option<Fault> {
+    pub fn damage(self) -> Option<Fault>
+        ensures { result ≡ damage_of self }
+    {
         match self {
             Ending::Damaged(fault) => Some(fault),
             Ending::Whole | Ending::Torn | Ending::Cut(_) => None,
