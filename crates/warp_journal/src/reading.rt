@@ -231,15 +231,20 @@ impl Lines {
 fn bytes_with(kept: u64, text: &[u8]) -> Result<u64, AllocError>
     ensures { IfOk result (λ bytes. bytes ≡ kept + length (line_of text.now)) }
 {
-    let line = (text.len() as u64).checked_add(1).ok_or(AllocError)?;
-    kept.checked_add(line).ok_or(AllocError)
+    match kept.checked_add(text.len() as u64 + 1) {
+        Some(bytes) => Ok(bytes),
+        None => Err(AllocError),
+    }
 }
 
 /// One more than so many lines.
 fn one_more(lines: u64) -> Result<u64, AllocError>
     ensures { IfOk result (λ more. more ≡ lines + 1) }
 {
-    lines.checked_add(1).ok_or(AllocError)
+    match lines.checked_add(1) {
+        Some(more) => Ok(more),
+        None => Err(AllocError),
+    }
 }
 
 /// Whether nothing is held of a line.
