@@ -1,4 +1,7 @@
 pub mod GoingOn
 pub mod Kept
 pub mod Lines
-pub mod Rest
+pub mod Seconds
+pub mod Pieces
+pub mod Whole
+pub mod Ends

@@ -1,12 +1,11 @@
 -- Where the lines of bytes end.
-use Rattle.std.proofs.Common.{◌≡◌, ℕ, suc, ◌+◌, ◌-◌, ◌<◌, ◌≤◌, Bool, true, false, List, [], ◌∷◌, ◌++◌, length, take, drop, get_or, min, Some, None, ap, sym, ◌∙◌, refl, arith, append_assoc, codes, subst, inl, inr, true≢false}
-use Rattle.std.proofs.lemmas.Bool.{eqb-true, cases_lt}
+use Rattle.std.proofs.Common.{◌≡◌, ℕ, suc, ◌+◌, ◌-◌, ◌<◌, ◌≤◌, Bool, true, false, List, [], ◌∷◌, ◌++◌, length, take, drop, get_or, min, Some, None, ap, sym, ◌∙◌, refl, arith, append_assoc, true≢false}
+use Rattle.std.proofs.lemmas.Bool.{eqb-true}
 use Rattle.std.proofs.lemmas.List.{get_or-take, get_or_default, length-append, length-drop, length-take, length_push, take-append-drop}
 use Rattle.std.proofs.Math.Seq.{drop-cons, take-add, take-append_seam, take-length}
-use Rattle.memchr.specs.Find.{IsFirstByte, IsLastByte, OccursAt, FindsNeedle, is_byte}
+use Rattle.memchr.specs.Find.{IsFirstByte, is_byte}
 use Rattle.warp_record.specs.Lines.{IsOneLine, is_end}
 use Rattle.warp_journal.specs.Journal.{line_of}
-use Rattle.warp_journal.specs.Reading.{HasSum}
 
 fails : (b : Bool) → (b ≡ true → ⊥) → b ≡ false
 fails true passed = absurd (passed refl)
@@ -34,30 +33,6 @@ found_line bytes end found =
     sym (take-append-drop end bytes) ∙ ap (λ it. take end bytes ++ it) rest
     ∙ sym (append_assoc (take end bytes) (10 ∷ []) behind) in
     (one_line, (behind, whole))
-
--- there is one last line feed
-one_last : (bytes : List ℕ) (a b : ℕ) → IsLastByte (is_byte 10) bytes (Some a) → IsLastByte (is_byte 10) bytes (Some b) → a ≡ b
-one_last bytes a b is_a is_b =
-    elim (cases_lt a b) [
-      | inl less ↦ absurd (is_a.0.after b (omega (arith, less)) is_b.0.high is_b.1)
-      | inr over ↦ elim (cases_lt b a) [
-        | inl less ↦ absurd (is_b.0.after a (omega (arith, less)) is_a.0.high is_a.1)
-        | inr under ↦ omega (arith, over, under)
-      ]
-    ]
-
--- no sum is where none was found in front of the last line feed but at the end
-pub no_sum : (bytes : List ℕ) (last : ℕ) → IsLastByte (is_byte 10) (take (length bytes - 1) bytes) (Some last) →
-    (take 2 bytes ≡ codes "= " → ⊥) → FindsNeedle (take last bytes) (codes "\n= ") 0 None → HasSum bytes → ⊥
-no_sum bytes last is_last not_first none (other, is_other, inl first) = not_first first
-no_sum bytes last is_last not_first none (other, is_other, inr (place, occurs)) =
-    let Occurs : ℕ → Type 0 = λ n. OccursAt (take n bytes) (codes "\n= ") place in
-    let here = subst Occurs (one_last (take (length bytes - 1) bytes) other last is_other is_last) occurs in
-    none place (omega arith) (omega (arith, here.fits)) here
-
--- no sum is where there is no line feed but at the end
-pub no_end : (bytes : List ℕ) → IsLastByte (is_byte 10) (take (length bytes - 1) bytes) None → HasSum bytes → ⊥
-no_end bytes none (last, is_last, begins) = none last (omega arith) is_last.0.high is_last.1
 
 one_line_behind : (byte : ℕ) (bytes : List ℕ) → IsOneLine (byte ∷ bytes) → IsOneLine bytes
 one_line_behind byte bytes one = λ k d below. one (suc k) d (omega (arith, below))

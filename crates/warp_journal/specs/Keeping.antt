@@ -14,6 +14,6 @@ abbrev pub KeepsAll : {D : Type 0} → (D → Option (List ℕ)) → List ℕ �
 KeepsAll written first keeper records =
     IfSome (written keeper.disk) (λ text. Keeps first keeper.journal (text ++ keeper.waiting.items) records)
 
--- what a disk that tells its bytes has is a journal of these records, which are so many
+-- what a file that tells its bytes has, or a disk, is a journal of these records, which are so many
 abbrev pub OnDisk : List ℕ → Option (List ℕ) → ℕ → List Record → Type 0
-OnDisk first synced count records = IfSome synced (λ text. IsJournal first text records × (count ≡ length records))
+OnDisk first told count records = IfSome told (λ text. IsJournal first text records × (count ≡ length records))

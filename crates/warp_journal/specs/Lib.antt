@@ -1,3 +1,4 @@
 pub mod Journal
 pub mod Keeping
+pub mod Pieces
 pub mod Reading

@@ -8,9 +8,9 @@ mod journal;
 mod keeping;
 mod reading;
 
-pub use journal::{Fault, Journal, first_line};
+pub use journal::{Fault, Journal, first_line, old_first_line};
 pub use keeping::{Disk, Failed, Keeper};
-pub use reading::{Ending, Found, NotRead, read_journal};
+pub use reading::{Ending, Found, Front, NotRead, Reading};
 
 #[cfg(test)]
 mod tests;

@@ -8,4 +8,5 @@ returns c = record {
   is_journal = Begun;
   sum = c.update-2.ensures c.args.first.now (c.update.ensures [] c.new-sum.ensures);
   count = refl;
+  seconds = c.starts_with.ensures.value;
 }

@@ -15,4 +15,4 @@ returns-clause-journal c = λ first text records keeps.
     (c.deref.ensures.value ∙ c.write_record.ensures.items) (sym c.reserve.new.self.ok.0 ∙ sym c.len-start.ensures) in
     let Held : List ℕ → Type 0 = λ it. Holds256 c.go_on.new.self.sum (text ++ line_of it) in
     keeps_more first text records said c.args.self.now _ keeps
-    (subst Held is_line (c.go_on.ensures.sum text keeps.sum)) (ap (λ n. n + 1) c.go_on.ensures.count)
+    (subst Held is_line (c.go_on.ensures.sum text keeps.sum)) (ap (λ n. n + 1) c.go_on.ensures.count) c.go_on.ensures.seconds
