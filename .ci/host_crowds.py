@@ -73,8 +73,15 @@ class LineVisit:
         self.reader, self.writer = reader, writer
 
     @classmethod
-    async def come(cls, port):
+    async def connect(cls, port):
         return cls(*await asyncio.open_connection("127.0.0.1", port))
+
+    @classmethod
+    async def come(cls, port):
+        """The next one; its first line is one, or it would be closed."""
+        made = await cls.connect(port)
+        holds((await made.ask(["program"]))[0].startswith("program "), "the reply to the first line")
+        return made
 
     async def ask(self, lines):
         self.writer.write("".join(line + "\n" for line in lines).encode())
@@ -95,7 +102,7 @@ class WebVisit(LineVisit):
 
     @classmethod
     async def come(cls, port):
-        made = await super().come(port)
+        made = await cls.connect(port)
         made.writer.write(f"GET /ws HTTP/1.1\r\nHost: 127.0.0.1:{port}\r\nUpgrade: websocket\r\nConnection: Upgrade\r\n"
                           "Sec-WebSocket-Key: dGhlIHNhbXBsZSBub25jZQ==\r\nSec-WebSocket-Version: 13\r\n\r\n".encode())
         head = await made.reader.readuntil(b"\r\n\r\n")

@@ -1,2 +1,3 @@
+pub mod FramedTexts
 pub mod JoinedTexts
 pub mod SentExecutors

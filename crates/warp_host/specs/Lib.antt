@@ -1,3 +1,4 @@
+pub mod Held
 pub mod Listening
 pub mod Names
 pub mod Speech

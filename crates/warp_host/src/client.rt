@@ -5,7 +5,7 @@ use crate::lines::{Lines, write_output};
 use crate::pages::Pages;
 use crate::post::Post;
 use crate::socket::{Gone, Socket};
-use crate::speech::begins_http;
+use crate::speech::{Spoken, spoken_from};
 use crate::web::Web;
 use mio::net::TcpStream;
 use std::alloc::Global;
@@ -13,6 +13,7 @@ use std::hash::RandomState;
 use std::mem;
 use std::time::Duration;
 use warp_hub::ClientId;
+use warp_tag::Form;
 
 /// What all clients of a loop share.
 #[derive(Drop)]
@@ -20,6 +21,8 @@ pub(crate) struct Common<'a> {
     pub(crate) alloc: Global,
     pub(crate) post: Post<'a>,
     pub(crate) pages: Pages,
+    /// The form of the program's lines.
+    pub(crate) form: Form,
     /// The keys of the maps of headers.
     pub(crate) keys: RandomState,
     /// What is read at once.
@@ -77,11 +80,11 @@ impl Client {
         }
     }
 
-    /// Whether bytes of it wait for the hub.
-    pub(crate) fn waits(&self) -> bool {
+    /// Whether there is more to do for it in the next round, as far as it speaks to the hub.
+    pub(crate) fn goes_on(&self, post: &Post<'_>) -> bool {
         match &self.speech {
-            Speech::Lines(lines) => lines.waits(),
-            Speech::Web(web) => web.waits(),
+            Speech::Lines(lines) => lines.goes_on(&self.socket, post),
+            Speech::Web(web) => web.goes_on(&self.socket, post),
             Speech::Unknown | Speech::Http(_) | Speech::Over(_) => false,
         }
     }
@@ -90,18 +93,15 @@ impl Client {
     pub(crate) fn turn(&mut self, common: &mut Common<'_>) -> Result<bool, Gone> {
         let again = match &mut self.speech {
             Speech::Unknown => self.begin(common)?,
-            Speech::Lines(lines) => lines.hear(
-                common.alloc,
-                &mut self.socket,
-                &mut common.post,
-                &mut common.buffer,
-            )?,
-            Speech::Web(web) => web.hear(
-                &mut self.socket,
-                &mut common.post,
-                &mut common.buffer,
-                common.now,
-            )?,
+            Speech::Lines(lines) => {
+                lines.hear(&mut self.socket, &mut common.post, &mut common.buffer)?;
+                false
+            }
+            Speech::Web(web) => {
+                let now = common.now;
+                web.hear(&mut self.socket, &mut common.post, &mut common.buffer, now)?;
+                false
+            }
             Speech::Http(http) => {
                 let stand = http.turn(
                     &mut self.socket,
@@ -114,7 +114,7 @@ impl Client {
             Speech::Over(_) => self.drop_input(common)?,
         };
         self.flush(common)?;
-        Ok(again)
+        Ok(again || self.goes_on(&common.post))
     }
 
     /// Finds out by the first byte what the client speaks.
@@ -126,17 +126,10 @@ impl Client {
                 Ok(false)
             };
         };
-        self.speech = if begins_http(byte) {
-            let http = HttpClient::new(common.alloc, common.keys, common.now);
-            match Box::new(common.alloc, http) {
-                Ok(http) => Speech::Http(http),
-                Err(_) => return Err(Gone),
-            }
-        } else {
-            match common.post.join(None) {
-                Ok(id) => Speech::Lines(Lines::new(common.alloc, id)),
-                Err(_) => return Err(Gone),
-            }
+        self.speech = match spoken_from(byte) {
+            Spoken::Http => begin_http(common)?,
+            Spoken::Lines => begin_lines(common)?,
+            Spoken::Nothing => return Err(Gone),
         };
         Ok(true)
     }
@@ -163,21 +156,18 @@ impl Client {
         let Speech::Http(http) = speech else {
             return Err(Gone);
         };
-        let (input, output, rights) = Box::into_inner(http).into_parts();
+        let (input, rights) = Box::into_inner(http).into_parts();
         let Ok(id) = common.post.join(rights) else {
             return Err(Gone);
         };
-        let web = Web::new(common.alloc, id, input, output, common.now);
-        match Box::new(common.alloc, web) {
-            Ok(web) => {
-                self.speech = Speech::Web(web);
-                Ok(())
-            }
-            Err(_) => {
-                common.post.leave(id);
-                Err(Gone)
-            }
-        }
+        let web = Web::new(common.alloc, id, common.now);
+        let Ok(mut web) = Box::new(common.alloc, web) else {
+            common.post.leave(id);
+            return Err(Gone);
+        };
+        let taken = web.take_on(input);
+        self.speech = Speech::Web(web);
+        taken
     }
 
     /// Sends what the hub has for it, and ends it where it is done with.
@@ -187,7 +177,7 @@ impl Client {
                 write_output(lines.id, &mut self.socket, &mut common.post)?;
                 common.post.is_over(lines.id) && common.post.output(lines.id).is_empty()
             }
-            Speech::Web(web) => web.flush(&mut self.socket, &mut common.post)?,
+            Speech::Web(web) => { web.flush(&mut self.socket, &mut common.post, common.now)? }
             Speech::Unknown | Speech::Http(_) | Speech::Over(_) => false,
         };
         if !is_done {
@@ -230,7 +220,7 @@ impl Client {
             Speech::Unknown | Speech::Lines(_) => {}
             Speech::Web(web) => {
                 if web.look_after(now)? {
-                    web.flush(&mut self.socket, &mut common.post)?;
+                    web.flush(&mut self.socket, &mut common.post, now)?;
                 }
             }
             Speech::Http(http) => {
@@ -275,5 +265,22 @@ impl Client {
             Speech::Lines(_) | Speech::Web(_) | Speech::Over(_) => true,
             Speech::Unknown | Speech::Http(_) => false,
         }
+    }
+}
+
+/// A connection that begins to speak HTTP.
+fn begin_http(common: &Common<'_>) -> Result<Speech, Gone> {
+    let http = HttpClient::new(common.alloc, common.keys, common.now);
+    match Box::new(common.alloc, http) {
+        Ok(http) => Ok(Speech::Http(http)),
+        Err(_) => Err(Gone),
+    }
+}
+
+/// A connection that begins to speak lines.
+fn begin_lines(common: &mut Common<'_>) -> Result<Speech, Gone> {
+    match common.post.join(None) {
+        Ok(id) => Ok(Speech::Lines(Lines::new(common.alloc, id, common.form))),
+        Err(_) => Err(Gone),
     }
 }

@@ -176,6 +176,7 @@ fn make_common<'a, X: Clock + RandomSource>(
     alloc: Global,
     post: Post<'a>,
     pages: Pages,
+    form: Form,
 ) -> Result<Common<'a>, HostFault> {
     let keys = RandomState::new(rt)?;
     let now = rt.monotonic()?;
@@ -184,6 +185,7 @@ fn make_common<'a, X: Clock + RandomSource>(
         alloc,
         post,
         pages,
+        form,
         keys,
         buffer,
         now,
@@ -515,7 +517,7 @@ fn make_ready<'a, X: System + RandomSource>(
     let Shared { bells, durable } = shared;
     let (handing, writers) = make_writers(alloc, options.journal.take(), shared)?;
     let pages = make_pages(alloc, form, served, &mut options)?;
-    let common = make_common(rt, alloc, post, pages)?;
+    let common = make_common(rt, alloc, post, pages, form)?;
     let all = make_rings(alloc, durable)?;
     let AllRings {
         rings,

@@ -1,9 +1,12 @@
 //! A connection that speaks HTTP.
 
+ghost use Rattle.std.specs.Prelude.{◌≤◌};
+ghost use Rattle.warp_host.specs.Held.{most_unanswered};
+
 use crate::pages::Pages;
 use crate::socket::{Gone, Socket};
 use bytes::BytesMut;
-use http_server::{Config, Connection, Rope, State};
+use http_server::{Config, Connection, State};
 use http1::Limits;
 use std::alloc::Global;
 use std::hash::RandomState;
@@ -15,6 +18,10 @@ const MOST_BYTES: usize = 16_384;
 
 /// What is read at once: the connection has room for so much.
 const READ_SIZE: usize = 2_048;
+
+/// The most bytes that come of a connection behind the last answer: those of a head and of a body with all that stands
+/// between its parts, and what came behind the request that was answered.
+const MOST_UNANSWERED: usize = 4 * MOST_BYTES + READ_SIZE;
 
 /// So many steps follow each other at most in a round.
 const STEPS: u32 = 16;
@@ -30,10 +37,13 @@ pub(crate) struct HttpClient {
     connection: Connection,
     /// The rights of the token that the upgrade brought, once the connection is upgraded.
     upgraded: Option<Option<Rights>>,
+    /// How many bytes came behind the last answer, or since the connection began.
+    unanswered: usize,
     /// When the last request was answered, or the connection began.
     answered: Duration,
     /// When something was sent last.
     sent: Duration,
+    ghost few: { unanswered ≤ most_unanswered },
 }
 
 /// Where a connection stands behind a round.
@@ -65,6 +75,7 @@ impl HttpClient {
         HttpClient {
             connection: Connection::new(alloc, keys, config),
             upgraded: None,
+            unanswered: 0,
             answered: now,
             sent: now,
         }
@@ -96,6 +107,8 @@ impl HttpClient {
         self.connection.advance(pages);
         if pages.answered != before {
             self.answered = now;
+            // What is left came with the last read, which completed a request.
+            self.unanswered = self.unanswered.min(READ_SIZE);
         }
         if let Some(rights) = pages.upgraded.take() {
             self.upgraded = Some(rights);
@@ -120,11 +133,16 @@ impl HttpClient {
         if !self.connection.wants_read() {
             return Ok(false);
         }
-        let room = buffer.len().min(READ_SIZE);
+        let left = MOST_UNANSWERED - self.unanswered;
+        if left == 0 {
+            return Err(Gone);
+        }
+        let room = buffer.len().min(READ_SIZE).min(left);
         let count = socket.read(&mut buffer[..room])?;
         if count == 0 && !socket.has_ended {
             return Ok(false);
         }
+        self.unanswered += count;
         let mut bytes = &buffer[..count];
         match self.connection.read_from(&mut bytes) {
             Ok(taken) if taken == count => Ok(true),
@@ -150,14 +168,14 @@ impl HttpClient {
         now.saturating_sub(began) >= Duration::from_secs(MOST_SILENCE)
     }
 
-    /// What was received behind the upgrade, what is to be sent, and the rights of the token that it brought.
-    pub(crate) fn into_parts(self) -> (BytesMut, Rope, Option<Rights>) {
+    /// What was received behind the upgrade, and the rights of the token that it brought. Nothing is left to be sent.
+    pub(crate) fn into_parts(self) -> (BytesMut, Option<Rights>) {
         let HttpClient {
             connection,
             upgraded,
             ..
         } = self;
-        let (input, output) = connection.into_buffers();
-        (input, output, upgraded.unwrap_or(None))
+        let (input, _) = connection.into_buffers();
+        (input, upgraded.unwrap_or(None))
     }
 }

@@ -1,11 +1,15 @@
 //! A connection that speaks lines.
 
+use crate::kept::Kept;
 use crate::post::Post;
 use crate::socket::{Gone, Socket};
 use crate::speech::FirstLine;
-use bytes::BytesMut;
 use std::alloc::Global;
 use warp_hub::ClientId;
+use warp_tag::Form;
+
+/// What is kept of a read at most, in bytes.
+const MOST_READ: usize = 16_384;
 
 /// A client that speaks lines.
 #[derive(Drop)]
@@ -13,77 +17,73 @@ pub(crate) struct Lines {
     pub(crate) id: ClientId,
     first: FirstLine,
     /// Bytes that were read, and that the hub didn't take yet.
-    rest: BytesMut,
+    rest: Kept<MOST_READ>,
     /// The hub knows that no more bytes come.
     has_ended: bool,
 }
 
 impl Lines {
-    /// Nothing came yet of this client.
-    pub(crate) fn new(alloc: Global, id: ClientId) -> Lines {
+    /// Nothing came yet of this client, which speaks to a program of this form.
+    pub(crate) fn new(alloc: Global, id: ClientId, form: Form) -> Lines {
         Lines {
             id,
-            first: FirstLine::new(),
-            rest: BytesMut::new(alloc),
+            first: FirstLine::new(form),
+            rest: Kept::new(alloc),
             has_ended: false,
         }
     }
 
     /// Whether bytes wait here for the post.
-    pub(crate) fn waits(&self) -> bool {
+    fn waits(&self) -> bool {
         !self.rest.is_empty()
     }
 
-    /// Reads once, where nothing waits, and gives the hub what it takes. Whether there is more to do in the next round.
+    /// Whether there is more to do in the next round.
+    pub(crate) fn goes_on(&self, socket: &Socket, post: &Post<'_>) -> bool {
+        if self.waits() {
+            return post.may_take(self.id);
+        }
+        socket.may_read && !socket.has_ended
+    }
+
+    /// Reads once, where nothing waits, and gives the hub what it takes.
     pub(crate) fn hear(
         &mut self,
-        alloc: Global,
         socket: &mut Socket,
         post: &mut Post<'_>,
         buffer: &mut [u8],
-    ) -> Result<bool, Gone> {
+    ) -> Result<(), Gone> {
         if self.waits() {
-            self.offer_rest(alloc, post);
+            let taken = post.take(self.id, self.rest.as_slice());
+            self.rest.advance(taken);
         } else {
             self.read(socket, post, buffer)?;
         }
-        if self.waits() {
-            return Ok(post.may_take(self.id));
-        }
-        if socket.has_ended && !self.has_ended {
+        if !self.waits() && socket.has_ended && !self.has_ended {
             self.has_ended = true;
             post.end(self.id);
         }
-        Ok(socket.may_read && !socket.has_ended)
+        Ok(())
     }
 
-    /// Gives the hub what it takes of what waits.
-    fn offer_rest(&mut self, alloc: Global, post: &mut Post<'_>) {
-        let taken = post.take(self.id, self.rest.as_slice());
-        self.rest.advance(taken.min(self.rest.len()));
-        if self.rest.is_empty() {
-            // Its memory goes: most clients are idle most of the time.
-            self.rest = BytesMut::new(alloc);
-        }
-    }
-
-    /// Reads once, and gives the hub what it takes of it.
+    /// Reads once, and gives the hub what it takes of it. Where the first line is none, nothing behind it is taken: it is
+    /// answered, and the connection ends.
     fn read(
         &mut self,
         socket: &mut Socket,
         post: &mut Post<'_>,
         buffer: &mut [u8],
     ) -> Result<(), Gone> {
-        let count = socket.read(buffer)?;
+        let room = buffer.len().min(MOST_READ);
+        let count = socket.read(&mut buffer[..room])?;
         let bytes = &buffer[..count];
-        if self.first.is_http(bytes) {
-            return Err(Gone);
+        if let Some(end) = self.first.strange_end(bytes) {
+            post.take(self.id, &bytes[..end]);
+            socket.has_ended = true;
+            return Ok(());
         }
         let taken = post.take(self.id, bytes).min(count);
-        match self.rest.extend_from_slice(&bytes[taken..]) {
-            Ok(()) => Ok(()),
-            Err(_) => Err(Gone),
-        }
+        self.rest.keep(&bytes[taken..])
     }
 }
 

@@ -1,6 +1,8 @@
 //! What an operator is told, on standard error.
 
 use crate::journal_faults::{FileFault, OpenFault};
+use crate::peer_news::PeerNews;
+use std::fmt;
 use std::io::Eprint;
 use warp_hub::PeerEvent;
 
@@ -68,8 +70,37 @@ pub(crate) fn tell_end<X: Eprint>(rt: &X) {
     let _ = rt.eprintln("standard input ended: the host ends");
 }
 
-/// Tells what came of a peer.
-pub(crate) fn tell_peer<X: Eprint>(rt: &X, name: &str, event: PeerEvent) {
+/// How many lines were left out, behind one that is told.
+#[derive(Clone, Copy)]
+struct LeftOut(u64);
+
+impl fmt::Display for LeftOut {
+    fn fmt<W: fmt::Write>(&self, f: &mut fmt::Formatter<W>) -> fmt::Result {
+        let count = self.0;
+        if count == 0 {
+            return Ok(());
+        }
+        write!(f, " ({count} lines about it left out)")
+    }
+}
+
+/// Tells what came of a peer, of which so many lines were left out.
+pub(crate) fn tell_peer<X: Eprint>(rt: &X, name: &str, news: PeerNews, left_out: u64) {
+    let left_out = LeftOut(left_out);
+    let _ = match news {
+        PeerNews::Event(event) => {
+            tell_event(rt, name, event, left_out);
+            return;
+        }
+        PeerNews::Lost => eprintln!(rt; "peer {name} lost: it is tried again{left_out}"),
+        PeerNews::Unreached => eprintln!(rt;
+            "peer {name} can't be reached: it is tried again{left_out}"
+        ),
+    };
+}
+
+/// Tells what the follower of a peer says.
+fn tell_event<X: Eprint>(rt: &X, name: &str, event: PeerEvent, left_out: LeftOut) {
     let _ = match event {
         PeerEvent::Found { place, is_host } => {
             let what = if is_host {
@@ -77,27 +108,26 @@ pub(crate) fn tell_peer<X: Eprint>(rt: &X, name: &str, event: PeerEvent) {
             } else {
                 "a server, which tells no program: nothing was compared"
             };
-            eprintln!(rt; "peer {name} found: {what}; its log is followed from place {place} on")
+            eprintln!(rt;
+                "peer {name} found: {what}; its log is followed from place {place} on{left_out}"
+            )
         }
         PeerEvent::Refused { place, refusal } => {
             let number = refusal.number();
-            eprintln!(rt; "peer {name}: its record at place {place} was refused {number}")
+            eprintln!(rt; "peer {name}: its record at place {place} was refused {number}{left_out}")
         }
-        PeerEvent::OtherProgram => eprintln!(rt; "peer {name} refused: it runs another program"),
-        PeerEvent::NotAllowed => eprintln!(rt; "peer {name} refused: it wants a token, or another"),
-        PeerEvent::Strange => eprintln!(rt; "peer {name} lost: it said what answers no question"),
-        PeerEvent::NoMemory => eprintln!(rt;
-            "peer {name} lost: there was no memory for its records"
+        PeerEvent::OtherProgram => eprintln!(rt;
+            "peer {name} refused: it runs another program{left_out}"
         ),
-    };
-}
-
-/// Tells that the connection to a peer was lost, or could not be made.
-pub(crate) fn tell_peer_lost<X: Eprint>(rt: &X, name: &str, was_found: bool) {
-    let _ = if was_found {
-        eprintln!(rt; "peer {name} lost: it is tried again")
-    } else {
-        eprintln!(rt; "peer {name} can't be reached: it is tried again")
+        PeerEvent::NotAllowed => eprintln!(rt;
+            "peer {name} refused: it wants a token, or another{left_out}"
+        ),
+        PeerEvent::Strange => eprintln!(rt;
+            "peer {name} lost: it said what answers no question{left_out}"
+        ),
+        PeerEvent::NoMemory => eprintln!(rt;
+            "peer {name} lost: there was no memory for its records{left_out}"
+        ),
     };
 }
 

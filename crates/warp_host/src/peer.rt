@@ -1,6 +1,7 @@
 //! A peer: its connection, and what goes between it, its follower and the hub.
 
 use crate::operator;
+use crate::peer_news::{NewsOfPeer, PeerNews};
 use crate::post::Post;
 use crate::socket::{Gone, Socket};
 use std::alloc::Global;
@@ -12,6 +13,9 @@ use warp_hub::{ClientId, Follower, PeerEvent};
 const FIRST_PAUSE: u64 = 100;
 
 const LONGEST_PAUSE: u64 = 5_000;
+
+/// How long a connection lasts, if it brings a record, behind which the next pause is the first again, in seconds.
+const LASTS: u64 = 60;
 
 /// How long a connection may take to be made, in milliseconds.
 const LONGEST_CONNECT: u64 = 5_000;
@@ -55,6 +59,9 @@ pub(crate) struct Peer {
     /// Bytes of it that wait until the hub took its lines.
     kept: Vec<u8>,
     pause: u64,
+    /// Since when there is a connection, and whether it brought a record.
+    since: Option<Duration>,
+    has_brought: bool,
     /// When a server that has nothing new is asked again.
     asks_at: Option<Duration>,
     /// It is followed, as the operator knows.
@@ -62,6 +69,7 @@ pub(crate) struct Peer {
     /// What the operator was told last of why it isn't.
     told: Option<PeerEvent>,
     is_lost_told: bool,
+    news: NewsOfPeer,
 }
 
 impl Peer {
@@ -85,10 +93,21 @@ impl Peer {
             handed: Vec::new(alloc),
             kept: Vec::new(alloc),
             pause: FIRST_PAUSE,
+            since: None,
+            has_brought: false,
             asks_at: None,
             is_found: false,
             told: None,
             is_lost_told: false,
+            news: NewsOfPeer::new(),
+        }
+    }
+
+    /// Whether a connection is to be begun at this time: there is none, and the pause is over.
+    pub(crate) fn may_begin(&self, now: Duration) -> bool {
+        match &self.way {
+            Way::Waits(until) => *until <= now,
+            Way::Sought | Way::Begun(_, _) | Way::Open(_) => false,
         }
     }
 
@@ -105,6 +124,15 @@ impl Peer {
 
     /// When there is something to do without an event.
     pub(crate) fn due_time(&self) -> Option<Duration> {
+        match (self.way_time(), self.news.due_time()) {
+            (Some(time), Some(other)) => Some(time.min(other)),
+            (Some(time), None) => Some(time),
+            (None, other) => other,
+        }
+    }
+
+    /// The same, as far as its connection goes.
+    fn way_time(&self) -> Option<Duration> {
         match &self.way {
             Way::Waits(until) => Some(*until),
             Way::Sought => None,
@@ -123,32 +151,31 @@ impl Peer {
         }
     }
 
-    /// Goes on with a connection: one that was being made is there, or it failed.
-    pub(crate) fn go_on<X: Eprint>(
-        &mut self,
-        rt: &X,
-        post: &mut Post<'_>,
-        buffer: &mut [u8],
-        now: Duration,
-    ) {
-        if self.try_on(rt, post, buffer, now).is_err() {
-            self.lose(rt, now);
+    /// Hands on what it brought, and goes on with a connection: one that was being made is there, or it failed.
+    pub(crate) fn go_on(&mut self, post: &mut Post<'_>, buffer: &mut [u8], now: Duration) {
+        self.hand_on(post);
+        self.hear_answers(post);
+        if self.try_on(post, buffer, now).is_err() {
+            self.lose(now);
         }
+        self.is_due |= self.has_more(post);
     }
 
-    /// The same; `Err` where the connection is gone, or to be ended.
-    fn try_on<X: Eprint>(
+    /// Goes on with a connection; `Err` where it is gone, or to be ended.
+    fn try_on(
         &mut self,
-        rt: &X,
         post: &mut Post<'_>,
         buffer: &mut [u8],
         now: Duration,
     ) -> Result<(), Gone> {
         self.open(now)?;
+        if !matches!(&self.way, Way::Open(_)) {
+            return Ok(());
+        }
         self.ask_again(now)?;
-        self.hear(rt, buffer)?;
+        self.hear(buffer)?;
         self.hand_on(post);
-        self.hear_answers(rt, post);
+        self.hear_answers(post);
         self.send()?;
         if self.follower.is_over() {
             return Err(Gone);
@@ -156,7 +183,6 @@ impl Peer {
         if self.follower.is_level() && self.asks_at.is_none() {
             self.asks_at = Some(now.saturating_add(Duration::from_millis(LEVEL_PAUSE)));
         }
-        self.is_due |= self.has_more(post);
         Ok(())
     }
 
@@ -191,9 +217,8 @@ impl Peer {
             return Ok(());
         }
         self.said.clear();
-        self.handed.clear();
-        self.kept.clear();
         self.way = Way::Open(socket);
+        self.since = Some(now);
         let token = match &self.token {
             Some(token) => Some(token.as_slice()),
             None => None,
@@ -220,10 +245,10 @@ impl Peer {
     }
 
     /// Reads once of the peer, where nothing waits for the hub, and hears what came.
-    fn hear<X: Eprint>(&mut self, rt: &X, buffer: &mut [u8]) -> Result<(), Gone> {
+    fn hear(&mut self, buffer: &mut [u8]) -> Result<(), Gone> {
         if !self.kept.is_empty() {
             let kept = std::mem::replace(&mut self.kept, Vec::new(*self.said.allocator()));
-            return self.hear_bytes(rt, &kept);
+            return self.hear_bytes(&kept);
         }
         if self.handed.len() >= MOST_HANDED {
             return Ok(());
@@ -235,19 +260,21 @@ impl Peer {
         if socket.has_ended {
             return Err(Gone);
         }
-        self.hear_bytes(rt, &buffer[..count])
+        self.hear_bytes(&buffer[..count])
     }
 
     /// Hears bytes of the peer, as long as few wait for the hub; the rest is kept.
-    fn hear_bytes<X: Eprint>(&mut self, rt: &X, bytes: &[u8]) -> Result<(), Gone> {
+    fn hear_bytes(&mut self, bytes: &[u8]) -> Result<(), Gone> {
         let mut rest = bytes;
         for _ in 0..MOST_LINES {
             if rest.is_empty() || self.follower.is_over() || self.handed.len() >= MOST_HANDED {
                 break;
             }
+            let before = self.handed.len();
             let (count, event) = self.follower.take(rest, &mut self.said, &mut self.handed);
             rest = &rest[count.min(rest.len())..];
-            self.tell(rt, event);
+            self.has_brought |= self.handed.len() > before;
+            self.tell(event);
         }
         if rest.is_empty() {
             return Ok(());
@@ -268,7 +295,7 @@ impl Peer {
     }
 
     /// Hears what the hub answered to the lines.
-    fn hear_answers<X: Eprint>(&mut self, rt: &X, post: &mut Post<'_>) {
+    fn hear_answers(&mut self, post: &mut Post<'_>) {
         for _ in 0..MOST_LINES {
             let output = post.output(self.id);
             if output.is_empty() {
@@ -276,7 +303,7 @@ impl Peer {
             }
             let (count, event) = self.follower.take_answers(output);
             post.written(self.id, count);
-            self.tell(rt, event);
+            self.tell(event);
         }
         self.is_due = true;
     }
@@ -291,8 +318,8 @@ impl Peer {
         Ok(())
     }
 
-    /// Tells the operator what came of it, unless that was told.
-    fn tell<X: Eprint>(&mut self, rt: &X, event: Option<PeerEvent>) {
+    /// Notes for the operator what came of it, unless that was told.
+    fn tell(&mut self, event: Option<PeerEvent>) {
         let Some(event) = event else {
             return;
         };
@@ -301,13 +328,12 @@ impl Peer {
                 self.is_found = true;
                 self.is_lost_told = false;
                 self.told = None;
-                self.pause = FIRST_PAUSE;
-                operator::tell_peer(rt, self.name.as_str(), event);
+                self.news.note(PeerNews::Event(event));
             }
-            PeerEvent::Refused { .. } => operator::tell_peer(rt, self.name.as_str(), event),
+            PeerEvent::Refused { .. } => self.news.note(PeerNews::Event(event)),
             _ => {
                 if self.told != Some(event) {
-                    operator::tell_peer(rt, self.name.as_str(), event);
+                    self.news.note(PeerNews::Event(event));
                 }
                 self.told = Some(event);
                 self.is_lost_told = true;
@@ -315,18 +341,44 @@ impl Peer {
         }
     }
 
-    /// The connection is gone, or could not be made: it is tried again behind a pause.
-    pub(crate) fn lose<X: Eprint>(&mut self, rt: &X, now: Duration) {
+    /// Tells the operator what is to be told at this time.
+    pub(crate) fn tell_operator<X: Eprint>(&mut self, rt: &X, now: Duration) {
+        if let Some((news, left_out)) = self.news.next(now) {
+            operator::tell_peer(rt, self.name.as_str(), news, left_out);
+        }
+    }
+
+    /// The connection is gone, or could not be made: it is tried again behind a pause. The pause grows each time, and is
+    /// the first again behind a connection that lasted and brought something.
+    pub(crate) fn lose(&mut self, now: Duration) {
         if !self.is_lost_told {
-            operator::tell_peer_lost(rt, self.name.as_str(), self.is_found);
+            let news = if self.is_found {
+                PeerNews::Lost
+            } else {
+                PeerNews::Unreached
+            };
+            self.news.note(news);
             self.is_lost_told = true;
         }
+        if self.has_brought && self.has_lasted(now) {
+            self.pause = FIRST_PAUSE;
+        }
         self.is_found = false;
+        self.since = None;
+        self.has_brought = false;
         self.follower.lose();
+        self.kept.clear();
         self.asks_at = None;
-        self.is_due = false;
         self.way = Way::Waits(now.saturating_add(Duration::from_millis(self.pause)));
         self.pause = self.pause.saturating_mul(2).min(LONGEST_PAUSE);
+    }
+
+    /// Whether the connection is there for long.
+    fn has_lasted(&self, now: Duration) -> bool {
+        match self.since {
+            Some(since) => now.saturating_sub(since) >= Duration::from_secs(LASTS),
+            None => false,
+        }
     }
 }
 

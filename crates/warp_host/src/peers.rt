@@ -112,15 +112,18 @@ impl Peers {
             return;
         }
         peer.is_due = false;
-        if !matches!(&peer.way, Way::Waits(_)) {
-            peer.go_on(rt, &mut common.post, &mut common.buffer, now);
-            return;
+        if peer.may_begin(now) {
+            self.begin(rt, poll, number, now);
+        } else {
+            peer.go_on(&mut common.post, &mut common.buffer, now);
         }
-        self.begin(rt, poll, number, now);
+        if let Some(peer) = self.all.get_mut(number) {
+            peer.tell_operator(rt, now);
+        }
     }
 
     /// Begins to connect, or has the name looked up.
-    fn begin<X: Eprint + Net>(&mut self, rt: &X, poll: &Poll, number: usize, now: Duration) {
+    fn begin<X: Net>(&mut self, rt: &X, poll: &Poll, number: usize, now: Duration) {
         let Some(peer) = self.all.get_mut(number) else {
             return;
         };
@@ -129,18 +132,18 @@ impl Peers {
             return;
         }
         let Ok(name) = String::from_str(self.alloc, peer.name.as_str()) else {
-            peer.lose(rt, now);
+            peer.lose(now);
             return;
         };
         peer.way = Way::Sought;
         let sought = Sought { peer: number, name };
         if self.sought.push(sought).is_err() {
-            peer.lose(rt, now);
+            peer.lose(now);
         }
     }
 
     /// Begins to connect to the peers whose addresses were found.
-    fn take_found<X: Eprint + Net>(&mut self, rt: &X, poll: &Poll, now: Duration) {
+    fn take_found<X: Net>(&mut self, rt: &X, poll: &Poll, now: Duration) {
         for _ in 0..self.all.len() {
             let Ok(found) = self.found.pop() else {
                 return;
@@ -174,7 +177,7 @@ impl Peers {
 }
 
 /// Begins to connect to a peer at this address, if there is one.
-fn connect<X: Eprint + Net>(
+fn connect<X: Net>(
     rt: &X,
     poll: &Poll,
     peer: &mut Peer,
@@ -184,7 +187,7 @@ fn connect<X: Eprint + Net>(
 ) {
     match socket_to(rt, poll, number, address) {
         Some(socket) => peer.way = Way::Begun(socket, now),
-        None => peer.lose(rt, now),
+        None => peer.lose(now),
     }
 }
 

@@ -404,7 +404,7 @@ impl<'a> Serving<'a> {
             return;
         }
         let flushed = client.flush(&mut self.common);
-        let goes_on = client.waits() && self.common.post.may_take(id);
+        let goes_on = client.goes_on(&self.common.post);
         match flushed {
             Ok(()) if goes_on => self.enqueue(key),
             Ok(()) => {}

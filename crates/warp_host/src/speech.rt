@@ -1,57 +1,86 @@
-//! Lines and HTTP are told apart by the first byte of a connection.
+//! Lines and HTTP are told apart by the first byte of a connection, and lines from all else by the first line.
 
-ghost use Rattle.std.specs.Prelude.{◌≡◌};
-ghost use Rattle.warp_host.specs.Speech.{is_upper};
+ghost use Rattle.std.specs.Prelude.{◌≡◌, ◌≤◌, IfSome, length};
+ghost use Rattle.warp_host.specs.Speech.{speech_of};
 
-/// Whether a connection that begins with this byte speaks HTTP: a method begins with a capital letter, a line never
-/// does.
-pub(crate) fn begins_http(byte: u8) -> bool
-    ensures { result ≡ is_upper byte }
-{
-    byte.is_ascii_uppercase()
+use arrayvec::ArrayVec;
+use warp_hub::is_said;
+use warp_tag::Form;
+
+/// What a connection speaks.
+#[derive(Clone, Copy, Debug, PartialEq, Eq)]
+pub(crate) enum Spoken {
+    /// HTTP: a method begins with a capital letter.
+    Http,
+    /// Lines: each begins with a small letter.
+    Lines,
+    /// Neither.
+    Nothing,
 }
 
-/// The end of the first line of a connection that speaks lines, as far as it came.
+/// What a connection speaks that begins with this byte.
+pub(crate) fn spoken_from(byte: u8) -> Spoken
+    ensures { result ≡ speech_of byte }
+{
+    if byte.is_ascii_uppercase() {
+        return Spoken::Http;
+    }
+    if byte.is_ascii_lowercase() {
+        return Spoken::Lines;
+    }
+    Spoken::Nothing
+}
+
+/// The most bytes of a line.
+const LONGEST_LINE: usize = 128;
+
+/// The first line of a connection that speaks lines, as far as it came.
 ///
-/// A page may have a browser send a method in small letters: its head would be read as lines that are refused, and its
-/// body as lines that are not. So a connection whose first line ends as the first line of HTTP does is closed.
-#[derive(Clone, Copy)]
+/// A page may have a browser send bytes of its choice behind others that it doesn't choose: the body of a request whose
+/// method is in small letters, or what a server gave to be shown again. So a connection whose first line is none is
+/// over with it.
+#[derive(Drop)]
 pub(crate) struct FirstLine {
-    tail: [u8; 10],
+    form: Form,
+    line: ArrayVec<u8, LONGEST_LINE>,
+    is_too_long: bool,
     is_over: bool,
 }
 
-/// How the first line of HTTP ends, but for the last digit of the version.
-const VERSION: &[u8] = b" HTTP/1.";
-
 impl FirstLine {
-    /// Nothing came yet.
-    pub(crate) fn new() -> FirstLine {
+    /// Nothing came yet of a client that speaks to a program of this form.
+    pub(crate) fn new(form: Form) -> FirstLine {
         FirstLine {
-            tail: [0; 10],
+            form,
+            line: ArrayVec::new(),
+            is_too_long: false,
             is_over: false,
         }
     }
 
-    /// Looks at bytes that came, and answers whether the first line is one of HTTP.
-    pub(crate) fn is_http(&mut self, bytes: &[u8]) -> bool {
+    /// Looks at bytes that came: where the first line ends in them, and is none, how many they are up to its end.
+    pub(crate) fn strange_end(&mut self, bytes: &[u8]) -> Option<usize>
+        ensures { IfSome result (λ end. end ≤ length bytes.now) }
+    {
         if self.is_over {
-            return false;
+            return None;
         }
-        for byte in bytes {
-            if *byte == b'\n' {
-                self.is_over = true;
-                return &self.tail[..8] == VERSION && self.tail[9] == b'\r';
-            }
-            self.tail = pushed(self.tail, *byte);
+        let Some(at) = bytes.iter().position(|byte| *byte == b'\n') else {
+            self.note(bytes);
+            return None;
+        };
+        self.note(&bytes[..at]);
+        self.is_over = true;
+        if !self.is_too_long && is_said(self.form, self.line.as_slice()) {
+            return None;
         }
-        false
+        Some(at + 1)
     }
-}
 
-/// The last ten bytes, with one more.
-fn pushed(tail: [u8; 10], byte: u8) -> [u8; 10] {
-    let mut more = [byte; 10];
-    more[..9].copy_from_slice(&tail[1..]);
-    more
+    /// Notes bytes of the first line.
+    fn note(&mut self, bytes: &[u8]) {
+        if self.line.try_extend_from_slice(bytes).is_err() {
+            self.is_too_long = true;
+        }
+    }
 }

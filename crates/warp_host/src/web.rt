@@ -1,12 +1,17 @@
 //! A connection that speaks WebSocket: text messages of lines come, and text messages of lines go.
+//!
+//! What it holds is bounded whatever comes, by the types of what it keeps (`kept`, `framed`): no frame is read while the
+//! client is behind with what is sent to it, the socket is not read while a whole frame waits, and of the answers to
+//! pings the newest alone is kept.
 
 ghost use Rattle.std.specs.Prelude.{◌≤◌, IfOk, length};
 
+use crate::framed::Framed;
 use crate::frames::next_message;
+use crate::kept::Kept;
 use crate::post::Post;
 use crate::socket::{Gone, Socket};
-use bytes::{Buf, BytesMut};
-use http_server::Rope;
+use bytes::BytesMut;
 use std::alloc::Global;
 use std::str;
 use std::time::Duration;
@@ -19,9 +24,14 @@ use websocket::protocol::{
 /// The most bytes of a message with its fragments.
 const LONGEST_MESSAGE: usize = 16_384;
 
-/// While more bytes than these wait for the socket, no more are put into messages: they wait in the hub, which counts
-/// them.
-const MOST_FRAMED: usize = 16_384;
+/// The most bytes of a frame: those of a message, and its head.
+const LONGEST_FRAME: usize = LONGEST_MESSAGE + 14;
+
+/// The most bytes of lines that wait for the hub: a message, and the line feed of its last line.
+const MOST_LINES: usize = LONGEST_MESSAGE + 1;
+
+/// The most bytes of a frame that answers another.
+const LONGEST_ANSWER: usize = 139;
 
 /// So many steps follow each other at most in a round.
 const STEPS: u32 = 64;
@@ -38,29 +48,22 @@ pub(crate) struct Web {
     pub(crate) id: ClientId,
     context: WebSocketContext,
     /// Bytes that came and were not taken: of frames that wait, and of one that isn't whole yet.
-    input: BytesMut,
+    input: Kept<LONGEST_FRAME>,
     /// There may be whole frames among them.
     has_frames: bool,
     /// Frames that were not sent yet.
-    output: Rope,
+    output: Framed,
+    /// The answer to the newest ping, where it doesn't stand among them yet.
+    pong: Kept<LONGEST_ANSWER>,
     /// Bytes of lines that the hub didn't take yet.
-    rest: BytesMut,
+    rest: Kept<MOST_LINES>,
     /// A close was sent or answered: nothing more is read or put into messages.
     is_closing: bool,
     /// The hub knows that no more lines come.
     has_ended: bool,
-    /// When something came last, and when it was pinged last.
+    /// When something came last, or was taken by a client that is behind, and when it was pinged last.
     heard: Duration,
     pinged: Duration,
-}
-
-/// The bytes; where there are none, without the room that they had. Most clients are idle most of the time.
-fn without_room(alloc: Global, bytes: BytesMut) -> BytesMut {
-    if bytes.is_empty() {
-        BytesMut::new(alloc)
-    } else {
-        bytes
-    }
 }
 
 /// What the frames at the front of some bytes came to.
@@ -73,14 +76,8 @@ struct Frames {
 }
 
 impl Web {
-    /// A client behind its upgrade, with what came and what is to be sent.
-    pub(crate) fn new(
-        alloc: Global,
-        id: ClientId,
-        input: BytesMut,
-        output: Rope,
-        now: Duration,
-    ) -> Web {
+    /// A client behind its upgrade, of which nothing came.
+    pub(crate) fn new(alloc: Global, id: ClientId, now: Duration) -> Web {
         let config = WebSocketConfig::default()
             .max_message_size(Some(LONGEST_MESSAGE))
             .max_frame_size(Some(LONGEST_MESSAGE));
@@ -88,10 +85,11 @@ impl Web {
             alloc,
             id,
             context: WebSocketContext::new(alloc, Role::Server, config),
-            has_frames: !input.is_empty(),
-            input: without_room(alloc, input),
-            output,
-            rest: BytesMut::new(alloc),
+            input: Kept::new(alloc),
+            has_frames: false,
+            output: Framed::new(alloc),
+            pong: Kept::new(alloc),
+            rest: Kept::new(alloc),
             is_closing: false,
             has_ended: false,
             heard: now,
@@ -99,102 +97,102 @@ impl Web {
         }
     }
 
+    /// Takes on what came behind the upgrade.
+    pub(crate) fn take_on(&mut self, input: BytesMut) -> Result<(), Gone> {
+        if input.is_empty() {
+            return Ok(());
+        }
+        self.has_frames = true;
+        self.input.replace(input)
+    }
+
     /// Whether bytes wait here for the post.
-    pub(crate) fn waits(&self) -> bool {
+    fn waits(&self) -> bool {
         !self.rest.is_empty()
     }
 
-    /// Reads once, where nothing waits, and gives the hub the lines that it takes. Whether there is more to do in the
-    /// next round.
+    /// Whether there is more to do in the next round.
+    pub(crate) fn goes_on(&self, socket: &Socket, post: &Post<'_>) -> bool {
+        if self.is_closing || self.output.is_behind() {
+            return false;
+        }
+        if self.waits() {
+            return post.may_take(self.id);
+        }
+        self.has_frames || (socket.may_read && !socket.has_ended)
+    }
+
+    /// Reads once, where nothing waits, and gives the hub the lines that it takes.
     pub(crate) fn hear(
         &mut self,
         socket: &mut Socket,
         post: &mut Post<'_>,
         buffer: &mut [u8],
         now: Duration,
-    ) -> Result<bool, Gone> {
+    ) -> Result<(), Gone> {
         if self.waits() {
             self.offer_rest(post);
         }
-        if !self.waits() {
+        self.take_kept(post)?;
+        if self.may_read() {
+            self.read(socket, buffer, now)?;
             self.take_kept(post)?;
         }
-        if !self.waits() && !self.is_closing {
-            self.read(socket, post, buffer, now)?;
-        }
-        if self.waits() {
-            return Ok(post.may_take(self.id));
-        }
-        let is_done = self.is_closing || (socket.has_ended && !self.has_frames);
+        let is_done = self.is_closing || (socket.has_ended && !self.has_frames && !self.waits());
         if is_done && !self.has_ended {
             self.has_ended = true;
             post.end(self.id);
         }
-        let reads_on = socket.may_read && !socket.has_ended;
-        Ok((reads_on || self.has_frames) && !self.is_closing)
+        Ok(())
     }
 
     /// Gives the hub what it takes of the lines that wait.
     fn offer_rest(&mut self, post: &mut Post<'_>) {
         let taken = post.take(self.id, self.rest.as_slice());
-        self.rest.advance(taken.min(self.rest.len()));
-        if self.rest.is_empty() {
-            self.rest = BytesMut::new(self.alloc);
-        }
+        self.rest.advance(taken);
+    }
+
+    /// Whether a frame may be read: no lines wait for the hub, and the client is not behind.
+    fn may_hear(&self) -> bool {
+        !self.waits() && !self.is_closing && !self.output.is_behind()
+    }
+
+    /// Whether the socket may be read: a frame may, and none that is whole waits.
+    fn may_read(&self) -> bool {
+        self.may_hear() && !self.has_frames
     }
 
     /// Takes the frames that are whole in what was kept.
     fn take_kept(&mut self, post: &mut Post<'_>) -> Result<(), Gone> {
-        if self.input.is_empty() || self.is_closing {
+        if !self.has_frames || !self.may_hear() {
             return Ok(());
         }
-        let mut input = BytesMut::new(self.alloc);
-        std::mem::swap(&mut input, &mut self.input);
+        let mut input = self.input.take();
         let frames = self.take_frames(post, input.as_mut_slice())?;
-        input.advance(frames.used.min(input.len()));
-        self.has_frames = !frames.is_short && !input.is_empty();
-        if !input.is_empty() {
-            self.input = input;
-        }
+        self.has_frames = !frames.is_short && frames.used < input.len();
+        self.input.replace(input)?;
+        self.input.advance(frames.used);
         Ok(())
     }
 
-    /// Reads once, and takes the frames that are whole.
-    fn read(
-        &mut self,
-        socket: &mut Socket,
-        post: &mut Post<'_>,
-        buffer: &mut [u8],
-        now: Duration,
-    ) -> Result<(), Gone> {
-        let count = socket.read(buffer)?;
+    /// Reads once, as many bytes as a frame may still have.
+    fn read(&mut self, socket: &mut Socket, buffer: &mut [u8], now: Duration) -> Result<(), Gone> {
+        let room = self.input.room().min(buffer.len());
+        let count = socket.read(&mut buffer[..room])?;
         if count == 0 {
             return Ok(());
         }
         self.heard = now;
-        if !self.input.is_empty() {
-            self.keep(&buffer[..count])?;
-            return self.take_kept(post);
-        }
-        let frames = self.take_frames(post, &mut buffer[..count])?;
-        self.has_frames = !frames.is_short && frames.used < count;
-        self.keep(&buffer[frames.used.min(count)..count])
+        self.has_frames = true;
+        self.input.keep(&buffer[..count])
     }
 
-    /// Keeps bytes for later.
-    fn keep(&mut self, bytes: &[u8]) -> Result<(), Gone> {
-        match self.input.extend_from_slice(bytes) {
-            Ok(()) => Ok(()),
-            Err(_) => Err(Gone),
-        }
-    }
-
-    /// Takes frames from the front of these bytes, as long as they are whole and the hub takes their lines: how many
-    /// bytes they had.
+    /// Takes frames from the front of these bytes, as long as they are whole, the hub takes their lines and the client is
+    /// not behind: how many bytes they had.
     fn take_frames(&mut self, post: &mut Post<'_>, bytes: &mut [u8]) -> Result<Frames, Gone> {
         let mut used = 0;
         for _ in 0..STEPS {
-            if self.waits() || self.is_closing || used >= bytes.len() {
+            if !self.may_hear() || used >= bytes.len() {
                 break;
             }
             let frames = self.take_frame(post, &mut bytes[used..])?;
@@ -214,7 +212,8 @@ impl Web {
 
     /// Takes the frame at the front of these bytes.
     fn take_frame(&mut self, post: &mut Post<'_>, bytes: &mut [u8]) -> Result<Frames, Gone> {
-        let step = match self.context.read(bytes, &mut self.output, &mut NoMask) {
+        let mut answer = BytesMut::new(self.alloc);
+        let step = match self.context.read(bytes, &mut answer, &mut NoMask) {
             Ok(FrameStatus::Partial(_)) => {
                 return Ok(Frames {
                     used: 0,
@@ -225,7 +224,7 @@ impl Web {
             Err(error) => return self.fail(error),
         };
         if let Some(received) = &step.message {
-            self.take_message(post, received.message(bytes))?;
+            self.take_message(post, received.message(bytes), answer)?;
         }
         Ok(Frames {
             used: step.consumed,
@@ -233,16 +232,23 @@ impl Web {
         })
     }
 
-    /// Does what a message asks for.
-    fn take_message(&mut self, post: &mut Post<'_>, message: Message<'_>) -> Result<(), Gone> {
+    /// Does what a message asks for, with the frame that answers it, if one does.
+    fn take_message(
+        &mut self,
+        post: &mut Post<'_>,
+        message: Message<'_>,
+        answer: BytesMut,
+    ) -> Result<(), Gone> {
         match message {
             Message::Text(text) => self.take_text(post, text.as_bytes()),
             Message::Binary(_) => self.close(CloseCode::Unsupported),
             Message::Close(_) => {
                 self.is_closing = true;
-                Ok(())
+                self.output.add(answer.as_slice())
             }
-            Message::Ping(_) | Message::Pong(_) => Ok(()),
+            // Of pings that were not answered yet, the newest is answered.
+            Message::Ping(_) => self.pong.replace(answer),
+            Message::Pong(_) => Ok(()),
         }
     }
 
@@ -254,13 +260,11 @@ impl Web {
         if rest.is_empty() && (is_ended || post.take(self.id, b"\n") == 1) {
             return Ok(());
         }
-        if self.rest.extend_from_slice(rest).is_err() {
-            return Err(Gone);
+        self.rest.keep(rest)?;
+        if is_ended {
+            return Ok(());
         }
-        if !is_ended && self.rest.extend_from_slice(b"\n").is_err() {
-            return Err(Gone);
-        }
-        Ok(())
+        self.rest.keep(b"\n")
     }
 
     /// Closes a connection that broke the protocol, with the code of that.
@@ -284,19 +288,22 @@ impl Web {
     pub(crate) fn close(&mut self, code: CloseCode) -> Result<(), Gone> {
         self.is_closing = true;
         let frame = CloseFrame { code, reason: "" };
-        match self
-            .context
-            .close(Some(frame), &mut self.output, &mut NoMask)
-        {
-            Ok(()) => Ok(()),
+        let mut close = BytesMut::new(self.alloc);
+        match self.context.close(Some(frame), &mut close, &mut NoMask) {
+            Ok(()) => self.output.add(close.as_slice()),
             Err(_) => Err(Gone),
         }
     }
 
     /// Sends what the hub has for this client, as far as the socket takes it. Whether the connection is done with.
-    pub(crate) fn flush(&mut self, socket: &mut Socket, post: &mut Post<'_>) -> Result<bool, Gone> {
+    pub(crate) fn flush(
+        &mut self,
+        socket: &mut Socket,
+        post: &mut Post<'_>,
+        now: Duration,
+    ) -> Result<bool, Gone> {
         for _ in 0..STEPS {
-            self.send(socket)?;
+            self.send(socket, now)?;
             if !self.output.is_empty() || self.is_closing {
                 break;
             }
@@ -306,16 +313,21 @@ impl Web {
         }
         if self.output.is_empty() && !self.is_closing && post.is_over(self.id) {
             self.close(CloseCode::Away)?;
-            self.send(socket)?;
+            self.send(socket, now)?;
         }
         Ok(self.is_closing && self.output.is_empty())
     }
 
-    /// Puts the hub's output into messages, as long as few bytes wait; whether there was any.
+    /// Puts the answer to a ping among the frames, and the hub's output into messages, as long as few bytes wait; whether
+    /// there was any.
     fn frame_all(&mut self, post: &mut Post<'_>) -> Result<bool, Gone> {
-        let mut found = false;
+        let mut found = !self.pong.is_empty();
+        if found {
+            self.output.add(self.pong.as_slice())?;
+            self.pong = Kept::new(self.alloc);
+        }
         for _ in 0..STEPS {
-            if self.output.remaining() > MOST_FRAMED {
+            if self.output.is_behind() {
                 break;
             }
             let taken = self.frame(post.output(self.id))?;
@@ -337,31 +349,31 @@ impl Web {
         let Ok(text) = str::from_utf8(&output[..count - 1]) else {
             return Err(Gone);
         };
-        match self
-            .context
-            .write(Message::Text(text), &mut self.output, &mut NoMask)
-        {
+        match self.output.add_text(&mut self.context, text) {
             Ok(()) => Ok(count),
             Err(_) => Err(Gone),
         }
     }
 
-    /// Sends what is in messages, as far as the socket takes it.
-    fn send(&mut self, socket: &mut Socket) -> Result<(), Gone> {
+    /// Sends what is in messages, as far as the socket takes it. That a client takes what it is behind with is a sign of
+    /// it: nothing more of it is read then.
+    fn send(&mut self, socket: &mut Socket, now: Duration) -> Result<(), Gone> {
         for _ in 0..STEPS {
+            let is_behind = self.output.is_behind();
             let sent = socket.write(self.output.chunk())?;
             if sent == 0 {
                 break;
             }
-            self.output.advance(sent.min(self.output.remaining()));
-        }
-        if self.output.is_empty() {
-            self.output = Rope::new(self.alloc);
+            if is_behind {
+                self.heard = now;
+            }
+            self.output.advance(sent);
         }
         Ok(())
     }
 
-    /// Pings the client where it was silent for long; `Gone` where it was silent for too long.
+    /// Pings the client where it was silent for long and nothing is on its way to it; `Gone` where it was silent for too
+    /// long.
     pub(crate) fn look_after(&mut self, now: Duration) -> Result<bool, Gone> {
         let silent = now.saturating_sub(self.heard);
         if silent >= Duration::from_secs(CLOSE_AFTER) {
@@ -370,16 +382,21 @@ impl Web {
         let unpinged = now.saturating_sub(self.pinged);
         let is_due = silent >= Duration::from_secs(PING_AFTER)
             && unpinged >= Duration::from_secs(PING_AFTER)
-            && !self.is_closing;
+            && !self.is_closing
+            && self.output.is_empty();
         if !is_due {
             return Ok(false);
         }
         self.pinged = now;
+        let mut ping = BytesMut::new(self.alloc);
         match self
             .context
-            .write(Message::Ping(b""), &mut self.output, &mut NoMask)
+            .write(Message::Ping(b""), &mut ping, &mut NoMask)
         {
-            Ok(()) => Ok(true),
+            Ok(()) => {
+                self.output.add(ping.as_slice())?;
+                Ok(true)
+            }
             Err(_) => Err(Gone),
         }
     }

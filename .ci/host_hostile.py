@@ -1,0 +1,160 @@
+"""Cases of `.ci/host` on who means no good: frames without end of a client that says nothing else, bytes that a browser was made to send,
+and a peer that lies. What is measured is a count, or memory before and behind a flood."""
+
+import select
+import socket
+import tempfile
+import threading
+import time
+
+import hosting
+from hosting import PING, PONG, TEXT, Web, frame
+from loopback import HOST, holds, same, wait_for
+
+# So many bytes of frames are sent at most, for so many seconds, and so many MiB a host may hold more behind them.
+FLOOD, FLOOD_SECONDS, MOST_MORE = 64 << 20, 6, 4
+# How long a peer lies, in seconds. With pauses that double from a tenth of a second to five it is reached so often at most in that time.
+LIES, MOST_TRIES = 6, 9
+# The client's first bytes of TLS: a handshake, in which a server's ticket says lines.
+POISON = b"\x16\x03\x01\x02\x00\x01\x00\x01\xfc\x03\x03" + bytes(32) + b"\nevent 0 5 0 0 777\nannounce 0 10 0 1 0\n"
+
+Hosted = hosting.begun
+
+
+def written(file, data):
+    """The name of a file, behind writing this into it."""
+    file.write(data)
+    file.flush()
+    return file.name
+
+
+def flood(web, piece, reads):
+    """Sends these bytes again and again until there were enough, or the host takes no more; reads what comes where that is asked for.
+    Returns how many were sent."""
+    sent, block, end = 0, piece * (262_144 // len(piece)), time.monotonic() + FLOOD_SECONDS
+    web.socket.setblocking(False)
+    while sent < FLOOD and time.monotonic() < end:
+        comes, goes, _ = select.select([web.socket] if reads else [], [web.socket], [], 0.2)
+        if comes and not web.socket.recv(262_144):
+            break
+        if goes:
+            # A frame that went in part goes on where it stopped.
+            sent += web.socket.send(block[sent % len(piece):])
+    return sent
+
+
+def web_floods():
+    """A client without a token that sends frames without end, and reads nothing or all, takes no memory, and holds up nobody."""
+    kinds = {"pings": frame(PING, b"x" * 125), "empty pings": frame(PING, b""), "pongs": frame(PONG, b"x" * 10),
+             "empty pongs": frame(PONG, b""), "empty fragments": frame(0, b"", is_last=False)}
+    with tempfile.NamedTemporaryFile() as tokens, Hosted("--tokens", written(tokens, b"secret *\n")) as host:
+        other = host.talk()
+        other.tell(("token secret", "may *"))
+        for kind, piece in kinds.items():
+            for reads in (False, True):
+                before, web = host.memory(), Web(host.address)
+                if kind == "empty fragments":
+                    web.send(frame(TEXT, b"", is_last=False))
+                sent = flood(web, piece, reads)
+                more = host.memory() - before
+                holds(more <= MOST_MORE, f"{kind}, {'read' if reads else 'unread'}: {more:.1f} MiB more behind {sent >> 20} MiB")
+                holds(not reads or sent >= 1 << 20, f"{kind}: only {sent} bytes were taken of a client that reads")
+                other.tell(("horizon", "horizon 0 0 0"))
+                web.close()
+
+
+def newest_ping():
+    """Of pings that come together the newest is answered, and of those before it some may be; none is answered out of its order."""
+    with Hosted() as host:
+        web = Web(host.address)
+        pings = [b"%d" % number for number in range(200)]
+        web.send(b"".join(frame(PING, text) for text in pings))
+        answered = []
+        while not answered or answered[-1] != pings[-1]:
+            opcode, payload = web.next_frame()
+            same(opcode, PONG, "an answer to a ping")
+            answered.append(payload)
+        same(answered, sorted(set(answered), key=int), "the answers, in the order of their pings")
+        same(web.ask("horizon"), ["horizon 0 0 0"], "the reply behind them")
+        web.close()
+
+
+def told_until_the_end(host, data):
+    """What a connection is told that sends these bytes, up to its end."""
+    with socket.create_connection(host.address, 10) as one:
+        try:
+            one.sendall(data)
+        except OSError:
+            # It was closed at the first of them.
+            pass
+        return hosting.read_all(one)
+
+
+def neither_lines_nor_requests():
+    """A connection that begins as neither lines nor HTTP do is closed; one whose first line is none is told so and closed, and what stands
+    behind it is not taken."""
+    lines = b"event 0 5 0 0 777\nannounce 0 10 0 1 0\n"
+    with Hosted() as host:
+        for first in (POISON, b"\n" + lines, b" " + lines, b"\0" + lines, b"\x80\x2e\x01" + lines, b"1" + lines, b"*" + lines):
+            same(told_until_the_end(host, first), b"", f"what is told behind {first[:8]!r}")
+        for first, told in ((b"post / HTTP/1.1\r\nHost: x\r\n\r\n", b"refused 1\n"), (b"get /healthz HTTP/1.0\r\n", b"refused 1\n"),
+                            (b"event 0 5 0 0 777 \n", b"refused 1\n"), (b"x" * 129 + b"\n", b"refused 9\n"), (b"x" * 99_999 + b"\n", b"refused 9\n")):
+            same(told_until_the_end(host, first + lines), told, f"what is told behind {first[:24]!r}")
+        host.talk().tell(("log 1", "none 0"), ("nonsense", "refused 1"), ("log 1", "none 0"))
+        web = Web(host.address)
+        same(web.ask("nonsense", "log 1"), ["refused 1", "none 0"], "a first line of WebSocket that is none")
+        web.close()
+
+
+class Liar:
+    """A peer that tells a program, perhaps a record, and then nonsense, as often as it is asked."""
+
+    def __init__(self, program):
+        self.program, self.tries = program.encode() + b"\n", 0
+        self.listener = socket.create_server((HOST, 0))
+        threading.Thread(target=self.serve, daemon=True).start()
+
+    @property
+    def port(self):
+        return self.listener.getsockname()[1]
+
+    def serve(self):
+        while True:
+            try:
+                one, _ = self.listener.accept()
+            except OSError:
+                return
+            self.tries += 1
+            with one, one.makefile("rb") as asked:
+                try:
+                    one.settimeout(2)
+                    asked.readline()
+                    one.sendall(self.program)
+                    if asked.readline().startswith(b"log"):
+                        one.sendall(b"none 0\n")
+                        asked.readline()
+                    one.sendall(b"watching 1\n* log 1 event 0 1 0 0 1\nnonsense\n")
+                    one.recv(1)
+                except OSError:
+                    pass
+
+
+def lying_peer():
+    """A peer that is found, tells a record and then nonsense is tried again behind pauses that grow, and an operator is told of it once a
+    second at most."""
+    with Hosted() as known:
+        liar = Liar(known.talk().ask("program"))
+    with Hosted("--peer", f"{HOST}:{liar.port}", remarks=[f"peer {HOST}:{liar.port} "]) as host:
+        wait_for(lambda: liar.tries, "the first connection")
+        began = time.monotonic()
+        time.sleep(LIES)
+        tries, lines = liar.tries, [line for line in host.printed(1).splitlines() if line.startswith("peer ")]
+        seconds = time.monotonic() - began
+        holds(2 <= tries <= MOST_TRIES, f"{tries} connections in {seconds:.1f} seconds")
+        holds(2 <= len(lines) <= seconds + 2, f"{len(lines)} lines in {seconds:.1f} seconds")
+        holds(any("lines about it left out)" in line for line in lines), f"no count of lines left out: {lines}")
+        host.talk().tell(("log 1", "log 1 event 0 1 0 0 1"))
+    liar.listener.close()
+
+
+CASES = [web_floods, newest_ping, neither_lines_nor_requests, lying_peer]

@@ -1,0 +1,73 @@
+//! What an operator is told of a peer: a line each second at most. Of what comes faster the newest is told when the second
+//! is over, with how many were left out.
+
+use std::time::Duration;
+use warp_hub::PeerEvent;
+
+/// The least time between two lines of one peer, in milliseconds.
+const PAUSE: u64 = 1_000;
+
+/// What came of a peer.
+#[derive(Clone, Copy, Debug, PartialEq, Eq)]
+pub(crate) enum PeerNews {
+    /// What its follower says.
+    Event(PeerEvent),
+    /// The connection to it was lost, though it was followed.
+    Lost,
+    /// A connection could not be made, or was lost before it was followed.
+    Unreached,
+}
+
+/// What is to be told of a peer.
+#[derive(Clone, Copy, Debug)]
+pub(crate) struct NewsOfPeer {
+    /// What is told next.
+    waits: Option<PeerNews>,
+    /// How many were left out in its favour.
+    left_out: u64,
+    /// When something was told last.
+    told: Option<Duration>,
+}
+
+impl NewsOfPeer {
+    /// Nothing came of it.
+    pub(crate) fn new() -> NewsOfPeer {
+        NewsOfPeer {
+            waits: None,
+            left_out: 0,
+            told: None,
+        }
+    }
+
+    /// This came of it.
+    pub(crate) fn note(&mut self, news: PeerNews) {
+        if self.waits.is_some() {
+            self.left_out = self.left_out.saturating_add(1);
+        }
+        self.waits = Some(news);
+    }
+
+    /// When what waits is told; `None` where nothing does.
+    pub(crate) fn due_time(&self) -> Option<Duration> {
+        if self.waits.is_none() {
+            return None;
+        }
+        match self.told {
+            Some(told) => Some(told.saturating_add(Duration::from_millis(PAUSE))),
+            None => Some(Duration::from_millis(0)),
+        }
+    }
+
+    /// What is to be told at this time, and how many were left out before it.
+    pub(crate) fn next(&mut self, now: Duration) -> Option<(PeerNews, u64)> {
+        if self.due_time()? > now {
+            return None;
+        }
+        let news = self.waits?;
+        let left_out = self.left_out;
+        self.waits = None;
+        self.left_out = 0;
+        self.told = Some(now);
+        Some((news, left_out))
+    }
+}
