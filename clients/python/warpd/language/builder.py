@@ -1,31 +1,14 @@
-"""The grammar, and the parts of the tree that its rules make."""
+"""The parts of the tree that the rules of the grammar make."""
 
 from __future__ import annotations
 
-from functools import cache
-from pathlib import Path
-
-from lark import Lark, Token, Transformer, v_args
-
 from . import tree
-from .tree import At
+from .lexing import Word
 
 UNITS = {
     "n": 1, "us": 10**3, "ms": 10**6, "s": 10**9, "mi": 60 * 10**9, "h": 3600 * 10**9, "d": 86_400 * 10**9,
     "w": 604_800 * 10**9,
 }
-
-
-def shown(token: Token) -> str:
-    return "{=" if token.type == "BODY" else str(token)
-
-
-def place_of(token: Token) -> At:
-    return At(token.line, token.column, len(shown(token)))
-
-
-def name_of(token: Token) -> tree.Name:
-    return tree.Name(str(token).strip("`"), place_of(token))
 
 
 def nanoseconds(text: str) -> int:
@@ -35,14 +18,8 @@ def nanoseconds(text: str) -> int:
     return int(number) * next(each for word, each in UNITS.items() if unit.startswith(word))
 
 
-@v_args(inline=True)
-class Builder(Transformer):
+class Builder:
     """Makes the parts of the tree, from the inside out."""
-
-    NAME = staticmethod(name_of)
-
-    def BODY(self, token):
-        return token.value
 
     def file(self, target, *parts):
         kinds = {kind: tuple(it for it in parts if isinstance(it, kind)) for kind in (tree.Constant, tree.Reactor)}
@@ -60,7 +37,7 @@ class Builder(Transformer):
     def reactor(self, main, word, name, *parts):
         parameters = tuple(it for it in parts if isinstance(it, tree.Parameter))
         members = tuple(it for it in parts if it and not isinstance(it, tree.Parameter))
-        at = name.at if name else place_of(main or word)
+        at = name.at if name else (main or word).at
         return tree.Reactor(name, main is not None, parameters, members, at)
 
     def parameter(self, name, type, value):
@@ -70,7 +47,7 @@ class Builder(Transformer):
         return tree.State(name, type, value)
 
     def ports(self, attribute, origin, kind, places, type):
-        return tree.Ports(origin, kind.type == "INPUT", places, type, place_of(attribute or kind))
+        return tree.Ports(origin, kind.kind == "INPUT", places, type, (attribute or kind).at)
 
     def action(self, name, arguments, type):
         return tree.Action(name, arguments or (), type)
@@ -79,7 +56,7 @@ class Builder(Transformer):
         return tree.Timer(name, arguments or ())
 
     def reaction(self, word, on, reads, writes, body):
-        return tree.Reaction(on or (), reads or (), writes or (), body, place_of(word))
+        return tree.Reaction(on or (), reads or (), writes or (), body, word.at)
 
     def instance(self, name, reactor, *arguments):
         return tree.Instance(name, reactor, tuple(it for it in arguments if it))
@@ -89,7 +66,7 @@ class Builder(Transformer):
 
     def connection(self, sources, arrow, targets, after):
         sources, is_broadcast = sources
-        return tree.Connection(sources, targets, is_broadcast, after, place_of(arrow))
+        return tree.Connection(sources, targets, is_broadcast, after, arrow.at)
 
     def sources(self, places):
         return places, False
@@ -112,7 +89,7 @@ class Builder(Transformer):
         return tree.Let(name, type, value)
 
     def assign(self, name, operator, value):
-        return tree.Assign(name, operator[:-1] or None, value)
+        return tree.Assign(name, operator.text[:-1] or None, value)
 
     def invoke(self, call):
         return tree.Invoke(call)
@@ -132,29 +109,22 @@ class Builder(Transformer):
         return tree.Choice(test, yes, no, test.at.to(no.at))
 
     def binary(self, left, operator, right):
-        return tree.Binary(str(operator), left, right, left.at.to(right.at))
+        return tree.Binary(operator.text, left, right, left.at.to(right.at))
 
     def unary(self, operator, part):
-        return tree.Unary(str(operator), part, place_of(operator).to(part.at))
+        return tree.Unary(operator.text, part, operator.at.to(part.at))
 
     def number(self, token):
-        return tree.Number(str(token), place_of(token))
+        return tree.Number(token.text, token.at)
 
     def duration(self, token):
-        return tree.Duration(nanoseconds(token), str(token), place_of(token))
+        return tree.Duration(nanoseconds(token.text), token.text, token.at)
 
     def truth(self, token):
-        return tree.Number("1" if token == "true" else "0", place_of(token))
+        return tree.Number("1" if token.text == "true" else "0", token.at)
 
     def reference(self, name):
         return tree.Reference(name.text, name.at)
 
     def call(self, name, parts):
         return tree.Call(name, parts or (), name.at.to(parts[-1].at) if parts else name.at)
-
-
-@cache
-def grammar() -> Lark:
-    text = Path(__file__).with_name("grammar.lark").read_text()
-    starts = ["file", "body", "foreign"]
-    return Lark(text, parser="lalr", lexer="basic", start=starts, transformer=Builder(), maybe_placeholders=True)
