@@ -45,6 +45,9 @@ class Main:
         kinds = (tree.State, tree.Action, tree.Timer, tree.Reaction)
         if any(map(main.tree.every, kinds)) or main.ports(True) or main.ports(False):
             self.own = main.name[0].lower() + main.name[1:]
+            taken = [it.name.text for it in main.tree.every(tree.Instance)]
+            while self.own in taken:
+                self.own = "main" if self.own != "main" and "main" not in taken else f"{self.own}_"
             if not is_name(self.own):
                 main.scope.tell_name(main.tree.name)
             self.program.instances[self.own] = Instance(self.own, main, self.constants, main.tree.at)
