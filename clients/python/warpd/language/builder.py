@@ -22,8 +22,12 @@ class Builder:
     """Makes the parts of the tree, from the inside out."""
 
     def file(self, target, *parts):
-        kinds = {kind: tuple(it for it in parts if isinstance(it, kind)) for kind in (tree.Constant, tree.Reactor)}
-        return tree.File(*(target or (None, ())), kinds[tree.Constant], kinds[tree.Reactor])
+        def every(*kinds):
+            return tuple(it for it in parts if isinstance(it, kinds))
+
+        types, functions = every(tree.Enum, tree.Struct), every(tree.Function)
+        return tree.File(
+            *(target or (None, ())), every(tree.Constant), every(tree.Reactor), types=types, functions=functions)
 
     def target(self, name, *properties):
         return name, tuple(it for it in properties if it)
@@ -33,6 +37,23 @@ class Builder:
 
     def constant(self, name, type, value):
         return tree.Constant(name, type, value)
+
+    def enum(self, name, *parts):
+        return tree.Enum(name, tuple(it for it in parts if it))
+
+    def enumerator(self, name, value):
+        return tree.Enumerator(name, value)
+
+    def struct(self, name, *fields):
+        return tree.Struct(name, fields)
+
+    def field(self, name, type, value):
+        return tree.State(name, type, value)
+
+    def function(self, word, name, *parts):
+        *parameters, type, body = parts
+        given = tuple(it for it in parameters if it)
+        return tree.Function(name, word.kind == "METHOD", given, type, body)
 
     def reactor(self, main, word, name, *parts):
         parameters = tuple(it for it in parts if isinstance(it, tree.Parameter))
@@ -64,6 +85,9 @@ class Builder:
     def argument(self, name, value):
         return tree.Argument(name, value)
 
+    def unnamed(self, value):
+        return tree.Argument(None, value)
+
     def connection(self, sources, arrow, targets, after):
         sources, is_broadcast = sources
         return tree.Connection(sources, targets, is_broadcast, after, arrow.at)
@@ -74,13 +98,20 @@ class Builder:
     def broadcast(self, places, _plus):
         return places, True
 
-    def place(self, first, second):
-        return tree.Place(first, second) if second else tree.Place(None, first)
+    def place(self, first, first_index, second, index):
+        return tree.Place(first, second, first_index, index) if second else tree.Place(None, first, None, first_index)
 
     def list_of(self, *parts):
         return parts
 
     places = arguments = body = list_of
+
+    def index(self, value):
+        return value
+
+    def target_(self, first, first_index, second, index):
+        place = self.place(first, first_index, second, index)
+        return place.name if place.is_plain else place
 
     def type(self, name):
         return name
@@ -90,6 +121,21 @@ class Builder:
 
     def assign(self, name, operator, value):
         return tree.Assign(name, operator.text[:-1] or None, value)
+
+    def step(self, name, word):
+        return tree.Assign(name, word.text[0], tree.Number("1", word.at))
+
+    def step_before(self, word, name):
+        return self.step(name, word)
+
+    def turn_of_c(self, type, name, value):
+        return tree.Let(name, type, value)
+
+    def loop(self, word, first, test, step, body):
+        return tree.Loop(first, test, step, self._statements(body), word.at)
+
+    def leave(self, word, value=None):
+        return tree.Leave(word.text, value, word.at)
 
     def invoke(self, call):
         return tree.Invoke(call)
@@ -123,8 +169,9 @@ class Builder:
     def truth(self, token):
         return tree.Number("1" if token.text == "true" else "0", token.at)
 
-    def reference(self, name):
-        return tree.Reference(name.text, name.at)
+    def reference(self, first, first_index, second, index):
+        place = self.place(first, first_index, second, index)
+        return tree.Reference(first.text, first.at) if place.is_plain else tree.Member(place, place.at)
 
     def call(self, name, parts):
         return tree.Call(name, parts or (), name.at.to(parts[-1].at) if parts else name.at)

@@ -11,6 +11,7 @@ from .faults import Report, listed, nearest
 from .model import Class, Instance, Link, Owned, Port, Program, Shown, ranged
 from .scope import Kind, Scope, count_of, is_name
 from .tree import At
+from .types import INT
 
 
 class Main:
@@ -72,8 +73,12 @@ class Main:
         given: dict[str, int] = {}
         parameters = [each.name.text for each in of.tree.parameters]
         for argument in it.arguments:
+            if not argument.name:
+                self._unnamed(argument, parameters)
+                continue
             name, at = argument.name.text, argument.name.at
-            value = self.program.constant(self.main.scope, argument.value, self.constants)
+            value = self.program.constant(
+                self.main.scope, argument.value, self.constants, of.scope.types.get(name, INT))
             if name in given:
                 self.report.error(at, f"`{name}` stands twice")
             elif name not in parameters and not is_unknown(of):
@@ -81,6 +86,11 @@ class Main:
                 self.report.error(at, f"{of.name} has no parameter `{name}`", hint)
             given[name] = value or 0
         return given
+
+    def _unnamed(self, argument: tree.Argument, parameters: list[str]) -> None:
+        text = "a parameter is given by its name"
+        names = [f"`{it} = ..`" for it in parameters]
+        self.report.error(argument.value.at, text, f"write {listed(names, 'or')}" if names else "")
 
     def _constants(self, of: Class, given: Mapping[str, int], at: At) -> dict[str, int]:
         """The constants of an instance: those of the file, and its parameters."""
@@ -91,7 +101,8 @@ class Main:
                 hint = f"write `{name} = ..` in the brackets, or `{name}: int = 0` where it is declared"
                 self.report.error(at, f"`{name}` of {of.name} is not given", hint)
             if name not in given:
-                names[name] = self.program.lowered(it.default, names) if it.default and of.is_good else 0
+                its = of.scope.types[name]
+                names[name] = self.program.lowered(it.default, names, of.scope, its) if it.default and of.is_good else 0
         return names
 
     # Ports.

@@ -28,14 +28,21 @@ class Name:
 
 @dataclass(frozen=True)
 class Place:
-    """`port`, or `instance.port`."""
+    """`port`, or `instance.port`; either may have an index."""
 
     owner: Optional[Name]
     name: Name
+    owner_index: Optional[Expression] = None
+    index: Optional[Expression] = None
 
     @property
     def at(self) -> At:
         return self.owner.at.to(self.name.at) if self.owner else self.name.at
+
+    @property
+    def is_plain(self) -> bool:
+        """Whether it is a name alone."""
+        return not self.owner and not self.index
 
     def __str__(self) -> str:
         return f"{self.owner.text}.{self.name.text}" if self.owner else self.name.text
@@ -61,6 +68,14 @@ class Duration:
 @dataclass(frozen=True)
 class Reference:
     name: str
+    at: At
+
+
+@dataclass(frozen=True)
+class Member:
+    """The value of a place that is no name alone: `p.x`."""
+
+    place: Place
     at: At
 
 
@@ -94,7 +109,7 @@ class Call:
     at: At
 
 
-Expression = Union[Number, Duration, Reference, Unary, Binary, Choice, Call]
+Expression = Union[Number, Duration, Reference, Member, Unary, Binary, Choice, Call]
 
 
 @dataclass(frozen=True)
@@ -106,9 +121,9 @@ class Let:
 
 @dataclass(frozen=True)
 class Assign:
-    """`name = value;`, or with an operator before the `=`."""
+    """`name = value;`, or with an operator before the `=`. The name is a place where it has an index or an owner."""
 
-    name: Name
+    name: Union[Name, Place]
     operator: Optional[str]
     value: Expression
 
@@ -132,7 +147,58 @@ class Block:
     statements: tuple[Statement, ...]
 
 
-Statement = Union[Let, Assign, Invoke, If, Block]
+@dataclass(frozen=True)
+class Loop:
+    """`for (let i = 0; test; i += 1) ..`. `first` is a constant for the first turn, and `step` makes the next one."""
+
+    first: Let
+    test: Expression
+    step: Assign
+    body: tuple[Statement, ...]
+    at: At
+
+
+@dataclass(frozen=True)
+class Leave:
+    """`return value;`, `return;`, `break;` or `continue;`."""
+
+    word: str
+    value: Optional[Expression]
+    at: At
+
+
+Statement = Union[Let, Assign, Invoke, If, Block, Loop, Leave]
+
+
+@dataclass(frozen=True)
+class Function:
+    """`type` is None where a function has no value. `body` is None where it could not be read."""
+
+    name: Name
+    is_method: bool
+    parameters: tuple[Parameter, ...]
+    type: Optional[Name]
+    body: Optional[tuple[Statement, ...]]
+
+
+@dataclass(frozen=True)
+class Enumerator:
+    name: Name
+    value: Optional[Expression]
+
+
+@dataclass(frozen=True)
+class Enum:
+    name: Name
+    parts: tuple[Enumerator, ...]
+
+
+@dataclass(frozen=True)
+class Struct:
+    """A group of variables; the fields are written as a reactor's state is."""
+
+    name: Name
+    fields: tuple[State, ...]
 
 
 @dataclass(frozen=True)
@@ -186,7 +252,9 @@ class Reaction:
 
 @dataclass(frozen=True)
 class Argument:
-    name: Name
+    """`name` is None where a value stands alone, which is a mistake."""
+
+    name: Optional[Name]
     value: Expression
 
 
@@ -208,7 +276,7 @@ class Connection:
     at: At
 
 
-Member = Union[State, Ports, Action, Timer, Reaction, Instance, Connection]
+Part = Union[State, Ports, Action, Timer, Reaction, Instance, Connection, Function]
 
 
 @dataclass(frozen=True)
@@ -216,7 +284,7 @@ class Reactor:
     name: Optional[Name]
     is_main: bool
     parameters: tuple[Parameter, ...]
-    members: tuple[Member, ...]
+    members: tuple[Part, ...]
     at: At
 
     def every(self, kind: type) -> list:
@@ -243,6 +311,8 @@ class File:
     properties: tuple[Property, ...]
     constants: tuple[Constant, ...]
     reactors: tuple[Reactor, ...]
+    types: tuple[Union[Enum, Struct], ...] = ()
+    functions: tuple[Function, ...] = ()
 
     @property
     def at(self) -> At:
