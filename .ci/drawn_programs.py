@@ -6,7 +6,9 @@ from body_calls import LEAST, MOST, OPERATORS, quotient, wrapped
 
 STOP, MOST_SCHEDULES = 40, 16
 # Names of a program file that are words of the language, beside plain ones.
-NAMES = "a b2 Ab state if let input true new x_1 max present kept_1 reaction timer put".split()
+NAMES = (
+    "a b2 Ab state if let input true new x_1 max present kept_1 reaction timer put for return struct method fixed among"
+).split()
 NUMBERS = [0, 1, -1, 2, 5, -7, 1000, LEAST, MOST]
 
 

@@ -72,9 +72,9 @@ class Main:
         """The parameters that stand in the brackets of an instance."""
         given: dict[str, int] = {}
         parameters = [each.name.text for each in of.tree.parameters]
-        for argument in it.arguments:
+        for place, argument in enumerate(it.arguments):
             if not argument.name:
-                self._unnamed(argument, parameters)
+                self._unnamed(argument, parameters[place:place + 1])
                 continue
             name, at = argument.name.text, argument.name.at
             value = self.program.constant(
@@ -88,9 +88,10 @@ class Main:
         return given
 
     def _unnamed(self, argument: tree.Argument, parameters: list[str]) -> None:
-        text = "a parameter is given by its name"
-        names = [f"`{it} = ..`" for it in parameters]
-        self.report.error(argument.value.at, text, f"write {listed(names, 'or')}" if names else "")
+        """Tells a value without the name of its parameter: the one that stands at this place."""
+        value = argument.value.text if isinstance(argument.value, (tree.Number, tree.Duration)) else ".."
+        hint = "".join(f"write `{it} = {value}`" for it in parameters)
+        self.report.error(argument.value.at, "a parameter is given by its name", hint)
 
     def _constants(self, of: Class, given: Mapping[str, int], at: At) -> dict[str, int]:
         """The constants of an instance: those of the file, and its parameters."""

@@ -29,7 +29,7 @@ _LOOPS = ("a body has no such loop", "`for` over constant bounds is; what goes o
 BODY = {
     **dict.fromkeys(("while", "do", "goto"), _LOOPS),
     "switch": ("a body has no `switch`", "write `if (..) .. else if (..) ..`"),
-    **dict.fromkeys(("elseif", "elif", "elsif"), ("this word is not there", "write `else if`")),
+    **{word: (f"`{word}` is not there", "write `else if`") for word in ("elseif", "elif", "elsif")},
     **dict.fromkeys(("printf", "print", "puts", "lf_print", "lf_print_error", "fprintf"), _PRINTS),
     "lf_set": (_NO_CODE, "write `y = e;` or `put(y, e);`"),
     **dict.fromkeys(("lf_schedule", "lf_schedule_int"), (_NO_CODE, "write `schedule(c, delay, value);`")),
