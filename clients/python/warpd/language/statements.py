@@ -149,7 +149,9 @@ class Body(Maker):
             for label in labels:
                 label.is_flagged = True
                 test = label.flag if test == 0 else made("or", test, label.flag)
-            left = self._into(rest, [item])
+            before, self.out = self.out, rest
+            left = item()
+            self.out = before
             if rest:
                 self.out.append(Fork(test, [], rest, _place(rest)))
             labels |= left.labels
