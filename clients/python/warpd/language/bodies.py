@@ -78,7 +78,7 @@ class BodyCheck:
             self.report.error(
                 at, f"`{name}` is an output: it cannot be read", "keep what you put in a `let` or in a state variable"
             )
-        elif kind in (Kind.TIMER, Kind.STARTUP):
+        elif kind in (Kind.TIMER, Kind.STARTUP, Kind.SHUTDOWN):
             hint = f"`present({name})` asks whether it is there"
             self.report.error(at, f"`{name}` is {kind.value}: it has no value", hint)
         elif kind is None:
@@ -129,7 +129,7 @@ class BodyCheck:
         hints = {
             Kind.INPUT: "keep it in a state variable, or connect an output to it in main",
             Kind.ACTION: f"write `schedule({name}, delay, value);`",
-            **dict.fromkeys((Kind.TIMER, Kind.STARTUP), ""),
+            **dict.fromkeys((Kind.TIMER, Kind.STARTUP, Kind.SHUTDOWN), ""),
             **dict.fromkeys((*CONSTANTS, Kind.LET), "it is constant: take a state variable"),
         }
         if kind is None:
@@ -152,7 +152,7 @@ class BodyCheck:
             self.report.error(
                 call.name.at, f"no statement `{name}`", nearest(name, STATEMENTS) or "there are `put` and `schedule`"
             )
-        elif self.scope.has_parts(call, *STATEMENTS[name]):
+        elif self.scope.has_parts(call, *STATEMENTS[name]) and call.parts:
             self.effect(call, *((Kind.OUTPUT, "put on") if name == "put" else (Kind.ACTION, "scheduled")))
             if name == "schedule":
                 self.scope.constant(call.parts[1])

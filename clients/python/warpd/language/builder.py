@@ -2,6 +2,7 @@
 
 from __future__ import annotations
 
+import dataclasses
 from functools import cache
 from pathlib import Path
 
@@ -45,8 +46,8 @@ class Builder(Transformer):
         return token.value
 
     def file(self, target, *parts):
-        kinds = {kind: tuple(it for it in parts if isinstance(it, kind)) for kind in (tree.Constant, tree.Reactor)}
-        return tree.File(*(target or (None, ())), kinds[tree.Constant], kinds[tree.Reactor])
+        kinds = [tuple(it for it in parts if isinstance(it, kind)) for kind in (tree.Constant, tree.Reactor, tree.Import)]
+        return tree.File(*(target or (None, ())), *kinds)
 
     def target(self, name, *properties):
         return name, tuple(it for it in properties if it)
@@ -59,9 +60,10 @@ class Builder(Transformer):
 
     def reactor(self, main, word, name, *parts):
         parameters = tuple(it for it in parts if isinstance(it, tree.Parameter))
-        members = tuple(it for it in parts if it and not isinstance(it, tree.Parameter))
+        members = tuple(it for it in parts if it and not isinstance(it, (tree.Parameter, tuple)))
+        extends = next((it for it in parts if isinstance(it, tuple)), ())
         at = name.at if name else place_of(main or word)
-        return tree.Reactor(name, main is not None, parameters, members, at)
+        return tree.Reactor(name, main is not None, parameters, members, at, extends)
 
     def parameter(self, name, type, value):
         return tree.Parameter(name, type, value)
@@ -69,8 +71,8 @@ class Builder(Transformer):
     def state(self, name, type, value):
         return tree.State(name, type, value)
 
-    def ports(self, attribute, origin, kind, places, type):
-        return tree.Ports(origin, kind.type == "INPUT", places, type, place_of(attribute or kind))
+    def ports(self, attribute, origin, kind, width, places, type):
+        return tree.Ports(origin, kind.type == "INPUT", places, type, place_of(attribute or kind), width)
 
     def action(self, name, arguments, type):
         return tree.Action(name, arguments or (), type)
@@ -81,8 +83,8 @@ class Builder(Transformer):
     def reaction(self, word, on, reads, writes, body):
         return tree.Reaction(on or (), reads or (), writes or (), body, place_of(word))
 
-    def instance(self, name, reactor, *arguments):
-        return tree.Instance(name, reactor, tuple(it for it in arguments if it))
+    def instance(self, name, width, reactor, *arguments):
+        return tree.Instance(name, reactor, tuple(it for it in arguments if it), width)
 
     def argument(self, name, value):
         return tree.Argument(name, value)
@@ -97,13 +99,30 @@ class Builder(Transformer):
     def broadcast(self, places, _plus):
         return places, True
 
-    def place(self, first, second):
-        return tree.Place(first, second) if second else tree.Place(None, first)
+    def place(self, first, first_index, second, index):
+        return tree.Place(first, second, first_index, index) if second else tree.Place(None, first, None, first_index)
+
+    def interleaved(self, place):
+        return dataclasses.replace(place, is_interleaved=True)
 
     def list_of(self, *parts):
         return parts
 
-    places = arguments = body = list_of
+    places = arguments = body = extends = list_of
+
+    def index(self, value):
+        return value
+
+    def imported(self, name, here):
+        return tree.Imported(name, here or name)
+
+    def import_(self, *parts):
+        *reactors, path = parts
+        return tree.Import(tuple(reactors), str(path)[1:-1], place_of(path))
+
+    def target_(self, first, first_index, second, index):
+        place = self.place(first, first_index, second, index)
+        return place.name if place.is_plain else place
 
     def type(self, name):
         return name
@@ -146,8 +165,9 @@ class Builder(Transformer):
     def truth(self, token):
         return tree.Number("1" if token == "true" else "0", place_of(token))
 
-    def reference(self, name):
-        return tree.Reference(name.text, name.at)
+    def reference(self, first, first_index, second, index):
+        place = self.place(first, first_index, second, index)
+        return tree.Reference(first.text, first.at) if place.is_plain else tree.Member(place, place.at)
 
     def call(self, name, parts):
         return tree.Call(name, parts or (), name.at.to(parts[-1].at) if parts else name.at)

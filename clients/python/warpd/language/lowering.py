@@ -43,7 +43,7 @@ def lowered(it: tree.Expression, names: Mapping[str, Value], unit: int, once: Ke
         case tree.Choice():
             return made("if", value(it.test), value(it.yes), value(it.no))
         case tree.Call(tree.Name("present")):
-            return ["present", it.parts[0].name]
+            return ["present", names.get(it.parts[0].name, it.parts[0].name)]
         case tree.Call():
             return function(it.name.text, [once(value(part)) for part in it.parts], once)
 
@@ -81,6 +81,8 @@ def mentioned(it: tree.Expression) -> Iterator[str]:
     match it:
         case tree.Reference():
             yield it.name
+        case tree.Member():
+            yield str(it.place)
         case tree.Unary():
             yield from mentioned(it.part)
         case tree.Binary():
@@ -179,9 +181,12 @@ class Body:
             case tree.Assign(name, operator, value):
                 old = tree.Reference(name.text, name.at)
                 made = self._value(tree.Binary(operator, old, value, name.at.to(value.at)) if operator else value)
-                self.out.append(["put" if name.text in self.outputs else "set", name.text, made])
+                word = "put" if name.text in self.outputs else "set"
+                self.out.append([word, self.names.get(name.text, name.text), made])
             case tree.Invoke(tree.Call(tree.Name("put"), (output, value))):
-                self.out.append(["put", output.name, self._value(value)])
+                self.out.append(["put", self.names.get(output.name, output.name), self._value(value)])
+            case tree.Invoke(tree.Call(tree.Name("request_stop"))):
+                self.out.append(["stop"])
             case tree.Invoke(tree.Call(_, (action, delay, *value))):
                 self.delays.append((delay.at, self._value(delay)))
                 self.out.append(["schedule", action.name, self.delays[-1][1], self._value(value[0]) if value else 0])

@@ -11,6 +11,7 @@ from . import refused, tree
 from .builder import grammar, place_of, shown
 from .faults import Report, listed
 from .tree import At
+from .words import in_place, named
 
 # A text with more than so many faults of this kind is read no further.
 MOST_FAULTS = 20
@@ -78,7 +79,7 @@ class Parser:
 
     def file(self) -> Optional[tree.File]:
         """The tree; None where its structure has a fault. Bodies are read in any case."""
-        tokens = [self._with_body(it) for it in grammar().lex(self.text)]
+        tokens = in_place([self._with_body(it) for it in grammar().lex(self.text)])
         end = At(tokens[-1].end_line, tokens[-1].end_column) if tokens else At(1, 1)
         made = self._parsed(tokens, "file", refused.STRUCTURE, end)
         return made if self.is_whole else None
@@ -90,7 +91,7 @@ class Parser:
         inner = "\n" * (token.line - 1) + " " * (token.column + 1) + token[2:-2]
         count = len(self.report.faults)
         end = At(token.end_line, token.end_column - 2, 2)
-        made = self._parsed(list(grammar().lex(inner)), "body", refused.BODY, end)
+        made = self._parsed(list(map(named, grammar().lex(inner))), "body", refused.BODY, end)
         return Token.new_borrow_pos("BODY", made if len(self.report.faults) == count else None, token)
 
     def _parsed(self, tokens: list[Token], start: str, table: dict, end: At):

@@ -2,6 +2,8 @@
 
 from __future__ import annotations
 
+from collections.abc import Iterable
+
 from . import tree
 from .bodies import BodyCheck
 from .faults import Report
@@ -11,10 +13,10 @@ from .scope import Kind, Scope
 KINDS = {tree.State: Kind.VARIABLE, tree.Action: Kind.ACTION, tree.Timer: Kind.TIMER}
 
 
-def checked(it: tree.Reactor, program: Program, report: Report) -> Class:
-    """Checks one reactor."""
+def declared(it: tree.Reactor, program: Program, report: Report, constants: Iterable[str] = ()) -> Class:
+    """A reactor with its names alone; `constants` are there beside those of the text."""
     before = report.errors
-    scope = Scope(report, program.unit, dict.fromkeys(program.constants, Kind.CONSTANT))
+    scope = Scope(report, program.unit, dict.fromkeys([*program.constants, *constants], Kind.CONSTANT))
     one = Class(it, scope)
     for parameter in it.parameters:
         scope.type(parameter.type)
@@ -23,15 +25,23 @@ def checked(it: tree.Reactor, program: Program, report: Report) -> Class:
         scope.declare(parameter.name, Kind.PARAMETER)
     for member in it.members:
         _declare(scope, member)
-    scope.kinds["startup"] = Kind.STARTUP
-    for member in it.members:
-        _member(scope, member)
-        if not it.is_main:
+        if not it.is_main and isinstance(member, tree.Ports):
             _not_in_main(report, member)
-    for reaction in it.every(tree.Reaction):
-        one.reactions.append(BodyCheck(scope, reaction))
-        one.reactions[-1].check()
+    scope.kinds["startup"] = Kind.STARTUP
+    scope.kinds.setdefault("shutdown", Kind.SHUTDOWN)
     one.is_good = report.errors == before
+    return one
+
+
+def checked(one: Class, report: Report) -> Class:
+    """Checks the members of a reactor with its names."""
+    before = report.errors
+    for member in one.tree.members:
+        _member(one.scope, member)
+    for reaction in one.tree.every(tree.Reaction):
+        one.reactions.append(BodyCheck(one.scope, reaction))
+        one.reactions[-1].check()
+    one.is_good &= report.errors == before
     return one
 
 
@@ -66,19 +76,12 @@ def _arguments(scope: Scope, arguments: tuple[tree.Expression, ...], most: int, 
         scope.report.error(arguments[most].at, text)
 
 
-def _not_in_main(report: Report, member: tree.Member) -> None:
+def _not_in_main(report: Report, member: tree.Ports) -> None:
     """Tells what stands in main alone."""
-    match member:
-        case tree.Instance():
-            hint = "make the instance in `main reactor`, and connect it there"
-            report.error(member.name.at, "instances stand in main alone", hint)
-        case tree.Connection():
-            report.error(member.at, "connections stand in main alone", "connect the instances in `main reactor`")
-        case tree.Ports() if member.origin:
-            text = "an origin owns inputs of the program: `@origin` stands in main"
-            report.error(member.at, text, "write `@origin(0) input p.a;` in `main reactor`")
-        case tree.Ports():
-            for place in member.places:
-                if place.owner:
-                    hint = "the program's inputs and outputs stand in `main reactor`"
-                    report.error(place.at, f"`{place}`: a reactor declares its own ports", hint)
+    if member.origin:
+        text = "an origin owns inputs of the program: `@origin` stands in main"
+        report.error(member.at, text, "write `@origin(0) input p.a;` in `main reactor`")
+    for place in member.places:
+        if place.owner and not member.origin:
+            hint = "the program's inputs and outputs stand in `main reactor`"
+            report.error(place.at, f"`{place}`: a reactor declares its own ports", hint)

@@ -15,7 +15,6 @@ STRUCTURE = {
     "federated": ("warpd has no federates", "write `main reactor`: each replica runs the whole program"),
     "watchdog": ("warpd has no watchdogs: no clock is read", "let a timer look whether something has come"),
     "realtime": ("warpd has no realtime reactors", "write `reactor`"),
-    "[": ("warpd has no banks and no multiports", "write each instance and each port with a name of its own"),
     "~>": ("warpd has no physical connections", "write `->`, and `after` for a delay"),
     "++": ("`++` is not there", "write `+= 1`"),
     '"': ("warpd has no texts: each value is an integer of 64 bits", ""),
@@ -34,7 +33,7 @@ BODY = {
     "lf_set": ("a body is no target code", "write `y = e;` or `put(y, e);`"),
     "lf_schedule": ("a body is no target code", "write `schedule(c, delay, value);`"),
     "lf_schedule_int": ("a body is no target code", "write `schedule(c, delay, value);`"),
-    "lf_request_stop": ("a program ends at its stop alone", "keep in a state variable that it is over"),
+    "lf_request_stop": ("a body is no target code", "write `request_stop();`"),
     "self": ("a body is no target code", "a state variable stands by its name alone"),
     "int": ("a body declares no variables", "write `let NAME = ..;`, or `state NAME: int = 0;` before the reactions"),
     "bool": ("a body declares no variables", "write `let NAME = ..;`, or `state NAME: int = 0;` before the reactions"),
@@ -51,11 +50,9 @@ BODY = {
     "<<": ("warpd has no operators on bits", "multiply by a power of two"),
     ">>": ("warpd has no operators on bits", "divide by a power of two: `/` rounds so that nothing negative is left"),
     "->": ("a body is no target code", "`a->value` is `a`, and `a->is_present` is `present(a)`"),
-    ".": ("a body speaks of its own reactor alone", "declare an input or an output, and connect it in main"),
     '"': ("warpd has no texts: each value is an integer of 64 bits", ""),
 }
 
 TRIGGERS = {
-    "shutdown": ("warpd has no shutdown: a program ends at its stop", "declare a timer with the stop as its offset"),
     "reset": ("warpd has no modes, and so no `reset`", "use an input or an action"),
 }

@@ -3,7 +3,7 @@
 from __future__ import annotations
 
 import re
-from collections.abc import Sequence
+from collections.abc import Iterable, Sequence
 from enum import Enum
 from typing import TYPE_CHECKING, Optional
 
@@ -23,17 +23,18 @@ class Kind(Enum):
     ACTION = "an action"
     TIMER = "a timer"
     STARTUP = "a trigger"
+    SHUTDOWN = "the trigger at the end"
     PARAMETER = "a parameter"
     CONSTANT = "a constant"
     LET = "a `let`"
 
 
-TRIGGERS = (Kind.INPUT, Kind.ACTION, Kind.TIMER, Kind.STARTUP)
+TRIGGERS = (Kind.INPUT, Kind.ACTION, Kind.TIMER, Kind.STARTUP, Kind.SHUTDOWN)
 EFFECTS = (Kind.OUTPUT, Kind.ACTION)
 CONSTANTS = (Kind.PARAMETER, Kind.CONSTANT)
 # How many parts each function takes; None is without end.
 FUNCTIONS = {"min": (2, None), "max": (2, None), "abs": (1, 1), "clamp": (3, 3), "present": (1, 1)}
-STATEMENTS = {"put": (2, 2), "schedule": (2, 3)}
+STATEMENTS = {"put": (2, 2), "schedule": (2, 3), "request_stop": (0, 0)}
 TYPES = ("int", "int64_t", "bool", "time", "void")
 LONGEST_NAME = 32
 
@@ -55,6 +56,10 @@ class Scope:
         self.places: dict[str, At] = {}
         self.read: set[str] = set()
 
+    def with_constants(self, names: Iterable[str]) -> Scope:
+        """A scope with these constants more."""
+        return Scope(self.report, self.unit, {**self.kinds, **dict.fromkeys(names, Kind.CONSTANT)})
+
     def declare(self, name: tree.Name, kind: Kind) -> None:
         """Takes a name in; one that stands twice, and one that no program file has, is told."""
         if name.text in self.kinds and name.text not in self.places:
@@ -66,7 +71,7 @@ class Scope:
             )
         elif name.text == "startup":
             self.report.error(name.at, "`startup` is the trigger at the beginning, and names nothing else")
-        elif kind not in CONSTANTS and not is_name(name.text):
+        elif kind not in CONSTANTS and not is_name(re.split(r"[.[]", name.text)[0]):
             self.tell_name(name)
         self.kinds.setdefault(name.text, kind)
         self.places.setdefault(name.text, name.at)

@@ -28,14 +28,22 @@ class Name:
 
 @dataclass(frozen=True)
 class Place:
-    """`port`, or `instance.port`."""
+    """`port`, or `instance.port`; either may have an index. `interleaved` goes over the instances of a bank first."""
 
     owner: Optional[Name]
     name: Name
+    owner_index: Optional[Expression] = None
+    index: Optional[Expression] = None
+    is_interleaved: bool = False
 
     @property
     def at(self) -> At:
         return self.owner.at.to(self.name.at) if self.owner else self.name.at
+
+    @property
+    def is_plain(self) -> bool:
+        """Whether it is a name alone."""
+        return not self.owner and not self.index and not self.is_interleaved
 
     def __str__(self) -> str:
         return f"{self.owner.text}.{self.name.text}" if self.owner else self.name.text
@@ -61,6 +69,14 @@ class Duration:
 @dataclass(frozen=True)
 class Reference:
     name: str
+    at: At
+
+
+@dataclass(frozen=True)
+class Member:
+    """The value of a place that is no name alone: `a[1]`, `inner.y`, `inner[0].y[1]`."""
+
+    place: Place
     at: At
 
 
@@ -94,7 +110,7 @@ class Call:
     at: At
 
 
-Expression = Union[Number, Duration, Reference, Unary, Binary, Choice, Call]
+Expression = Union[Number, Duration, Reference, Member, Unary, Binary, Choice, Call]
 
 
 @dataclass(frozen=True)
@@ -106,9 +122,9 @@ class Let:
 
 @dataclass(frozen=True)
 class Assign:
-    """`name = value;`, or with an operator before the `=`."""
+    """`name = value;`, or with an operator before the `=`. The name is a place where it has an index or an owner."""
 
-    name: Name
+    name: Union[Name, Place]
     operator: Optional[str]
     value: Expression
 
@@ -158,6 +174,7 @@ class Ports:
     places: tuple[Place, ...]
     type: Optional[Name]
     at: At
+    width: Optional[Expression] = None
 
 
 @dataclass(frozen=True)
@@ -192,9 +209,12 @@ class Argument:
 
 @dataclass(frozen=True)
 class Instance:
+    """An instance, or with a width a bank of them."""
+
     name: Name
     reactor: Name
     arguments: tuple[Argument, ...]
+    width: Optional[Expression] = None
 
 
 @dataclass(frozen=True)
@@ -208,7 +228,7 @@ class Connection:
     at: At
 
 
-Member = Union[State, Ports, Action, Timer, Reaction, Instance, Connection]
+Part = Union[State, Ports, Action, Timer, Reaction, Instance, Connection]
 
 
 @dataclass(frozen=True)
@@ -216,8 +236,9 @@ class Reactor:
     name: Optional[Name]
     is_main: bool
     parameters: tuple[Parameter, ...]
-    members: tuple[Member, ...]
+    members: tuple[Part, ...]
     at: At
+    extends: tuple[Name, ...] = ()
 
     def every(self, kind: type) -> list:
         """The members of this kind, in the order of the text."""
@@ -238,11 +259,27 @@ class Property:
 
 
 @dataclass(frozen=True)
+class Imported:
+    """A reactor of another file, and the name that it has here."""
+
+    name: Name
+    here: Name
+
+
+@dataclass(frozen=True)
+class Import:
+    reactors: tuple[Imported, ...]
+    path: str
+    at: At
+
+
+@dataclass(frozen=True)
 class File:
     target: Optional[Name]
     properties: tuple[Property, ...]
     constants: tuple[Constant, ...]
     reactors: tuple[Reactor, ...]
+    imports: tuple[Import, ...] = ()
 
     @property
     def at(self) -> At:
