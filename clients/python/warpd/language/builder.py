@@ -1,32 +1,16 @@
-"""The grammar, and the parts of the tree that its rules make."""
+"""The parts of the tree that the rules of the grammar make."""
 
 from __future__ import annotations
 
 import dataclasses
-from functools import cache
-from pathlib import Path
-
-from lark import Lark, Token, Transformer, v_args
 
 from . import tree
-from .tree import At
+from .lexing import Word
 
 UNITS = {
     "n": 1, "us": 10**3, "ms": 10**6, "s": 10**9, "mi": 60 * 10**9, "h": 3600 * 10**9, "d": 86_400 * 10**9,
     "w": 604_800 * 10**9,
 }
-
-
-def shown(token: Token) -> str:
-    return "{=" if token.type == "BODY" else str(token)
-
-
-def place_of(token: Token) -> At:
-    return At(token.line, token.column, len(shown(token)))
-
-
-def name_of(token: Token) -> tree.Name:
-    return tree.Name(str(token).strip("`"), place_of(token))
 
 
 def nanoseconds(text: str) -> int:
@@ -36,14 +20,8 @@ def nanoseconds(text: str) -> int:
     return int(number) * next(each for word, each in UNITS.items() if unit.startswith(word))
 
 
-@v_args(inline=True)
-class Builder(Transformer):
+class Builder:
     """Makes the parts of the tree, from the inside out."""
-
-    NAME = staticmethod(name_of)
-
-    def BODY(self, token):
-        return token.value
 
     def file(self, target, *parts):
         kinds = [tuple(it for it in parts if isinstance(it, kind)) for kind in (tree.Constant, tree.Reactor, tree.Import)]
@@ -62,7 +40,7 @@ class Builder(Transformer):
         parameters = tuple(it for it in parts if isinstance(it, tree.Parameter))
         members = tuple(it for it in parts if it and not isinstance(it, (tree.Parameter, tuple)))
         extends = next((it for it in parts if isinstance(it, tuple)), ())
-        at = name.at if name else place_of(main or word)
+        at = name.at if name else (main or word).at
         return tree.Reactor(name, main is not None, parameters, members, at, extends)
 
     def parameter(self, name, type, value):
@@ -72,7 +50,7 @@ class Builder(Transformer):
         return tree.State(name, type, value)
 
     def ports(self, attribute, origin, kind, width, places, type):
-        return tree.Ports(origin, kind.type == "INPUT", places, type, place_of(attribute or kind), width)
+        return tree.Ports(origin, kind.kind == "INPUT", places, type, (attribute or kind).at, width)
 
     def action(self, name, arguments, type):
         return tree.Action(name, arguments or (), type)
@@ -81,7 +59,7 @@ class Builder(Transformer):
         return tree.Timer(name, arguments or ())
 
     def reaction(self, word, on, reads, writes, body):
-        return tree.Reaction(on or (), reads or (), writes or (), body, place_of(word))
+        return tree.Reaction(on or (), reads or (), writes or (), body, word.at)
 
     def instance(self, name, width, reactor, *arguments):
         return tree.Instance(name, reactor, tuple(it for it in arguments if it), width)
@@ -91,7 +69,7 @@ class Builder(Transformer):
 
     def connection(self, sources, arrow, targets, after):
         sources, is_broadcast = sources
-        return tree.Connection(sources, targets, is_broadcast, after, place_of(arrow))
+        return tree.Connection(sources, targets, is_broadcast, after, arrow.at)
 
     def sources(self, places):
         return places, False
@@ -118,7 +96,7 @@ class Builder(Transformer):
 
     def import_(self, *parts):
         *reactors, path = parts
-        return tree.Import(tuple(reactors), str(path)[1:-1], place_of(path))
+        return tree.Import(tuple(reactors), path.text[1:-1], path.at)
 
     def target_(self, first, first_index, second, index):
         place = self.place(first, first_index, second, index)
@@ -131,7 +109,7 @@ class Builder(Transformer):
         return tree.Let(name, type, value)
 
     def assign(self, name, operator, value):
-        return tree.Assign(name, operator[:-1] or None, value)
+        return tree.Assign(name, operator.text[:-1] or None, value)
 
     def invoke(self, call):
         return tree.Invoke(call)
@@ -151,19 +129,19 @@ class Builder(Transformer):
         return tree.Choice(test, yes, no, test.at.to(no.at))
 
     def binary(self, left, operator, right):
-        return tree.Binary(str(operator), left, right, left.at.to(right.at))
+        return tree.Binary(operator.text, left, right, left.at.to(right.at))
 
     def unary(self, operator, part):
-        return tree.Unary(str(operator), part, place_of(operator).to(part.at))
+        return tree.Unary(operator.text, part, operator.at.to(part.at))
 
     def number(self, token):
-        return tree.Number(str(token), place_of(token))
+        return tree.Number(token.text, token.at)
 
     def duration(self, token):
-        return tree.Duration(nanoseconds(token), str(token), place_of(token))
+        return tree.Duration(nanoseconds(token.text), token.text, token.at)
 
     def truth(self, token):
-        return tree.Number("1" if token == "true" else "0", place_of(token))
+        return tree.Number("1" if token.text == "true" else "0", token.at)
 
     def reference(self, first, first_index, second, index):
         place = self.place(first, first_index, second, index)
@@ -171,10 +149,3 @@ class Builder(Transformer):
 
     def call(self, name, parts):
         return tree.Call(name, parts or (), name.at.to(parts[-1].at) if parts else name.at)
-
-
-@cache
-def grammar() -> Lark:
-    text = Path(__file__).with_name("grammar.lark").read_text()
-    starts = ["file", "body", "foreign"]
-    return Lark(text, parser="lalr", lexer="basic", start=starts, transformer=Builder(), maybe_placeholders=True)

@@ -63,11 +63,12 @@ class Flattening:
         """Each node that has members of its own, or contains nothing, becomes an instance. Names of the text go first."""
         nodes = [it for it in self.root.every() if self._is_left(it)]
         names: dict[str, Node] = {}
-        for it in sorted(nodes, key=lambda it: (len(it.path) != 1, "[" in it.title)):
+        for it in sorted(nodes, key=lambda it: (len(it.path) != 1, bool(it.path), "[" in it.title)):
             path = it.path or (_own_name(it),)
             if len(path) == 1 and "[" not in path[0]:
                 self._check_name(it, path[0])
-            names[joined(path, names)] = it
+            name = joined(path, names)
+            names["main" if not it.path and name not in path and "main" not in names else name] = it
         found = {id(it): name for name, it in names.items()}
         for it in nodes:
             name = found[id(it)]

@@ -53,6 +53,16 @@ BODY = {
     '"': ("warpd has no texts: each value is an integer of 64 bits", ""),
 }
 
+# What begins a member of a reactor or a part of a file.
+MEMBERS = (
+    "state", "input", "output", "logical", "timer", "reaction", "reactor", "main", "const", "target",
+)
+
+# What is not all of a beginning.
+BEGINNINGS = {
+    "action": ("an action of warpd is logical", "write `logical action ..`"),
+}
+
 TRIGGERS = {
     "reset": ("warpd has no modes, and so no `reset`", "use an input or an action"),
 }

@@ -186,6 +186,9 @@ class Scope:
             self.report.error(it.at, "`present` is not constant")
         elif self.kinds.get(part.name) is None:
             self.unknown(part.name, part.at, TRIGGERS)
+        elif self.kinds[part.name] is Kind.OUTPUT:
+            text = f"`{part.name}` is an output: whether something is on it cannot be read"
+            self.report.error(part.at, text, "keep in a state variable that you put something on it")
         elif self.kinds[part.name] not in TRIGGERS:
             self.report.error(part.at, f"`{part.name}` is {self.kinds[part.name].value}: it is always there")
         else:

@@ -6,6 +6,7 @@ from collections.abc import Callable
 
 from .faults import Report, listed
 from .model import Class, Instance, Port, Program
+from .pending import warn_of_lost
 from .scope import Kind
 from .tree import At, State
 
@@ -16,8 +17,9 @@ def warn(program: Program, report: Report) -> None:
             report.warning(it.tree.at, f"no instance of {it.name}")
     for one in {id(it.of): it.of for it in program.instances.values()}.values():
         ClassWarnings(program, report, one).warn()
+    warn_of_lost(program, report)
     owned = {it.origin for it in program.inputs}
-    lacking = [str(it) for it in range(program.origins) if it not in owned]
+    lacking = [str(it) for it in range(program.origins) if owned and it not in owned]
     if lacking[1:]:
         text = f"origins {listed(lacking)} have no inputs: they hold the horizon at (0, 0)"
         report.warning(program.at, f"{text} until somebody announces for them")
