@@ -24,8 +24,13 @@ class Builder:
     """Makes the parts of the tree, from the inside out."""
 
     def file(self, target, *parts):
-        kinds = [tuple(it for it in parts if isinstance(it, kind)) for kind in (tree.Constant, tree.Reactor, tree.Import)]
-        return tree.File(*(target or (None, ())), *kinds)
+        def every(*kinds):
+            return tuple(it for it in parts if isinstance(it, kinds))
+
+        types, functions = every(tree.Enum, tree.Struct), every(tree.Function)
+        return tree.File(
+            *(target or (None, ())), every(tree.Constant), every(tree.Reactor), types=types, functions=functions,
+            imports=every(tree.Import))
 
     def target(self, name, *properties):
         return name, tuple(it for it in properties if it)
@@ -35,6 +40,23 @@ class Builder:
 
     def constant(self, name, type, value):
         return tree.Constant(name, type, value)
+
+    def enum(self, name, *parts):
+        return tree.Enum(name, tuple(it for it in parts if it))
+
+    def enumerator(self, name, value):
+        return tree.Enumerator(name, value)
+
+    def struct(self, name, *fields):
+        return tree.Struct(name, fields)
+
+    def field(self, name, type, value):
+        return tree.State(name, type, value)
+
+    def function(self, word, name, *parts):
+        *parameters, type, body = parts
+        given = tuple(it for it in parameters if it)
+        return tree.Function(name, word.kind == "METHOD", given, type, body)
 
     def reactor(self, main, word, name, *parts):
         parameters = tuple(it for it in parts if isinstance(it, tree.Parameter))
@@ -66,6 +88,9 @@ class Builder:
 
     def argument(self, name, value):
         return tree.Argument(name, value)
+
+    def unnamed(self, value):
+        return tree.Argument(None, value)
 
     def connection(self, sources, arrow, targets, after):
         sources, is_broadcast = sources
@@ -110,6 +135,21 @@ class Builder:
 
     def assign(self, name, operator, value):
         return tree.Assign(name, operator.text[:-1] or None, value)
+
+    def step(self, name, word):
+        return tree.Assign(name, word.text[0], tree.Number("1", word.at))
+
+    def step_before(self, word, name):
+        return self.step(name, word)
+
+    def turn_of_c(self, type, name, value):
+        return tree.Let(name, type, value)
+
+    def loop(self, word, first, test, step, body):
+        return tree.Loop(first, test, step, self._statements(body), word.at)
+
+    def leave(self, word, value=None):
+        return tree.Leave(word.text, value, word.at)
 
     def invoke(self, call):
         return tree.Invoke(call)

@@ -44,11 +44,12 @@ class Form:
         it = self.node.raw.tree
         reactions = [self._reaction(each) for each in it.every(tree.Reaction)]
         named = {place.name.text for each in reactions for place in (*each.on, *each.reads, *each.writes)}
-        members = [each for each in it.members if isinstance(each, (tree.State, tree.Action, tree.Timer))]
+        members = [each for each in it.members if isinstance(each, (tree.State, tree.Action, tree.Timer, tree.Function))]
         members += [self._ports(each, named) for each in it.every(tree.Ports)]
         for points, is_input in ((self.heard, True), (self.fed, False)):
-            places = tuple(tree.Place(None, tree.Name(name, it.at)) for name in points)
-            members += [tree.Ports(None, is_input, places, None, it.at)] if places else []
+            for name, point in points.items():
+                place = tree.Place(None, tree.Name(name, it.at))
+                members.append(tree.Ports(None, is_input, (place,), _type(point), it.at))
         return dataclasses.replace(it, members=tuple(members + reactions))
 
     def _ports(self, it: tree.Ports, named: set[str]) -> tree.Ports:
@@ -91,18 +92,18 @@ class Form:
             made = tuple(map(self._of, it))
             return it if all(map(lambda a, b: a is b, made, it)) else made
         match it:
-            case tree.Member(place, at):
+            case tree.Member(place, at) if self._is_port(place):
                 zero = tree.Number("0", at)
                 return self._select(place, Kind.OUTPUT, lambda name: tree.Reference(name, at), _choice, zero)
             case tree.Reference(name, at) if name in self.node.widths:
                 self._lacks_index(name, at)
                 return tree.Number("0", at)
-            case tree.Call(tree.Name("present"), (tree.Member(place, at),), _):
+            case tree.Call(tree.Name("present"), (tree.Member(place, at),), _) if self._is_port(place):
                 def present(name: str) -> tree.Expression:
                     return dataclasses.replace(it, parts=(tree.Reference(name, at),))
 
                 return self._select(place, Kind.OUTPUT, present, _choice, tree.Number("0", at))
-            case tree.Invoke(tree.Call(tree.Name("put"), (tree.Member(place, at), *rest))):
+            case tree.Invoke(tree.Call(tree.Name("put"), (tree.Member(place, at), *rest))) if self._is_port(place):
                 parts = self._of(tuple(rest))
 
                 def put(name: str) -> tree.Statement:
@@ -110,7 +111,7 @@ class Form:
                     return tree.Invoke(call)
 
                 return self._select(place, Kind.INPUT, put, _if, tree.Block(()))
-            case tree.Assign(tree.Place() as place, operator, value):
+            case tree.Assign(tree.Place() as place, operator, value) if self._is_port(place):
                 value = self._of(value)
 
                 def assign(name: str) -> tree.Statement:
@@ -125,6 +126,11 @@ class Form:
         changed = {key: self._of(value) for key, value in vars(it).items() if isinstance(value, tuple) or _is_part(value)}
         changed = {key: value for key, value in changed.items() if value is not getattr(it, key)}
         return dataclasses.replace(it, **changed) if changed else it
+
+    def _is_port(self, place: tree.Place) -> bool:
+        """Whether this is a port of an instance or a channel, and no part of a value."""
+        name = (place.owner or place.name).text
+        return name in (self.node.parts if place.owner else self.node.widths)
 
     def _lacks_index(self, name: str, at: tree.At) -> None:
         width = self.node.widths[name]
@@ -156,9 +162,6 @@ class Form:
     def _is_right(self, place: tree.Place, inner: Kind) -> bool:
         """Whether a place of a body names one port; else that is told."""
         node, owner, name = self.node, place.owner, place.name
-        if owner and owner.text not in node.parts:
-            self._no_instance(place)
-            return False
         if owner and (owner.text in node.widths) != (place.owner_index is not None):
             self._index(owner, place.owner_index, node.widths.get(owner.text), "a bank", "an instance")
             return False
@@ -195,21 +198,16 @@ class Form:
             hint = f"write `{name.text}[0]` to `{name.text}[{width - 1}]`"
             self.report.error(name.at, f"`{name.text}` is {wide} of {width}", hint)
 
-    def _no_instance(self, place: tree.Place) -> None:
-        owner, name = place.owner.text, place.name.text
-        kind = self.node.kind(owner)
-        if kind and name in ("value", "is_present"):
-            hint = f"write `{owner}`" if name == "value" else f"write `present({owner})`"
-            self.report.error(place.at, f"`{place}` is {hint.removeprefix('write ')}", "")
-        elif kind:
-            self.report.error(place.at, f"`{owner}` is {kind.value}: it has no parts")
-        else:
-            hint = nearest(owner, self.node.parts) or "an instance stands in its reactor as `p = new Player();`"
-            self.report.error(place.owner.at, f"there is no instance `{owner}` in this reactor", hint)
-
 
 def _is_part(it: object) -> bool:
     return dataclasses.is_dataclass(it)
+
+
+def _type(point: Point) -> Optional[tree.Name]:
+    """The type of a port as it was declared."""
+    name = point.name.split("[")[0]
+    lists = [it for it in point.node.raw.tree.every(tree.Ports) if name in [place.name.text for place in it.places]]
+    return lists[0].type
 
 
 def _among(index: tree.Expression, low: int, high: int, chosen: Callable, choose: Callable, nothing):

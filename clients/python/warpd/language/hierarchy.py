@@ -13,6 +13,7 @@ from .model import Class, Instance, Program, ranged
 from .reactors import declared
 from .scope import Kind, Scope
 from .tree import At
+from .types import INT
 
 if TYPE_CHECKING:
     from .places import Point
@@ -165,9 +166,12 @@ class Hierarchy:
         names, scope = node.constants, node.raw.scope
         if index is not None:
             names, scope = {**names, INDEX: index}, scope.with_constants({INDEX: index})
-        for argument in it.arguments:
+        for place, argument in enumerate(it.arguments):
+            if not argument.name:
+                self._unnamed(argument, parameters[place:place + 1])
+                continue
             name, at = argument.name.text, argument.name.at
-            value = self.program.constant(scope, argument.value, names)
+            value = self.program.constant(scope, argument.value, names, of.scope.types.get(name, INT))
             if name in given:
                 self.report.error(at, f"`{name}` stands twice")
             elif name not in parameters and is_known:
@@ -178,6 +182,12 @@ class Hierarchy:
             given.setdefault(INDEX, index)
         return given
 
+    def _unnamed(self, argument: tree.Argument, parameters: list[str]) -> None:
+        """Tells a value without the name of its parameter: the one that stands at this place."""
+        value = argument.value.text if isinstance(argument.value, (tree.Number, tree.Duration)) else ".."
+        hint = "".join(f"write `{it} = {value}`" for it in parameters)
+        self.report.error(argument.value.at, "a parameter is given by its name", hint)
+
     def _constants(self, of: Class, given: Mapping[str, int], at: At, is_strict: bool = True) -> dict[str, int]:
         """The constants of an instance: those of the file, and its parameters."""
         names = {**self.program.constants, **given}
@@ -187,6 +197,7 @@ class Hierarchy:
                 hint = f"write `{name} = ..` in the brackets, or `{name}: int = 0` where it is declared"
                 self.report.error(at, f"`{name}` of {of.name} is not given", hint)
             if name not in given:
+                its = of.scope.types[name]
                 is_good = of.is_good and it.default
-                names[name] = self.program.lowered(it.default, names) if is_good else int(not is_strict)
+                names[name] = self.program.lowered(it.default, names, of.scope, its) if is_good else int(not is_strict)
         return names

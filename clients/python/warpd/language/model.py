@@ -10,9 +10,11 @@ from typing import NamedTuple, Optional
 from . import tree
 from .bodies import BodyCheck
 from .faults import Report
-from .lowering import lowered
+from .lowering import Made, Maker
+from .routines import Routine
 from .scope import LONGEST_NAME, Scope
 from .tree import At
+from .types import INT, Type
 
 
 class Limits(NamedTuple):
@@ -55,6 +57,7 @@ class Class:
     reactions: list[BodyCheck] = field(default_factory=list)
     is_good: bool = True
     flat: dict[str, str] = field(default_factory=dict)
+    methods: list[Routine] = field(default_factory=list)
 
     @property
     def name(self) -> str:
@@ -131,7 +134,7 @@ class Shown(NamedTuple):
 @dataclass
 class Program:
     """`unit` is in nanoseconds, None where the text states none; `origins` is 0 until it is known. `is_exact` says that
-    nothing is executed behind microstep 0 of the stop."""
+    nothing is executed behind microstep 0 of the stop. `scope` has what is declared outside of reactors."""
 
     at: At
     version: int = 2
@@ -140,6 +143,7 @@ class Program:
     origins: int = 0
     unit: Optional[int] = None
     constants: dict[str, int] = field(default_factory=dict)
+    scope: Optional[Scope] = None
     classes: dict[str, Class] = field(default_factory=dict)
     used: set[str] = field(default_factory=set)
     instances: dict[str, Instance] = field(default_factory=dict)
@@ -158,15 +162,17 @@ class Program:
         hint += "" if not later else "leave `version: 1` out" if later[0] == 2 else f"write `target warpd {{ version: {later[0]}, .. }}`"
         return ranged(report, value, 0, getattr(self.limits, limit), at, what, hint if later and value > 0 else "")
 
-    def lowered(self, it: tree.Expression, names: dict[str, int]) -> int:
-        """The value of a constant that was checked."""
-        return lowered(it, names, self.unit or 1)
+    def lowered(self, it: tree.Expression, names: dict[str, int], scope: Scope, wanted: Optional[Type] = None) -> Made:
+        """The value of a constant that was checked, as one of this type."""
+        return Maker(names, scope.types, self.unit or 1, scope.named).value(it, wanted)
 
-    def constant(self, scope: Scope, it: tree.Expression, names: dict[str, int]) -> Optional[int]:
-        """Checks a constant, and gives its value; None where it is wrong."""
+    def constant(
+        self, scope: Scope, it: tree.Expression, names: dict[str, int], wanted: Optional[Type] = INT
+    ) -> Optional[int]:
+        """Checks a constant of this type, and gives its value; None where it is wrong."""
         before = scope.report.errors
-        scope.constant(it)
-        return self.lowered(it, names) if scope.report.errors == before else None
+        scope.constant(it, wanted)
+        return self.lowered(it, names, scope, wanted) if scope.report.errors == before else None
 
     def told(self, port: Port) -> str:
         """A port as the text names it."""

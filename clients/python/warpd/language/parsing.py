@@ -147,6 +147,13 @@ def _is_word(word: Word) -> bool:
 def _foreign(words: Sequence[Word], number: int, table: dict) -> Optional[tuple]:
     """A word that is not of this language, where it begins or near where it stopped, with what to say of it."""
     start = _start(words, number)
+    if words[start].kind == "STATE":
+        before = words[number - 1]
+        if "[" in (words[number].text, before.text):
+            return (words[number] if words[number].text == "[" else before), refused.ARRAYS
+        if before.text == "(" or words[number].text == "(":
+            last = words[number + (words[number].text == "(")]
+            return (before if before.text == "(" else words[number]), ("a start stands behind `=`", f"write `= {last}`")
     if words[start].text in refused.BEGINNINGS and words[start].kind != "NAME":
         return words[start], refused.BEGINNINGS[words[start].text]
     for word in (words[start], words[number], words[max(number - 1, 0)]):

@@ -2,13 +2,13 @@
 
 from __future__ import annotations
 
-from collections.abc import Sequence
+import dataclasses
+from collections.abc import Collection, Sequence
 from typing import NamedTuple, Optional
 
 from . import tree
 from .faults import Report, nearest
 from .hierarchy import Node
-from .lowering import mentioned
 from .model import Program
 from .scope import Kind
 
@@ -71,7 +71,7 @@ class Places:
 
     def is_constant(self, it: Optional[tree.Expression]) -> bool:
         """Whether all that an index mentions is constant."""
-        return it is None or all(name in self.node.constants for name in mentioned(it))
+        return it is None or _is_constant(it, self.node.constants)
 
     def points(self, place: tree.Place, wanted: Kind, inner: Kind) -> Points:
         """The ports of a place, which must be of the kind `wanted` where they are the node's own, and of the kind
@@ -101,3 +101,11 @@ class Places:
             hint = near or "a port of an instance is `instance.port`"
             self.report.error(place.at, f"{node.raw.name} has no port `{name}`", hint)
         return False
+
+
+def _is_constant(it: object, names: Collection[str]) -> bool:
+    if isinstance(it, (tree.Member, tree.Call)):
+        return False
+    if isinstance(it, tree.Reference):
+        return it.name in names
+    return not dataclasses.is_dataclass(it) or all(_is_constant(each, names) for each in vars(it).values())

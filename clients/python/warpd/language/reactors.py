@@ -4,11 +4,13 @@ from __future__ import annotations
 
 from collections.abc import Iterable
 
-from . import tree
+from . import routines, tree
 from .bodies import BodyCheck
 from .faults import Report
 from .model import Class, Program
+from .routines import RoutineCheck
 from .scope import Kind, Scope
+from .types import INT, Struct
 
 KINDS = {tree.State: Kind.VARIABLE, tree.Action: Kind.ACTION, tree.Timer: Kind.TIMER}
 
@@ -16,19 +18,24 @@ KINDS = {tree.State: Kind.VARIABLE, tree.Action: Kind.ACTION, tree.Timer: Kind.T
 def declared(it: tree.Reactor, program: Program, report: Report, constants: Iterable[str] = ()) -> Class:
     """A reactor with its names alone; `constants` are there beside those of the text."""
     before = report.errors
-    scope = Scope(report, program.unit, dict.fromkeys([*program.constants, *constants], Kind.CONSTANT))
+    scope = program.scope.inside()
+    scope.kinds.update(dict.fromkeys(constants, Kind.CONSTANT))
     one = Class(it, scope)
     for parameter in it.parameters:
-        scope.type(parameter.type)
+        type = scope.type(parameter.type)
         if parameter.default:
-            scope.constant(parameter.default)
-        scope.declare(parameter.name, Kind.PARAMETER)
+            scope.constant(parameter.default, type)
+        scope.declare(parameter.name, Kind.PARAMETER, type)
     for member in it.members:
         _declare(scope, member)
         if not it.is_main and isinstance(member, tree.Ports):
             _not_in_main(report, member)
     scope.kinds["startup"] = Kind.STARTUP
     scope.kinds.setdefault("shutdown", Kind.SHUTDOWN)
+    one.methods = routines.declared(it.every(tree.Function), scope)
+    for name, type in [*scope.types.items()]:
+        if isinstance(type, Struct) and scope.kinds[name] is Kind.VARIABLE:
+            scope.group(name, type)
     one.is_good = report.errors == before
     return one
 
@@ -38,6 +45,8 @@ def checked(one: Class, report: Report) -> Class:
     before = report.errors
     for member in one.tree.members:
         _member(one.scope, member)
+    for routine in one.methods:
+        RoutineCheck(one.scope, routine).check()
     for reaction in one.tree.every(tree.Reaction):
         one.reactions.append(BodyCheck(one.scope, reaction))
         one.reactions[-1].check()
@@ -47,23 +56,20 @@ def checked(one: Class, report: Report) -> Class:
 
 def _declare(scope: Scope, member: tree.Member) -> None:
     if type(member) in KINDS:
-        scope.declare(member.name, KINDS[type(member)])
+        its = INT if isinstance(member, tree.Timer) else scope.type(member.type, not isinstance(member, tree.State))
+        scope.declare(member.name, KINDS[type(member)], its)
     elif isinstance(member, tree.Ports):
+        its = scope.type(member.type)
         for place in member.places:
             if not place.owner:
-                scope.declare(place.name, Kind.INPUT if member.is_input else Kind.OUTPUT)
+                scope.declare(place.name, Kind.INPUT if member.is_input else Kind.OUTPUT, its)
 
 
 def _member(scope: Scope, member: tree.Member) -> None:
     match member:
-        case tree.State():
-            scope.type(member.type)
-            if member.start:
-                scope.constant(member.start)
-        case tree.Ports():
-            scope.type(member.type)
+        case tree.State() if member.start:
+            scope.constant(member.start, scope.types[member.name.text])
         case tree.Action():
-            scope.type(member.type)
             _arguments(scope, member.arguments, 1, "a logical action has one number, its least delay")
         case tree.Timer():
             _arguments(scope, member.arguments, 2, "a timer has two numbers, its offset and its period")
@@ -71,7 +77,7 @@ def _member(scope: Scope, member: tree.Member) -> None:
 
 def _arguments(scope: Scope, arguments: tuple[tree.Expression, ...], most: int, text: str) -> None:
     for it in arguments[:most]:
-        scope.constant(it)
+        scope.constant(it, INT)
     if len(arguments) > most:
         scope.report.error(arguments[most].at, text)
 

@@ -74,7 +74,7 @@ class Reference:
 
 @dataclass(frozen=True)
 class Member:
-    """The value of a place that is no name alone: `a[1]`, `inner.y`, `inner[0].y[1]`."""
+    """The value of a place that is no name alone: `a[1]`, `inner.y`, `inner[0].y[1]`, and `p.x` of a struct."""
 
     place: Place
     at: At
@@ -148,7 +148,58 @@ class Block:
     statements: tuple[Statement, ...]
 
 
-Statement = Union[Let, Assign, Invoke, If, Block]
+@dataclass(frozen=True)
+class Loop:
+    """`for (let i = 0; test; i += 1) ..`. `first` is a constant for the first turn, and `step` makes the next one."""
+
+    first: Let
+    test: Expression
+    step: Assign
+    body: tuple[Statement, ...]
+    at: At
+
+
+@dataclass(frozen=True)
+class Leave:
+    """`return value;`, `return;`, `break;` or `continue;`."""
+
+    word: str
+    value: Optional[Expression]
+    at: At
+
+
+Statement = Union[Let, Assign, Invoke, If, Block, Loop, Leave]
+
+
+@dataclass(frozen=True)
+class Function:
+    """`type` is None where a function has no value. `body` is None where it could not be read."""
+
+    name: Name
+    is_method: bool
+    parameters: tuple[Parameter, ...]
+    type: Optional[Name]
+    body: Optional[tuple[Statement, ...]]
+
+
+@dataclass(frozen=True)
+class Enumerator:
+    name: Name
+    value: Optional[Expression]
+
+
+@dataclass(frozen=True)
+class Enum:
+    name: Name
+    parts: tuple[Enumerator, ...]
+
+
+@dataclass(frozen=True)
+class Struct:
+    """A group of variables; the fields are written as a reactor's state is."""
+
+    name: Name
+    fields: tuple[State, ...]
 
 
 @dataclass(frozen=True)
@@ -203,7 +254,9 @@ class Reaction:
 
 @dataclass(frozen=True)
 class Argument:
-    name: Name
+    """`name` is None where a value stands alone, which is a mistake."""
+
+    name: Optional[Name]
     value: Expression
 
 
@@ -228,7 +281,7 @@ class Connection:
     at: At
 
 
-Part = Union[State, Ports, Action, Timer, Reaction, Instance, Connection]
+Part = Union[State, Ports, Action, Timer, Reaction, Instance, Connection, Function]
 
 
 @dataclass(frozen=True)
@@ -279,6 +332,8 @@ class File:
     properties: tuple[Property, ...]
     constants: tuple[Constant, ...]
     reactors: tuple[Reactor, ...]
+    types: tuple[Union[Enum, Struct], ...] = ()
+    functions: tuple[Function, ...] = ()
     imports: tuple[Import, ...] = ()
 
     @property

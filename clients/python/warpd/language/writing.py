@@ -10,7 +10,8 @@ from .values import Value
 
 KEYWORDS = {
     "target", "const", "reactor", "main", "state", "input", "output", "logical", "action", "timer", "reaction", "new",
-    "after", "let", "if", "else", "true", "false",
+    "after", "let", "if", "else", "true", "false", "for", "return", "break", "continue", "function", "method", "enum",
+    "struct",
 }
 # Which keys each object of a program file has, those with lists apart.
 FILE = (("version", "stop", "origins"), ("reactors", "links", "inputs", "outputs"))
