@@ -104,7 +104,7 @@ class BodyCheck:
             self.report.error(
                 at, f"`{name}` is an output: it cannot be read", "keep what you put in a `let` or in a state variable"
             )
-        elif kind in (Kind.TIMER, Kind.STARTUP):
+        elif kind in (Kind.TIMER, Kind.STARTUP, Kind.SHUTDOWN):
             hint = f"`present({name})` asks whether it is there"
             self.report.error(at, f"`{name}` is {kind.value}: it has no value", hint)
         elif kind is None and name in refused.VALUES:
@@ -200,7 +200,7 @@ class BodyCheck:
             return Kind.TYPE, INT
         kind = self.kind_of(owner)
         if kind is None:
-            self.report.error(it.at, "a body speaks of its own reactor alone", refused.BODY["."][1])
+            self.report.error(it.at, *(text.format(owner) for text in refused.NO_INSTANCE))
             return Kind.TYPE, INT
         type = self.target(it.owner)[1]
         return kind, self.scope.field(type, it) if kind in (Kind.VARIABLE, Kind.LET, Kind.GIVEN) else INT
@@ -212,7 +212,7 @@ class BodyCheck:
         hints = {
             Kind.INPUT: "keep it in a state variable, or connect an output to it in main",
             Kind.ACTION: f"write `schedule({name}, delay, value);`",
-            **dict.fromkeys((Kind.TIMER, Kind.STARTUP, Kind.ROUTINE), ""),
+            **dict.fromkeys((Kind.TIMER, Kind.STARTUP, Kind.SHUTDOWN, Kind.ROUTINE), ""),
             **dict.fromkeys((*CONSTANTS, Kind.LET, Kind.GIVEN, Kind.TURN), "it is constant: take a state variable"),
         }
         if kind is None:
@@ -242,7 +242,7 @@ class BodyCheck:
         elif name not in STATEMENTS:
             near = nearest(name, [*STATEMENTS, *self.scope.routines]) or "there are `put` and `schedule`"
             self.report.error(call.name.at, f"no statement `{name}`", near)
-        elif self.scope.has_parts(call, *STATEMENTS[name]):
+        elif self.scope.has_parts(call, *STATEMENTS[name]) and call.parts:
             type = self.effect(call, *((Kind.OUTPUT, "put on") if name == "put" else (Kind.ACTION, "scheduled")))
             if name == "schedule":
                 self.delay(call.parts[1])

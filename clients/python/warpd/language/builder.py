@@ -2,6 +2,8 @@
 
 from __future__ import annotations
 
+import dataclasses
+
 from . import tree
 from .lexing import Word
 
@@ -27,7 +29,8 @@ class Builder:
 
         types, functions = every(tree.Enum, tree.Struct), every(tree.Function)
         return tree.File(
-            *(target or (None, ())), every(tree.Constant), every(tree.Reactor), types=types, functions=functions)
+            *(target or (None, ())), every(tree.Constant), every(tree.Reactor), types=types, functions=functions,
+            imports=every(tree.Import))
 
     def target(self, name, *properties):
         return name, tuple(it for it in properties if it)
@@ -57,9 +60,10 @@ class Builder:
 
     def reactor(self, main, word, name, *parts):
         parameters = tuple(it for it in parts if isinstance(it, tree.Parameter))
-        members = tuple(it for it in parts if it and not isinstance(it, tree.Parameter))
+        members = tuple(it for it in parts if it and not isinstance(it, (tree.Parameter, tuple)))
+        extends = next((it for it in parts if isinstance(it, tuple)), ())
         at = name.at if name else (main or word).at
-        return tree.Reactor(name, main is not None, parameters, members, at)
+        return tree.Reactor(name, main is not None, parameters, members, at, extends)
 
     def parameter(self, name, type, value):
         return tree.Parameter(name, type, value)
@@ -67,8 +71,8 @@ class Builder:
     def state(self, name, type, value):
         return tree.State(name, type, value)
 
-    def ports(self, attribute, origin, kind, places, type):
-        return tree.Ports(origin, kind.kind == "INPUT", places, type, (attribute or kind).at)
+    def ports(self, attribute, origin, kind, width, places, type):
+        return tree.Ports(origin, kind.kind == "INPUT", places, type, (attribute or kind).at, width)
 
     def action(self, name, arguments, type):
         return tree.Action(name, arguments or (), type)
@@ -79,8 +83,8 @@ class Builder:
     def reaction(self, word, on, reads, writes, body):
         return tree.Reaction(on or (), reads or (), writes or (), body, word.at)
 
-    def instance(self, name, reactor, *arguments):
-        return tree.Instance(name, reactor, tuple(it for it in arguments if it))
+    def instance(self, name, width, reactor, *arguments):
+        return tree.Instance(name, reactor, tuple(it for it in arguments if it), width)
 
     def argument(self, name, value):
         return tree.Argument(name, value)
@@ -101,13 +105,23 @@ class Builder:
     def place(self, first, first_index, second, index):
         return tree.Place(first, second, first_index, index) if second else tree.Place(None, first, None, first_index)
 
+    def interleaved(self, place):
+        return dataclasses.replace(place, is_interleaved=True)
+
     def list_of(self, *parts):
         return parts
 
-    places = arguments = body = list_of
+    places = arguments = body = extends = list_of
 
     def index(self, value):
         return value
+
+    def imported(self, name, here):
+        return tree.Imported(name, here or name)
+
+    def import_(self, *parts):
+        *reactors, path = parts
+        return tree.Import(tuple(reactors), path.text[1:-1], path.at)
 
     def target_(self, first, first_index, second, index):
         place = self.place(first, first_index, second, index)

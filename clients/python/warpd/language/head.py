@@ -12,7 +12,7 @@ from .scope import Kind, Scope
 from .types import INT, Struct, Type
 from .values import wrapped
 
-PROPERTIES = ("stop", "unit", "origins", "version")
+PROPERTIES = ("stop", "timeout", "unit", "origins", "version", "microsteps_at_stop")
 
 
 class Head:
@@ -42,13 +42,17 @@ class Head:
             self._property(it)
         if "unit" in self.found:
             program.unit = self._unit(self.found["unit"].value)
-        if "stop" not in self.found and self.report.errors == before:
+        stop = self.found.get("stop") or self.found.get("timeout")
+        if "stop" in self.found and "timeout" in self.found:
+            self.report.error(self.found["timeout"].name.at, "`timeout` and `stop` are one thing", "leave one of them out")
+        if not stop and self.report.errors == before:
             hint = "write `target warpd { stop: 100 }`: the last time that is executed"
             self.report.error(self.file.at, "the program has no stop", hint)
         program.version = self._number("version", 2, 1, 3)
-        if "stop" in self.found:
-            it = self.found["stop"].value
-            program.stop = program.ranged(self.report, self._value(it), "stop", it.at, "`stop`")
+        if stop:
+            it = stop.value
+            program.stop = program.ranged(self.report, self._value(it), "stop", it.at, f"`{stop.name.text}`")
+        program.is_exact = not self._number("microsteps_at_stop", 0, 0, 1)
         program.origins = self._number("origins", 0, 1, program.limits.origins)
 
     def _property(self, it: tree.Property) -> None:
@@ -56,8 +60,7 @@ class Head:
         if name in self.found:
             self.report.error(it.name.at, f"`{name}` stands twice")
         elif name not in PROPERTIES:
-            hint = "the last time is `stop`" if name == "timeout" else nearest(name, PROPERTIES)
-            hint = hint or "there are `stop`, `unit`, `origins` and `version`"
+            hint = nearest(name, PROPERTIES) or "there are `stop`, `unit`, `origins` and `version`"
             self.report.error(it.name.at, f"`{name}` is no property of a program", hint)
         self.found.setdefault(name, it)
 

@@ -39,8 +39,8 @@ class Writer:
         starts = [start for each in every(tree.State) for start in self._starts(each)]
         lists = {
             "vars": starts + [[name, 0] for name in self.kept],
-            "inputs": [each.text for each in it.of.ports(True)],
-            "outputs": [each.text for each in it.of.ports(False)],
+            "inputs": list(map(it.of.file_name, it.of.names(True))),
+            "outputs": list(map(it.of.file_name, it.of.names(False))),
             "actions": [[each.name.text, *self._times(each, "the delay")] for each in every(tree.Action)],
             "timers": [[each.name.text, *self._times(each, "the offset", "the period")] for each in every(tree.Timer)],
             "reactions": reactions,
@@ -78,9 +78,10 @@ class Writer:
         return self.kept[number]
 
     def _reaction(self, reaction: tree.Reaction) -> dict:
-        outputs = {each.text for each in self.it.of.ports(False)}
-        scope = self.it.of.scope
-        names = {**self.it.constants, **scope.fields}
+        of, scope = self.it.of, self.it.of.scope
+        ports = {name: of.file_name(name) for name in of.names(True) + of.names(False)}
+        names = {**self.it.constants, **scope.fields, **ports}
+        outputs = {ports[name] for name in of.names(False)}
         body = Body(names, scope.types, self.program.unit or 1, scope.named, scope.routines, outputs)
         statements = []
         try:
@@ -95,7 +96,9 @@ class Writer:
         for at, delay in body.delays:
             self._time(delay, at, "the delay")
         self._body_limits(reaction.at, statements)
-        lists = {part: [place.name.text for place in getattr(reaction, part)] for part in ("on", "reads", "writes")}
+        lists = {
+            part: [of.file_name(place.name.text) for place in getattr(reaction, part)] for part in ("on", "reads", "writes")
+        }
         return {key: value for key, value in {**lists, "body": statements}.items() if value}
 
     def _body_limits(self, at: At, statements: list) -> None:

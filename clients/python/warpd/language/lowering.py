@@ -60,7 +60,7 @@ class Maker:
             case tree.Choice():
                 return self.choice(it)
             case tree.Call(tree.Name("present")):
-                return ["present", it.parts[0].name], INT
+                return ["present", self.names.get(it.parts[0].name, it.parts[0].name)], INT
             case tree.Call():
                 return self.call(it)
 

@@ -10,6 +10,7 @@ from .faults import Report, listed, nearest
 from .lexing import Lexer, Word
 from .tables import Stopped, grammar
 from .tree import At
+from .words import in_place
 
 # A text with more than so many faults of this kind is read no further.
 MOST_FAULTS = 20
@@ -67,7 +68,7 @@ class Parser:
 
     def file(self) -> Optional[tree.File]:
         """The tree; None where its structure has a fault. Bodies are read in any case."""
-        words = Lexer(self.text, grammar().kinds).words()
+        words = in_place(Lexer(self.text, grammar().kinds).words())
         for it in words:
             if it.kind == "BODY":
                 it.value = self._body(it)

@@ -14,7 +14,6 @@ STRUCTURE = {
     "federated": ("warpd has no federates", "write `main reactor`: each replica runs the whole program"),
     "watchdog": ("warpd has no watchdogs: no clock is read", "let a timer look whether something has come"),
     "realtime": ("warpd has no realtime reactors", "write `reactor`"),
-    "[": ("warpd has no banks and no multiports", "write each instance and each port with a name of its own"),
     "~>": ("warpd has no physical connections", "write `->`, and `after` for a delay"),
     '"': ("warpd has no texts: each value is an integer of 64 bits", ""),
     "{=": ("this `{=` is never closed", "a body ends with `=}`"),
@@ -26,6 +25,8 @@ _DECLARES = ("a body declares no variables", "write `let NAME = ..;`, or `state 
 _PRINTS = ("a body prints nothing, and is no target code", "put what is to be seen on an output")
 _LOOPS = ("a body has no such loop", "`for` over constant bounds is; what goes on is an action that schedules itself")
 
+NO_INSTANCE = ("there is no instance `{}` in this reactor", "an instance stands in its reactor: `p = new Player();`")
+
 BODY = {
     **dict.fromkeys(("while", "do", "goto"), _LOOPS),
     "switch": ("a body has no `switch`", "write `if (..) .. else if (..) ..`"),
@@ -33,8 +34,7 @@ BODY = {
     **dict.fromkeys(("printf", "print", "puts", "lf_print", "lf_print_error", "fprintf"), _PRINTS),
     "lf_set": (_NO_CODE, "write `y = e;` or `put(y, e);`"),
     **dict.fromkeys(("lf_schedule", "lf_schedule_int"), (_NO_CODE, "write `schedule(c, delay, value);`")),
-    "lf_request_stop": ("a program ends at its stop alone", "keep in a state variable that it is over"),
-    "request_stop": ("a program ends at its stop alone", "keep in a state variable that it is over"),
+    "lf_request_stop": (_NO_CODE, "write `request_stop();`"),
     "self": (_NO_CODE, "a state variable stands by its name alone"),
     **dict.fromkeys((
         "int", "bool", "var", "int8_t", "int16_t", "int32_t", "int64_t", "uint8_t", "uint16_t", "uint32_t", "uint64_t",
@@ -51,7 +51,6 @@ BODY = {
     "<<": ("warpd has no operators on bits", "multiply by a power of two"),
     ">>": ("warpd has no operators on bits", "divide by a power of two: `/` rounds so that nothing negative is left"),
     "->": (_NO_CODE, "`a->value` is `a`, and `a->is_present` is `present(a)`"),
-    ".": ("a body speaks of its own reactor alone", "declare an input or an output, and connect it in main"),
     '"': ("warpd has no texts: each value is an integer of 64 bits", ""),
 }
 
@@ -112,6 +111,5 @@ BEGINNINGS = {
 }
 
 TRIGGERS = {
-    "shutdown": ("warpd has no shutdown: a program ends at its stop", "declare a timer with the stop as its offset"),
     "reset": ("warpd has no modes, and so no `reset`", "use an input or an action"),
 }

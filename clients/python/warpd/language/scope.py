@@ -3,7 +3,7 @@
 from __future__ import annotations
 
 import re
-from collections.abc import Sequence
+from collections.abc import Iterable, Sequence
 from enum import Enum
 from typing import TYPE_CHECKING, Optional
 
@@ -25,6 +25,7 @@ class Kind(Enum):
     ACTION = "an action"
     TIMER = "a timer"
     STARTUP = "a trigger"
+    SHUTDOWN = "the trigger at the end"
     PARAMETER = "a parameter"
     CONSTANT = "a constant"
     LET = "a `let`"
@@ -34,7 +35,7 @@ class Kind(Enum):
     TYPE = "a type"
 
 
-TRIGGERS = (Kind.INPUT, Kind.ACTION, Kind.TIMER, Kind.STARTUP)
+TRIGGERS = (Kind.INPUT, Kind.ACTION, Kind.TIMER, Kind.STARTUP, Kind.SHUTDOWN)
 EFFECTS = (Kind.OUTPUT, Kind.ACTION)
 CONSTANTS = (Kind.PARAMETER, Kind.CONSTANT)
 # How many parts each function takes; None is without end.
@@ -42,7 +43,7 @@ FUNCTIONS = {
     "min": (2, None), "max": (2, None), "abs": (1, 1), "clamp": (3, 3), "present": (1, 1), "floor": (1, 1),
     "round": (1, 1), "fixed": (1, 1),
 }
-STATEMENTS = {"put": (2, 2), "schedule": (2, 3)}
+STATEMENTS = {"put": (2, 2), "schedule": (2, 3), "request_stop": (0, 0)}
 LONGEST_NAME = 32
 
 
@@ -72,6 +73,12 @@ class Scope:
         # Of a state variable that is a struct: the variables of its fields.
         self.fields: dict[str, dict[str, str]] = {}
         self.is_reactor = False
+
+    def with_constants(self, names: Iterable[str]) -> Scope:
+        """A scope with these constants more."""
+        more = self.inside()
+        more.kinds.update(dict.fromkeys(names, Kind.CONSTANT))
+        return more
 
     def inside(self) -> Scope:
         """A scope of a reactor, which sees what this one has."""
@@ -103,7 +110,7 @@ class Scope:
             )
         elif name.text == "startup":
             self.report.error(name.at, "`startup` is the trigger at the beginning, and names nothing else")
-        elif kind not in CONSTANTS and not is_name(name.text):
+        elif kind not in CONSTANTS and not is_name(re.split(r"[.[]", name.text)[0]):
             self.tell_name(name)
         self.kinds.setdefault(name.text, kind)
         self.places.setdefault(name.text, name.at)
@@ -243,7 +250,7 @@ class Scope:
                 self.report.error(it.at, *(text.format(owner.text) for text in refused.PARTS[name]))
                 return INT
             if kind is None:
-                self.report.error(it.at, "a body speaks of its own reactor alone", refused.BODY["."][1])
+                self.report.error(it.at, *(text.format(owner.text) for text in refused.NO_INSTANCE))
                 return INT
             return self.field(body.reads(owner.text, owner.at), place)
         return INT

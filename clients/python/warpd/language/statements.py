@@ -178,7 +178,10 @@ class Body(Maker):
             case tree.Assign():
                 self._assign(it)
             case tree.Invoke(tree.Call(tree.Name("put"), (output, value))):
-                self._step("put", output.name, self.value(value, self.types.get(output.name, INT)), value.at)
+                to = self.names.get(output.name, output.name)
+                self._step("put", to, self.value(value, self.types.get(output.name, INT)), value.at)
+            case tree.Invoke(tree.Call(tree.Name("request_stop", at))):
+                self._step("stop", "", 1, at)
             case tree.Invoke(tree.Call(tree.Name("schedule"), (action, delay, *value))):
                 made_ = self.value(value[0], self.types.get(action.name, INT)) if value else 0
                 return self._schedule(action.name, delay, made_, (value or [delay])[0].at)

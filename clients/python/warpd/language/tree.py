@@ -28,12 +28,13 @@ class Name:
 
 @dataclass(frozen=True)
 class Place:
-    """`port`, or `instance.port`; either may have an index."""
+    """`port`, or `instance.port`; either may have an index. `interleaved` goes over the instances of a bank first."""
 
     owner: Optional[Name]
     name: Name
     owner_index: Optional[Expression] = None
     index: Optional[Expression] = None
+    is_interleaved: bool = False
 
     @property
     def at(self) -> At:
@@ -42,7 +43,7 @@ class Place:
     @property
     def is_plain(self) -> bool:
         """Whether it is a name alone."""
-        return not self.owner and not self.index
+        return not self.owner and not self.index and not self.is_interleaved
 
     def __str__(self) -> str:
         return f"{self.owner.text}.{self.name.text}" if self.owner else self.name.text
@@ -73,7 +74,7 @@ class Reference:
 
 @dataclass(frozen=True)
 class Member:
-    """The value of a place that is no name alone: `p.x`."""
+    """The value of a place that is no name alone: `a[1]`, `inner.y`, `inner[0].y[1]`, and `p.x` of a struct."""
 
     place: Place
     at: At
@@ -224,6 +225,7 @@ class Ports:
     places: tuple[Place, ...]
     type: Optional[Name]
     at: At
+    width: Optional[Expression] = None
 
 
 @dataclass(frozen=True)
@@ -260,9 +262,12 @@ class Argument:
 
 @dataclass(frozen=True)
 class Instance:
+    """An instance, or with a width a bank of them."""
+
     name: Name
     reactor: Name
     arguments: tuple[Argument, ...]
+    width: Optional[Expression] = None
 
 
 @dataclass(frozen=True)
@@ -286,6 +291,7 @@ class Reactor:
     parameters: tuple[Parameter, ...]
     members: tuple[Part, ...]
     at: At
+    extends: tuple[Name, ...] = ()
 
     def every(self, kind: type) -> list:
         """The members of this kind, in the order of the text."""
@@ -306,6 +312,21 @@ class Property:
 
 
 @dataclass(frozen=True)
+class Imported:
+    """A reactor of another file, and the name that it has here."""
+
+    name: Name
+    here: Name
+
+
+@dataclass(frozen=True)
+class Import:
+    reactors: tuple[Imported, ...]
+    path: str
+    at: At
+
+
+@dataclass(frozen=True)
 class File:
     target: Optional[Name]
     properties: tuple[Property, ...]
@@ -313,6 +334,7 @@ class File:
     reactors: tuple[Reactor, ...]
     types: tuple[Union[Enum, Struct], ...] = ()
     functions: tuple[Function, ...] = ()
+    imports: tuple[Import, ...] = ()
 
     @property
     def at(self) -> At:
