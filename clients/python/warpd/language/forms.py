@@ -13,6 +13,7 @@ from .model import Program
 from .places import Places, Point
 from .scope import Kind
 
+
 def has_structure(it: tree.Reactor) -> bool:
     """Whether a reactor differs from instance to instance in more than its constants."""
     ports, reactions = it.every(tree.Ports), it.every(tree.Reaction)
@@ -22,12 +23,18 @@ def has_structure(it: tree.Reactor) -> bool:
     return bool(it.is_main or is_wide or contains or any(map(_has_member, reactions)))
 
 
-def _has_member(it: object) -> bool:
-    if isinstance(it, tuple):
-        return any(map(_has_member, it))
-    if isinstance(it, (tree.Member, tree.Assign)) and not isinstance(getattr(it, "name", None), tree.Name):
-        return True
-    return dataclasses.is_dataclass(it) and any(map(_has_member, vars(it).values()))
+def _has_member(it: tree.Reaction) -> bool:
+    """Whether a place that is no name alone stands in a reaction's body."""
+    rest = [it.body]
+    while rest:
+        part = rest.pop()
+        if type(part) is tuple:
+            rest += part
+        elif isinstance(part, tree.Member) or isinstance(part, tree.Assign) and isinstance(part.name, tree.Place):
+            return True
+        elif not isinstance(part, (tree.Name, tree.Number, tree.Reference)):
+            rest += getattr(part, "__dict__", {}).values()
+    return False
 
 
 class Form:
