@@ -14,20 +14,11 @@ from .places import Places, Point
 from .scope import Kind
 
 def has_structure(it: tree.Reactor) -> bool:
-    """Whether a reactor differs from instance to instance in more than its constants."""
-    ports, reactions = it.every(tree.Ports), it.every(tree.Reaction)
-    places = [place for each in reactions for place in (*each.on, *each.reads, *each.writes)]
-    is_wide = any(each.width for each in ports) or any(not each.is_plain for each in places)
+    """Whether a reactor differs from instance to instance in more than its constants: by widths, or by what it contains."""
+    is_wide = any(each.width for each in it.every(tree.Ports))
+    places = [place for each in it.every(tree.Reaction) for place in (*each.on, *each.reads, *each.writes)]
     contains = it.every(tree.Instance) or it.every(tree.Connection)
-    return bool(it.is_main or is_wide or contains or any(map(_has_member, reactions)))
-
-
-def _has_member(it: object) -> bool:
-    if isinstance(it, tuple):
-        return any(map(_has_member, it))
-    if isinstance(it, (tree.Member, tree.Assign)) and not isinstance(getattr(it, "name", None), tree.Name):
-        return True
-    return dataclasses.is_dataclass(it) and any(map(_has_member, vars(it).values()))
+    return bool(it.is_main or is_wide or contains or any(not each.is_plain for each in places))
 
 
 class Form:

@@ -56,6 +56,7 @@ class Class:
     scope: Scope
     reactions: list[BodyCheck] = field(default_factory=list)
     is_good: bool = True
+    is_checked: bool = False
     flat: dict[str, str] = field(default_factory=dict)
     methods: list[Routine] = field(default_factory=list)
 

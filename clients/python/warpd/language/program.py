@@ -74,9 +74,9 @@ class Forms:
     def _forms(self, root: Node) -> None:
         for node in root.every():
             if not has_structure(node.raw.tree):
+                if not node.raw.is_checked:
+                    checked(node.raw, self.report)
                 node.form = node.raw
-                if node.raw.tree not in self.found:
-                    self.found[node.raw.tree] = checked(node.raw, self.report)
                 continue
             form = Form(node, self.program, self.report)
             made = form.made()
