@@ -7,11 +7,11 @@ different places of a body share one variable, and so do the bodies of a reactor
 from __future__ import annotations
 
 from collections.abc import Callable, Iterable, Iterator
-from dataclasses import dataclass, field
+from dataclasses import dataclass
 from typing import NamedTuple, Optional, Union
 
 from .tree import At
-from .values import Cell, Temp, Value, leaves
+from .values import Cell, Temp, Value
 
 # What has at most so many parts is put in at each of several uses, and what is at most so deep is put in at all: half
 # of the depth that a program file allows, so that an expression can be cut in two by a `let`.
@@ -60,17 +60,33 @@ class Place(NamedTuple):
         return any(branches.get(fork, branch) != branch for fork, branch in other.way)
 
 
-@dataclass
 class Life:
-    """Where a value is worked out, where it is used and whether more than once, how large it is, and if it is kept."""
+    """Where a value is worked out, where it is used and whether more than once, how large it is, and if it is kept.
 
-    place: Place
-    uses: set[Place] = field(default_factory=set)
-    is_used_again: bool = False
-    reads: set = field(default_factory=set)
-    size: int = 1
-    depth: int = 1
-    is_kept: bool = False
+    `parts` has what it is made of: each name, value or cell in it, and how deep it stands."""
+
+    def __init__(self, temp: Temp, place: Place):
+        self.temp, self.place = temp, place
+        self.uses: set[Place] = set()
+        self.is_used_again = self.is_kept = False
+        self.reads: set[Union[str, Cell]] = set()
+        self.parts, self.own_size, self.own_depth = parts_of(temp.value)
+        self.size, self.depth = self.own_size, self.own_depth
+
+
+def parts_of(value: Value) -> tuple[list[tuple[Union[str, Temp, Cell], int]], int, int]:
+    """What an expression is made of, with how deep each stands, and its size and depth: one for each that it is made of."""
+    found, size, most, rest = [], 0, 1, [(value, 1)]
+    while rest:
+        it, deep = rest.pop()
+        size += 1
+        most = max(most, deep)
+        if isinstance(it, list):
+            if it[0] != "present":
+                rest += [(part, deep + 1) for part in it[1:]]
+        elif not isinstance(it, int):
+            found.append((it, deep))
+    return found, size, most
 
 
 class Keeper:
@@ -103,7 +119,7 @@ class Keeper:
             self.count += 1
             place = Place(self.count, way)
             if isinstance(it, Keep):
-                self.lives[it.temp] = Life(place)
+                self.lives[it.temp] = Life(it.temp, place)
             elif isinstance(it, Step):
                 self._use(it.value, place)
                 if it.word == "set":
@@ -115,7 +131,7 @@ class Keeper:
                 self._look(it.no, (*way, (place.number, False)))
 
     def _use(self, value: Value, place: Place) -> None:
-        for it in leaves(value):
+        for it, _ in parts_of(value)[0]:
             if isinstance(it, Temp):
                 self.direct.setdefault(it, []).append(place)
             else:
@@ -133,6 +149,8 @@ class Keeper:
         for way in (self._keep_last, self._keep_first):
             way()
             found.append(({temp for temp, life in self.lives.items() if life.is_kept}, self._slots_needed()))
+            if found[-1][1] <= 1:
+                return
         self._settle(min(found, key=lambda it: it[1])[0])
 
     def _keep_last(self) -> None:
@@ -170,7 +188,7 @@ class Keeper:
                 life.is_kept = False
                 continue
             yield temp, life
-            for it in leaves(temp.value):
+            for it, _ in life.parts:
                 if isinstance(it, Temp):
                     inner = self.lives[it]
                     inner.is_used_again |= bool(inner.uses) or life.is_used_again and not life.is_kept
@@ -180,13 +198,15 @@ class Keeper:
         """Works out, from the first value on, what each reads and how large it is, and keeps these values and large
         ones. With None those are kept that may have changed before a use."""
         for temp, life in self.lives.items():
-            life.reads = set()
-            life.size, life.depth = self._measure(temp.value)
-            for it in leaves(temp.value):
+            life.reads, life.size, life.depth = set(), life.own_size, life.own_depth
+            for it, deep in life.parts:
                 if not isinstance(it, Temp):
                     life.reads.add(it)
                 elif not self.lives[it].is_kept:
-                    life.reads |= self.lives[it].reads
+                    inner = self.lives[it]
+                    life.reads |= inner.reads
+                    life.size += inner.size - 1
+                    life.depth = max(life.depth, deep + inner.depth - 1)
             is_large = life.size > SMALL and life.is_used_again or life.depth > DEEP
             is_kept = temp in kept if kept is not None else bool(life.uses) and self._is_changed(life)
             life.is_kept = is_kept or is_large and bool(life.uses)
@@ -201,16 +221,6 @@ class Keeper:
                         return True
         return False
 
-    def _measure(self, value: Value) -> tuple[int, int]:
-        """The size and the depth of an expression, as it is put in."""
-        if isinstance(value, Temp):
-            life = self.lives[value]
-            return (1, 1) if life.is_kept else (life.size, life.depth)
-        if not isinstance(value, list) or value[0] == "present":
-            return 1, 1
-        parts = [self._measure(it) for it in value[1:]]
-        return 1 + sum(size for size, _ in parts), 1 + max(depth for _, depth in parts)
-
     # Which variable keeps it.
 
     def _alive(self) -> list[tuple[int, int, Union[Temp, Cell]]]:
@@ -221,7 +231,7 @@ class Keeper:
             last = max((it.number for it in life.uses), default=0)
             if life.is_kept:
                 alive.append((life.place.number, last, temp))
-            for it in leaves(temp.value):
+            for it, _ in life.parts:
                 if isinstance(it, Cell) and life.uses:
                     spans[it][1] = max(spans[it][1], life.place.number if life.is_kept else last)
         return sorted([*alive, *((*span, it) for it, span in spans.items())], key=lambda it: it[:2])

@@ -5,7 +5,6 @@ An expression is a number, a name, or a list of an operator and its parts. While
 
 from __future__ import annotations
 
-from collections.abc import Iterator
 from dataclasses import dataclass
 from typing import Union
 
@@ -62,16 +61,6 @@ def made(word: str, *parts: Value) -> Value:
     if word in OPERATIONS and all(isinstance(it, int) for it in parts):
         return OPERATIONS[word](*parts)
     return [word, *parts]
-
-
-def leaves(value: Value) -> Iterator[Union[str, Temp, Cell]]:
-    """What an expression reads: of each part that stands in it."""
-    if isinstance(value, list):
-        if value[0] != "present":
-            for it in value[1:]:
-                yield from leaves(it)
-    elif not isinstance(value, int):
-        yield value
 
 
 def is_simple(value: Value) -> bool:
