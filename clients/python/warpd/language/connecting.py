@@ -85,7 +85,7 @@ class Connecting:
                 first = next((each for each in self.net.exits if each.point == point), None)
                 if first:
                     text = f"`{point}` is an output of the program already"
-                    self.report.error(place.at, text, f"at line {first.at.line}")
+                    self.report.error(place.at, text, f"at {self.report.place(first.at)}")
                 else:
                     self.net.exits.append(Exit(point, place.at))
 
@@ -93,7 +93,7 @@ class Connecting:
         """Whether a port has no source yet; else that is told."""
         first = self.net.taken.setdefault(point, at)
         if first is not at:
-            hint = f"at line {first.line}; an input has one: declare another input for this one"
+            hint = f"at {self.report.place(first)}; an input has one: declare another input for this one"
             self.report.error(at, f"`{point}` has a source already", hint)
         return first is at
 
@@ -101,10 +101,11 @@ class Connecting:
         """Whether no reaction of its own puts on an output; else that is told."""
         if point.node is not self.node:
             return True
-        lines = [it.reaction.at.line for it in self.node.form.reactions if point.name in it.lists["writes"]]
-        if lines:
-            self.report.error(at, f"`{point}` has a source already", f"the reaction at line {lines[0]} puts on it")
-        return not lines
+        places = [it.reaction.at for it in self.node.form.reactions if point.name in it.lists["writes"]]
+        if places:
+            hint = f"the reaction at {self.report.place(places[0])} puts on it"
+            self.report.error(at, f"`{point}` has a source already", hint)
+        return not places
 
     # Connections.
 
@@ -119,8 +120,17 @@ class Connecting:
         if self.report.errors > before or not self._fits(it, len(sources), len(targets)):
             return
         for source, (target, place) in zip(islice(cycle(sources), len(targets)) if it.is_broadcast else sources, targets):
-            if self._is_free(target, place.at) and self._is_not_put(target, place.at):
+            is_right = self._is_free(target, place.at) and self._is_not_put(target, place.at)
+            if is_right and self._is_of_type(source, target, place.at):
                 self.net.edges[target] = Edge(source, delay, place.at)
+
+    def _is_of_type(self, source: Point, target: Point, at: At) -> bool:
+        """Whether two ports have values of one type; else that is told."""
+        left, right = source.type, target.type
+        if left != right:
+            hint = "a reaction between them changes it: `y = fixed(x);`, or `y = round(x);`"
+            self.report.error(at, f"`{source}` is `{left}` and `{target}` is `{right}`", hint)
+        return left == right
 
     def _sources(self, place: tree.Place) -> Points:
         """What a place left of an arrow names: outputs of instances, or inputs of its own; main's outputs lead on too."""

@@ -15,26 +15,11 @@ from .scope import Kind
 
 
 def has_structure(it: tree.Reactor) -> bool:
-    """Whether a reactor differs from instance to instance in more than its constants."""
-    ports, reactions = it.every(tree.Ports), it.every(tree.Reaction)
-    places = [place for each in reactions for place in (*each.on, *each.reads, *each.writes)]
-    is_wide = any(each.width for each in ports) or any(not each.is_plain for each in places)
+    """Whether a reactor differs from instance to instance in more than its constants: by widths, or by what it contains."""
+    is_wide = any(each.width for each in it.every(tree.Ports))
+    places = [place for each in it.every(tree.Reaction) for place in (*each.on, *each.reads, *each.writes)]
     contains = it.every(tree.Instance) or it.every(tree.Connection)
-    return bool(it.is_main or is_wide or contains or any(map(_has_member, reactions)))
-
-
-def _has_member(it: tree.Reaction) -> bool:
-    """Whether a place that is no name alone stands in a reaction's body."""
-    rest = [it.body]
-    while rest:
-        part = rest.pop()
-        if type(part) is tuple:
-            rest += part
-        elif isinstance(part, tree.Member) or isinstance(part, tree.Assign) and isinstance(part.name, tree.Place):
-            return True
-        elif not isinstance(part, (tree.Name, tree.Number, tree.Reference)):
-            rest += getattr(part, "__dict__", {}).values()
-    return False
+    return bool(it.is_main or is_wide or contains or any(not each.is_plain for each in places))
 
 
 class Form:

@@ -12,6 +12,7 @@ from .faults import Report, listed, nearest
 from .model import Class, Instance, Program, ranged
 from .reactors import declared
 from .scope import Kind, Scope
+from .sources import Sources
 from .tree import At
 from .types import INT
 
@@ -92,18 +93,19 @@ class Node:
 class Hierarchy:
     """Makes the nodes of a program."""
 
-    def __init__(self, raws: Mapping[str, Class], program: Program, report: Report):
-        self.raws, self.program, self.report = raws, program, report
-        self.used: set[str] = set()
+    def __init__(self, raws: Mapping[int, Class], sources: Sources, program: Program, report: Report):
+        """`raws` has the class of each reactor, by the `id` of its tree."""
+        self.raws, self.sources, self.program, self.report = raws, sources, program, report
+        self.used: set[int] = set()
         self.count = 0
 
     def root(self, raw: Class) -> Node:
         """The node of main, or of a reactor that has no instance, with all that it contains."""
         root = Node((), raw, self._constants(raw, {}, raw.tree.at, raw.tree.is_main), raw.tree.at)
-        self._fill(root, (raw.name,))
+        self._fill(root, (raw,))
         return root
 
-    def _fill(self, node: Node, around: tuple[str, ...]) -> None:
+    def _fill(self, node: Node, around: tuple[Class, ...]) -> None:
         for it in node.raw.tree.every(tree.Ports):
             if it.width:
                 width = self._width(node, it.width, node.raw.scope)
@@ -118,11 +120,11 @@ class Hierarchy:
         value = self.program.constant(scope, it, node.constants)
         return ranged(self.report, value, 1, MOST_WIDTH, it.at, "the width")
 
-    def _instance(self, node: Node, it: tree.Instance, around: tuple[str, ...]) -> None:
+    def _instance(self, node: Node, it: tree.Instance, around: tuple[Class, ...]) -> None:
         name, scope = it.name.text, node.raw.scope
         if name in node.parts:
-            first = node.parts[name][0].at.line
-            self.report.error(it.name.at, f"`{name}` stands twice", f"first at line {first}")
+            first = self.report.place(node.parts[name][0].at)
+            self.report.error(it.name.at, f"`{name}` stands twice", f"first at {first}")
             return
         raw = self._reactor(it, around)
         members = [""]
@@ -140,21 +142,21 @@ class Hierarchy:
             constants = self._constants(raw, given, it.name.at)
             part = Node((*node.path, name + label), raw, constants, it.name.at)
             node.parts[name].append(part)
-            self._fill(part, (*around, raw.name))
+            self._fill(part, (*around, raw))
 
-    def _reactor(self, it: tree.Instance, around: tuple[str, ...]) -> Class:
+    def _reactor(self, it: tree.Instance, around: tuple[Class, ...]) -> Class:
         """The reactor of an instance; one that is not there, or is around it, is told."""
-        name = it.reactor.text
-        raw = self.raws.get(name)
-        if raw and name not in around:
-            self.used.add(name)
+        name, found = it.reactor.text, self.sources.reactor(it.reactor)
+        raw = self.raws.get(id(found))
+        if raw:
+            self.used.add(id(found))
+        if raw and raw not in around:
             return raw
         if raw:
-            self.used.add(name)
-            way = " in ".join(f"`{each}`" for each in around[around.index(name):][::-1])
+            way = " in ".join(f"`{each.name}`" for each in around[around.index(raw):][::-1])
             self.report.error(it.reactor.at, f"`{name}` contains itself: an instance of it stands in {way}")
         else:
-            hint = nearest(name, self.raws) or "a reactor is declared by `reactor NAME { .. }`"
+            hint = nearest(name, self.sources.names(it.reactor.at)) or "a reactor is declared by `reactor NAME { .. }`"
             self.report.error(it.reactor.at, f"there is no reactor `{name}`", hint)
         return Class(tree.Reactor(it.reactor, False, (), (), it.reactor.at), Scope(self.report, None), is_good=False)
 

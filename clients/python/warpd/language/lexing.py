@@ -52,9 +52,10 @@ class Word:
 class Lexer:
     """Finds the words of one text. `kinds` has those that are a kind of their own: what is written, and its kind."""
 
-    def __init__(self, text: str, kinds: Mapping[str, str]):
+    def __init__(self, text: str, kinds: Mapping[str, str], before: int = 0):
+        """`before` lines stand before the text."""
         self.text, self.kinds = text, kinds
-        self.line, self.line_start = 1, 0
+        self.line, self.line_start = before + 1, 0
 
     def words(self) -> list[Word]:
         """The words of the text, and one of the kind `$END` behind them."""

@@ -48,7 +48,7 @@ def joined(path: Iterable[str], taken: Collection[str] = ()) -> str:
     return name
 
 
-@dataclass
+@dataclass(eq=False)
 class Class:
     """A reactor of the text, checked."""
 
@@ -56,6 +56,7 @@ class Class:
     scope: Scope
     reactions: list[BodyCheck] = field(default_factory=list)
     is_good: bool = True
+    is_checked: bool = False
     flat: dict[str, str] = field(default_factory=dict)
     methods: list[Routine] = field(default_factory=list)
 
@@ -144,8 +145,7 @@ class Program:
     unit: Optional[int] = None
     constants: dict[str, int] = field(default_factory=dict)
     scope: Optional[Scope] = None
-    classes: dict[str, Class] = field(default_factory=dict)
-    used: set[str] = field(default_factory=set)
+    unused: list[Class] = field(default_factory=list)
     instances: dict[str, Instance] = field(default_factory=dict)
     links: list[Link] = field(default_factory=list)
     inputs: list[Owned] = field(default_factory=list)

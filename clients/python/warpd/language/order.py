@@ -87,7 +87,7 @@ def _steps(waits: Waits, came_from: dict[Node, Node], start: Node) -> Circle:
 def _tell(program: Program, report: Report, circle: Circle) -> None:
     def named(node: Node) -> str:
         it = program.instances[node.instance]
-        return f"`{it.title}` line {it.of.reactions[node.number].reaction.at.line}"
+        return f"`{it.title}` {report.place(it.of.reactions[node.number].reaction.at)}"
 
     link = next(it for _, _, it in circle if it)
     way = " -> ".join([named(circle[0][0]), *(named(node) for _, node, _ in circle)])

@@ -62,13 +62,14 @@ def _without(words: list[Word], stopped: int) -> list[Word]:
 class Parser:
     """Reads one text, and tells its report what cannot be read."""
 
-    def __init__(self, text: str, report: Report):
-        self.text, self.report = text, report
+    def __init__(self, text: str, report: Report, before: int = 0):
+        """`before` lines of the report stand before the text."""
+        self.text, self.report, self.before = text, report, before
         self.is_whole = True
 
     def file(self) -> Optional[tree.File]:
         """The tree; None where its structure has a fault. Bodies are read in any case."""
-        words = in_place(Lexer(self.text, grammar().kinds).words())
+        words = in_place(Lexer(self.text, grammar().kinds, self.before).words())
         for it in words:
             if it.kind == "BODY":
                 it.value = self._body(it)
@@ -117,7 +118,7 @@ class Parser:
         """Tells the reactor before this word, which begins another one, that its brace is missing."""
         first = max(place for place in range(number) if words[place].kind == "REACTOR")
         name = words[first + 1] if words[first + 1].kind == "NAME" else words[first]
-        text = f"the `}}` of this reactor is missing: another begins at line {words[number].line}"
+        text = f"the `}}` of this reactor is missing: another begins at {self.report.place(words[number].at)}"
         self.report.error(name.at, text)
 
     def _unexpected(self, words: Sequence[Word], stopped: Stopped, table: dict) -> None:

@@ -51,6 +51,7 @@ def checked(one: Class, report: Report) -> Class:
         one.reactions.append(BodyCheck(one.scope, reaction))
         one.reactions[-1].check()
     one.is_good &= report.errors == before
+    one.is_checked = True
     return one
 
 

@@ -9,8 +9,6 @@ STRUCTURE = {
     "mode": ("warpd has no modes", "keep the mode in a state variable, and ask for it by `if`"),
     "initial": ("warpd has no modes", "keep the mode in a state variable, and ask for it by `if`"),
     "preamble": ("warpd has no target code", "constants stand outside of reactors: `const NAME = 3;`"),
-    "import": ("a program is one file", "copy the reactor into it"),
-    "extends": ("warpd has no reactors that extend others", "write its members out"),
     "federated": ("warpd has no federates", "write `main reactor`: each replica runs the whole program"),
     "watchdog": ("warpd has no watchdogs: no clock is read", "let a timer look whether something has come"),
     "realtime": ("warpd has no realtime reactors", "write `reactor`"),

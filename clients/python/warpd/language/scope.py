@@ -104,10 +104,8 @@ class Scope:
         if name.text in self.kinds and name.text not in self.places:
             self.report.error(name.at, f"`{name.text}` is {self.kinds[name.text].value} already")
         elif name.text in self.places:
-            first = self.places[name.text]
-            self.report.error(
-                name.at, f"`{name.text}` stands twice", f"it is {self.kinds[name.text].value} at line {first.line}"
-            )
+            hint = f"it is {self.kinds[name.text].value} at {self.report.place(self.places[name.text])}"
+            self.report.error(name.at, f"`{name.text}` stands twice", hint)
         elif name.text == "startup":
             self.report.error(name.at, "`startup` is the trigger at the beginning, and names nothing else")
         elif kind not in CONSTANTS and not is_name(re.split(r"[.[]", name.text)[0]):

@@ -12,9 +12,8 @@ from .tree import At, State
 
 
 def warn(program: Program, report: Report) -> None:
-    for it in program.classes.values():
-        if it.name not in program.used:
-            report.warning(it.tree.at, f"no instance of {it.name}")
+    for it in program.unused:
+        report.warning(it.tree.at, f"no instance of {it.name}")
     for one in {id(it.of): it.of for it in program.instances.values()}.values():
         ClassWarnings(program, report, one).warn()
     warn_of_lost(program, report)
@@ -52,7 +51,7 @@ class ClassWarnings:
             never = "nothing comes to what triggers it"
             self._each(
                 lambda it, number=number: not self._runs(it, number), at, f"this reaction never runs: {never}",
-                lambda it, at=at: f"the reaction at line {at.line} never runs in `{it.title}`: {never}",
+                lambda it, at=at: f"the reaction at {self.report.place(at)} never runs in `{it.title}`: {never}",
             )
 
     def _each(self, holds: Callable[[Instance], bool], at: At, text: str, told: Callable[[Instance], str]) -> None:
