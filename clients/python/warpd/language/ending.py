@@ -143,7 +143,8 @@ class Ending:
             "timers": [["stop", self.program.stop, 0]],
             "reactions": [{"on": ["stop", *asked], "writes": [SHUTDOWN], "body": body}],
         }
-        end = Instance(name, of, {}, at, name, {key: value for key, value in reactor.items() if value})
+        written = {key: value for key, value in reactor.items() if value}
+        end = Instance(name, of, {}, at, name, written, is_added=True)
         self.program.instances[name] = end
         for number, it in enumerate(self.asking):
             self.program.links.append(Link(self._request(it), Port(name, asked[number]), 0, it.at))
