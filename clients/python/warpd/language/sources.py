@@ -8,6 +8,7 @@ from typing import Optional
 
 from . import tree
 from .faults import Report, nearest
+from .modes import without_modes
 from .parsing import Parser
 from .tree import At
 
@@ -121,7 +122,7 @@ class Sources:
 
     def _extended(self, it: tree.Reactor, around: tuple[tree.Reactor, ...]) -> tree.Reactor:
         """A reactor with all that those have which it extends, before its own; what is reached twice stands once."""
-        if not it.extends:
+        if not it.extends and not it.every(tree.Mode):
             return it
         if id(it) not in self.whole:
             bases = [each for name in it.extends for each in self._base(name, it, around)]
@@ -129,7 +130,7 @@ class Sources:
             for part in ("parameters", "members"):
                 found = {id(each): each for base in bases for each in getattr(base, part)}
                 lists[part] = (*found.values(), *getattr(it, part))
-            self.whole[id(it)] = replace(it, extends=(), **lists)
+            self.whole[id(it)] = without_modes(replace(it, extends=(), **lists), self.report)
         return self.whole[id(it)]
 
     def _base(self, name: tree.Name, it: tree.Reactor, around: tuple[tree.Reactor, ...]) -> list[tree.Reactor]:
