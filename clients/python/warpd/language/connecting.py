@@ -120,8 +120,17 @@ class Connecting:
         if self.report.errors > before or not self._fits(it, len(sources), len(targets)):
             return
         for source, (target, place) in zip(islice(cycle(sources), len(targets)) if it.is_broadcast else sources, targets):
-            if self._is_free(target, place.at) and self._is_not_put(target, place.at):
+            is_right = self._is_free(target, place.at) and self._is_not_put(target, place.at)
+            if is_right and self._is_of_type(source, target, place.at):
                 self.net.edges[target] = Edge(source, delay, place.at)
+
+    def _is_of_type(self, source: Point, target: Point, at: At) -> bool:
+        """Whether two ports have values of one type; else that is told."""
+        left, right = source.type, target.type
+        if left != right:
+            hint = "a reaction between them changes it: `y = fixed(x);`, or `y = round(x);`"
+            self.report.error(at, f"`{source}` is `{left}` and `{target}` is `{right}`", hint)
+        return left == right
 
     def _sources(self, place: tree.Place) -> Points:
         """What a place left of an arrow names: outputs of instances, or inputs of its own; main's outputs lead on too."""

@@ -13,6 +13,7 @@ from .model import Program
 from .places import Places, Point
 from .scope import Kind
 
+
 def has_structure(it: tree.Reactor) -> bool:
     """Whether a reactor differs from instance to instance in more than its constants: by widths, or by what it contains."""
     is_wide = any(each.width for each in it.every(tree.Ports))

@@ -11,6 +11,7 @@ from .faults import Report, nearest
 from .hierarchy import Node
 from .model import Program
 from .scope import Kind
+from .types import INT, Type
 
 
 class Point(NamedTuple):
@@ -21,6 +22,10 @@ class Point(NamedTuple):
 
     def __str__(self) -> str:
         return f"{self.node.title}.{self.name}" if self.node.path else self.name
+
+    @property
+    def type(self) -> Type:
+        return self.node.raw.scope.types.get(self.name.split("[")[0], INT)
 
     def seen_from(self, node: Node) -> str:
         """What the port is called in a node that has it, or contains its node."""
