@@ -60,7 +60,8 @@ class Flattening:
     # Instances.
 
     def _instances(self) -> None:
-        """Each node that has members of its own, or contains nothing, becomes an instance. Names of the text go first."""
+        """Each node that has members of its own, or contains nothing, becomes an instance. Names of the text go
+        first."""
         nodes = [it for it in self.root.every() if self._is_left(it)]
         names: dict[str, Node] = {}
         for it in sorted(nodes, key=lambda it: (len(it.path) != 1, bool(it.path), "[" in it.title)):

@@ -57,7 +57,8 @@ class Modes:
             members += [each for each in mode.members if not isinstance(each, (tree.Reaction, tree.Timer))]
         members += [tree.Action(self._name(name), (), None) for name in (self.switch, *self.timers)]
         for mode in self.modes:
-            members += [each for it in mode.members if isinstance(it, (tree.Timer, tree.Action)) for each in self._beside(it)]
+            begun = [it for it in mode.members if isinstance(it, (tree.Timer, tree.Action))]
+            members += [each for it in begun for each in self._beside(it)]
         reactions = [*map(self._ticking, self.timers), *self._in_order(own)]
         if self.leads:
             reactions = [self._switching(), *reactions]
@@ -111,8 +112,9 @@ class Modes:
 
     def _asks_first(self, mode: tree.Mode) -> bool:
         """Whether something of a mode depends on whether it was entered before."""
-        lists = [place.name.text for it in mode.members if isinstance(it, tree.Reaction) for place in (*it.on, *it.reads)]
-        return not mode.is_initial and ("startup" in lists or "shutdown" in lists)
+        reactions = [it for it in mode.members if isinstance(it, tree.Reaction)]
+        names = {place.name.text for it in reactions for place in (*it.on, *it.reads)}
+        return not mode.is_initial and bool(names & {"startup", "shutdown"})
 
     def _beside(self, it: tree.Part) -> Iterator[tree.Part]:
         name = it.name.text
@@ -169,7 +171,8 @@ class Modes:
         if name in self.timers:
             ways = [self._both((self._present(name), self._is(self._of(name), self._of(self.entries))))]
             if name in self.first:
-                ways.append(self._both((self._present(self.first[name]), self._is(self._of(self.entries), self._number(0)))))
+                is_first = self._is(self._of(self.entries), self._number(0))
+                ways.append(self._both((self._present(self.first[name]), is_first)))
             at_once = self._is(self._times(name)[0], self._number(0))
             return self._both((*ways, self._both((at_once, self._entered(self.home[name])))), "||")
         if name in self.beside:
@@ -200,19 +203,27 @@ class Modes:
     def _reaction(self, mode: tree.Mode, it: tree.Reaction) -> tree.Reaction:
         """A reaction of a mode: it runs in its mode, where one of its triggers counts."""
         names = [place.name.text for place in it.on if place.is_plain]
-        special = any(self._is_there(name, mode) for name in names)
-        tests: list[tree.Expression] = []
-        if "shutdown" not in names:
-            tests.append(self._in(mode))
-        elif self._asks_first(mode):
-            tests.append(self._of(self.started[mode.name.text]))
-        if special:
-            found = [self._is_there(name, mode) or self._present(name) for name in names]
-            tests.append(self._both(found, "||"))
+        others = [name for name in names if name != "shutdown"]
+        test = self._in(mode)
+        if "shutdown" in names or any(self._is_there(name, mode) for name in others):
+            ways = [self._is_there(name, mode) or self._present(name) for name in others]
+            asked = [tree.Member(place, place.at) for place in it.on if not place.is_plain]
+            ways += [tree.Call(self._name("present"), (place,), self.at) for place in asked]
+            test = self._both((test, self._both(ways, "||"))) if ways else None
+        if "shutdown" in names:
+            ends = self._ends(mode)
+            test = self._both((test, ends), "||") if test else ends
         plain = self._plain(it, mode)
-        if plain.body is not None and tests:
-            plain = dataclasses.replace(plain, body=(tree.If(self._both(tests), plain.body, ()),))
+        if plain.body is not None:
+            plain = dataclasses.replace(plain, body=(tree.If(test, plain.body, ()),))
         return plain
+
+    def _ends(self, mode: tree.Mode) -> tree.Expression:
+        """Whether the end is there, and the mode was ever entered."""
+        if mode.is_initial:
+            return self._present("shutdown")
+        was_entered = self._both((self._in(mode), self._of(self.started[mode.name.text])), "||")
+        return self._both((self._present("shutdown"), was_entered))
 
     def _plain(self, it: tree.Reaction, mode: Optional[tree.Mode] = None) -> tree.Reaction:
         """A reaction with actions in the place of what belongs to modes."""
@@ -228,7 +239,8 @@ class Modes:
     def _named(self, place: tree.Place, mode: Optional[tree.Mode]) -> list[tree.Place]:
         if mode is None or not place.is_plain:
             return [place]
-        return [place if name == place.name.text else self._place(name) for name in self._triggers(place.name.text, mode)]
+        names = self._triggers(place.name.text, mode)
+        return [place if name == place.name.text else self._place(name) for name in names]
 
     def _ways(self, it: tree.Reaction) -> tuple[dict[str, int], list[tree.Place]]:
         """The modes to which a reaction leads, each with what `switch` says of it; and its other effects."""
@@ -259,9 +271,13 @@ class Modes:
             match part:
                 case tree.Invoke(tree.Call(tree.Name("set_mode"), (tree.Reference(name, at),))):
                     return self._to(name, at, ways)
-                case tree.Invoke(tree.Call(tree.Name("schedule"), (tree.Reference(name) as action, delay, *value))) if name in self.beside:
-                    call = dataclasses.replace(part.call, parts=(action, delay, *map(made, value)))
-                    return tree.Block((tree.Invoke(call), self._schedule(self.beside[name], delay, self._of(self.entries))))
+                case tree.Invoke(tree.Call(tree.Name("schedule"), (tree.Reference(name), delay, *value)) as call):
+                    parts = (call.parts[0], delay, *map(made, value))
+                    scheduled = tree.Invoke(dataclasses.replace(call, parts=parts))
+                    if name not in self.beside:
+                        return scheduled
+                    entry = self._schedule(self.beside[name], delay, self._of(self.entries))
+                    return tree.Block((scheduled, entry))
                 case tree.Call(tree.Name("present"), (tree.Reference(name),)) if mode and self._is_there(name, mode):
                     return self._is_there(name, mode)
                 case tree.Reference(name, at) if name in self.beside and mode:

@@ -49,7 +49,8 @@ class Sources:
 
     def others(self) -> list[tree.Reactor]:
         """The reactors of imported files."""
-        return [self._extended(it, ()) for file in self.files[:-1] for it in file.reactors if it.name and not it.is_main]
+        every = [it for file in self.files[:-1] for it in file.reactors]
+        return [self._extended(it, ()) for it in every if it.name and not it.is_main]
 
     def names(self, at: At) -> list[str]:
         """The names of reactors that are known where this stands."""
@@ -111,7 +112,8 @@ class Sources:
     def _take(self, each: tree.Imported, it: tree.Import, there: dict, home: dict) -> None:
         found = there.get(each.name.text)
         if found is None:
-            self.report.error(each.name.at, f"`{it.path}` has no reactor `{each.name.text}`", nearest(each.name.text, there))
+            text = f"`{it.path}` has no reactor `{each.name.text}`"
+            self.report.error(each.name.at, text, nearest(each.name.text, there))
         elif home.get(each.here.text, found) is not found:
             place = self.report.place(home[each.here.text].at)
             self.report.error(each.here.at, f"there is a reactor `{each.here.text}` already", f"at {place}")
