@@ -2,7 +2,8 @@
 
 The simulator goes over the instances as they stand in each other: what is put on a port goes along connections to the
 ports behind it, at the same tag or after a delay, and each reaction runs behind those whose ports it reads and those
-before it in its reactor. Nothing is executed behind microstep 0 of the stop, or behind the tag after a `request_stop`."""
+before it in its reactor. A mode that is left loses what it had begun. Nothing is executed behind microstep 0 of the
+stop, or behind the tag after a `request_stop`."""
 
 import heapq
 from dataclasses import dataclass, field
@@ -32,7 +33,8 @@ class Place:
 
 @dataclass
 class Reaction:
-    """`on`, `reads` and `writes` name ports by places, and actions, timers, `startup` and `shutdown` by names."""
+    """`on`, `reads` and `writes` name ports by places, and actions, timers, `startup` and `shutdown` by names. Of a
+    mode's reaction `mode` is its number, and `leads` the word and the number of a mode to which it may lead."""
 
     on: list
     reads: list
@@ -40,6 +42,17 @@ class Reaction:
     actions: list
     numbers: list
     asks: bool = False
+    mode: int | None = None
+    leads: tuple | None = None
+
+
+@dataclass
+class Mode:
+    """Its timers and actions are of the form of a reactor's. `start` is that of a variable which a reset sets anew."""
+
+    timers: dict
+    actions: dict
+    start: int | None
 
 
 @dataclass
@@ -56,6 +69,12 @@ class Kind:
     reactions: list = field(default_factory=list)
     given: list = field(default_factory=list)
     shown: list = field(default_factory=list)
+    modes: list = field(default_factory=list)
+
+    @property
+    def every_action(self):
+        """The delays of all its actions, those of its modes among them."""
+        return {**self.actions, **{name: delay for mode in self.modes for name, delay in mode.actions.items()}}
 
 
 # Drawing.
@@ -68,6 +87,27 @@ def leaf(dice, name):
     own_members(dice, kind)
     places = [Place(None, each) for each in kind.inputs], [Place(None, each) for each in kind.outputs]
     kind.reactions = [reaction(dice, kind, *places) for _ in range(dice.randint(1, 3))]
+    return kind
+
+
+def modal(dice, name):
+    """A reactor with modes, the first of which is the initial one."""
+    kind = Kind(name, inputs={"a": None}, outputs={"y": None})
+    for number in range(dice.randint(2, 3)):
+        is_plain = dice.random() < 0.4
+        timers = {f"t{number}": (dice.choice([0, 0, 1, 2]), dice.choice([0, 1, 2, 3]))} if not is_plain else {}
+        actions = {f"c{number}": dice.choice([0, 1, 2, 3])} if not is_plain and dice.random() < 0.7 else {}
+        kind.modes.append(Mode(timers, actions, dice.choice([None, 5])))
+    for number, mode in enumerate(kind.modes):
+        for _ in range(dice.randint(1, 2)):
+            triggers = [Place(None, "a"), *mode.timers, *mode.timers, *mode.actions, "reset", "startup", "shutdown"]
+            on = list(dict.fromkeys(dice.sample(triggers, dice.randint(1, 3))))
+            actions = [it for it in mode.actions if dice.random() < 0.6]
+            it = Reaction(on, [], [Place(None, "y")], actions, [dice.randint(1, 9) for _ in range(4)], mode=number)
+            target = dice.randrange(len(kind.modes))
+            is_history = not kind.modes[target].timers and not kind.modes[target].actions and dice.random() < 0.5
+            it.leads = ("history" if is_history else "reset", target) if dice.random() < 0.7 else None
+            kind.reactions.append(it)
     return kind
 
 
@@ -102,7 +142,8 @@ def container(dice, name, kinds, is_main=False):
     heard = [Place(owner, port) for owner, (of, _) in kind.instances.items() for port in of.outputs]
     fed = [Place(owner, port) for owner, (of, _) in kind.instances.items() for port in of.inputs]
     own = [Place(None, each) for each in kind.inputs], [Place(None, each) for each in kind.outputs]
-    puts = dice.sample(fed, min(len(fed), dice.choice([0, 0, 1]))) + dice.sample(own[1], min(len(own[1]), dice.choice([0, 1])))
+    puts = dice.sample(fed, min(len(fed), dice.choice([0, 0, 1])))
+    puts += dice.sample(own[1], min(len(own[1]), dice.choice([0, 1])))
     for _ in range(dice.choice([0, 1, 2, 3])):
         kind.reactions.append(reaction(dice, kind, own[0] + heard, puts, 0.15 if is_main else 0.05))
     put = [it for each in kind.reactions for it in each.writes]
@@ -128,7 +169,7 @@ def interleave(dice, place):
 
 def network(dice):
     """The kinds of a drawn network, its main reactor last."""
-    kinds = [leaf(dice, f"Leaf{number}") for number in range(2)]
+    kinds = [leaf(dice, "Leaf0"), leaf(dice, "Leaf1"), modal(dice, "Modal0")]
     for number in range(dice.randint(0, 2)):
         kinds.append(container(dice, f"Box{number}", kinds))
     return [*kinds, container(dice, "Main", kinds, True)]
@@ -148,17 +189,26 @@ def reactor_text(kind):
     lines = [f"{'main ' * is_main}reactor {kind.name}{f'({named})' * bool(named)} {{", "  state n: int = 1;"]
     for word, ports in (("input", kind.inputs), ("output", kind.outputs)):
         lines += [f"  {word}{f'[{port}_size]' if size else ''} {port}: int;" for port, size in ports.items()]
-    lines += [f"  logical action {name}({delay}): int;" for name, delay in kind.actions.items()]
-    lines += [f"  timer {name}({offset}, {period});" for name, (offset, period) in kind.timers.items()]
-    lines += [f"  {name} = new{f'[{size}]' if size else ''} {of.name}();" for name, (of, size) in kind.instances.items()]
+    lines += begun_text(kind)
+    for name, (of, size) in kind.instances.items():
+        lines.append(f"  {name} = new{f'[{size}]' if size else ''} {of.name}();")
     for left, right, is_broadcast, delay in kind.connections:
         left, right = (", ".join(map(str, side)) for side in (left, right))
         left = f"({left})+" if is_broadcast else left
         lines.append(f"  {left} -> {right}{'' if delay is None else f' after {delay}'};")
     lines += [f"  @origin(0) input {place};" for place in kind.given]
     lines += [f"  output {place};" for place in kind.shown]
-    lines += [reaction_text(kind, it) for it in kind.reactions]
+    lines += [reaction_text(kind, it) for it in kind.reactions if it.mode is None]
+    for number, mode in enumerate(kind.modes):
+        start = [] if mode.start is None else [f"  reset state r{number}: int = {mode.start};"]
+        lines += [f"  {'initial ' * (not number)}mode M{number} {{", *start, *begun_text(mode)]
+        lines += [*(reaction_text(kind, it) for it in kind.reactions if it.mode == number), "  }"]
     return "\n".join([*lines, "}", ""])
+
+
+def begun_text(kind):
+    lines = [f"  logical action {name}({delay}): int;" for name, delay in kind.actions.items()]
+    return lines + [f"  timer {name}({offset}, {period});" for name, (offset, period) in kind.timers.items()]
 
 
 def reaction_text(kind, it):
@@ -166,9 +216,10 @@ def reaction_text(kind, it):
     one, two, three, four = it.numbers
     terms = [f"{three}"]
     for name in [*it.on, *it.reads]:
-        terms += [f"(present({each}) ? {each} : {four})" for each in channels(kind, name)] if isinstance(name, Place) else []
-        terms += [f"present({name}) * {two}"] if isinstance(name, str) else []
-        terms += [f"{name}"] if name in kind.actions else []
+        ports = channels(kind, name) if isinstance(name, Place) else []
+        terms += [f"(present({each}) ? {each} : {four})" for each in ports]
+        terms += [f"present({name}) * {two}"] if isinstance(name, str) and name != "reset" else []
+        terms += [f"{name}"] if name in kind.every_action else []
         terms += [f"{name.port}[n % 3]"] if indexed(kind, name) else []
     body = [f"n = (n * {one} + {' + '.join(terms[:8])}) % {MODULUS};"]
     body += [f"n = (n + {term}) % {MODULUS};" for term in terms[8:]]
@@ -179,6 +230,11 @@ def reaction_text(kind, it):
             body.append(f"{place.port}[n % 4] = n * 2;")
     body += [f"if (n % {2 + three} < 2) schedule({action}, {four % 3}, n);" for action in it.actions]
     body += ["if (n % 5 == 0) request_stop();"] * it.asks
+    if it.mode is not None and kind.modes[it.mode].start is not None:
+        body = [f"r{it.mode} = r{it.mode} + 1;", f"n = n + r{it.mode};", *body]
+    if it.leads:
+        writes = ", ".join([*filter(None, [writes]), f"{it.leads[0]}(M{it.leads[1]})"])
+        body.append(f"if (n % {1 + one} < 2) set_mode(M{it.leads[1]});")
     arrow = f" -> {writes}" if writes else ""
     return f"  reaction({on}) {reads}{arrow} {{= {' '.join(body)} =}}"
 
@@ -191,11 +247,9 @@ def indexed(kind, name):
 def channels(kind, place):
     """The channels of all instances of a place, each as a place of its own, the first instance's first."""
     of, size = (kind, None) if place.owner is None else kind.instances[place.owner]
-    ports = {**of.inputs, **of.outputs}
-    return [
-        Place(place.owner, place.port, owner, index)
-        for owner in (range(size) if size else [None]) for index in (range(ports[place.port]) if ports[place.port] else [None])
-    ]
+    width = {**of.inputs, **of.outputs}[place.port]
+    owners, indices = (range(it) if it else [None] for it in (size, width))
+    return [Place(place.owner, place.port, owner, index) for owner in owners for index in indices]
 
 
 # The simulator.
@@ -204,6 +258,9 @@ def channels(kind, place):
 class Node:
     def __init__(self, kind, path=()):
         self.kind, self.path, self.n = kind, path, 1
+        self.mode, self.next, self.counts = 0, None, [mode.start for mode in kind.modes]
+        # The tag at which its mode began anew, and that at which each was entered first.
+        self.begun, self.first = None, {0: (0, 0)}
         self.parts = {}
         for name, (of, size) in kind.instances.items():
             for index in range(size) if size else [None]:
@@ -308,22 +365,56 @@ class Simulator:
         for time, micro, number, value in events:
             self.enter((time, micro), given[number], value)
         for node in self.root.every():
-            for name, (offset, period) in node.kind.timers.items():
-                for time in range(offset, STOP + 1, period or STOP + 1):
-                    self.enter((time, 0), (id(node), name, None), 1)
+            for kind in (node.kind, *node.kind.modes[:1]):
+                for name, times in kind.timers.items():
+                    self.begin(node, name, *times)
         while self.queue and self.queue[0][0] <= self.end:
             self.tag, self.now = self.queue[0][0], {}
             while self.queue and self.queue[0][0] == self.tag:
                 _, _, target = heapq.heappop(self.queue)
-                value = self.entries.pop((self.tag, target))
-                self.put(target, value)
+                if (self.tag, target) in self.entries:
+                    self.put(target, self.entries.pop((self.tag, target)))
             for number in self.order:
                 self.react(*self.reactions[number])
-            self.out += [[*self.tag, number, self.now[point]] for number, point in enumerate(shown) if point in self.now]
+            for node in self.root.every():
+                self.turn(node)
+            put = [(number, point) for number, point in enumerate(shown) if point in self.now]
+            self.out += [[*self.tag, number, self.now[point]] for number, point in put]
         return self.out
 
-    def seen(self, node, name):
+    def begin(self, node, name, offset, period):
+        """Lets a timer come from this tag on, at once where it has no offset."""
+        time, micro = self.tag
+        for each in range(time + offset, STOP + 1, period or STOP + 1):
+            self.enter((each, 0 if each > time else micro), (id(node), name, None), 1)
+
+    def turn(self, node):
+        """Lets a node be in the mode that was set at this tag, from the next microstep on."""
+        if node.next is None or self.tag == self.end:
+            return
+        (word, number), before, node.next = node.next, self.tag, None
+        left, mode = node.kind.modes[node.mode], node.kind.modes[number]
+        for tag, target in [*self.entries]:
+            if target[0] == id(node) and target[1] in (*left.timers, *left.actions):
+                del self.entries[tag, target]
+        node.mode, entered = number, self.landing(0)
+        self.tag = entered
+        self.enter(entered, (id(node), "entered", None), 1)
+        node.first.setdefault(number, entered)
+        if word == "reset":
+            node.begun, node.counts[number] = entered, mode.start
+            for name, times in mode.timers.items():
+                self.begin(node, name, *times)
+        self.tag = before
+
+    def seen(self, node, name, mode=None):
         """The values of what a reaction names: None where it is absent."""
+        if name == "reset":
+            return [1 if node.begun == self.tag else None]
+        if name == "startup" and mode is not None:
+            return [1 if node.first.get(mode) == self.tag else None]
+        if name == "shutdown" and mode is not None:
+            return [1 if self.tag == self.end and mode in node.first else None]
         if isinstance(name, Place):
             return [self.now.get(point) for point in node.points(name)]
         if name == "shutdown":
@@ -331,17 +422,22 @@ class Simulator:
         return [self.now.get(name if name == "startup" else (id(node), name, None))]
 
     def react(self, node, it):
-        if all(value is None for name in it.on for value in self.seen(node, name)):
+        is_in = it.mode in (None, node.mode)
+        on = [name for name in it.on if is_in or name == "shutdown"]
+        if all(value is None for name in on for value in self.seen(node, name, it.mode)):
             return
+        if it.mode is not None and node.counts[it.mode] is not None:
+            node.counts[it.mode] += 1
+            node.n += node.counts[it.mode]
         one, two, three, four = it.numbers
         terms = [three]
         for name in [*it.on, *it.reads]:
-            values = self.seen(node, name)
+            values = self.seen(node, name, it.mode)
             if isinstance(name, Place):
                 terms += [four if value is None else value for value in values]
             else:
-                terms.append((values[0] is not None) * two)
-                terms += [values[0] or 0] if name in node.kind.actions else []
+                terms += [(values[0] is not None) * two] * (name != "reset")
+                terms += [values[0] or 0] if name in node.kind.every_action else []
             if indexed(node.kind, name):
                 terms.append(lambda values=values: dict(enumerate(values)).get(node.n % 3) or 0)
         old = [term() if callable(term) else term for term in terms[:8]]
@@ -351,7 +447,7 @@ class Simulator:
         self.effects(node, it)
 
     def effects(self, node, it):
-        _, two, three, four = it.numbers
+        one, two, three, four = it.numbers
         for place in it.writes:
             points = node.points(place)
             for number, point in enumerate(points):
@@ -361,10 +457,12 @@ class Simulator:
                 self.put(points[node.n % 4], node.n * 2)
         for action in it.actions:
             if node.n % (2 + three) < 2:
-                self.enter(self.landing(node.kind.actions[action] + four % 3), (id(node), action, None), node.n)
+                self.enter(self.landing(node.kind.every_action[action] + four % 3), (id(node), action, None), node.n)
         if it.asks and node.n % 5 == 0 and self.tag < self.end:
             self.end = min(self.end, self.landing(0))
             self.enter(self.end, "end", 1)
+        if it.leads and node.n % (1 + one) < 2:
+            node.next = it.leads
 
 
 def events_of(dice, simulator):

@@ -68,8 +68,11 @@ class Builder:
     def parameter(self, name, type, value):
         return tree.Parameter(name, type, value)
 
-    def state(self, name, type, value):
-        return tree.State(name, type, value)
+    def mode(self, initial, word, name, *members):
+        return tree.Mode(name, initial is not None, tuple(it for it in members if it))
+
+    def state(self, reset, name, type, value):
+        return tree.State(name, type, value, reset is not None)
 
     def ports(self, attribute, origin, kind, width, places, type):
         return tree.Ports(origin, kind.kind == "INPUT", places, type, (attribute or kind).at, width)
@@ -107,6 +110,9 @@ class Builder:
 
     def interleaved(self, place):
         return dataclasses.replace(place, is_interleaved=True)
+
+    def transition(self, word, name):
+        return tree.Place(None, name, transition=word.text)
 
     def list_of(self, *parts):
         return parts

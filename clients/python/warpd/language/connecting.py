@@ -116,10 +116,13 @@ class Connecting:
             delay = self.program.ranged(self.report, value, "delay", it.after.at, "the delay")
         before = self.report.errors
         sources = [point for place in it.sources for point in self._sources(place)]
-        targets = [(point, place) for place in it.targets for point in self.places.points(place, Kind.OUTPUT, Kind.INPUT)]
+        targets = [
+            (point, place) for place in it.targets for point in self.places.points(place, Kind.OUTPUT, Kind.INPUT)
+        ]
         if self.report.errors > before or not self._fits(it, len(sources), len(targets)):
             return
-        for source, (target, place) in zip(islice(cycle(sources), len(targets)) if it.is_broadcast else sources, targets):
+        sources = islice(cycle(sources), len(targets)) if it.is_broadcast else sources
+        for source, (target, place) in zip(sources, targets):
             is_right = self._is_free(target, place.at) and self._is_not_put(target, place.at)
             if is_right and self._is_of_type(source, target, place.at):
                 self.net.edges[target] = Edge(source, delay, place.at)
@@ -133,7 +136,7 @@ class Connecting:
         return left == right
 
     def _sources(self, place: tree.Place) -> Points:
-        """What a place left of an arrow names: outputs of instances, or inputs of its own; main's outputs lead on too."""
+        """What a place left of an arrow names: outputs of instances, or its own inputs; main's outputs lead on too."""
         leads_on = self.node.is_main and self.node.kind(place.name.text) is Kind.OUTPUT
         return self.places.points(place, Kind.OUTPUT if leads_on else Kind.INPUT, Kind.OUTPUT)
 

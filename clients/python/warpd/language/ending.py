@@ -22,7 +22,8 @@ SHUTDOWN, ENDED, REQUEST = "shutdown", "ended", "request_stop"
 def changed(statements: Iterable[list], change: Callable[[list], list]) -> list:
     """The statements with what each of them, that is no `if`, becomes."""
     return [
-        ["if", it[1], changed(it[2], change), changed(it[3], change)] if it[0] == "if" else change(it) for it in statements
+        ["if", it[1], changed(it[2], change), changed(it[3], change)] if it[0] == "if" else change(it)
+        for it in statements
     ]
 
 
@@ -133,7 +134,8 @@ class Ending:
     def _end(self, concerned: list[Instance]) -> None:
         """Adds the reactor that sends the end to all that it concerns, and hears who asks for it."""
         name, at = joined(["end"], self.program.instances), self.program.at
-        of = checked(declared(tree.Reactor(tree.Name("end", at), False, (), (), at), self.program, self.report), self.report)
+        nothing = tree.Reactor(tree.Name("end", at), False, (), (), at)
+        of = checked(declared(nothing, self.program, self.report), self.report)
         asked = [f"asked_{number}" for number in range(1, len(self.asking) + 1)]
         body = [["put", SHUTDOWN, 1]]
         if asked:
@@ -143,7 +145,8 @@ class Ending:
             "timers": [["stop", self.program.stop, 0]],
             "reactions": [{"on": ["stop", *asked], "writes": [SHUTDOWN], "body": body}],
         }
-        end = Instance(name, of, {}, at, name, {key: value for key, value in reactor.items() if value})
+        written = {key: value for key, value in reactor.items() if value}
+        end = Instance(name, of, {}, at, name, written, is_added=True)
         self.program.instances[name] = end
         for number, it in enumerate(self.asking):
             self.program.links.append(Link(self._request(it), Port(name, asked[number]), 0, it.at))

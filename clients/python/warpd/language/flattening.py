@@ -47,7 +47,7 @@ class Flattening:
         exits = [self._exit(it) for it in self.net.exits]
         for it in self.net.entrances:
             self._entrance(it)
-        self.program.outputs += [it for it in exits if it]
+        self.program.outputs += exits
 
     def _from(self, way: Way, target: Target) -> None:
         """Links a port with what comes to it; what an origin sends is linked later, where all its targets are known."""
@@ -60,7 +60,8 @@ class Flattening:
     # Instances.
 
     def _instances(self) -> None:
-        """Each node that has members of its own, or contains nothing, becomes an instance. Names of the text go first."""
+        """Each node that has members of its own, or contains nothing, becomes an instance. Names of the text go
+        first."""
         nodes = [it for it in self.root.every() if self._is_left(it)]
         names: dict[str, Node] = {}
         for it in sorted(nodes, key=lambda it: (len(it.path) != 1, bool(it.path), "[" in it.title)):
@@ -127,7 +128,7 @@ class Flattening:
         reaction = tree.Reaction((_place(name, at),), (), (_place(output, at),), body, at)
         of = tree.Reactor(tree.Name("relay", at), False, (), (*ports, reaction), at)
         form = checked(declared(of, self.program, self.report), self.report)
-        self.program.instances[flat] = Instance(flat, form, {}, at, flat)
+        self.program.instances[flat] = Instance(flat, form, {}, at, flat, is_added=True)
         return flat
 
     def _relay_path(self, point: Point) -> tuple[str, ...]:
@@ -148,17 +149,18 @@ class Flattening:
             output = "y" if name != "y" else "y_out"
             relay = self._relay(self._relay_path(it.point), name, output, it.at)
             port = Port(relay, name)
+            if not targets:
+                self.report.warning(it.at, f"`{it.point}` leads nowhere")
             for delays, target in targets:
                 self._link(Port(relay, output), delays, target)
         self.program.inputs.append(Owned(it.origin, port, it.at))
 
-    def _exit(self, it: Exit) -> Optional[Shown]:
+    def _exit(self, it: Exit) -> Shown:
         way = self._way(it.point)
         port = self._port(way.source, False)
         if not port and way.source not in self.entered:
             hint = "a reaction puts on an output, or a connection leads to it"
-            self.report.error(it.at, f"nothing comes to `{it.point}`", hint)
-            return None
+            self.report.warning(it.at, f"nothing comes to `{it.point}`", hint)
         if port and not way.delays and port not in self.shown:
             self.shown.add(port)
             return Shown(port, it.at)

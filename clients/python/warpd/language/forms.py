@@ -12,10 +12,13 @@ from .hierarchy import Node
 from .model import Program
 from .places import Places, Point
 from .scope import Kind
+from .tree import At
+
+OWN = (tree.State, tree.Action, tree.Timer, tree.Function)
 
 
 def has_structure(it: tree.Reactor) -> bool:
-    """Whether a reactor differs from instance to instance in more than its constants: by widths, or by what it contains."""
+    """Whether instances of a reactor differ in more than constants: in widths, or in what they contain."""
     is_wide = any(each.width for each in it.every(tree.Ports))
     places = [place for each in it.every(tree.Reaction) for place in (*each.on, *each.reads, *each.writes)]
     contains = it.every(tree.Instance) or it.every(tree.Connection)
@@ -36,7 +39,7 @@ class Form:
         it = self.node.raw.tree
         reactions = [self._reaction(each) for each in it.every(tree.Reaction)]
         named = {place.name.text for each in reactions for place in (*each.on, *each.reads, *each.writes)}
-        members = [each for each in it.members if isinstance(each, (tree.State, tree.Action, tree.Timer, tree.Function))]
+        members = [each for each in it.members if isinstance(each, OWN)]
         members += [self._ports(each, named) for each in it.every(tree.Ports)]
         for points, is_input in ((self.heard, True), (self.fed, False)):
             for name, point in points.items():
@@ -45,7 +48,7 @@ class Form:
         return dataclasses.replace(it, members=tuple(members + reactions))
 
     def _ports(self, it: tree.Ports, named: set[str]) -> tree.Ports:
-        """The ports of its own, a name for each channel; where it contains others, those alone that its reactions name."""
+        """Its own ports, a name for each channel; where it contains others, those alone that its reactions name."""
         def is_wanted(name: str) -> bool:
             is_alone = self.node.is_main and name.split("[")[0] not in self.node.connected
             return not self.node.contains or name in named or is_alone
@@ -83,24 +86,29 @@ class Form:
         if isinstance(it, tuple):
             made = tuple(map(self._of, it))
             return it if all(map(lambda a, b: a is b, made, it)) else made
+        found = self._ported(it)
+        if found is not None or not dataclasses.is_dataclass(it) or isinstance(it, tree.Name):
+            return it if found is None else found
+        parts = {key: value for key, value in vars(it).items() if isinstance(value, tuple) or _is_part(value)}
+        changed = {key: self._of(value) for key, value in parts.items()}
+        changed = {key: value for key, value in changed.items() if value is not parts[key]}
+        return dataclasses.replace(it, **changed) if changed else it
+
+    def _ported(self, it):
+        """What a part means that is a port, asks for one or puts on one; None where it is something else."""
         match it:
+            case tree.Call(tree.Name("present"), (tree.Member(place, at),)) if self._is_port(place):
+                return self._asked(it, place, at)
+            case tree.Call(tree.Name("present"), (tree.Reference(name, at),)) if name in self.node.widths:
+                return self._asked(it, tree.Place(None, tree.Name(name, at)), at)
             case tree.Member(place, at) if self._is_port(place):
                 zero = tree.Number("0", at)
                 return self._select(place, Kind.OUTPUT, lambda name: tree.Reference(name, at), _choice, zero)
-            case tree.Reference(name, at) if name in self.node.widths:
-                self._lacks_index(name, at)
-                return tree.Number("0", at)
-            case tree.Call(tree.Name("present"), (tree.Member(place, at),), _) if self._is_port(place):
-                def present(name: str) -> tree.Expression:
-                    return dataclasses.replace(it, parts=(tree.Reference(name, at),))
-
-                return self._select(place, Kind.OUTPUT, present, _choice, tree.Number("0", at))
             case tree.Invoke(tree.Call(tree.Name("put"), (tree.Member(place, at), *rest))) if self._is_port(place):
                 parts = self._of(tuple(rest))
 
                 def put(name: str) -> tree.Statement:
-                    call = dataclasses.replace(it.call, parts=(tree.Reference(name, at), *parts))
-                    return tree.Invoke(call)
+                    return tree.Invoke(dataclasses.replace(it.call, parts=(tree.Reference(name, at), *parts)))
 
                 return self._select(place, Kind.INPUT, put, _if, tree.Block(()))
             case tree.Assign(tree.Place() as place, operator, value) if self._is_port(place):
@@ -110,14 +118,23 @@ class Form:
                     return tree.Assign(tree.Name(name, place.at), operator, value)
 
                 return self._select(place, Kind.INPUT, assign, _if, tree.Block(()))
-            case tree.Assign(tree.Name(name, at)) if name in self.node.widths:
+            case (tree.Reference(name, at) | tree.Assign(tree.Name(name, at))) if name in self.node.widths:
                 self._lacks_index(name, at)
-                return tree.Block(())
-        if not dataclasses.is_dataclass(it) or isinstance(it, tree.Name):
-            return it
-        changed = {key: self._of(value) for key, value in vars(it).items() if isinstance(value, tuple) or _is_part(value)}
-        changed = {key: value for key, value in changed.items() if value is not getattr(it, key)}
-        return dataclasses.replace(it, **changed) if changed else it
+                return tree.Number("0", at) if isinstance(it, tree.Reference) else tree.Block(())
+        return None
+
+    def _asked(self, it: tree.Call, place: tree.Place, at: At) -> tree.Expression:
+        """Whether a port is there: of all channels and instances that a place names, whether one of them is."""
+        def present(name: str) -> tree.Expression:
+            return dataclasses.replace(it, parts=(tree.Reference(name, at),))
+
+        if not all(map(self.places.is_constant, (place.owner_index, place.index))):
+            return self._select(place, Kind.OUTPUT, present, _choice, tree.Number("0", at))
+        found = [present(point.seen_from(self.node)) for point in self.places.points(place, Kind.INPUT, Kind.OUTPUT)]
+        one = found[0] if found else tree.Number("0", at)
+        for other in found[1:]:
+            one = tree.Binary("||", one, other, at)
+        return one
 
     def _is_port(self, place: tree.Place) -> bool:
         """Whether this is a port of an instance or a channel, and no part of a value."""
@@ -183,7 +200,9 @@ class Form:
         else:
             self.report.error(place.name.at, f"{part.raw.name} has no port `{name}`", nearest(name, part.ports(inner)))
 
-    def _index(self, name: tree.Name, index: Optional[tree.Expression], width: Optional[int], wide: str, one: str) -> None:
+    def _index(
+        self, name: tree.Name, index: Optional[tree.Expression], width: Optional[int], wide: str, one: str
+    ) -> None:
         if width is None:
             self.report.error(index.at, f"`{name.text}` is {one}: it has no index")
         else:

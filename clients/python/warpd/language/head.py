@@ -44,7 +44,8 @@ class Head:
             program.unit = self._unit(self.found["unit"].value)
         stop = self.found.get("stop") or self.found.get("timeout")
         if "stop" in self.found and "timeout" in self.found:
-            self.report.error(self.found["timeout"].name.at, "`timeout` and `stop` are one thing", "leave one of them out")
+            at = self.found["timeout"].name.at
+            self.report.error(at, "`timeout` and `stop` are one thing", "leave one of them out")
         if not stop and self.report.errors == before:
             hint = "write `target warpd { stop: 100 }`: the last time that is executed"
             self.report.error(self.file.at, "the program has no stop", hint)

@@ -161,12 +161,13 @@ class Hierarchy:
         return Class(tree.Reactor(it.reactor, False, (), (), it.reactor.at), Scope(self.report, None), is_good=False)
 
     def _given(self, node: Node, it: tree.Instance, of: Class, index: Optional[int]) -> dict[str, int]:
-        """The parameters that stand in the brackets of an instance; in a bank each has its index."""
+        """The parameters that stand in the brackets of an instance; in a bank each has its index there, where
+        the reactor around has no parameter of this name."""
         given: dict[str, int] = {}
         parameters = [each.name.text for each in of.tree.parameters]
         is_known = of.is_good or of.tree.members
         names, scope = node.constants, node.raw.scope
-        if index is not None:
+        if index is not None and INDEX not in names:
             names, scope = {**names, INDEX: index}, scope.with_constants({INDEX: index})
         for place, argument in enumerate(it.arguments):
             if not argument.name:

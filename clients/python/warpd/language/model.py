@@ -83,7 +83,8 @@ class Class:
 
 @dataclass
 class Instance:
-    """`title` is how it is told of, `reactor` what stands in the program file; the last `kept` of its variables are the compiler's own."""
+    """`title` is how it is told of, `is_added` says that the text has it not. `reactor` is what stands in the program
+    file; the last `kept` of its variables are the compiler's own."""
 
     name: str
     of: Class
@@ -92,7 +93,7 @@ class Instance:
     title: str = ""
     reactor: dict = field(default_factory=dict)
     kept: int = 0
-
+    is_added: bool = False
 
     def told(self, port: str) -> str:
         """A port as the text names it."""

@@ -68,7 +68,8 @@ class Places:
             self.report.error(index.at, f"`{name.text}` is {one}: it has no index")
             return range(count)
         if value is not None and not 0 <= value < count:
-            self.report.error(index.at, f"`{name.text}` has {count} {what}, from 0: there is none with the index {value}")
+            text = f"`{name.text}` has {count} {what}, from 0: there is none with the index {value}"
+            self.report.error(index.at, text)
         return [value] if value is not None and 0 <= value < count else []
 
     def constant(self, it: tree.Expression) -> Optional[int]:

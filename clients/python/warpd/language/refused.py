@@ -6,8 +6,6 @@ STRUCTURE = {
         "declare an `input`, and let its origin send what happens outside",
     ),
     "deadline": ("warpd has no deadlines: no clock is read", "let a timer look whether something has come"),
-    "mode": ("warpd has no modes", "keep the mode in a state variable, and ask for it by `if`"),
-    "initial": ("warpd has no modes", "keep the mode in a state variable, and ask for it by `if`"),
     "preamble": ("warpd has no target code", "constants stand outside of reactors: `const NAME = 3;`"),
     "federated": ("warpd has no federates", "write `main reactor`: each replica runs the whole program"),
     "watchdog": ("warpd has no watchdogs: no clock is read", "let a timer look whether something has come"),
@@ -32,6 +30,7 @@ BODY = {
     **dict.fromkeys(("printf", "print", "puts", "lf_print", "lf_print_error", "fprintf"), _PRINTS),
     "lf_set": (_NO_CODE, "write `y = e;` or `put(y, e);`"),
     **dict.fromkeys(("lf_schedule", "lf_schedule_int"), (_NO_CODE, "write `schedule(c, delay, value);`")),
+    "lf_set_mode": (_NO_CODE, "write `set_mode(M);`"),
     "lf_request_stop": (_NO_CODE, "write `request_stop();`"),
     "self": (_NO_CODE, "a state variable stands by its name alone"),
     **dict.fromkeys((
@@ -109,5 +108,5 @@ BEGINNINGS = {
 }
 
 TRIGGERS = {
-    "reset": ("warpd has no modes, and so no `reset`", "use an input or an action"),
+    "reset": ("`reset` triggers reactions of modes alone", "outside of modes an input or an action does"),
 }

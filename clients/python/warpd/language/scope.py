@@ -43,7 +43,7 @@ FUNCTIONS = {
     "min": (2, None), "max": (2, None), "abs": (1, 1), "clamp": (3, 3), "present": (1, 1), "floor": (1, 1),
     "round": (1, 1), "fixed": (1, 1),
 }
-STATEMENTS = {"put": (2, 2), "schedule": (2, 3), "request_stop": (0, 0)}
+STATEMENTS = {"put": (2, 2), "schedule": (2, 3), "request_stop": (0, 0), "set_mode": (1, 1)}
 LONGEST_NAME = 32
 
 

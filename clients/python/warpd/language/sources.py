@@ -8,6 +8,7 @@ from typing import Optional
 
 from . import tree
 from .faults import Report, nearest
+from .modes import without_modes
 from .parsing import Parser
 from .tree import At
 
@@ -48,7 +49,8 @@ class Sources:
 
     def others(self) -> list[tree.Reactor]:
         """The reactors of imported files."""
-        return [self._extended(it, ()) for file in self.files[:-1] for it in file.reactors if it.name and not it.is_main]
+        every = [it for file in self.files[:-1] for it in file.reactors]
+        return [self._extended(it, ()) for it in every if it.name and not it.is_main]
 
     def names(self, at: At) -> list[str]:
         """The names of reactors that are known where this stands."""
@@ -110,7 +112,8 @@ class Sources:
     def _take(self, each: tree.Imported, it: tree.Import, there: dict, home: dict) -> None:
         found = there.get(each.name.text)
         if found is None:
-            self.report.error(each.name.at, f"`{it.path}` has no reactor `{each.name.text}`", nearest(each.name.text, there))
+            text = f"`{it.path}` has no reactor `{each.name.text}`"
+            self.report.error(each.name.at, text, nearest(each.name.text, there))
         elif home.get(each.here.text, found) is not found:
             place = self.report.place(home[each.here.text].at)
             self.report.error(each.here.at, f"there is a reactor `{each.here.text}` already", f"at {place}")
@@ -121,7 +124,7 @@ class Sources:
 
     def _extended(self, it: tree.Reactor, around: tuple[tree.Reactor, ...]) -> tree.Reactor:
         """A reactor with all that those have which it extends, before its own; what is reached twice stands once."""
-        if not it.extends:
+        if not it.extends and not it.every(tree.Mode):
             return it
         if id(it) not in self.whole:
             bases = [each for name in it.extends for each in self._base(name, it, around)]
@@ -129,7 +132,7 @@ class Sources:
             for part in ("parameters", "members"):
                 found = {id(each): each for base in bases for each in getattr(base, part)}
                 lists[part] = (*found.values(), *getattr(it, part))
-            self.whole[id(it)] = replace(it, extends=(), **lists)
+            self.whole[id(it)] = without_modes(replace(it, extends=(), **lists), self.report)
         return self.whole[id(it)]
 
     def _base(self, name: tree.Name, it: tree.Reactor, around: tuple[tree.Reactor, ...]) -> list[tree.Reactor]:

@@ -28,13 +28,15 @@ class Name:
 
 @dataclass(frozen=True)
 class Place:
-    """`port`, or `instance.port`; either may have an index. `interleaved` goes over the instances of a bank first."""
+    """`port`, or `instance.port`; either may have an index. `interleaved` goes over the instances of a bank first. A
+    mode has the word of the transition to it, `reset` or `history`."""
 
     owner: Optional[Name]
     name: Name
     owner_index: Optional[Expression] = None
     index: Optional[Expression] = None
     is_interleaved: bool = False
+    transition: str = ""
 
     @property
     def at(self) -> At:
@@ -211,9 +213,12 @@ class Parameter:
 
 @dataclass(frozen=True)
 class State:
+    """`is_reset` says that a reset of its mode gives it its start again."""
+
     name: Name
     type: Optional[Name]
     start: Optional[Expression]
+    is_reset: bool = False
 
 
 @dataclass(frozen=True)
@@ -281,7 +286,14 @@ class Connection:
     at: At
 
 
-Part = Union[State, Ports, Action, Timer, Reaction, Instance, Connection, Function]
+@dataclass(frozen=True)
+class Mode:
+    name: Name
+    is_initial: bool
+    members: tuple[Part, ...]
+
+
+Part = Union[State, Ports, Action, Timer, Reaction, Instance, Connection, Function, Mode]
 
 
 @dataclass(frozen=True)

@@ -14,7 +14,7 @@ from .tree import At, State
 def warn(program: Program, report: Report) -> None:
     for it in program.unused:
         report.warning(it.tree.at, f"no instance of {it.name}")
-    for one in {id(it.of): it.of for it in program.instances.values()}.values():
+    for one in {id(it.of): it.of for it in program.instances.values() if not it.is_added}.values():
         ClassWarnings(program, report, one).warn()
     warn_of_lost(program, report)
     owned = {it.origin for it in program.inputs}

@@ -5,7 +5,7 @@ from __future__ import annotations
 from .lexing import Word
 from .tree import Name
 
-SOFT = {"IMPORT", "FROM", "AS", "EXTENDS", "INTERLEAVED"}
+SOFT = {"IMPORT", "FROM", "AS", "EXTENDS", "INTERLEAVED", "INITIAL", "MODE", "RESET", "HISTORY"}
 
 
 def in_place(words: list[Word]) -> list[Word]:
@@ -37,6 +37,12 @@ def _has_place(words: list[Word], number: int, braces: int, is_import: bool) -> 
         return is_import and _is_word(behind) and _is_word(before)
     if kind == "EXTENDS":
         return braces == 0 and _is_word(behind) and (_is_word(before) or before in ("RPAR", "REACTOR"))
+    if kind == "MODE":
+        return braces == 1 and _is_word(behind) and next_but_one == "LBRACE"
+    if kind == "INITIAL":
+        return braces == 1 and behind == "MODE"
+    if kind == "RESET" and behind == "STATE":
+        return True
     return behind == "LPAR" and before not in ("TIMER", "ACTION", "NEW")
 
 
