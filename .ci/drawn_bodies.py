@@ -49,14 +49,18 @@ class Drawer:
 
     def leaf(self, names, wanted):
         dice = self.dice
-        fitting = [name for name, type in names.items() if type == wanted]
-        if fitting and dice.random() < 0.7:
-            name = dice.choice(fitting)
+        fitting = [name for name, type in names.items() if type == wanted and name not in COLORS]
+        if fitting and dice.random() < 0.8:
+            lets = [name for name in fitting if name.startswith("l")]
+            name = dice.choice(lets if lets and dice.random() < 0.5 else fitting)
             return name, lambda now: now[name]
         if wanted == FIXED and dice.random() < 0.6:
             text = dice.choice([*POINTS])
             return text, lambda now: POINTS[text]
-        number = dice.choice(NUMBERS[:7] if wanted == FIXED else NUMBERS)
+        if wanted == INT and dice.random() < 0.2:
+            name = dice.choice([*COLORS])
+            return name, lambda now: now[name]
+        number = dice.choice(NUMBERS if wanted == INT and dice.random() < 0.2 else NUMBERS[:7])
         if wanted == FIXED:
             return f"fixed({number})", lambda now: number * ONE
         return f"({number})", lambda now: number
@@ -120,7 +124,7 @@ class Drawer:
     def statements(self, names, depth=2, assigns=True, returns=None):
         """`returns` is the type of what `return` gives, None where it gives nothing."""
         names, texts, acts = dict(names), [], []
-        for _ in range(self.dice.randint(2, 4)):
+        for _ in range(self.dice.randint(2, 3) + 4 * (depth == 2)):
             text, act = self.statement(names, depth, assigns, returns)
             texts.append(text)
             acts.append(act)
@@ -128,16 +132,18 @@ class Drawer:
 
     def statement(self, names, depth, assigns, returns):
         kind = self.dice.random()
-        if kind < 0.3 or not assigns and kind < 0.5:
+        if kind < 0.3:
             return self.let(names, assigns)
-        if kind < 0.5 and depth:
-            test, asks = self.expression(names)
+        if not assigns and kind < 0.65:
+            return self.leave(names, returns)
+        if kind < 0.4 and depth:
+            test, asks = self.asked(names, 1)
             (yes, do_yes), (no, do_no) = (self.statements(names, depth - 1, assigns, returns) for _ in range(2))
             text = f"if ({test}) {{ {yes} }} else {{ {no} }}"
             return text, lambda now: do_yes(now) if asks(now) else do_no(now)
-        if kind < 0.6 and depth:
+        if (kind < 0.5 or not assigns) and depth:
             return self.loop(names, depth, assigns, returns)
-        if kind < 0.7:
+        if kind < 0.55:
             return self.leave(names, returns)
         return self.assign(names) if assigns else self.let(names, assigns)
 
@@ -161,8 +167,8 @@ class Drawer:
         return f"{name} {sign}= {text};", lambda now: now.update({name: change(now[name], value(now))})
 
     def leave(self, names, returns):
-        test, asks = self.expression(names)
-        word = self.dice.choice(["return", *["break", "continue"] * 2 * bool(self.loops)])
+        test, asks = self.asked(names, 1)
+        word = self.dice.choice(["return", *["break", "continue"] * bool(self.loops)])
         if word == "return" and returns:
             text, value = self.expression(names, returns)
 

@@ -4,6 +4,7 @@ from __future__ import annotations
 
 from collections.abc import Iterable, Iterator, Mapping
 from dataclasses import dataclass, field
+from functools import cached_property
 from typing import Optional
 
 from . import tree
@@ -27,6 +28,17 @@ class Routine:
     @property
     def name(self) -> str:
         return self.tree.name.text
+
+    @cached_property
+    def is_expression(self) -> bool:
+        """Whether a call is one expression no larger than the body: it assigns nothing, has no loop, and of each `if`
+        that may return one branch always does."""
+        def may_go_on(it: tree.Statement) -> bool:
+            returns = isinstance(it, tree.If) and any(isinstance(each, tree.Leave) for each in every((it,)))
+            return returns and not always_leaves(it.yes) and not always_leaves(it.no)
+
+        body = [*every(self.tree.body or ())]
+        return not self.changes and not any(isinstance(it, tree.Loop) or may_go_on(it) for it in body)
 
 
 class RoutineCheck(BodyCheck):

@@ -1,7 +1,7 @@
 """From the statements of a checked body to those of a program file.
 
-A `let` means its value at its place. A function is put in where it is called: one that assigns nothing as the
-expression that it comes to, another as its statements. A loop is written out, turn by turn. What stands behind a
+A `let` means its value at its place. A function is put in where it is called: one that has neither
+loops nor assignments as the expression that it comes to, another as its statements. A loop is written out, turn by turn. What stands behind a
 `return`, `break` or `continue` is put into the other branch of the `if` that it stands in; where that can not be, a
 variable of the compiler's own says that it was reached."""
 
@@ -50,19 +50,6 @@ class Left(NamedTuple):
 
 
 Item = Callable[[], Left]
-
-
-class Turn(NamedTuple):
-    """In the statements of a function: a turn of a loop begins."""
-
-    name: str
-    number: int
-
-
-class Ends(NamedTuple):
-    """In the statements of a function: a turn or a loop ends."""
-
-    word: str
 
 
 class TooMany(Exception):
@@ -311,13 +298,16 @@ class Body(Maker):
         for (name, type), value in zip(routine.parameters, given):
             self.names[name], self.types[name] = value, type
         self.calling.append(routine.name)
-        made_ = self._performed(routine, it.at) if routine.changes else self._result([*routine.tree.body], routine.type)
+        if routine.is_expression:
+            made_ = self._result([*routine.tree.body], routine.type)
+        else:
+            made_ = self._performed(routine, it.at)
         self.calling.pop()
         self.names, self.types, self.labels, self.result = before
         return made_, routine.type or INT
 
     def _performed(self, routine: Routine, at: At) -> Made:
-        """Makes the statements of a method, and gives where its value is."""
+        """Makes the statements of a function, and gives where its value is."""
         result: Made = 0
         if isinstance(routine.type, Struct):
             result = {name: Cell(at) for name in routine.type.fields}
@@ -339,14 +329,8 @@ class Body(Maker):
                     items[:0] = it.statements
                 case tree.If() if any(isinstance(each, tree.Leave) for each in every((it,))):
                     return self._either(it, items, type)
-                case tree.Loop():
-                    items[:0] = self._written_out(it)
-                case Turn():
-                    self.names[it.name], self.types[it.name] = it.number, INT
-                case tree.Leave("return"):
-                    return self.value(it.value, type)
                 case tree.Leave():
-                    del items[:next(place for place, each in enumerate(items) if each == Ends(it.word))]
+                    return self.value(it.value, type)
         return 0
 
     def _either(self, it: tree.If, items: list, type: Type) -> Made:
@@ -360,10 +344,6 @@ class Body(Maker):
         if isinstance(yes, dict):
             return {name: made("if", test, yes[name], no[name]) for name in yes}
         return made("if", test, yes, no)
-
-    def _written_out(self, it: tree.Loop) -> list:
-        turns = [[Turn(it.first.name.text, number), *it.body, Ends("continue")] for number in self._turns(it)]
-        return [*(each for turn in turns for each in turn), Ends("break")]
 
 
 def _other_branch(out: list, labels: frozenset[Label]) -> Optional[list]:
