@@ -13,7 +13,6 @@ from .model import Program, ranged
 from .places import Places, Point, Points
 from .scope import Kind, count_of
 from .tree import At
-from .types import INT
 
 
 class Edge(NamedTuple):

@@ -7,7 +7,6 @@ which a reactor `end` sends."""
 from __future__ import annotations
 
 from collections.abc import Callable, Iterable
-from typing import Optional
 
 from . import tree
 from .faults import Report

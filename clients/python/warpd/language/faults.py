@@ -25,6 +25,8 @@ class Report:
     def __init__(self, file: str, text: str):
         self.file, self.lines = file, text.split("\n")
         self.faults: list[Fault] = []
+        # How often an error was told, one that is told again counted too.
+        self.errors = 0
         # Each file, and how many lines stand before its first: those of a further file are counted on.
         self.files: list[tuple[int, str]] = [(0, file)]
 
@@ -45,6 +47,7 @@ class Report:
         return f"line {at.line - first}" + f" of {file}" * (first > 0)
 
     def error(self, at: At, text: str, hint: str = "") -> None:
+        self.errors += 1
         self._add(Fault(at, "error", text, hint))
 
     def warning(self, at: At, text: str, hint: str = "") -> None:
@@ -53,10 +56,6 @@ class Report:
     def _add(self, fault: Fault) -> None:
         if fault not in self.faults:
             self.faults.append(fault)
-
-    @property
-    def errors(self) -> int:
-        return sum(it.kind == "error" for it in self.faults)
 
     def __str__(self) -> str:
         shown = sorted(self.faults)

@@ -25,10 +25,13 @@ class Head:
     def read(self) -> None:
         self._target()
         self.program.scope = Scope(self.report, self.program.unit)
+        before = self.report.errors
         self._types()
         self._constants()
         for routine in declared(self.file.functions, self.program.scope):
             RoutineCheck(self.program.scope, routine).check()
+        can_be_read = all(it.body is not None for it in self.file.functions)
+        self.program.is_whole = can_be_read and self.report.errors == before
 
     def _target(self) -> None:
         program, target, before = self.program, self.file.target, self.report.errors

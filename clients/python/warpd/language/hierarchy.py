@@ -10,7 +10,6 @@ from typing import TYPE_CHECKING, Optional
 from . import tree
 from .faults import Report, listed, nearest
 from .model import Class, Instance, Program, ranged
-from .reactors import declared
 from .scope import Kind, Scope
 from .sources import Sources
 from .tree import At

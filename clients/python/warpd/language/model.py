@@ -136,12 +136,14 @@ class Shown(NamedTuple):
 @dataclass
 class Program:
     """`unit` is in nanoseconds, None where the text states none; `origins` is 0 until it is known. `is_exact` says that
-    nothing is executed behind microstep 0 of the stop. `scope` has what is declared outside of reactors."""
+    nothing is executed behind microstep 0 of the stop, `is_whole` that there is no fault outside of reactors. `scope`
+    has what is declared there."""
 
     at: At
     version: int = 2
     stop: int = 0
     is_exact: bool = True
+    is_whole: bool = True
     origins: int = 0
     unit: Optional[int] = None
     constants: dict[str, int] = field(default_factory=dict)

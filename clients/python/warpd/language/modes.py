@@ -7,7 +7,7 @@ what was begun before says nothing any more. An action of a mode has a second on
 from __future__ import annotations
 
 import dataclasses
-from collections.abc import Callable, Iterable, Iterator
+from collections.abc import Iterable, Iterator
 from typing import Optional
 
 from . import tree

@@ -107,7 +107,7 @@ class Parser:
         elif in_body and _lacks_semicolon(words, stopped):
             self.report.error(before.end, "`;` is missing here")
             return [*words[:number], Word("SEMICOLON", ";", before.line, before.column), *words[number:]]
-        elif not in_body and word.kind in ("REACTOR", "MAIN") and "RBRACE" in stopped.accepted:
+        elif not in_body and word.kind in ("REACTOR", "MAIN") and _is_in_reactor(words, stopped):
             self._unclosed_reactor(words, number)
             return [*words[:number], Word("RBRACE", "}", before.line, before.column), *words[number:]]
         else:
@@ -138,6 +138,11 @@ class Parser:
             self.report.error(word.at, text, f"between backquotes it is one: `` `{word}` ``")
         else:
             self.report.error(word.at, f"`{word}` cannot stand here", hint)
+
+
+def _is_in_reactor(words: Sequence[Word], stopped: Stopped) -> bool:
+    """Whether a reactor is open where the words stop."""
+    return "RBRACE" in stopped.accepted and any(it.kind == "REACTOR" for it in words[:stopped.number])
 
 
 def _is_word(word: Word) -> bool:

@@ -38,7 +38,7 @@ def program_of(file: tree.File, sources: Sources, report: Report) -> Program:
     forms.every()
     _connect(root, program, report)
     for it in program.instances.values():
-        if it.of.is_good:
+        if it.of.is_good and program.is_whole:
             Writer(it, program, report).write()
     if not report.errors:
         Ending(program, report).write()

@@ -50,7 +50,8 @@ def checked(one: Class, report: Report) -> Class:
     for reaction in one.tree.every(tree.Reaction):
         one.reactions.append(BodyCheck(one.scope, reaction))
         one.reactions[-1].check()
-    one.is_good &= report.errors == before
+    can_be_read = all(it.tree.body is not None for it in one.methods)
+    one.is_good &= can_be_read and report.errors == before
     one.is_checked = True
     return one
 

@@ -59,8 +59,9 @@ class ClassWarnings:
         if len(found) == len(self.instances):
             self.report.warning(at, text)
         else:
-            for it in found:
-                self.report.warning(it.at, told(it))
+            banks = {it.at: [each for each in found if each.at == it.at] for it in found}
+            for place, (first, *rest) in banks.items():
+                self.report.warning(place, told(first), f"so it is with {len(rest)} more of its bank" if rest else "")
 
     def _runs(self, it: Instance, number: int) -> bool:
         return any(self._comes(it, name) for name in it.of.reactions[number].lists["on"])
