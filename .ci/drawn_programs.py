@@ -1,12 +1,14 @@
-"""Drawn programs, and drawn statements of the language with what they come to: for `.ci/language`."""
+"""Drawn program files, for `.ci/language`."""
 
 import json
 
-from body_calls import LEAST, MOST, OPERATORS, quotient, wrapped
+from body_calls import LEAST, MOST, OPERATORS, wrapped
 
 STOP, MOST_SCHEDULES = 40, 16
 # Names of a program file that are words of the language, beside plain ones.
-NAMES = "a b2 Ab state if let input true new x_1 max present kept_1 reaction timer put".split()
+NAMES = (
+    "a b2 Ab state if let input true new x_1 max present kept_1 reaction timer put for return struct method fixed among"
+).split()
 NUMBERS = [0, 1, -1, 2, 5, -7, 1000, LEAST, MOST]
 
 
@@ -136,73 +138,3 @@ def folded(program):
 
     reactors = [{**it, "reactions": [reaction(each) for each in it.get("reactions", [])]} for it in program["reactors"]]
     return {**program, "reactors": reactors}
-
-
-# Statements of the language: each with its text and what it does to the values of the names.
-
-SIGNS = {
-    **{sign: OPERATORS[sign] for sign in ("+", "-", "*", "/", "%", "<")},
-    "==": OPERATORS["="], "&&": OPERATORS["and"], "||": OPERATORS["or"], "!=": lambda a, b: int(a != b),
-    ">": lambda a, b: int(a > b), "<=": lambda a, b: int(a <= b), ">=": lambda a, b: int(a >= b),
-}
-FUNCTIONS = {"min": min, "max": max, "clamp": lambda it, low, high: low if it < low else high if high < it else it}
-VARIABLES = ["a", "b", "c"]
-
-
-def expression(dice, names, depth=2):
-    """Its text, and what gives its value."""
-    kind = dice.random()
-    if depth == 0 or kind < 0.2:
-        name, number = dice.choice(names), dice.choice(NUMBERS)
-        return (name, lambda now: now[name]) if dice.random() < 0.7 else (f"({number})", lambda now: number)
-    texts, meanings = zip(*(expression(dice, names, depth - 1) for _ in range(3)))
-    one, two, three = meanings
-    if kind < 0.3:
-        return f"({texts[0]} ? {texts[1]} : {texts[2]})", lambda now: two(now) if one(now) else three(now)
-    if kind < 0.4:
-        return f"abs({texts[0]})", lambda now: wrapped(-one(now)) if one(now) < 0 else one(now)
-    if kind < 0.6:
-        word = dice.choice([*FUNCTIONS])
-        count = 3 if word == "clamp" else dice.choice([2, 3])
-        return f"{word}({', '.join(texts[:count])})", lambda now: FUNCTIONS[word](*(it(now) for it in meanings[:count]))
-    sign = dice.choice([*SIGNS])
-    return f"({texts[0]} {sign} {texts[1]})", lambda now: SIGNS[sign](one(now), two(now))
-
-
-def text_body(dice, names, lets, depth=2):
-    """Statements as text, and what they do."""
-    names, texts, acts = list(names), [], []
-    for _ in range(dice.randint(2, 5)):
-        kind = dice.random()
-        text, meaning = expression(dice, names)
-        if kind < 0.35:
-            name = f"l{next(lets)}"
-            texts.append(f"let {name} = {text};")
-            acts.append(lambda now, name=name, meaning=meaning: now.update({name: meaning(now)}))
-            names += [name, name]
-        elif kind < 0.55 and depth:
-            yes, do_yes = text_body(dice, names, lets, depth - 1)
-            no, do_no = text_body(dice, names, lets, depth - 1)
-            texts.append(f"if ({text}) {{ {yes} }} else {{ {no} }}")
-            acts.append(lambda now, test=meaning, yes=do_yes, no=do_no: yes(now) if test(now) else no(now))
-        else:
-            name, sign = dice.choice(VARIABLES), dice.choice(["", "", "+", "-", "*", "/", "%"])
-            texts.append(f"{name} {sign}= {text};")
-            change = SIGNS[sign] if sign else lambda _, new: new
-            acts.append(lambda now, name=name, new=meaning, do=change: now.update({name: do(now[name], new(now))}))
-    return "\n".join(texts), lambda now: [act(now) for act in acts] and None
-
-
-def text_program(dice):
-    """A text with one reaction, what its variables come to over some events, and these events' values."""
-    body, does = text_body(dice, [*VARIABLES, "x", "step"], iter(range(1000)))
-    starts, step = {name: dice.choice(NUMBERS) for name in VARIABLES}, dice.choice(NUMBERS)
-    states = "".join(f"  state {name}: int = {start};\n" for name, start in starts.items())
-    reactor = f"reactor R(step: int) {{\n{states}  input x: int;\n  reaction(x) {{=\n{body}\n=}}\n}}\n"
-    main = f"main reactor {{ r = new R(step = {step}); @origin(0) input r.x; }}\n"
-    text = f"target warpd {{ stop: 9 }}\n{reactor}{main}"
-    given, now = [dice.choice([*NUMBERS, 3]) for _ in range(4)], dict(starts)
-    for number in given:
-        now.update(x=number, step=step)
-        does(now)
-    return text, given, {name: now[name] for name in VARIABLES}

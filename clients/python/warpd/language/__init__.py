@@ -11,12 +11,13 @@ It wants `lark` (Debian: python3-lark)."""
 
 from __future__ import annotations
 
+from pathlib import Path
 from typing import NamedTuple, Optional
 
 from .faults import Report
 from .files import shown
-from .parsing import Parser
 from .program import program_of
+from .sources import Sources
 from .tree import At
 from .writing import text_of
 
@@ -33,13 +34,15 @@ class Compiled(NamedTuple):
     report: Report
 
 
-def compiled(text: str, file: str = "program.lf") -> Compiled:
-    """The program of a text; `file` is how its faults name it."""
+def compiled(text: str, file: str = "program.lf", folder: Optional[Path] = None) -> Compiled:
+    """The program of a text; `file` is how its faults name it. What it imports is read from below this folder, that of
+    the file where it is not given."""
     report = Report(file, text)
     program = None
     try:
-        tree = Parser(text, report).file()
-        program = tree and program_of(tree, report)
+        sources = Sources(folder or Path(file).parent, report)
+        tree = sources.read(text)
+        program = tree and program_of(tree, sources, report)
     except RecursionError:
         report.error(At(1, 1), "the text has brackets in brackets too deep to be read")
     if program and not report.errors:

@@ -3,11 +3,25 @@
 from __future__ import annotations
 
 from collections.abc import Iterable, Sequence
+from typing import Optional, Union
 
 from . import refused, tree
 from .faults import nearest
 from .scope import CONSTANTS, EFFECTS, FUNCTIONS, STATEMENTS, TRIGGERS, Kind, Scope
 from .tree import At
+from .types import INT, Type
+
+
+# What stands for the old value where a value is changed.
+ZERO = tree.Number("0", At(1, 1))
+
+
+class Local:
+    """A name of a body."""
+
+    def __init__(self, kind: Kind, type: Type, at: At):
+        self.kind, self.type, self.at = kind, type, at
+        self.is_read = False
 
 
 class BodyCheck:
@@ -15,7 +29,11 @@ class BodyCheck:
 
     def __init__(self, scope: Scope, reaction: tree.Reaction):
         self.scope, self.reaction, self.report = scope, reaction, scope.report
-        self.lets: dict[str, bool] = {}
+        self.lets: dict[str, Local] = {}
+        self.loops = 0
+        # Where an expression must be constant: what it is, with what to write. And one that is all of a value.
+        self.constant: Optional[tuple[str, str]] = None
+        self.whole: Optional[tree.Expression] = None
         self.lists = {part: [it.name.text for it in getattr(reaction, part)] for part in ("on", "reads", "writes")}
         self.effects: set[str] = set()
 
@@ -67,70 +85,135 @@ class BodyCheck:
                 at, f"`{name}` does not stand behind the `->` of this reaction", self.header("writes", name)
             )
 
-    def reads(self, name: str, at: At) -> None:
-        """Checks a name whose value is wanted."""
-        kind = self.scope.kinds.get(name)
-        if name in self.lets:
-            self.lets[name] = True
+    def kind_of(self, name: str) -> Optional[Kind]:
+        return self.lets[name].kind if name in self.lets else self.scope.kinds.get(name)
+
+    def reads(self, name: str, at: At) -> Type:
+        """Checks a name whose value is wanted, and gives its type."""
+        local, kind = self.lets.get(name), self.kind_of(name)
+        if local:
+            local.is_read = True
+        if self.constant and kind not in (*CONSTANTS, Kind.TURN, None):
+            text, hint = self.constant
+            self.report.error(at, f"`{name}` is {kind.value}: {text}", hint.format(name))
+        elif local:
+            return local.type
         elif kind in (Kind.INPUT, Kind.ACTION):
             self.is_declared(name, at)
         elif kind is Kind.OUTPUT:
             self.report.error(
                 at, f"`{name}` is an output: it cannot be read", "keep what you put in a `let` or in a state variable"
             )
-        elif kind in (Kind.TIMER, Kind.STARTUP):
+        elif kind in (Kind.TIMER, Kind.STARTUP, Kind.SHUTDOWN):
             hint = f"`present({name})` asks whether it is there"
             self.report.error(at, f"`{name}` is {kind.value}: it has no value", hint)
+        elif kind is None and name in refused.VALUES:
+            self.report.error(at, *refused.VALUES[name])
         elif kind is None:
             near = nearest(name, [*self.scope.kinds, *self.lets])
             self.report.error(at, f"`{name}` is not declared here", near)
         else:
             self.scope.read.add(name)
+        return self.scope.types.get(name, INT)
+
+    def fixed_at_last(self, it: tree.Expression, text: str, hint: str) -> None:
+        """Checks an expression that is constant when the loops around it are written out."""
+        before, self.constant = self.constant, (text, hint)
+        self.scope.of_type(it, INT, self)
+        self.constant = before
 
     def statements(self, statements: Iterable[tree.Statement]) -> None:
         """Checks statements, and forgets their lets behind them."""
         before = set(self.lets)
-        places = {}
         for it in statements:
-            if isinstance(it, tree.Let):
-                places[it.name.text] = it.name.at
             self.statement(it)
         for name in set(self.lets) - before:
-            if not self.lets.pop(name):
-                self.report.warning(places[name], f"`{name}` is never read")
+            local = self.lets.pop(name)
+            if not local.is_read and local.kind is Kind.LET:
+                self.report.warning(local.at, f"`{name}` is never read")
 
     def statement(self, it: tree.Statement) -> None:
         match it:
             case tree.Let():
-                self.scope.type(it.type)
-                self.scope.expression(it.value, self)
-                self.let(it.name)
+                wanted = self.scope.type(it.type, is_number=False) if it.type else None
+                self.declare(it.name, Kind.LET, self.value(it.value, wanted))
             case tree.Assign():
                 self.assign(it)
             case tree.Invoke():
                 self.invoke(it.call)
             case tree.If():
-                self.scope.expression(it.test, self)
+                self.scope.number(it.test, self)
                 self.statements(it.yes)
                 self.statements(it.no)
             case tree.Block():
                 self.statements(it.statements)
+            case tree.Loop():
+                self.loop(it)
+            case tree.Leave():
+                self.leave(it)
 
-    def let(self, name: tree.Name) -> None:
-        kind = Kind.LET if name.text in self.lets else self.scope.kinds.get(name.text)
-        if kind:
-            self.report.error(name.at, f"`{name.text}` is {kind.value} already", "a `let` has a name of its own")
+    def value(self, it: tree.Expression, wanted: Optional[Type]) -> Type:
+        """Checks what is all of a value: here a method may be called that assigns variables."""
+        self.whole = it
+        return self.scope.of_type(it, wanted, self)
+
+    def declare(self, name: tree.Name, kind: Kind, type: Type) -> None:
+        known = self.kind_of(name.text)
+        if known:
+            hint = "a `let` has a name of its own" if kind is Kind.LET else "it wants a name of its own"
+            self.report.error(name.at, f"`{name.text}` is {known.value} already", hint)
         else:
-            self.lets[name.text] = False
+            self.lets[name.text] = Local(kind, type, name.at)
+
+    def loop(self, it: tree.Loop) -> None:
+        name, before = it.first.name.text, set(self.lets)
+        text, hint = "the bounds of a loop are constant", "parameters and `const` are; put an `if` inside of the loop"
+        if it.first.type and self.scope.named.get(it.first.type.text) != INT:
+            self.report.error(it.first.type.at, f"`{it.first.type.text}`: turns are counted by an `int`")
+        self.fixed_at_last(it.first.value, text, hint)
+        self.declare(it.first.name, Kind.TURN, INT)
+        self.fixed_at_last(it.test, text, hint)
+        if not isinstance(it.step.name, tree.Name) or it.step.name.text != name:
+            self.report.error(it.step.name.at, f"here `{name}` is changed for the next turn", f"write `{name}++`")
+        self.fixed_at_last(it.step.value, text, hint)
+        self.loops += 1
+        self.statements(it.body)
+        self.loops -= 1
+        for each in set(self.lets) - before:
+            del self.lets[each]
+
+    def leave(self, it: tree.Leave) -> None:
+        if it.word != "return":
+            if not self.loops:
+                self.report.error(it.at, f"`{it.word}` stands outside of a loop")
+        elif it.value:
+            self.report.error(it.value.at, "a reaction has no value", "`return;` ends it")
+
+    def target(self, it: Union[tree.Name, tree.Place]) -> tuple[Optional[Kind], Type]:
+        """What a place is that is assigned, and its type."""
+        if isinstance(it, tree.Name):
+            local = self.lets.get(it.text)
+            return self.kind_of(it.text), local.type if local else self.scope.types.get(it.text, INT)
+        owner = it.owner.text if it.owner else it.name.text
+        if it.index or it.owner_index:
+            self.report.error(it.at, *refused.ARRAYS)
+            return Kind.TYPE, INT
+        kind = self.kind_of(owner)
+        if kind is None:
+            self.report.error(it.at, *(text.format(owner) for text in refused.NO_INSTANCE))
+            return Kind.TYPE, INT
+        type = self.target(it.owner)[1]
+        return kind, self.scope.field(type, it) if kind in (Kind.VARIABLE, Kind.LET, Kind.GIVEN) else INT
 
     def assign(self, it: tree.Assign) -> None:
-        name, at = it.name.text, it.name.at
-        kind = Kind.LET if name in self.lets else self.scope.kinds.get(name)
+        kind, type = self.target(it.name)
+        first = it.name if isinstance(it.name, tree.Name) else it.name.owner or it.name.name
+        name, at = first.text, first.at
         hints = {
             Kind.INPUT: "keep it in a state variable, or connect an output to it in main",
             Kind.ACTION: f"write `schedule({name}, delay, value);`",
-            **dict.fromkeys((Kind.TIMER, Kind.STARTUP), ""),
-            **dict.fromkeys((*CONSTANTS, Kind.LET), "it is constant: take a state variable"),
+            **dict.fromkeys((Kind.TIMER, Kind.STARTUP, Kind.SHUTDOWN, Kind.ROUTINE), ""),
+            **dict.fromkeys((*CONSTANTS, Kind.LET, Kind.GIVEN, Kind.TURN), "it is constant: take a state variable"),
         }
         if kind is None:
             self.scope.unknown(name, at, (Kind.VARIABLE, Kind.OUTPUT))
@@ -140,26 +223,71 @@ class BodyCheck:
             self.reads(name, at)
         elif kind is Kind.OUTPUT:
             self.is_effect(name, at)
-        self.scope.expression(it.value, self)
+        if it.operator:
+            self.scope.of_type(tree.Binary(it.operator, ZERO, it.value, it.value.at), type, self)
+        else:
+            self.value(it.value, type if kind in (Kind.VARIABLE, Kind.OUTPUT) else None)
         if it.operator and kind is Kind.VARIABLE:
             self.scope.read.add(name)
 
     def invoke(self, call: tree.Call) -> None:
         name = call.name.text
-        if name in FUNCTIONS:
+        if name in self.scope.routines:
+            self.whole = call
+            self.calls(call, is_value=False)
+        elif name in FUNCTIONS:
             self.report.error(call.name.at, f"`{name}` has a value, and does nothing by itself")
+        elif name in refused.BODY:
+            self.report.error(call.name.at, *refused.BODY[name])
         elif name not in STATEMENTS:
-            self.report.error(
-                call.name.at, f"no statement `{name}`", nearest(name, STATEMENTS) or "there are `put` and `schedule`"
-            )
-        elif self.scope.has_parts(call, *STATEMENTS[name]):
-            self.effect(call, *((Kind.OUTPUT, "put on") if name == "put" else (Kind.ACTION, "scheduled")))
+            near = nearest(name, [*STATEMENTS, *self.scope.routines]) or "there are `put` and `schedule`"
+            self.report.error(call.name.at, f"no statement `{name}`", near)
+        elif self.scope.has_parts(call, *STATEMENTS[name]) and call.parts:
+            type = self.effect(call, *((Kind.OUTPUT, "put on") if name == "put" else (Kind.ACTION, "scheduled")))
             if name == "schedule":
-                self.scope.constant(call.parts[1])
+                self.delay(call.parts[1])
             for part in call.parts[1 if name == "put" else 2:]:
-                self.scope.expression(part, self)
+                self.scope.of_type(part, type, self)
 
-    def effect(self, call: tree.Call, wanted: Kind, does: str) -> None:
+    def delay(self, it: tree.Expression) -> None:
+        """Checks a delay: constant, one of two by `? :`, or one of a list by `among`."""
+        text = "a delay is constant"
+        hint = "so are parameters and `const`; `among({0}, 1, 5)` is 1 or 5, where `{0}` is that"
+        if isinstance(it, tree.Choice):
+            self.scope.number(it.test, self)
+            self.delay(it.yes)
+            self.delay(it.no)
+        elif isinstance(it, tree.Call) and it.name.text == "among":
+            if self.scope.has_parts(it, 2, None):
+                self.scope.of_type(it.parts[0], INT, self)
+                for part in it.parts[1:]:
+                    self.fixed_at_last(part, text, hint)
+        else:
+            self.fixed_at_last(it, text, hint)
+
+    def calls(self, it: tree.Call, is_value: bool) -> Type:
+        """Checks a call of a function or a method of the program, and gives the type of its value."""
+        name = it.name.text
+        routine = self.scope.routines[name]
+        if self.constant:
+            self.report.error(it.at, f"`{name}` is called: {self.constant[0]}")
+        if self.scope.has_parts(it, len(routine.parameters), len(routine.parameters)):
+            whole = self.whole
+            for part, (_, wanted) in zip(it.parts, routine.parameters):
+                self.scope.of_type(part, wanted, self)
+            self.whole = whole
+        self.scope.read.update(routine.reads)
+        if is_value and routine.type is None:
+            self.report.error(it.name.at, f"`{name}` has no value", f"write it as a statement: `{name}(..);`")
+        elif is_value and routine.changes and it is not self.whole:
+            text = f"`{name}` assigns variables: here it stands in an expression"
+            self.report.error(it.name.at, text, f"give its value a name before: `let v = {name}(..);`")
+        elif not is_value and not routine.changes:
+            self.report.error(it.name.at, f"`{name}` assigns nothing, and does nothing by itself")
+        return routine.type or INT
+
+    def effect(self, call: tree.Call, wanted: Kind, does: str) -> Type:
+        """Checks what is put on or scheduled, and gives its type."""
         first = call.parts[0]
         kind = self.scope.kinds.get(first.name) if isinstance(first, tree.Reference) else None
         if not isinstance(first, tree.Reference):
@@ -171,3 +299,4 @@ class BodyCheck:
         else:
             self.effects.add(first.name)
             self.is_effect(first.name, first.at)
+        return self.scope.types.get(first.name, INT) if isinstance(first, tree.Reference) else INT

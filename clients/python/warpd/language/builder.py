@@ -1,32 +1,16 @@
-"""The grammar, and the parts of the tree that its rules make."""
+"""The parts of the tree that the rules of the grammar make."""
 
 from __future__ import annotations
 
-from functools import cache
-from pathlib import Path
-
-from lark import Lark, Token, Transformer, v_args
+import dataclasses
 
 from . import tree
-from .tree import At
+from .lexing import Word
 
 UNITS = {
     "n": 1, "us": 10**3, "ms": 10**6, "s": 10**9, "mi": 60 * 10**9, "h": 3600 * 10**9, "d": 86_400 * 10**9,
     "w": 604_800 * 10**9,
 }
-
-
-def shown(token: Token) -> str:
-    """The token; of one that takes in what follows, how it begins."""
-    return {"BODY": "{=", "OPEN": str(token)[:2]}.get(token.type, str(token))
-
-
-def place_of(token: Token) -> At:
-    return At(token.line, token.column, len(shown(token)))
-
-
-def name_of(token: Token) -> tree.Name:
-    return tree.Name(str(token).strip("`"), place_of(token))
 
 
 def nanoseconds(text: str) -> int:
@@ -36,18 +20,17 @@ def nanoseconds(text: str) -> int:
     return int(number) * next(each for word, each in UNITS.items() if unit.startswith(word))
 
 
-@v_args(inline=True)
-class Builder(Transformer):
+class Builder:
     """Makes the parts of the tree, from the inside out."""
 
-    NAME = staticmethod(name_of)
-
-    def BODY(self, token):
-        return token.value
-
     def file(self, target, *parts):
-        kinds = {kind: tuple(it for it in parts if isinstance(it, kind)) for kind in (tree.Constant, tree.Reactor)}
-        return tree.File(*(target or (None, ())), kinds[tree.Constant], kinds[tree.Reactor])
+        def every(*kinds):
+            return tuple(it for it in parts if isinstance(it, kinds))
+
+        types, functions = every(tree.Enum, tree.Struct), every(tree.Function)
+        return tree.File(
+            *(target or (None, ())), every(tree.Constant), every(tree.Reactor), types=types, functions=functions,
+            imports=every(tree.Import))
 
     def target(self, name, *properties):
         return name, tuple(it for it in properties if it)
@@ -58,20 +41,41 @@ class Builder(Transformer):
     def constant(self, name, type, value):
         return tree.Constant(name, type, value)
 
+    def enum(self, name, *parts):
+        return tree.Enum(name, tuple(it for it in parts if it))
+
+    def enumerator(self, name, value):
+        return tree.Enumerator(name, value)
+
+    def struct(self, name, *fields):
+        return tree.Struct(name, fields)
+
+    def field(self, name, type, value):
+        return tree.State(name, type, value)
+
+    def function(self, word, name, *parts):
+        *parameters, type, body = parts
+        given = tuple(it for it in parameters if it)
+        return tree.Function(name, word.kind == "METHOD", given, type, body)
+
     def reactor(self, main, word, name, *parts):
         parameters = tuple(it for it in parts if isinstance(it, tree.Parameter))
-        members = tuple(it for it in parts if it and not isinstance(it, tree.Parameter))
-        at = name.at if name else place_of(main or word)
-        return tree.Reactor(name, main is not None, parameters, members, at)
+        members = tuple(it for it in parts if it and not isinstance(it, (tree.Parameter, tuple)))
+        extends = next((it for it in parts if isinstance(it, tuple)), ())
+        at = name.at if name else (main or word).at
+        return tree.Reactor(name, main is not None, parameters, members, at, extends)
 
     def parameter(self, name, type, value):
         return tree.Parameter(name, type, value)
 
-    def state(self, name, type, value):
-        return tree.State(name, type, value)
+    def mode(self, initial, word, name, *members):
+        return tree.Mode(name, initial is not None, tuple(it for it in members if it))
 
-    def ports(self, attribute, origin, kind, places, type):
-        return tree.Ports(origin, kind.type == "INPUT", places, type, place_of(attribute or kind))
+    def state(self, reset, name, type, value):
+        return tree.State(name, type, value, reset is not None)
+
+    def ports(self, attribute, origin, kind, width, places, type):
+        return tree.Ports(origin, kind.kind == "INPUT", places, type, (attribute or kind).at, width)
 
     def action(self, name, arguments, type):
         return tree.Action(name, arguments or (), type)
@@ -80,17 +84,20 @@ class Builder(Transformer):
         return tree.Timer(name, arguments or ())
 
     def reaction(self, word, on, reads, writes, body):
-        return tree.Reaction(on or (), reads or (), writes or (), body, place_of(word))
+        return tree.Reaction(on or (), reads or (), writes or (), body, word.at)
 
-    def instance(self, name, reactor, *arguments):
-        return tree.Instance(name, reactor, tuple(it for it in arguments if it))
+    def instance(self, name, width, reactor, *arguments):
+        return tree.Instance(name, reactor, tuple(it for it in arguments if it), width)
 
     def argument(self, name, value):
         return tree.Argument(name, value)
 
+    def unnamed(self, value):
+        return tree.Argument(None, value)
+
     def connection(self, sources, arrow, targets, after):
         sources, is_broadcast = sources
-        return tree.Connection(sources, targets, is_broadcast, after, place_of(arrow))
+        return tree.Connection(sources, targets, is_broadcast, after, arrow.at)
 
     def sources(self, places):
         return places, False
@@ -98,13 +105,33 @@ class Builder(Transformer):
     def broadcast(self, places, _plus):
         return places, True
 
-    def place(self, first, second):
-        return tree.Place(first, second) if second else tree.Place(None, first)
+    def place(self, first, first_index, second, index):
+        return tree.Place(first, second, first_index, index) if second else tree.Place(None, first, None, first_index)
+
+    def interleaved(self, place):
+        return dataclasses.replace(place, is_interleaved=True)
+
+    def transition(self, word, name):
+        return tree.Place(None, name, transition=word.text)
 
     def list_of(self, *parts):
         return parts
 
-    places = arguments = body = list_of
+    places = arguments = body = extends = list_of
+
+    def index(self, value):
+        return value
+
+    def imported(self, name, here):
+        return tree.Imported(name, here or name)
+
+    def import_(self, *parts):
+        *reactors, path = parts
+        return tree.Import(tuple(reactors), path.text[1:-1], path.at)
+
+    def target_(self, first, first_index, second, index):
+        place = self.place(first, first_index, second, index)
+        return place.name if place.is_plain else place
 
     def type(self, name):
         return name
@@ -113,7 +140,22 @@ class Builder(Transformer):
         return tree.Let(name, type, value)
 
     def assign(self, name, operator, value):
-        return tree.Assign(name, operator[:-1] or None, value)
+        return tree.Assign(name, operator.text[:-1] or None, value)
+
+    def step(self, name, word):
+        return tree.Assign(name, word.text[0], tree.Number("1", word.at))
+
+    def step_before(self, word, name):
+        return self.step(name, word)
+
+    def turn_of_c(self, type, name, value):
+        return tree.Let(name, type, value)
+
+    def loop(self, word, first, test, step, body):
+        return tree.Loop(first, test, step, self._statements(body), word.at)
+
+    def leave(self, word, value=None):
+        return tree.Leave(word.text, value, word.at)
 
     def invoke(self, call):
         return tree.Invoke(call)
@@ -133,29 +175,23 @@ class Builder(Transformer):
         return tree.Choice(test, yes, no, test.at.to(no.at))
 
     def binary(self, left, operator, right):
-        return tree.Binary(str(operator), left, right, left.at.to(right.at))
+        return tree.Binary(operator.text, left, right, left.at.to(right.at))
 
     def unary(self, operator, part):
-        return tree.Unary(str(operator), part, place_of(operator).to(part.at))
+        return tree.Unary(operator.text, part, operator.at.to(part.at))
 
     def number(self, token):
-        return tree.Number(str(token), place_of(token))
+        return tree.Number(token.text, token.at)
 
     def duration(self, token):
-        return tree.Duration(nanoseconds(token), str(token), place_of(token))
+        return tree.Duration(nanoseconds(token.text), token.text, token.at)
 
     def truth(self, token):
-        return tree.Number("1" if token == "true" else "0", place_of(token))
+        return tree.Number("1" if token.text == "true" else "0", token.at)
 
-    def reference(self, name):
-        return tree.Reference(name.text, name.at)
+    def reference(self, first, first_index, second, index):
+        place = self.place(first, first_index, second, index)
+        return tree.Reference(first.text, first.at) if place.is_plain else tree.Member(place, place.at)
 
     def call(self, name, parts):
         return tree.Call(name, parts or (), name.at.to(parts[-1].at) if parts else name.at)
-
-
-@cache
-def grammar() -> Lark:
-    text = Path(__file__).with_name("grammar.lark").read_text()
-    starts = ["file", "body", "foreign"]
-    return Lark(text, parser="lalr", lexer="basic", start=starts, transformer=Builder(), maybe_placeholders=True)

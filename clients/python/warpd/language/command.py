@@ -24,6 +24,8 @@ def main(words: Optional[Sequence[str]] = None) -> int:
     parser.add_argument("-o", dest="to", metavar="FILE", type=Path, help="where the result goes")
     parser.add_argument("--back", action="store_true", help="write the text of a program file")
     given = parser.parse_args(words)
+    if given.to and any(it.resolve() == given.file.resolve() for it in results(given)):
+        parser.error(f"-o {given.to} would take the place of {given.file}")
     try:
         text = given.file.read_text(encoding="utf-8-sig")
         return back(text, given) if given.back else forth(text, given)
@@ -34,6 +36,16 @@ def main(words: Optional[Sequence[str]] = None) -> int:
     return 4
 
 
+def results(given: argparse.Namespace) -> list[Path]:
+    """The files that are written."""
+    return [given.to] if given.back else [given.to, names_of(given.to)]
+
+
+def names_of(program: Path) -> Path:
+    """Where the names of its numbers go."""
+    return program.with_suffix(".names.json")
+
+
 def forth(text: str, given: argparse.Namespace) -> int:
     it = compiled(text, str(given.file))
     print(it.report, end="", file=sys.stderr)
@@ -41,7 +53,7 @@ def forth(text: str, given: argparse.Namespace) -> int:
         return 1
     write(shown(it.program), given.to)
     if given.to:
-        write(shown_names(it.names), given.to.with_suffix(".names.json"))
+        write(shown_names(it.names), names_of(given.to))
     return 0
 
 

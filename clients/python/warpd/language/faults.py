@@ -26,8 +26,29 @@ class Report:
         self.file, self.lines = file, text.split("\n")
         self.faults: list[Fault] = []
         self.told: set[Fault] = set()
+        # How often an error was told, one that is told again counted too.
+        self.errors = 0
+        # Each file, and how many lines stand before its first: those of a further file are counted on.
+        self.files: list[tuple[int, str]] = [(0, file)]
+
+    def add(self, file: str, text: str) -> int:
+        """Takes a further file in, and gives how many lines stand before its first."""
+        first = len(self.lines)
+        self.files.append((first, file))
+        self.lines += text.split("\n")
+        return first
+
+    def number(self, at: At) -> int:
+        """The number of the file that has this place."""
+        return sum(first < at.line for first, _ in self.files) - 1
+
+    def place(self, at: At) -> str:
+        """`line 7`, or `line 7 of lib/sum.lf` of an imported file."""
+        first, file = self.files[self.number(at)]
+        return f"line {at.line - first}" + f" of {file}" * (first > 0)
 
     def error(self, at: At, text: str, hint: str = "") -> None:
+        self.errors += 1
         self._add(Fault(at, "error", text, hint))
 
     def warning(self, at: At, text: str, hint: str = "") -> None:
@@ -37,10 +58,6 @@ class Report:
         if fault not in self.told:
             self.told.add(fault)
             self.faults.append(fault)
-
-    @property
-    def errors(self) -> int:
-        return sum(it.kind == "error" for it in self.faults)
 
     def __str__(self) -> str:
         shown = sorted(self.faults)
@@ -52,9 +69,10 @@ class Report:
     def _shown(self, fault: Fault) -> str:
         line, column, width = fault.at
         source = self.lines[line - 1].rstrip("\r") if line <= len(self.lines) else ""
-        number = f"{line:5}"
+        first, file = self.files[self.number(fault.at)]
+        number = f"{line - first:5}"
         blank = "".join(it if it == "\t" else " " for it in source[: column - 1]).ljust(column - 1)
-        text = f"{self.file}:{line}:{column}: {fault.kind}: {fault.text}\n{number} | {source}\n"
+        text = f"{file}:{line - first}:{column}: {fault.kind}: {fault.text}\n{number} | {source}\n"
         text += f"{' ' * len(number)} | {blank}{'^' * max(1, min(width, len(source) - column + 1))}\n"
         return text + (f"{' ' * len(number)} = hint: {fault.hint}\n" if fault.hint else "")
 

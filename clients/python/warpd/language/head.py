@@ -7,9 +7,12 @@ from typing import Optional
 from . import tree
 from .faults import Report, nearest
 from .model import Program, ranged
+from .routines import RoutineCheck, declared
 from .scope import Kind, Scope
+from .types import INT, Struct, Type
+from .values import wrapped
 
-PROPERTIES = ("stop", "unit", "origins", "version")
+PROPERTIES = ("stop", "timeout", "unit", "origins", "version", "microsteps_at_stop")
 
 
 class Head:
@@ -21,7 +24,14 @@ class Head:
 
     def read(self) -> None:
         self._target()
+        self.program.scope = Scope(self.report, self.program.unit)
+        before = self.report.errors
+        self._types()
         self._constants()
+        for routine in declared(self.file.functions, self.program.scope):
+            RoutineCheck(self.program.scope, routine).check()
+        can_be_read = all(it.body is not None for it in self.file.functions)
+        self.program.is_whole = can_be_read and self.report.errors == before
 
     def _target(self) -> None:
         program, target, before = self.program, self.file.target, self.report.errors
@@ -35,13 +45,18 @@ class Head:
             self._property(it)
         if "unit" in self.found:
             program.unit = self._unit(self.found["unit"].value)
-        if "stop" not in self.found and self.report.errors == before:
+        stop = self.found.get("stop") or self.found.get("timeout")
+        if "stop" in self.found and "timeout" in self.found:
+            at = self.found["timeout"].name.at
+            self.report.error(at, "`timeout` and `stop` are one thing", "leave one of them out")
+        if not stop and self.report.errors == before:
             hint = "write `target warpd { stop: 100 }`: the last time that is executed"
             self.report.error(self.file.at, "the program has no stop", hint)
         program.version = self._number("version", 2, 1, 3)
-        if "stop" in self.found:
-            it = self.found["stop"].value
-            program.stop = program.ranged(self.report, self._value(it), "stop", it.at, "`stop`")
+        if stop:
+            it = stop.value
+            program.stop = program.ranged(self.report, self._value(it), "stop", it.at, f"`{stop.name.text}`")
+        program.is_exact = not self._number("microsteps_at_stop", 0, 0, 1)
         program.origins = self._number("origins", 0, 1, program.limits.origins)
 
     def _property(self, it: tree.Property) -> None:
@@ -49,8 +64,7 @@ class Head:
         if name in self.found:
             self.report.error(it.name.at, f"`{name}` stands twice")
         elif name not in PROPERTIES:
-            hint = "the last time is `stop`" if name == "timeout" else nearest(name, PROPERTIES)
-            hint = hint or "there are `stop`, `unit`, `origins` and `version`"
+            hint = nearest(name, PROPERTIES) or "there are `stop`, `unit`, `origins` and `version`"
             self.report.error(it.name.at, f"`{name}` is no property of a program", hint)
         self.found.setdefault(name, it)
 
@@ -70,9 +84,45 @@ class Head:
         return self.program.constant(Scope(self.report, self.program.unit), it, {})
 
     def _constants(self) -> None:
-        scope, constants = Scope(self.report, self.program.unit), self.program.constants
         for it in self.file.constants:
-            scope.type(it.type)
-            value = self.program.constant(scope, it.value, constants)
-            scope.declare(it.name, Kind.CONSTANT)
+            scope, constants = self.program.scope, self.program.constants
+            wanted = scope.type(it.type) if it.type else None
+            value = self.program.constant(scope, it.value, constants, wanted)
+            if wanted is None and value is not None:
+                wanted = scope.number(it.value, None)
+            scope.declare(it.name, Kind.CONSTANT, wanted or INT)
             constants.setdefault(it.name.text, value or 0)
+
+    def _types(self) -> None:
+        scope = self.program.scope
+        for it in self.file.types:
+            known = scope.named.get(it.name.text)
+            if known is not None:
+                self.report.error(it.name.at, f"there is a type `{it.name.text}` already")
+            elif isinstance(it, tree.Enum):
+                scope.named[it.name.text] = INT
+                self._enum(it)
+            else:
+                scope.named[it.name.text] = self._struct(it)
+
+    def _enum(self, it: tree.Enum) -> None:
+        """Each name is a constant, one more than the one before it where no value stands."""
+        value = -1
+        for part in it.parts:
+            given = part.value and self.program.constant(self.program.scope, part.value, self.program.constants)
+            value = wrapped(value + 1) if given is None else given
+            self.program.scope.declare(part.name, Kind.CONSTANT)
+            self.program.constants.setdefault(part.name.text, value)
+
+    def _struct(self, it: tree.Struct) -> Struct:
+        fields: dict[str, Type] = {}
+        starts: dict[str, int] = {}
+        for field in it.fields:
+            name = field.name.text
+            if name in fields:
+                self.report.error(field.name.at, f"`{name}` stands twice")
+            fields[name] = self.program.scope.type(field.type)
+            value = field.start and self.program.constant(
+                self.program.scope, field.start, self.program.constants, fields[name])
+            starts[name] = value or 0
+        return Struct(it.name.text, fields, starts)

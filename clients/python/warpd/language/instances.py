@@ -8,10 +8,11 @@ from typing import Optional
 
 from . import tree
 from .faults import Report, listed
-from .lowering import Body
 from .model import Instance, Program
 from .scope import count_of
+from .statements import MOST_TURNS, Body, TooMany
 from .tree import At
+from .types import INT, Struct, Type
 from .values import depth, depth_of_list, schedules
 
 MOST_DEPTH, MOST_SCHEDULES = 24, 16
@@ -35,11 +36,11 @@ class Writer:
     def write(self) -> None:
         it, every = self.it, self.it.of.tree.every
         reactions = [self._reaction(each) for each in every(tree.Reaction)]
-        starts = [[each.name.text, self._constant(each.start)] for each in every(tree.State)]
+        starts = [start for each in every(tree.State) for start in self._starts(each)]
         lists = {
             "vars": starts + [[name, 0] for name in self.kept],
-            "inputs": [each.text for each in it.of.ports(True)],
-            "outputs": [each.text for each in it.of.ports(False)],
+            "inputs": list(map(it.of.file_name, it.of.names(True))),
+            "outputs": list(map(it.of.file_name, it.of.names(False))),
             "actions": [[each.name.text, *self._times(each, "the delay")] for each in every(tree.Action)],
             "timers": [[each.name.text, *self._times(each, "the offset", "the period")] for each in every(tree.Timer)],
             "reactions": reactions,
@@ -47,8 +48,17 @@ class Writer:
         it.kept = len(self.kept)
         it.reactor = {"name": it.name, **{key: value for key, value in lists.items() if value}}
 
-    def _constant(self, it: Optional[tree.Expression]) -> int:
-        return self.program.lowered(it, self.it.constants) if it else 0
+    def _starts(self, it: tree.State) -> list[list]:
+        """The variables of a state, each with its start; of a struct one for each field."""
+        name = it.name.text
+        type = self.it.of.scope.types[name]
+        if not isinstance(type, Struct):
+            return [[name, self._constant(it.start, type)]]
+        given = self._constant(it.start, type) if it.start else type.starts
+        return [[variable, given[field]] for field, variable in self.it.of.scope.fields[name].items()]
+
+    def _constant(self, it: Optional[tree.Expression], wanted: Type = INT) -> int:
+        return self.program.lowered(it, self.it.constants, self.it.of.scope, wanted) if it else 0
 
     def _times(self, member, *meanings: str) -> list[int]:
         """The times in the brackets of an action or a timer, 0 where one is missing."""
@@ -68,9 +78,17 @@ class Writer:
         return self.kept[number]
 
     def _reaction(self, reaction: tree.Reaction) -> dict:
-        outputs = {each.text for each in self.it.of.ports(False)}
-        body = Body(self.it.constants, outputs, self.program.unit or 1, self._variable)
-        statements = body.made(reaction.body or ())
+        of, scope = self.it.of, self.it.of.scope
+        ports = {name: of.file_name(name) for name in of.names(True) + of.names(False)}
+        names = {**self.it.constants, **scope.fields, **ports}
+        outputs = {ports[name] for name in of.names(False)}
+        body = Body(names, scope.types, self.program.unit or 1, scope.named, scope.routines, outputs)
+        statements = []
+        try:
+            statements = body.made(reaction.body or (), self._variable, reaction.at)
+        except TooMany as loop:
+            text = f"the loops of this reaction have more than {MOST_TURNS} turns together"
+            self.report.error(loop.at, text, "a loop is written out, turn by turn; what goes on is an action")
         for at, value in body.values:
             if depth(value) > MOST_DEPTH:
                 text = f"this expression is {depth(value)} deep: {MOST_DEPTH} is allowed"
@@ -78,7 +96,9 @@ class Writer:
         for at, delay in body.delays:
             self._time(delay, at, "the delay")
         self._body_limits(reaction.at, statements)
-        lists = {part: [place.name.text for place in getattr(reaction, part)] for part in ("on", "reads", "writes")}
+        lists = {
+            part: [of.file_name(place.name.text) for place in getattr(reaction, part)] for part in ("on", "reads", "writes")
+        }
         return {key: value for key, value in {**lists, "body": statements}.items() if value}
 
     def _body_limits(self, at: At, statements: list) -> None:

@@ -1,51 +1,110 @@
-"""From the statements of a checked body to those of a program file.
+"""Expressions of a checked text as those of a program file.
 
-Parameters and constants are put in. A `let` means its value at its place: it is put in where nothing that it reads is
-assigned before its last use, and it is small, or used once and not deep; else a variable of the compiler's own keeps
-it. `min`, `max`, `abs` and `clamp` work each part out once, so what is not simple is kept before the statement."""
+Parameters and constants are put in. `fixed` numbers are whole numbers of 65,536ths: their products and quotients are
+rounded down to one, and an `int` beside one is made `fixed` first."""
 
 from __future__ import annotations
 
-from collections import deque
-from collections.abc import Callable, Iterable, Iterator, Mapping, Sequence
-from typing import Optional
+from collections.abc import Callable, Mapping, Sequence
+from typing import Optional, Union
 
 from . import tree
 from .tree import At
-from .values import Value, depth, is_simple, made, size
+from .types import FIXED, INT, ONE, Struct, Type, common, is_fixed, number_of
+from .values import Value, made
 
-# A `let` with at most so many parts is put in at each of several uses, and one of at most this depth at all: half of
-# what a program file allows, so that an expression can be cut in two by a `let`.
-SMALL, DEEP = 8, 12
 OPERATORS = {
     "+": "+", "-": "-", "*": "*", "/": "/", "%": "%", "==": "=", "<": "<", "&&": "and", "||": "or",
 }
-Keep = Callable[[Value], Value]
+# What an expression comes to: of a struct each field by its name.
+Made = Union[Value, dict[str, Value]]
 
 
-def lowered(it: tree.Expression, names: Mapping[str, Value], unit: int, once: Keep = lambda value: value) -> Value:
-    """An expression of a program file. `once` gives what stands for a value in two places."""
+class Maker:
+    """Makes the expressions of one body, or constants."""
 
-    def value(part: tree.Expression) -> Value:
-        return lowered(part, names, unit, once)
+    def __init__(self, names: Mapping[str, Made], types: Mapping[str, Type], unit: int, named: Mapping[str, Type]):
+        self.names, self.types = dict(names), dict(types)
+        self.unit, self.named = unit, named
 
-    match it:
-        case tree.Number():
-            return int(it.text)
-        case tree.Duration():
-            return it.nanoseconds // unit
-        case tree.Reference():
-            return names.get(it.name, it.name)
-        case tree.Unary():
-            return made("neg" if it.operator == "-" else "not", value(it.part))
-        case tree.Binary():
-            return comparison(it.operator, value(it.left), value(it.right))
-        case tree.Choice():
-            return made("if", value(it.test), value(it.yes), value(it.no))
-        case tree.Call(tree.Name("present")):
-            return ["present", it.parts[0].name]
-        case tree.Call():
-            return function(it.name.text, [once(value(part)) for part in it.parts], once)
+    def once(self, value: Value, _at: At) -> Value:
+        """What stands for a value in several places."""
+        return value
+
+    def called(self, it: tree.Call) -> tuple[Made, Type]:
+        """What a call of a function of the program comes to."""
+        raise KeyError(it.name.text)
+
+    def value(self, it: tree.Expression, wanted: Optional[Type] = None) -> Made:
+        """The value of an expression, as one of this type."""
+        made_, type = self.typed(it)
+        return converted(made_, type, wanted)
+
+    def typed(self, it: tree.Expression) -> tuple[Made, Type]:
+        """The value of an expression, and its type."""
+        match it:
+            case tree.Number():
+                return number_of(it.text), FIXED if is_fixed(it.text) else INT
+            case tree.Duration():
+                return it.nanoseconds // self.unit, INT
+            case tree.Reference():
+                return self.names.get(it.name, it.name), self.types.get(it.name, INT)
+            case tree.Member():
+                fields, type = self.typed(tree.Reference(it.place.owner.text, it.at))
+                return fields[it.place.name.text], type.fields[it.place.name.text]
+            case tree.Unary():
+                value, type = self.typed(it.part)
+                return (made("neg", value), type) if it.operator == "-" else (made("not", value), INT)
+            case tree.Binary():
+                return binary(it.operator, self.typed(it.left), self.typed(it.right))
+            case tree.Choice():
+                return self.choice(it)
+            case tree.Call(tree.Name("present")):
+                return ["present", self.names.get(it.parts[0].name, it.parts[0].name)], INT
+            case tree.Call():
+                return self.call(it)
+
+    def choice(self, it: tree.Choice) -> tuple[Value, Type]:
+        test = self.value(it.test)
+        (yes, one), (no, other) = self.typed(it.yes), self.typed(it.no)
+        type = common([one, other])
+        return made("if", test, converted(yes, one, type), converted(no, other, type)), type
+
+    def call(self, it: tree.Call) -> tuple[Made, Type]:
+        name, struct = it.name.text, self.named.get(it.name.text)
+        if isinstance(struct, Struct):
+            return {field: self.value(part, type) for part, (field, type) in zip(it.parts, struct.fields.items())}, struct
+        if name in BUILT_IN:
+            parts = [self.typed(part) for part in it.parts]
+            return BUILT_IN[name](self, name, parts, it.at)
+        return self.called(it)
+
+
+def converted(value: Made, type: Type, wanted: Optional[Type]) -> Made:
+    return made("*", value, ONE) if (type, wanted) == (INT, FIXED) else value
+
+
+def binary(operator: str, one: tuple[Value, Type], other: tuple[Value, Type]) -> tuple[Value, Type]:
+    """The value of two parts and an operator between, and its type."""
+    (left, first), (right, second) = one, other
+    type = common([first, second])
+    if type == FIXED and operator in "*/":
+        return scaled(operator, one, other), FIXED
+    if type == FIXED and operator not in ("&&", "||"):
+        left, right = converted(left, first, FIXED), converted(right, second, FIXED)
+    if operator in ("+", "-", "*", "/", "%"):
+        return made(operator, left, right), type
+    return comparison(operator, left, right), INT
+
+
+def scaled(operator: str, one: tuple[Value, Type], other: tuple[Value, Type]) -> Value:
+    """A product or a quotient of which one part at least is `fixed`; with an `int` on the right it is exact."""
+    (left, first), (right, second) = one, other
+    if INT in (first, second) and (operator == "*" or second == INT):
+        return made(operator, left, right)
+    if operator == "*":
+        return made("/", made("*", left, right), ONE)
+    return made("/", made("*", converted(left, first, FIXED), ONE), right)
 
 
 def comparison(operator: str, left: Value, right: Value) -> Value:
@@ -61,148 +120,39 @@ def comparison(operator: str, left: Value, right: Value) -> Value:
     return made(OPERATORS[operator], left, right)
 
 
-def function(name: str, parts: Sequence[Value], once: Keep) -> Value:
+Parts = Sequence[tuple[Value, Type]]
+
+
+def _numbers(maker: Maker, name: str, parts: Parts, at: At) -> tuple[Value, Type]:
     """`min`, `max`, `abs` or `clamp` of parts that may stand twice."""
-    first, *rest = parts
+    type = common([type for _, type in parts])
+    first, *rest = (maker.once(converted(value, one, type), at) for value, one in parts)
     if name == "abs":
-        return made("if", made("<", first, 0), made("neg", first), first)
+        return made("if", made("<", first, 0), made("neg", first), first), type
     if name == "clamp":
         low, high = rest
-        return made("if", made("<", first, low), low, made("if", made("<", high, first), high, first))
+        return made("if", made("<", first, low), low, made("if", made("<", high, first), high, first)), type
     for number, other in enumerate(rest, 1):
         kept = (first, other) if name == "min" else (other, first)
         first = made("if", made("<", first, other), *kept)
-        first = once(first) if number < len(rest) else first
-    return first
+        first = maker.once(first, at) if number < len(rest) else first
+    return first, type
 
 
-def mentioned(it: tree.Expression) -> Iterator[str]:
-    """The names whose values an expression has."""
-    match it:
-        case tree.Reference():
-            yield it.name
-        case tree.Unary():
-            yield from mentioned(it.part)
-        case tree.Binary():
-            yield from mentioned(it.left)
-            yield from mentioned(it.right)
-        case tree.Choice():
-            for part in (it.test, it.yes, it.no):
-                yield from mentioned(part)
-        case tree.Call() if it.name.text != "present":
-            for part in it.parts:
-                yield from mentioned(part)
+def _whole(_: Maker, name: str, parts: Parts, _at: At) -> tuple[Value, Type]:
+    """`floor` or `round`: half of 1 goes up."""
+    ((value, type),) = parts
+    if type == INT:
+        return value, INT
+    return made("/", made("+", value, ONE // 2) if name == "round" else value, ONE), INT
 
 
-def events(statements: Iterable[tree.Statement]) -> Iterator[tuple[str, list[str], Optional[tree.Let]]]:
-    """What happens in turn: the names that are read, the name that is then assigned, and the `let` that is made."""
-    for it in statements:
-        match it:
-            case tree.Let():
-                yield it.name.text, [*mentioned(it.value)], it
-            case tree.Assign():
-                yield it.name.text, [*mentioned(it.value)], None
-            case tree.Invoke():
-                yield "", [name for part in it.call.parts[1:] for name in mentioned(part)], None
-            case tree.If():
-                yield "", [*mentioned(it.test)], None
-                yield from events(it.yes)
-                yield from events(it.no)
-            case tree.Block():
-                yield from events(it.statements)
+def _fixed(_: Maker, _name: str, parts: Parts, _at: At) -> tuple[Value, Type]:
+    ((value, type),) = parts
+    return converted(value, type, FIXED), FIXED
 
 
-class Use:
-    """How a `let` is used behind its place: how often, and whether what it reads is assigned before its last use."""
-
-    def __init__(self, let: tree.Let, reads: set[str], rest: Iterable):
-        carriers, self.count, self.changes = {let.name.text}, 0, False
-        is_assigned = False
-        for target, names, other in rest:
-            if carriers.intersection(names):
-                self.count += names.count(let.name.text)
-                self.changes |= is_assigned
-                if other:
-                    carriers.add(target)
-            elif other:
-                carriers.discard(target)
-            is_assigned |= not other and target in reads
-
-
-class Body:
-    """Makes the statements of one body. `values` has what was made of each expression, `delays` each delay."""
-
-    def __init__(self, names: Mapping[str, Value], outputs: set[str], unit: int, variable: Callable[[int], str]):
-        """`variable` names the compiler's variable with this number, from 0; several reactions share them."""
-        self.outputs, self.unit, self.variable = outputs, unit, variable
-        self.names: dict[str, Value] = dict(names)
-        self.reads: dict[str, set[str]] = {}
-        self.values: list[tuple[At, Value]] = []
-        self.delays: list[tuple[At, int]] = []
-        self.kept = 0
-        self.out: list = []
-        self.rest: deque = deque()
-
-    def made(self, statements: Sequence[tree.Statement]) -> list:
-        self.rest = deque(events(statements))
-        return self._list(statements)
-
-    def _list(self, statements: Iterable[tree.Statement]) -> list:
-        """The list of these statements; what they keep stands before each in it."""
-        before, names, self.out = self.out, dict(self.names), []
-        for it in statements:
-            self._statement(it)
-        found, self.out, self.names = self.out, before, names
-        return found
-
-    def _value(self, it: tree.Expression) -> Value:
-        def once(value: Value) -> Value:
-            return value if is_simple(value) else self._keep(value, it.at)
-
-        value = lowered(it, self.names, self.unit, once)
-        self.values.append((it.at, value))
-        return value
-
-    def _keep(self, value: Value, at: At) -> str:
-        name = self.variable(self.kept)
-        self.kept += 1
-        self.values.append((at, value))
-        self.out.append(["set", name, value])
-        return name
-
-    def _statement(self, it: tree.Statement) -> None:
-        if not isinstance(it, tree.Block):
-            self.rest.popleft()
-        match it:
-            case tree.Let():
-                self._let(it)
-            case tree.Assign(name, operator, value):
-                old = tree.Reference(name.text, name.at)
-                made = self._value(tree.Binary(operator, old, value, name.at.to(value.at)) if operator else value)
-                self.out.append(["put" if name.text in self.outputs else "set", name.text, made])
-            case tree.Invoke(tree.Call(tree.Name("put"), (output, value))):
-                self.out.append(["put", output.name, self._value(value)])
-            case tree.Invoke(tree.Call(_, (action, delay, *value))):
-                self.delays.append((delay.at, self._value(delay)))
-                self.out.append(["schedule", action.name, self.delays[-1][1], self._value(value[0]) if value else 0])
-            case tree.If():
-                self._if(it)
-            case tree.Block():
-                self.out += self._list(it.statements)
-
-    def _let(self, it: tree.Let) -> None:
-        value = self._value(it.value)
-        reads = set().union(*(self.reads.get(name, {name}) for name in mentioned(it.value)))
-        use = Use(it, reads, self.rest)
-        is_large = use.count > 1 and size(value) > SMALL or depth(value) > DEEP
-        if is_large or use.changes and not isinstance(value, int):
-            value = self._keep(value, it.value.at)
-        self.names[it.name.text], self.reads[it.name.text] = value, reads
-
-    def _if(self, it: tree.If) -> None:
-        test = self._value(it.test)
-        yes, no = self._list(it.yes), self._list(it.no)
-        if isinstance(test, int):
-            self.out += yes if test else no
-        else:
-            self.out.append(["if", test, yes, no])
+BUILT_IN: dict[str, Callable] = {
+    **dict.fromkeys(("min", "max", "abs", "clamp"), _numbers), **dict.fromkeys(("floor", "round"), _whole),
+    "fixed": _fixed,
+}

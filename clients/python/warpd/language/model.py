@@ -2,15 +2,19 @@
 
 from __future__ import annotations
 
+import re
+from collections.abc import Collection, Iterable
 from dataclasses import dataclass, field
 from typing import NamedTuple, Optional
 
 from . import tree
 from .bodies import BodyCheck
 from .faults import Report
-from .lowering import lowered
-from .scope import Scope
+from .lowering import Made, Maker
+from .routines import Routine
+from .scope import LONGEST_NAME, Scope
 from .tree import At
+from .types import INT, Type
 
 
 class Limits(NamedTuple):
@@ -28,7 +32,23 @@ LIMITS = {
 }
 
 
-@dataclass
+def joined(path: Iterable[str], taken: Collection[str] = ()) -> str:
+    """A path as one name of a program file that is not taken: `outer_inner_1` of `outer`, `inner[1]`. Where it is too
+    long the longest names in it are cut."""
+    parts = [re.split(r"(?=[.[])", it, maxsplit=1) for it in path]
+    names, ends = [it[0] for it in parts], [re.sub(r"[.[]", "_", "".join(it[1:])).replace("]", "") for it in parts]
+    while len(name := "_".join(map("".join, zip(names, ends)))) > LONGEST_NAME and max(map(len, names)) > 1:
+        longest = max(range(len(names)), key=lambda it: len(names[it]))
+        names[longest] = names[longest][:-1].rstrip("_")
+    first, number = name[:LONGEST_NAME], 1
+    name = first
+    while name in taken:
+        number += 1
+        name = f"{first[:LONGEST_NAME - len(f'_{number}')]}_{number}"
+    return name
+
+
+@dataclass(eq=False)
 class Class:
     """A reactor of the text, checked."""
 
@@ -36,6 +56,9 @@ class Class:
     scope: Scope
     reactions: list[BodyCheck] = field(default_factory=list)
     is_good: bool = True
+    is_checked: bool = False
+    flat: dict[str, str] = field(default_factory=dict)
+    methods: list[Routine] = field(default_factory=list)
 
     @property
     def name(self) -> str:
@@ -46,17 +69,36 @@ class Class:
         lists = [it.places for it in self.tree.every(tree.Ports) if it.is_input == is_input]
         return [place.name for places in lists for place in places if not place.owner]
 
+    def names(self, is_input: bool) -> list[str]:
+        return [it.text for it in self.ports(is_input)]
+
+    def file_name(self, name: str) -> str:
+        """What a program file calls a port: `a_1` for `a[1]`, `inner_y` for `inner.y`."""
+        if "[" not in name and "." not in name:
+            return name
+        if name not in self.flat:
+            self.flat[name] = joined([name], {*self.scope.places, *self.flat.values()})
+        return self.flat[name]
+
 
 @dataclass
 class Instance:
-    """`reactor` is what stands in the program file; the last `kept` of its variables are the compiler's own."""
+    """`title` is how it is told of, `is_added` says that the text has it not. `reactor` is what stands in the program
+    file; the last `kept` of its variables are the compiler's own."""
 
     name: str
     of: Class
     constants: dict[str, int]
     at: At
+    title: str = ""
     reactor: dict = field(default_factory=dict)
     kept: int = 0
+    is_added: bool = False
+
+    def told(self, port: str) -> str:
+        """A port as the text names it."""
+        names = {flat: name for name, flat in self.of.flat.items()}
+        return f"{self.title}.{names.get(port, port)}"
 
 
 class Port(NamedTuple):
@@ -93,15 +135,20 @@ class Shown(NamedTuple):
 
 @dataclass
 class Program:
-    """`unit` is in nanoseconds, None where the text states none; `origins` is 0 until it is known."""
+    """`unit` is in nanoseconds, None where the text states none; `origins` is 0 until it is known. `is_exact` says that
+    nothing is executed behind microstep 0 of the stop, `is_whole` that there is no fault outside of reactors. `scope`
+    has what is declared there."""
 
     at: At
     version: int = 2
     stop: int = 0
+    is_exact: bool = True
+    is_whole: bool = True
     origins: int = 0
     unit: Optional[int] = None
     constants: dict[str, int] = field(default_factory=dict)
-    classes: dict[str, Class] = field(default_factory=dict)
+    scope: Optional[Scope] = None
+    unused: list[Class] = field(default_factory=list)
     instances: dict[str, Instance] = field(default_factory=dict)
     links: list[Link] = field(default_factory=list)
     inputs: list[Owned] = field(default_factory=list)
@@ -118,15 +165,21 @@ class Program:
         hint += "" if not later else "leave `version: 1` out" if later[0] == 2 else f"write `target warpd {{ version: {later[0]}, .. }}`"
         return ranged(report, value, 0, getattr(self.limits, limit), at, what, hint if later and value > 0 else "")
 
-    def lowered(self, it: tree.Expression, names: dict[str, int]) -> int:
-        """The value of a constant that was checked."""
-        return lowered(it, names, self.unit or 1)
+    def lowered(self, it: tree.Expression, names: dict[str, int], scope: Scope, wanted: Optional[Type] = None) -> Made:
+        """The value of a constant that was checked, as one of this type."""
+        return Maker(names, scope.types, self.unit or 1, scope.named).value(it, wanted)
 
-    def constant(self, scope: Scope, it: tree.Expression, names: dict[str, int]) -> Optional[int]:
-        """Checks a constant, and gives its value; None where it is wrong."""
+    def constant(
+        self, scope: Scope, it: tree.Expression, names: dict[str, int], wanted: Optional[Type] = INT
+    ) -> Optional[int]:
+        """Checks a constant of this type, and gives its value; None where it is wrong."""
         before = scope.report.errors
-        scope.constant(it)
-        return self.lowered(it, names) if scope.report.errors == before else None
+        scope.constant(it, wanted)
+        return self.lowered(it, names, scope, wanted) if scope.report.errors == before else None
+
+    def told(self, port: Port) -> str:
+        """A port as the text names it."""
+        return self.instances[port.instance].told(port.name)
 
     def file(self) -> dict:
         """The program file."""

@@ -86,11 +86,12 @@ def _steps(waits: Waits, came_from: dict[Node, Node], start: Node) -> Circle:
 
 def _tell(program: Program, report: Report, circle: Circle) -> None:
     def named(node: Node) -> str:
-        line = program.instances[node.instance].of.reactions[node.number].reaction.at.line
-        return f"`{node.instance}` line {line}"
+        it = program.instances[node.instance]
+        return f"`{it.title}` {report.place(it.of.reactions[node.number].reaction.at)}"
 
     link = next(it for _, _, it in circle if it)
     way = " -> ".join([named(circle[0][0]), *(named(node) for _, node, _ in circle)])
     what = "reactions wait at one tag, each for the next" if circle[1:] else "a reaction waits for itself at one tag"
-    hint = f"give a connection of the round a delay: `{link.source} -> {link.target} after 1`, or `after 0` for the next microstep"
-    report.error(link.at, f"{what}: {way}", hint)
+    written = f"{program.told(link.source)} -> {program.told(link.target)}"
+    written = "" if written.count(".") > 2 else f": `{written} after 1`, or `after 0` for the next microstep"
+    report.error(link.at, f"{what}: {way}", f"give a connection of the round a delay{written or ' by `after`'}")

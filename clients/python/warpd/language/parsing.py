@@ -5,12 +5,12 @@ from __future__ import annotations
 from collections.abc import Sequence
 from typing import Optional
 
-from lark import Token, UnexpectedToken
-
 from . import refused, tree
-from .builder import grammar, place_of, shown
-from .faults import Report, listed
+from .faults import Report, listed, nearest
+from .lexing import Lexer, Word
+from .tables import Stopped, grammar
 from .tree import At
+from .words import in_place
 
 # A text with more than so many faults of this kind is read no further.
 MOST_FAULTS = 20
@@ -27,122 +27,158 @@ WORDS = {
 }
 
 
-class _Stopped(Exception):
-    """The token with this number could not stand there: what could have stood in its place."""
-
-    def __init__(self, number: int, accepted: set):
-        super().__init__()
-        self.number, self.accepted = number, accepted
-
-
-def _tree_of(tokens: Sequence[Token], start: str):
-    parser = grammar().parse_interactive("", start=start)
-    for number, token in enumerate(tokens):
-        try:
-            made = parser.feed_token(token)
-        except UnexpectedToken:
-            raise _Stopped(number, parser.accepts()) from None
-    return made
-
-
-def _start(tokens: Sequence[Token], number: int) -> int:
-    """Where the member or statement begins that has this token."""
+def _start(words: Sequence[Word], number: int) -> int:
+    """Where the member or statement begins that has this word."""
     start = number
-    while start > 0 and tokens[start - 1].type not in ENDS and (start == number or tokens[start].type not in BEGINS):
+    while start > 0 and words[start - 1].kind not in ENDS and (start == number or words[start].kind not in BEGINS):
         start -= 1
     return start
 
 
-def _without(tokens: list[Token], stopped: int) -> list[Token]:
-    """The tokens without the member or statement that has this one, and without the braces that belong to it."""
-    start = end = _start(tokens, stopped)
-    braces = brackets = 0
-    while end < len(tokens) - 1:
-        kind = tokens[end].type
+def _end(words: Sequence[Word], start: int, stopped: int) -> int:
+    """Where the member or statement ends that begins at `start` and has the word `stopped`, with its braces."""
+    end, braces, brackets = start, 0, 0
+    while end < len(words) - 1:
+        kind = words[end].kind
         if braces == 0 and end > stopped and (kind in BEGINS or kind == "RBRACE"):
             break
         braces += (kind == "LBRACE") - (kind == "RBRACE")
         brackets += (kind == "LPAR") - (kind == "RPAR")
         end += 1
-        if braces <= 0 and end > stopped and kind in ENDS and not (tokens[start] == "for" and brackets > 0):
+        if braces <= 0 and end > stopped and kind in ENDS and not (words[start].text == "for" and brackets > 0):
             break
-    return tokens[:start] + tokens[max(end, start + 1):]
+    return max(end, start + 1)
+
+
+def _without(words: list[Word], stopped: int) -> list[Word]:
+    """The words without the member or statement that has this one; the `else` of an `if` goes with it."""
+    start = _start(words, stopped)
+    end = _end(words, start, stopped)
+    while words[end].kind == "ELSE" and end < len(words) - 1:
+        end = _end(words, end, end + 1)
+    return words[:start] + words[end:]
 
 
 class Parser:
     """Reads one text, and tells its report what cannot be read."""
 
-    def __init__(self, text: str, report: Report):
-        self.text, self.report = text, report
+    def __init__(self, text: str, report: Report, before: int = 0):
+        """`before` lines of the report stand before the text."""
+        self.text, self.report, self.before = text, report, before
         self.is_whole = True
 
     def file(self) -> Optional[tree.File]:
         """The tree; None where its structure has a fault. Bodies are read in any case."""
-        tokens = [self._with_body(it) for it in grammar().lex(self.text)]
-        end = At(tokens[-1].end_line, tokens[-1].end_column) if tokens else At(1, 1)
-        made = self._parsed(tokens, "file", refused.STRUCTURE, end)
+        words = in_place(Lexer(self.text, grammar().kinds, self.before).words())
+        for it in words:
+            if it.kind == "BODY":
+                it.value = self._body(it)
+        made = self._parsed(words, "file", refused.STRUCTURE)
         return made if self.is_whole else None
 
-    def _with_body(self, token: Token) -> Token:
-        """A body's token has its statements in the place of its text."""
-        if token.type != "BODY":
-            return token
-        inner = "\n" * (token.line - 1) + " " * (token.column + 1) + token[2:-2]
+    def _body(self, body: Word) -> Optional[tuple]:
+        """The statements of a body; None where they have a fault."""
         count = len(self.report.faults)
-        end = At(token.end_line, token.end_column - 2, 2)
-        made = self._parsed(list(grammar().lex(inner)), "body", refused.BODY, end)
-        return Token.new_borrow_pos("BODY", made if len(self.report.faults) == count else None, token)
+        made = self._parsed(body.parts, "body", refused.BODY)
+        return made if len(self.report.faults) == count else None
 
-    def _parsed(self, tokens: list[Token], start: str, table: dict, end: At):
+    def _parsed(self, words: Sequence[Word], start: str, table: dict):
         """Parses, and as long as there is a fault tells it and parses what is left without it."""
-        last = Token("$END", "", line=end.line, column=end.column)
-        tokens = [*tokens, last]
         for _ in range(MOST_FAULTS):
             try:
-                return _tree_of(tokens, start)
-            except _Stopped as stopped:
+                return grammar().read(words, start)
+            except Stopped as stopped:
                 self.is_whole &= start == "body"
-                tokens = self._mended(tokens, stopped, table)
-                if not tokens:
+                words = self._mended(words, stopped, table)
+                if not words:
                     break
         return None
 
-    def _mended(self, tokens: list[Token], stopped: _Stopped, table: dict) -> list[Token]:
+    def _mended(self, words: list[Word], stopped: Stopped, table: dict) -> list[Word]:
         """Tells what stopped the parser, and gives what is left to be read; nothing where the rest means nothing."""
-        number, token = stopped.number, tokens[stopped.number]
-        foreign = self._foreign(tokens, number, table)
+        number, word = stopped.number, words[stopped.number]
+        before, in_body = words[max(number - 1, 0)], table is refused.BODY
+        if word.kind == "UNCLOSED":
+            self.report.error(word.at, "this comment is never closed", "`*/` ends it")
+            return []
+        foreign = _foreign(words, number, table)
         if foreign:
-            self.report.error(place_of(foreign[0]), *foreign[1])
-        elif table is refused.BODY and self._lacks_semicolon(tokens, stopped):
-            before = tokens[number - 1]
-            self.report.error(At(before.end_line, before.end_column), "`;` is missing here")
-            return [*tokens[:number], Token.new_borrow_pos("SEMICOLON", ";", before), *tokens[number:]]
+            self.report.error(foreign[0].at, *foreign[1])
+        elif in_body and _lacks_semicolon(words, stopped):
+            self.report.error(before.end, "`;` is missing here")
+            return [*words[:number], Word("SEMICOLON", ";", before.line, before.column), *words[number:]]
+        elif not in_body and word.kind in ("REACTOR", "MAIN") and _is_in_reactor(words, stopped):
+            self._unclosed_reactor(words, number)
+            return [*words[:number], Word("RBRACE", "}", before.line, before.column), *words[number:]]
         else:
-            self._unexpected(tokens, stopped)
-        return [] if token.type in ("$END", "OPEN") else _without(tokens, number)
+            self._unexpected(words, stopped, table)
+        return [] if word.kind == "$END" or word.text == "{=" and word.kind != "BODY" else _without(words, number)
 
-    def _foreign(self, tokens: list[Token], number: int, table: dict):
-        """A word that is not of this language, where it begins or near where it stopped, with what to say of it."""
-        for token in (tokens[_start(tokens, number)], tokens[number], tokens[number - 1]):
-            key = {"STRING": '"', "ATTRIBUTE": "@"}.get(token.type, shown(token))
-            if key in table and token != "@origin":
-                return token, table[key]
-        return None
+    def _unclosed_reactor(self, words: Sequence[Word], number: int) -> None:
+        """Tells the reactor before this word, which begins another one, that its brace is missing."""
+        first = max(place for place in range(number) if words[place].kind == "REACTOR")
+        name = words[first + 1] if words[first + 1].kind == "NAME" else words[first]
+        text = f"the `}}` of this reactor is missing: another begins at {self.report.place(words[number].at)}"
+        self.report.error(name.at, text)
 
-    @staticmethod
-    def _lacks_semicolon(tokens: list[Token], stopped: _Stopped) -> bool:
-        before, token = tokens[max(stopped.number - 1, 0)], tokens[stopped.number]
-        begins_anew = before.type not in ENDS and token.type in {"NAME", "RBRACE", "$END"} | BEGINS
-        return "SEMICOLON" in stopped.accepted and begins_anew and stopped.number > 0
-
-    def _unexpected(self, tokens: list[Token], stopped: _Stopped) -> None:
-        token, accepted = tokens[stopped.number], stopped.accepted
-        words = [WORDS[it] for it in WORDS if it in accepted]
-        hint = f"{listed(words, 'or')} could stand here" if 0 < len(words) <= 4 else ""
-        if token.type == "$END":
+    def _unexpected(self, words: Sequence[Word], stopped: Stopped, table: dict) -> None:
+        word, accepted = words[stopped.number], stopped.accepted
+        shown = [WORDS[it] for it in WORDS if it in accepted]
+        hint = f"{listed(shown, 'or')} could stand here" if 0 < len(shown) <= 4 else ""
+        misspelt = _misspelt(words, stopped.number, table)
+        if misspelt:
+            self.report.error(misspelt[0].at, f"`{misspelt[0]}` cannot stand here", misspelt[1])
+        elif word.kind == "$END":
             text = "`}` is missing here" if "RBRACE" in accepted else "the text ends too soon"
-            self.report.error(At(token.line, token.column), text, hint)
-        elif token.type == "EQUALS" and "EQUALITY" in accepted:
-            self.report.error(place_of(token), "`=` assigns", "`==` compares")
+            self.report.error(word.at._replace(width=1), text, hint)
+        elif word.kind == "EQUALS" and "EQUALITY" in accepted:
+            self.report.error(word.at, "`=` assigns", "`==` compares")
+        elif _is_word(word) and "NAME" in accepted and word.line == words[stopped.number - 1].line:
+            text = f"`{word}` is a word of the language, and no name"
+            self.report.error(word.at, text, f"between backquotes it is one: `` `{word}` ``")
         else:
-            self.report.error(place_of(token), f"`{shown(token)}` cannot stand here", hint)
+            self.report.error(word.at, f"`{word}` cannot stand here", hint)
+
+
+def _is_in_reactor(words: Sequence[Word], stopped: Stopped) -> bool:
+    """Whether a reactor is open where the words stop."""
+    return "RBRACE" in stopped.accepted and any(it.kind == "REACTOR" for it in words[:stopped.number])
+
+
+def _is_word(word: Word) -> bool:
+    """Whether this is a word of the language."""
+    return word.kind != "NAME" and word.text.isidentifier()
+
+
+def _foreign(words: Sequence[Word], number: int, table: dict) -> Optional[tuple]:
+    """A word that is not of this language, where it begins or near where it stopped, with what to say of it."""
+    start = _start(words, number)
+    if words[start].kind == "STATE":
+        before = words[number - 1]
+        if "[" in (words[number].text, before.text):
+            return (words[number] if words[number].text == "[" else before), refused.ARRAYS
+        if before.text == "(" or words[number].text == "(":
+            last = words[number + (words[number].text == "(")]
+            return (before if before.text == "(" else words[number]), ("a start stands behind `=`", f"write `= {last}`")
+    if words[start].text in refused.BEGINNINGS and words[start].kind != "NAME":
+        return words[start], refused.BEGINNINGS[words[start].text]
+    for word in (words[start], words[number], words[max(number - 1, 0)]):
+        key = {"STRING": '"', "ATTRIBUTE": "@"}.get(word.kind, word.text)
+        if key in table and word.text != "@origin" and word.kind != "BODY":
+            return word, table[key]
+    return None
+
+
+def _misspelt(words: Sequence[Word], number: int, table: dict) -> Optional[tuple[Word, str]]:
+    """The word that begins what could not be read, where it is nearly one that begins a member; with a hint."""
+    first = words[_start(words, number)]
+    if table is refused.BODY or first.kind != "NAME" or words[number].kind == "EQUALS":
+        return None
+    near = nearest(first.text, refused.MEMBERS)
+    return (first, near) if near else None
+
+
+def _lacks_semicolon(words: Sequence[Word], stopped: Stopped) -> bool:
+    before, word = words[max(stopped.number - 1, 0)], words[stopped.number]
+    begins_anew = before.kind not in ENDS and word.kind in {"NAME", "RBRACE", "$END"} | BEGINS
+    return "SEMICOLON" in stopped.accepted and begins_anew and stopped.number > 0

@@ -6,42 +6,38 @@ STRUCTURE = {
         "declare an `input`, and let its origin send what happens outside",
     ),
     "deadline": ("warpd has no deadlines: no clock is read", "let a timer look whether something has come"),
-    "mode": ("warpd has no modes", "keep the mode in a state variable, and ask for it by `if`"),
-    "initial": ("warpd has no modes", "keep the mode in a state variable, and ask for it by `if`"),
     "preamble": ("warpd has no target code", "constants stand outside of reactors: `const NAME = 3;`"),
-    "method": ("warpd has no methods", "write the statements where they are wanted, with `let` for a part"),
-    "import": ("a program is one file", "copy the reactor into it"),
-    "extends": ("warpd has no reactors that extend others", "write its members out"),
     "federated": ("warpd has no federates", "write `main reactor`: each replica runs the whole program"),
     "watchdog": ("warpd has no watchdogs: no clock is read", "let a timer look whether something has come"),
     "realtime": ("warpd has no realtime reactors", "write `reactor`"),
-    "[": ("warpd has no banks and no multiports", "write each instance and each port with a name of its own"),
     "~>": ("warpd has no physical connections", "write `->`, and `after` for a delay"),
-    "++": ("`++` is not there", "write `+= 1`"),
     '"': ("warpd has no texts: each value is an integer of 64 bits", ""),
     "{=": ("this `{=` is never closed", "a body ends with `=}`"),
-    "/*": ("this `/*` is never closed", "a comment ends with `*/`"),
     "@": ("warpd knows no such attribute", "`@origin(0)` stands before an `input` of main"),
 }
 
+_NO_CODE = "a body is no target code"
+_DECLARES = ("a body declares no variables", "write `let NAME = ..;`, or `state NAME: int = 0;` before the reactions")
+_PRINTS = ("a body prints nothing, and is no target code", "put what is to be seen on an output")
+_LOOPS = ("a body has no such loop", "`for` over constant bounds is; what goes on is an action that schedules itself")
+
+NO_INSTANCE = ("there is no instance `{}` in this reactor", "an instance stands in its reactor: `p = new Player();`")
+
 BODY = {
-    "for": ("a body has no loops", "let an action schedule itself, or write each turn out"),
-    "while": ("a body has no loops", "let an action schedule itself, or write each turn out"),
-    "do": ("a body has no loops", "let an action schedule itself, or write each turn out"),
-    "return": ("a body has no `return`", "put the rest under an `else`"),
+    **dict.fromkeys(("while", "do", "goto"), _LOOPS),
     "switch": ("a body has no `switch`", "write `if (..) .. else if (..) ..`"),
-    "printf": ("a body prints nothing, and is no target code", "put what is to be seen on an output"),
-    "lf_print": ("a body prints nothing, and is no target code", "put what is to be seen on an output"),
-    "lf_set": ("a body is no target code", "write `y = e;` or `put(y, e);`"),
-    "lf_schedule": ("a body is no target code", "write `schedule(c, delay, value);`"),
-    "lf_schedule_int": ("a body is no target code", "write `schedule(c, delay, value);`"),
-    "lf_request_stop": ("a program ends at its stop alone", "keep in a state variable that it is over"),
-    "self": ("a body is no target code", "a state variable stands by its name alone"),
-    "int": ("a body declares no variables", "write `let NAME = ..;`, or `state NAME: int = 0;` before the reactions"),
-    "bool": ("a body declares no variables", "write `let NAME = ..;`, or `state NAME: int = 0;` before the reactions"),
-    "var": ("a body declares no variables", "write `let NAME = ..;`, or `state NAME: int = 0;` before the reactions"),
-    "++": ("`++` is not there", "write `+= 1`"),
-    "--": ("`--` is not there", "write `-= 1`"),
+    **{word: (f"`{word}` is not there", "write `else if`") for word in ("elseif", "elif", "elsif")},
+    **dict.fromkeys(("printf", "print", "puts", "lf_print", "lf_print_error", "fprintf"), _PRINTS),
+    "lf_set": (_NO_CODE, "write `y = e;` or `put(y, e);`"),
+    **dict.fromkeys(("lf_schedule", "lf_schedule_int"), (_NO_CODE, "write `schedule(c, delay, value);`")),
+    "lf_set_mode": (_NO_CODE, "write `set_mode(M);`"),
+    "lf_request_stop": (_NO_CODE, "write `request_stop();`"),
+    "self": (_NO_CODE, "a state variable stands by its name alone"),
+    **dict.fromkeys((
+        "int", "bool", "var", "int8_t", "int16_t", "int32_t", "int64_t", "uint8_t", "uint16_t", "uint32_t", "uint64_t",
+        "size_t", "long", "short", "char", "unsigned", "signed", "float", "double", "fixed", "interval_t", "instant_t",
+        "time_t", "tag_t", "static", "auto",
+    ), _DECLARES),
     "and": ("`and` is not there", "write `&&`"),
     "or": ("`or` is not there", "write `||`"),
     "not": ("`not` is not there", "write `!`"),
@@ -51,13 +47,66 @@ BODY = {
     "~": ("warpd has no operators on bits", ""),
     "<<": ("warpd has no operators on bits", "multiply by a power of two"),
     ">>": ("warpd has no operators on bits", "divide by a power of two: `/` rounds so that nothing negative is left"),
-    "->": ("a body is no target code", "`a->value` is `a`, and `a->is_present` is `present(a)`"),
-    ".": ("a body speaks of its own reactor alone", "declare an input or an output, and connect it in main"),
-    "/*": ("this `/*` is never closed", "a comment ends with `*/`"),
+    "->": (_NO_CODE, "`a->value` is `a`, and `a->is_present` is `present(a)`"),
     '"': ("warpd has no texts: each value is an integer of 64 bits", ""),
 }
 
+ARRAYS = ("warpd has no arrays", "a state variable for each place, and `if` or `? :` between them")
+
+# What C writes behind the name of an input or an action.
+PARTS = {
+    "value": ("`{0}.value` is `{0}`", "a name alone is its value"),
+    "is_present": ("`{0}.is_present` is `present({0})`", ""),
+}
+
+# Names and functions of C, and of Lingua Franca's library, in expressions.
+_DRAWN = ("warpd draws nothing at random", "a state variable does: `seed = (seed * 1103515245 + 12345) % 2147483648`")
+_READS_TAG = ("a body does not read the tag", "count in a state variable, or send the time to an input")
+CALLS = {
+    **dict.fromkeys(("rand", "random", "lrand48", "rand_r"), _DRAWN),
+    **{
+        word: (f"`{word}(..)` is not there", f"write `{{0}} {unit}`") for word, unit in {
+            "NSEC": "ns", "NSECS": "ns", "USEC": "us", "USECS": "us", "MSEC": "ms", "MSECS": "ms", "SEC": "s",
+            "SECS": "s", "MINUTE": "min", "MINUTES": "min", "HOUR": "hours", "HOURS": "hours", "DAY": "days",
+            "DAYS": "days", "WEEK": "weeks", "WEEKS": "weeks",
+        }.items()
+    },
+    **dict.fromkeys(("lf_time_logical", "lf_time_logical_elapsed", "lf_tag", "get_elapsed_logical_time"), _READS_TAG),
+    "sqrt": ("warpd has no roots", "`x * x < y` compares squares"),
+    **dict.fromkeys(("fmin", "fmax"), ("it is not there", "write `min(..)` or `max(..)`")),
+    "fabs": ("it is not there", "write `abs(..)`"),
+}
+VALUES = {
+    "forever": ("there is no `forever`", "the stop is the last time: write a number"),
+    "FOREVER": ("there is no `FOREVER`", "the stop is the last time: write a number"),
+    "never": ("there is no `never`", "a timer with an offset past the stop never comes"),
+    "NULL": ("there is no `NULL`", "`present(a)` asks whether something is there"),
+    "self": (_NO_CODE, "a state variable stands by its name alone"),
+}
+
+# Types of other languages.
+_FIXED = "write `fixed`: a number with 16 bits behind the point"
+TYPES = {
+    **dict.fromkeys(("float", "double", "real"), _FIXED),
+    **dict.fromkeys((
+        "long", "short", "char", "int8_t", "int16_t", "int32_t", "uint8_t", "uint16_t", "uint32_t", "uint64_t", "size_t",
+        "unsigned",
+    ), "write `int`: each has 64 bits"),
+    **dict.fromkeys(("string", "str"), "warpd has no texts: number them, by an `enum`"),
+    **dict.fromkeys(("interval_t", "instant_t"), "write `time`"),
+}
+
+# What begins a member of a reactor or a part of a file.
+MEMBERS = (
+    "state", "input", "output", "logical", "timer", "reaction", "reactor", "main", "const", "target", "function",
+    "method", "enum", "struct",
+)
+
+# What is not all of a beginning.
+BEGINNINGS = {
+    "action": ("an action of warpd is logical", "write `logical action ..`"),
+}
+
 TRIGGERS = {
-    "shutdown": ("warpd has no shutdown: a program ends at its stop", "declare a timer with the stop as its offset"),
-    "reset": ("warpd has no modes, and so no `reset`", "use an input or an action"),
+    "reset": ("`reset` triggers reactions of modes alone", "outside of modes an input or an action does"),
 }

@@ -28,14 +28,24 @@ class Name:
 
 @dataclass(frozen=True)
 class Place:
-    """`port`, or `instance.port`."""
+    """`port`, or `instance.port`; either may have an index. `interleaved` goes over the instances of a bank first. A
+    mode has the word of the transition to it, `reset` or `history`."""
 
     owner: Optional[Name]
     name: Name
+    owner_index: Optional[Expression] = None
+    index: Optional[Expression] = None
+    is_interleaved: bool = False
+    transition: str = ""
 
     @property
     def at(self) -> At:
         return self.owner.at.to(self.name.at) if self.owner else self.name.at
+
+    @property
+    def is_plain(self) -> bool:
+        """Whether it is a name alone."""
+        return not self.owner and not self.index and not self.is_interleaved
 
     def __str__(self) -> str:
         return f"{self.owner.text}.{self.name.text}" if self.owner else self.name.text
@@ -61,6 +71,14 @@ class Duration:
 @dataclass(frozen=True)
 class Reference:
     name: str
+    at: At
+
+
+@dataclass(frozen=True)
+class Member:
+    """The value of a place that is no name alone: `a[1]`, `inner.y`, `inner[0].y[1]`, and `p.x` of a struct."""
+
+    place: Place
     at: At
 
 
@@ -94,7 +112,7 @@ class Call:
     at: At
 
 
-Expression = Union[Number, Duration, Reference, Unary, Binary, Choice, Call]
+Expression = Union[Number, Duration, Reference, Member, Unary, Binary, Choice, Call]
 
 
 @dataclass(frozen=True)
@@ -106,9 +124,9 @@ class Let:
 
 @dataclass(frozen=True)
 class Assign:
-    """`name = value;`, or with an operator before the `=`."""
+    """`name = value;`, or with an operator before the `=`. The name is a place where it has an index or an owner."""
 
-    name: Name
+    name: Union[Name, Place]
     operator: Optional[str]
     value: Expression
 
@@ -132,7 +150,58 @@ class Block:
     statements: tuple[Statement, ...]
 
 
-Statement = Union[Let, Assign, Invoke, If, Block]
+@dataclass(frozen=True)
+class Loop:
+    """`for (let i = 0; test; i += 1) ..`. `first` is a constant for the first turn, and `step` makes the next one."""
+
+    first: Let
+    test: Expression
+    step: Assign
+    body: tuple[Statement, ...]
+    at: At
+
+
+@dataclass(frozen=True)
+class Leave:
+    """`return value;`, `return;`, `break;` or `continue;`."""
+
+    word: str
+    value: Optional[Expression]
+    at: At
+
+
+Statement = Union[Let, Assign, Invoke, If, Block, Loop, Leave]
+
+
+@dataclass(frozen=True)
+class Function:
+    """`type` is None where a function has no value. `body` is None where it could not be read."""
+
+    name: Name
+    is_method: bool
+    parameters: tuple[Parameter, ...]
+    type: Optional[Name]
+    body: Optional[tuple[Statement, ...]]
+
+
+@dataclass(frozen=True)
+class Enumerator:
+    name: Name
+    value: Optional[Expression]
+
+
+@dataclass(frozen=True)
+class Enum:
+    name: Name
+    parts: tuple[Enumerator, ...]
+
+
+@dataclass(frozen=True)
+class Struct:
+    """A group of variables; the fields are written as a reactor's state is."""
+
+    name: Name
+    fields: tuple[State, ...]
 
 
 @dataclass(frozen=True)
@@ -144,9 +213,12 @@ class Parameter:
 
 @dataclass(frozen=True)
 class State:
+    """`is_reset` says that a reset of its mode gives it its start again."""
+
     name: Name
     type: Optional[Name]
     start: Optional[Expression]
+    is_reset: bool = False
 
 
 @dataclass(frozen=True)
@@ -158,6 +230,7 @@ class Ports:
     places: tuple[Place, ...]
     type: Optional[Name]
     at: At
+    width: Optional[Expression] = None
 
 
 @dataclass(frozen=True)
@@ -186,15 +259,20 @@ class Reaction:
 
 @dataclass(frozen=True)
 class Argument:
-    name: Name
+    """`name` is None where a value stands alone, which is a mistake."""
+
+    name: Optional[Name]
     value: Expression
 
 
 @dataclass(frozen=True)
 class Instance:
+    """An instance, or with a width a bank of them."""
+
     name: Name
     reactor: Name
     arguments: tuple[Argument, ...]
+    width: Optional[Expression] = None
 
 
 @dataclass(frozen=True)
@@ -208,7 +286,14 @@ class Connection:
     at: At
 
 
-Member = Union[State, Ports, Action, Timer, Reaction, Instance, Connection]
+@dataclass(frozen=True)
+class Mode:
+    name: Name
+    is_initial: bool
+    members: tuple[Part, ...]
+
+
+Part = Union[State, Ports, Action, Timer, Reaction, Instance, Connection, Function, Mode]
 
 
 @dataclass(frozen=True)
@@ -216,8 +301,9 @@ class Reactor:
     name: Optional[Name]
     is_main: bool
     parameters: tuple[Parameter, ...]
-    members: tuple[Member, ...]
+    members: tuple[Part, ...]
     at: At
+    extends: tuple[Name, ...] = ()
 
     def every(self, kind: type) -> list:
         """The members of this kind, in the order of the text."""
@@ -238,11 +324,29 @@ class Property:
 
 
 @dataclass(frozen=True)
+class Imported:
+    """A reactor of another file, and the name that it has here."""
+
+    name: Name
+    here: Name
+
+
+@dataclass(frozen=True)
+class Import:
+    reactors: tuple[Imported, ...]
+    path: str
+    at: At
+
+
+@dataclass(frozen=True)
 class File:
     target: Optional[Name]
     properties: tuple[Property, ...]
     constants: tuple[Constant, ...]
     reactors: tuple[Reactor, ...]
+    types: tuple[Union[Enum, Struct], ...] = ()
+    functions: tuple[Function, ...] = ()
+    imports: tuple[Import, ...] = ()
 
     @property
     def at(self) -> At:

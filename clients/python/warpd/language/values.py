@@ -1,13 +1,34 @@
 """Expressions as a program file has them, with warpd's arithmetic: what is constant is worked out while it is made.
 
-An expression is a number, a name, or a list of an operator and its parts."""
+An expression is a number, a name, or a list of an operator and its parts. While a body is made, a part may also be a
+`Temp` or a `Cell`, in whose place something of a program file comes at last."""
 
 from __future__ import annotations
 
+from dataclasses import dataclass
 from typing import Union
 
+from .tree import At
+
 LEAST, MOST = -(2**63), 2**63 - 1
-Value = Union[int, str, list]
+
+
+@dataclass(eq=False)
+class Temp:
+    """A value of one place: it is put in where it is used, or a variable of the compiler's own keeps it."""
+
+    value: Value
+    at: At
+
+
+@dataclass(eq=False)
+class Cell:
+    """A variable of the compiler's own, which may be assigned at several places of a body."""
+
+    at: At
+
+
+Value = Union[int, str, list, Temp, Cell]
 
 
 def wrapped(number: int) -> int:

@@ -6,18 +6,19 @@ from collections.abc import Callable
 
 from .faults import Report, listed
 from .model import Class, Instance, Port, Program
+from .pending import warn_of_lost
 from .scope import Kind
 from .tree import At, State
 
 
 def warn(program: Program, report: Report) -> None:
-    for it in program.classes.values():
-        if not any(each.of is it for each in program.instances.values()):
-            report.warning(it.tree.at, f"no instance of {it.name}")
-    for one in {id(it.of): it.of for it in program.instances.values()}.values():
+    for it in program.unused:
+        report.warning(it.tree.at, f"no instance of {it.name}")
+    for one in {id(it.of): it.of for it in program.instances.values() if not it.is_added}.values():
         ClassWarnings(program, report, one).warn()
+    warn_of_lost(program, report)
     owned = {it.origin for it in program.inputs}
-    lacking = [str(it) for it in range(program.origins) if it not in owned]
+    lacking = [str(it) for it in range(program.origins) if owned and it not in owned]
     if lacking[1:]:
         text = f"origins {listed(lacking)} have no inputs: they hold the horizon at (0, 0)"
         report.warning(program.at, f"{text} until somebody announces for them")
@@ -42,15 +43,15 @@ class ClassWarnings:
                 self.report.warning(state.name.at, text, "it can be asked for from outside by its name")
         for name in self.one.ports(False):
             self._each(
-                lambda it, name=name: Port(it.name, name.text) not in self.used, name.at,
-                f"`{name.text}` leads nowhere", lambda it, name=name: f"`{it.name}.{name.text}` leads nowhere",
+                lambda it, name=name: Port(it.name, it.of.file_name(name.text)) not in self.used, name.at,
+                f"`{name.text}` leads nowhere", lambda it, name=name: f"`{it.title}.{name.text}` leads nowhere",
             )
         for number, check in enumerate(self.one.reactions):
             at = check.reaction.at
             never = "nothing comes to what triggers it"
             self._each(
                 lambda it, number=number: not self._runs(it, number), at, f"this reaction never runs: {never}",
-                lambda it, at=at: f"the reaction at line {at.line} never runs in `{it.name}`: {never}",
+                lambda it, at=at: f"the reaction at {self.report.place(at)} never runs in `{it.title}`: {never}",
             )
 
     def _each(self, holds: Callable[[Instance], bool], at: At, text: str, told: Callable[[Instance], str]) -> None:
@@ -58,17 +59,18 @@ class ClassWarnings:
         if len(found) == len(self.instances):
             self.report.warning(at, text)
         else:
-            for it in found:
-                self.report.warning(it.at, told(it))
+            banks = {it.at: [each for each in found if each.at == it.at] for it in found}
+            for place, (first, *rest) in banks.items():
+                self.report.warning(place, told(first), f"so it is with {len(rest)} more of its bank" if rest else "")
 
     def _runs(self, it: Instance, number: int) -> bool:
-        return any(self._comes(it, name) for name in it.reactor["reactions"][number]["on"])
+        return any(self._comes(it, name) for name in it.of.reactions[number].lists["on"])
 
     def _comes(self, it: Instance, name: str) -> bool:
         kind = self.one.scope.kinds[name]
         if kind is Kind.INPUT:
-            return Port(it.name, name) in self.sources
+            return Port(it.name, it.of.file_name(name)) in self.sources
         if kind is Kind.ACTION:
             return any(name in check.effects for check in self.one.reactions)
         offsets = {timer: offset for timer, offset, _ in it.reactor.get("timers", ())}
-        return kind is Kind.STARTUP or offsets[name] <= self.program.stop
+        return kind in (Kind.STARTUP, Kind.SHUTDOWN) or offsets[name] <= self.program.stop

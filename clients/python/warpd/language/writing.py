@@ -10,7 +10,8 @@ from .values import Value
 
 KEYWORDS = {
     "target", "const", "reactor", "main", "state", "input", "output", "logical", "action", "timer", "reaction", "new",
-    "after", "let", "if", "else", "true", "false",
+    "after", "let", "if", "else", "true", "false", "for", "return", "break", "continue", "function", "method", "enum",
+    "struct",
 }
 # Which keys each object of a program file has, those with lists apart.
 FILE = (("version", "stop", "origins"), ("reactors", "links", "inputs", "outputs"))
@@ -128,6 +129,19 @@ def _reactor(title: str, it: Mapping) -> list[str]:
     return [*lines, "}", ""]
 
 
+def _has_next(it: Mapping) -> bool:
+    """Whether a reactor may schedule something for the next microstep."""
+    delays = dict(it.get("actions", ()))
+
+    def may(body: Iterable[list]) -> bool:
+        return any(
+            may(each[2]) or may(each[3]) if each[0] == "if" else each[0] == "schedule" and delays.get(each[1], 0) + each[2] == 0
+            for each in body
+        )
+
+    return any(may(each.get("body", ())) for each in it.get("reactions", ()))
+
+
 def _titled(reactors: Iterable[Mapping]) -> dict[str, tuple[str, Mapping]]:
     """Each form of a reactor with its name in the text, made of that of its first instance, and this instance."""
     titled: dict[str, tuple[str, Mapping]] = {}
@@ -156,6 +170,8 @@ def text_of(program: Mapping) -> str:
         target.append(f"origins: {number(program['origins'])}")
     if program["version"] != 2:
         target.append(f"version: {number(program['version'])}")
+    if any(link[2:] == [0] for link in program.get("links", ())) or any(map(_has_next, reactors)):
+        target.append("microsteps_at_stop: true")
     lines = [f"target warpd {{ {', '.join(target)} }}", ""]
     titled = _titled(reactors)
     for title, it in titled.values():

@@ -1,0 +1,252 @@
+"""A reactor as one of its instances has it: a port for each channel, and what it contains seen as ports of its own."""
+
+from __future__ import annotations
+
+import dataclasses
+from collections.abc import Callable, Iterator
+from typing import Optional
+
+from . import tree
+from .faults import Report, nearest
+from .hierarchy import Node
+from .model import Program
+from .places import Places, Point
+from .scope import Kind
+from .tree import At
+
+OWN = (tree.State, tree.Action, tree.Timer, tree.Function)
+
+
+def has_structure(it: tree.Reactor) -> bool:
+    """Whether instances of a reactor differ in more than constants: in widths, or in what they contain."""
+    is_wide = any(each.width for each in it.every(tree.Ports))
+    places = [place for each in it.every(tree.Reaction) for place in (*each.on, *each.reads, *each.writes)]
+    contains = it.every(tree.Instance) or it.every(tree.Connection)
+    return bool(it.is_main or is_wide or contains or any(not each.is_plain for each in places))
+
+
+class Form:
+    """Makes the reactor of one node. `heard` has the ports of contained reactors that its reactions name as triggers
+    or read, `fed` those that they put on."""
+
+    def __init__(self, node: Node, program: Program, report: Report):
+        self.node, self.report = node, report
+        self.places = Places(node, program, report)
+        self.heard: dict[str, Point] = {}
+        self.fed: dict[str, Point] = {}
+
+    def made(self) -> tree.Reactor:
+        it = self.node.raw.tree
+        reactions = [self._reaction(each) for each in it.every(tree.Reaction)]
+        named = {place.name.text for each in reactions for place in (*each.on, *each.reads, *each.writes)}
+        members = [each for each in it.members if isinstance(each, OWN)]
+        members += [self._ports(each, named) for each in it.every(tree.Ports)]
+        for points, is_input in ((self.heard, True), (self.fed, False)):
+            for name, point in points.items():
+                place = tree.Place(None, tree.Name(name, it.at))
+                members.append(tree.Ports(None, is_input, (place,), _type(point), it.at))
+        return dataclasses.replace(it, members=tuple(members + reactions))
+
+    def _ports(self, it: tree.Ports, named: set[str]) -> tree.Ports:
+        """Its own ports, a name for each channel; where it contains others, those alone that its reactions name."""
+        def is_wanted(name: str) -> bool:
+            is_alone = self.node.is_main and name.split("[")[0] not in self.node.connected
+            return not self.node.contains or name in named or is_alone
+
+        places = [place for place in it.places if not place.owner]
+        names = [tree.Name(each, place.name.at) for place in places for each in self.node.channels(place.name.text)]
+        return dataclasses.replace(
+            it, width=None, origin=None, places=tuple(tree.Place(None, name) for name in names if is_wanted(name.text))
+        )
+
+    # Reactions.
+
+    def _reaction(self, it: tree.Reaction) -> tree.Reaction:
+        lists = {part: self._header(getattr(it, part), part != "writes") for part in ("on", "reads", "writes")}
+        return dataclasses.replace(it, **lists, body=it.body and self._of(it.body))
+
+    def _header(self, places: tuple[tree.Place, ...], is_read: bool) -> tuple[tree.Place, ...]:
+        found: list[tree.Place] = []
+        for place in places:
+            if place.is_plain and place.name.text not in self.node.widths:
+                found.append(place)
+                continue
+            wanted, inner = (Kind.INPUT, Kind.OUTPUT) if is_read else (Kind.OUTPUT, Kind.INPUT)
+            for point in self.places.points(place, wanted, inner):
+                name = point.seen_from(self.node)
+                found.append(tree.Place(None, tree.Name(name, place.at)))
+                if place.owner:
+                    (self.heard if is_read else self.fed)[name] = point
+        return tuple(found) or places and (tree.Place(None, tree.Name("startup", places[0].at)),) * is_read
+
+    # Bodies.
+
+    def _of(self, it):
+        """A part of a body with names in the place of places."""
+        if isinstance(it, tuple):
+            made = tuple(map(self._of, it))
+            return it if all(map(lambda a, b: a is b, made, it)) else made
+        found = self._ported(it)
+        if found is not None or not dataclasses.is_dataclass(it) or isinstance(it, tree.Name):
+            return it if found is None else found
+        parts = {key: value for key, value in vars(it).items() if isinstance(value, tuple) or _is_part(value)}
+        changed = {key: self._of(value) for key, value in parts.items()}
+        changed = {key: value for key, value in changed.items() if value is not parts[key]}
+        return dataclasses.replace(it, **changed) if changed else it
+
+    def _ported(self, it):
+        """What a part means that is a port, asks for one or puts on one; None where it is something else."""
+        match it:
+            case tree.Call(tree.Name("present"), (tree.Member(place, at),)) if self._is_port(place):
+                return self._asked(it, place, at)
+            case tree.Call(tree.Name("present"), (tree.Reference(name, at),)) if name in self.node.widths:
+                return self._asked(it, tree.Place(None, tree.Name(name, at)), at)
+            case tree.Member(place, at) if self._is_port(place):
+                zero = tree.Number("0", at)
+                return self._select(place, Kind.OUTPUT, lambda name: tree.Reference(name, at), _choice, zero)
+            case tree.Invoke(tree.Call(tree.Name("put"), (tree.Member(place, at), *rest))) if self._is_port(place):
+                parts = self._of(tuple(rest))
+
+                def put(name: str) -> tree.Statement:
+                    return tree.Invoke(dataclasses.replace(it.call, parts=(tree.Reference(name, at), *parts)))
+
+                return self._select(place, Kind.INPUT, put, _if, tree.Block(()))
+            case tree.Assign(tree.Place() as place, operator, value) if self._is_port(place):
+                value = self._of(value)
+
+                def assign(name: str) -> tree.Statement:
+                    return tree.Assign(tree.Name(name, place.at), operator, value)
+
+                return self._select(place, Kind.INPUT, assign, _if, tree.Block(()))
+            case (tree.Reference(name, at) | tree.Assign(tree.Name(name, at))) if name in self.node.widths:
+                self._lacks_index(name, at)
+                return tree.Number("0", at) if isinstance(it, tree.Reference) else tree.Block(())
+        return None
+
+    def _asked(self, it: tree.Call, place: tree.Place, at: At) -> tree.Expression:
+        """Whether a port is there: of all channels and instances that a place names, whether one of them is."""
+        def present(name: str) -> tree.Expression:
+            return dataclasses.replace(it, parts=(tree.Reference(name, at),))
+
+        if not all(map(self.places.is_constant, (place.owner_index, place.index))):
+            return self._select(place, Kind.OUTPUT, present, _choice, tree.Number("0", at))
+        found = [present(point.seen_from(self.node)) for point in self.places.points(place, Kind.INPUT, Kind.OUTPUT)]
+        one = found[0] if found else tree.Number("0", at)
+        for other in found[1:]:
+            one = tree.Binary("||", one, other, at)
+        return one
+
+    def _is_port(self, place: tree.Place) -> bool:
+        """Whether this is a port of an instance or a channel, and no part of a value."""
+        name = (place.owner or place.name).text
+        return name in (self.node.parts if place.owner else self.node.widths)
+
+    def _lacks_index(self, name: str, at: tree.At) -> None:
+        width = self.node.widths[name]
+        what = "a bank" if name in self.node.parts else "a multiport"
+        self.report.error(at, f"`{name}` is {what} of {width}", f"write `{name}[0]` to `{name}[{width - 1}]`")
+
+    def _select(self, place: tree.Place, inner: Kind, leaf: Callable, choose: Callable, nothing):
+        """What a place means: the leaf of its port, or where an index is worked out a choice between the leaves.
+        `inner` is what a port must be that an instance has."""
+        if not self._is_right(place, inner):
+            return nothing
+        for part, name in (("owner_index", place.owner), ("index", place.name)):
+            index = getattr(place, part)
+            if index is not None and not self.places.is_constant(index):
+                def chosen(number: int, part=part, index=index):
+                    one = dataclasses.replace(place, **{part: tree.Number(str(number), index.at)})
+                    return self._select(one, inner, leaf, choose, nothing)
+
+                return _among(self._of(index), 0, self._count(place, name), chosen, choose, nothing)
+        node = self.places.nodes(place) if place.owner else [self.node]
+        points = self.places.of(node[0], place) if node else []
+        return leaf(points[0].seen_from(self.node)) if len(points) == 1 else nothing
+
+    def _count(self, place: tree.Place, name: tree.Name) -> int:
+        if name is place.owner or not place.owner:
+            return self.node.widths[name.text]
+        return self.node.parts[place.owner.text][0].widths[name.text]
+
+    def _is_right(self, place: tree.Place, inner: Kind) -> bool:
+        """Whether a place of a body names one port; else that is told."""
+        node, owner, name = self.node, place.owner, place.name
+        if owner and (owner.text in node.widths) != (place.owner_index is not None):
+            self._index(owner, place.owner_index, node.widths.get(owner.text), "a bank", "an instance")
+            return False
+        part = node.parts[owner.text][0] if owner else node
+        if owner and name.text not in part.ports(inner):
+            self._no_port(part, place, inner)
+            return False
+        kind = part.kind(name.text)
+        if kind is None:
+            node.raw.scope.unknown(name.text, name.at)
+            return False
+        if (name.text in part.widths) != (place.index is not None):
+            means = "one port" if kind in (Kind.INPUT, Kind.OUTPUT) else kind.value
+            self._index(name, place.index, part.widths.get(name.text), "a multiport", means)
+            return False
+        return True
+
+    def _no_port(self, part: Node, place: tree.Place, inner: Kind) -> None:
+        name = place.name.text
+        if not part.is_known:
+            return
+        if name in part.ports(Kind.INPUT) + part.ports(Kind.OUTPUT):
+            is_read = inner is Kind.OUTPUT
+            text = f"`{place}` is {'an input' if is_read else 'an output'} of `{place.owner.text}`"
+            says = "its outputs are read here" if is_read else "its inputs are put on here"
+            self.report.error(place.at, f"{text}: {says}")
+        else:
+            self.report.error(place.name.at, f"{part.raw.name} has no port `{name}`", nearest(name, part.ports(inner)))
+
+    def _index(
+        self, name: tree.Name, index: Optional[tree.Expression], width: Optional[int], wide: str, one: str
+    ) -> None:
+        if width is None:
+            self.report.error(index.at, f"`{name.text}` is {one}: it has no index")
+        else:
+            hint = f"write `{name.text}[0]` to `{name.text}[{width - 1}]`"
+            self.report.error(name.at, f"`{name.text}` is {wide} of {width}", hint)
+
+
+def _is_part(it: object) -> bool:
+    return dataclasses.is_dataclass(it)
+
+
+def _type(point: Point) -> Optional[tree.Name]:
+    """The type of a port as it was declared."""
+    name = point.name.split("[")[0]
+    lists = [it for it in point.node.raw.tree.every(tree.Ports) if name in [place.name.text for place in it.places]]
+    return lists[0].type
+
+
+def _among(index: tree.Expression, low: int, high: int, chosen: Callable, choose: Callable, nothing):
+    """A choice by an index: what is chosen by each number, or nothing where it is none of them."""
+    if high - low > 1:
+        middle = (low + high) // 2
+        halves = (_among(index, *ends, chosen, choose, nothing) for ends in ((low, middle), (middle, high)))
+        return choose(_compared("<", index, middle), *halves)
+    return choose(_compared("==", index, low), chosen(low), nothing)
+
+
+def _compared(operator: str, index: tree.Expression, number: int) -> tree.Expression:
+    return tree.Binary(operator, index, tree.Number(str(number), index.at), index.at)
+
+
+def _choice(test: tree.Expression, yes: tree.Expression, no: tree.Expression) -> tree.Expression:
+    return tree.Choice(test, yes, no, test.at)
+
+
+def _if(test: tree.Expression, yes: tree.Statement, no: tree.Statement) -> tree.Statement:
+    return tree.If(test, (yes,), (no,))
+
+
+def seen(node: Node) -> Iterator[tuple[str, Kind]]:
+    """What the ports of contained reactors are to a node's reactions, by their names there."""
+    for bank in node.parts.values():
+        for part in bank:
+            for kind, own in ((Kind.OUTPUT, Kind.INPUT), (Kind.INPUT, Kind.OUTPUT)):
+                for name in part.ports(kind):
+                    for channel in part.channels(name):
+                        yield Point(part, channel).seen_from(node), own
